@@ -1,0 +1,170 @@
+ghost use Rattle.std.specs.Prelude.{◌≡◌, IfOk, IsTrue, Some};
+ghost use Rattle.std.specs.Str.{bytes_eq, is_utf8};
+ghost use Rattle.std.specs.Cmp.{partial_equiv_from_equiv};
+ghost use Rattle.std.specs.Cmp.Lexicographic.{slice_cmp, nat_list_eq_equiv, nat_list_cmp_total, texts_ties, texts_po};
+ghost use Rattle.std.specs.Ordering.{nat_cmp};
+ghost use Rattle.std.proofs.Common.{rules};
+ghost use Rattle.pt_tree.specs.Name.{name_refusal, is_forbidden_name, is_name, name_number};
+ghost use Rattle.pt_tree.specs.Refusal.{Answers};
+
+use crate::MemoryFault;
+use std::alloc::Global;
+use std::cmp::Ordering;
+use std::marker::Model;
+use thiserror::Error;
+
+const LONGEST: usize = 255;
+
+/// Why bytes are no name.
+#[derive(Clone, Copy, Debug, PartialEq, Eq, Error)]
+pub enum NameFault {
+    #[error("the name is empty")]
+    Empty,
+    #[error("the name has more than 255 bytes")]
+    TooLong,
+    #[error("the name is not UTF-8")]
+    NotUtf8,
+    /// It holds `/` or NUL, or is `.` or `..`.
+    #[error("the name holds a slash or a NUL, or is a dot or two")]
+    Forbidden,
+    #[error("out of memory")]
+    Memory,
+}
+
+impl NameFault {
+    /// The fault's number: 1 `Empty`, 2 `TooLong`, 3 `NotUtf8`, 4 `Forbidden`, 5 `Memory`.
+    pub fn number(&self) -> u8
+        ensures { result ≡ name_number self.now }
+    {
+        match self {
+            NameFault::Empty => 1,
+            NameFault::TooLong => 2,
+            NameFault::NotUtf8 => 3,
+            NameFault::Forbidden => 4,
+            NameFault::Memory => 5,
+        }
+    }
+}
+
+/// The name of an entry of a directory: 1 to 255 bytes of UTF-8 without `/` and NUL, neither `.` nor `..`.
+#[derive(Debug, Drop)]
+pub struct Name {
+    bytes: Vec<u8>,
+}
+
+impl Model for Name {
+    ghost use Rattle.std.specs.Prelude.{◌≡◌, List, ℕ, true};
+    ghost use Rattle.pt_tree.specs.Name.{is_name};
+
+    ghost Value = { List ℕ };
+
+    ghost view = { λ n. n.bytes.items };
+
+    ghost invariant = { λ n. is_name n.bytes.items ≡ true };
+}
+
+impl Name {
+    /// The name with these bytes.
+    ///
+    /// Refused, in this order, as `Empty`, `TooLong` (over 255 bytes), `NotUtf8` and `Forbidden` (it holds `/` or
+    /// NUL, or is `.` or `..`); then as `Memory`, where the copy was refused.
+    pub fn of(alloc: Global, bytes: &[u8]) -> Result<Name, NameFault>
+        ensures { Answers (name_refusal bytes.now) NameFault.Memory result (λ name. name ≡ bytes.now) }
+    {
+        if let Some(refusal) = refusal(bytes) {
+            return Err(refusal);
+        }
+        match bytes.to_vec(alloc) {
+            Ok(bytes) => Ok(Name { bytes }),
+            Err(_) => Err(NameFault::Memory),
+        }
+    }
+
+    /// The bytes.
+    pub fn bytes(&self) -> &[u8]
+        ensures bytes { result.now ≡ self.now }
+        ensures name { IsTrue (is_name self.now) }
+    {
+        &self.bytes
+    }
+
+    /// A second name of the same bytes; `Memory` where a growth was refused.
+    pub fn copy(&self) -> Result<Name, MemoryFault>
+        ensures { IfOk result (λ name. name ≡ self.now) }
+    {
+        Ok(Name {
+            bytes: self.bytes.clone()?,
+        })
+    }
+}
+
+impl PartialEq for Name {
+    ghost eq = { bytes_eq };
+
+    ghost laws = { partial_equiv_from_equiv nat_list_eq_equiv };
+
+    fn eq(&self, other: &Name) -> bool {
+        self.bytes.as_slice() == other.bytes.as_slice()
+    }
+}
+
+impl Eq for Name {
+    ghost laws = { nat_list_eq_equiv };
+}
+
+// Names come in the order of their bytes.
+impl PartialOrd for Name {
+    ghost partial_cmp = { λ x y. Some (slice_cmp nat_cmp x y) };
+
+    ghost laws = { texts_po };
+
+    fn partial_cmp(&self, other: &Name) -> Option<Ordering> {
+        Some(self.cmp(other))
+    }
+}
+
+impl Ord for Name {
+    ghost cmp = { slice_cmp nat_cmp };
+
+    ghost total = { nat_list_cmp_total };
+
+    ghost matches_partial_cmp = { Prim.search rules };
+
+    ghost matches_eq = { texts_ties };
+
+    fn cmp(&self, other: &Name) -> Ordering {
+        self.bytes.as_slice().cmp(other.bytes.as_slice())
+    }
+}
+
+// Why these bytes are no name, if they are none.
+fn refusal(bytes: &[u8]) -> Option<NameFault>
+    ensures { result ≡ name_refusal bytes.now }
+{
+    if bytes.is_empty() {
+        Some(NameFault::Empty)
+    } else if bytes.len() > LONGEST {
+        Some(NameFault::TooLong)
+    } else if !is_text(bytes) {
+        Some(NameFault::NotUtf8)
+    } else if is_forbidden(bytes) {
+        Some(NameFault::Forbidden)
+    } else {
+        None
+    }
+}
+
+fn is_text(bytes: &[u8]) -> bool
+    ensures { result ≡ is_utf8 bytes.now }
+{
+    str::from_utf8(bytes).is_ok()
+}
+
+fn is_forbidden(bytes: &[u8]) -> bool
+    ensures { result ≡ is_forbidden_name bytes.now }
+{
+    bytes.contains(&b'/')
+        || bytes.contains(&0)
+        || bytes == b".".as_slice()
+        || bytes == b"..".as_slice()
+}

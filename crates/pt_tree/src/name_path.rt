@@ -1,0 +1,105 @@
+ghost use Rattle.std.specs.Prelude.{◌≡◌, ◌==◌, ◌++◌, [], ◌∷◌, IfOk, IsTrue, OnOk, OnErr, length, slice_get};
+ghost use Rattle.std.specs.Str.{is_utf8};
+ghost use Rattle.std.specs.Cmp.{partial_equiv_from_equiv};
+ghost use Rattle.std.specs.Cmp.Lexicographic.{nat_list_eq_equiv, lists_equiv};
+ghost use Rattle.std.specs.Option.{option_copied};
+ghost use Rattle.pt_tree.specs.Path.{joined, same_path};
+
+use crate::{MemoryFault, Name};
+use std::alloc::Global;
+use std::marker::Model;
+
+/// The names from the top to an entry, seen as their list. The empty path is the top.
+#[derive(Debug, Drop)]
+pub struct NamePath {
+    names: Vec<Name>,
+}
+
+impl Model for NamePath {
+    ghost use Rattle.pt_tree.specs.Path.{Path};
+
+    ghost Value = { Path };
+
+    ghost view = { λ p. p.names.items };
+}
+
+impl NamePath {
+    /// The empty path.
+    pub fn new(alloc: Global) -> NamePath
+        ensures { result ≡ [] }
+    {
+        NamePath {
+            names: Vec::new(alloc),
+        }
+    }
+
+    /// Adds a name at the end. After `Memory` the path is as before.
+    pub fn push(&mut self, name: Name) -> Result<(), MemoryFault>
+        ensures ok { OnOk result (self.new ≡ self.old ++ name ∷ []) }
+        ensures err { OnErr result (self.new ≡ self.old) }
+    {
+        self.names.push(name)?;
+        Ok(())
+    }
+
+    /// How many names it has.
+    pub fn len(&self) -> usize
+        ensures { result ≡ length self.now }
+    {
+        self.names.len()
+    }
+
+    /// Whether it is the top.
+    pub fn is_empty(&self) -> bool
+        ensures { result ≡ (length self.now == 0) }
+    {
+        self.names.is_empty()
+    }
+
+    /// The i-th name, from 0 on; None from the length on.
+    pub fn get(&self, i: usize) -> Option<&Name>
+        ensures { option_copied result ≡ slice_get self.now i }
+    {
+        self.names.get(i)
+    }
+
+    /// The names with `/` between, as a text in UTF-8.
+    pub fn join(&self) -> Result<Vec<u8>, MemoryFault>
+        ensures names { IfOk result (λ text. text.items ≡ joined self.now) }
+        ensures utf8 { IfOk result (λ text. IsTrue (is_utf8 text.items)) }
+    {
+        let mut text = Vec::new(*self.names.allocator());
+        for (i, name) in self.names.iter().enumerate() {
+            if i > 0 {
+                text.push(b'/')?;
+            }
+            text.extend_from_slice(name.bytes())?;
+        }
+        Ok(text)
+    }
+
+    /// A second path of the same names; `Memory` where a growth was refused.
+    pub fn copy(&self) -> Result<NamePath, MemoryFault>
+        ensures { IfOk result (λ path. path ≡ self.now) }
+    {
+        let mut names = Vec::with_capacity(*self.names.allocator(), self.names.len())?;
+        for name in &self.names {
+            names.push(name.copy()?)?;
+        }
+        Ok(NamePath { names })
+    }
+}
+
+impl PartialEq for NamePath {
+    ghost eq = { same_path };
+
+    ghost laws = { partial_equiv_from_equiv (lists_equiv nat_list_eq_equiv) };
+
+    fn eq(&self, other: &NamePath) -> bool {
+        self.names.as_slice() == other.names.as_slice()
+    }
+}
+
+impl Eq for NamePath {
+    ghost laws = { lists_equiv nat_list_eq_equiv };
+}
