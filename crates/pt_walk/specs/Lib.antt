@@ -1,0 +1,3 @@
+pub mod Cause
+pub mod Limits
+pub mod Site

@@ -1,0 +1,10 @@
+//! How a Pairtree is walked: what a site is, the limits of a run, and the trail of listings to where the walk stands.
+#![tactic(auto)]
+
+mod cause;
+mod limits;
+mod site;
+
+pub use cause::Cause;
+pub use limits::{Limits, LimitsFault};
+pub use site::{At, Finding, Form, judge};
