@@ -1,3 +1,5 @@
 pub mod Cause
 pub mod Limits
+pub mod NonShorties
 pub mod Site
+pub mod SiteLaws

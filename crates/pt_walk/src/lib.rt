@@ -1,7 +1,7 @@
-//! How a Pairtree is walked: what a site is, the limits of a run, and the trail of listings to where the walk stands.
 #![tactic(auto)]
 
 mod cause;
+pub mod laws;
 mod limits;
 mod site;
 

@@ -5,9 +5,13 @@ use std::marker::Model;
 use thiserror::Error;
 
 const MOST_FILES: u64 = 1_000_000;
+
 const MOST_PATH_BYTES: u64 = 4_000;
+
 const MOST_DEPTH: u64 = 600;
+
 const MOST_FILE_BYTES: u64 = 1 << 43;
+
 const MOST_TURNS: u64 = 1 << 40;
 
 /// Why numbers are no limits.
@@ -61,7 +65,13 @@ impl Model for Limits {
 impl Limits {
     /// The limits with these numbers, in this order. Refused as `Zero` where one of them is 0, and then as `TooLarge`
     /// where one is above its greatest value.
-    pub fn of(files: u64, path_bytes: u64, depth: u64, file_bytes: u64, turns: u64) -> Result<Limits, LimitsFault>
+    pub fn of(
+        files: u64,
+        path_bytes: u64,
+        depth: u64,
+        file_bytes: u64,
+        turns: u64,
+    ) -> Result<Limits, LimitsFault>
         ensures { result ≡ limits_of (record { files = files; path_bytes = path_bytes; depth = depth; file_bytes = file_bytes; turns = turns }) }
     {
         if files == 0 || path_bytes == 0 || depth == 0 || file_bytes == 0 || turns == 0 {

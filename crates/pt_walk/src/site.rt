@@ -1,7 +1,7 @@
-ghost use Rattle.std.specs.Prelude.{◌≡◌};
+ghost use Rattle.std.specs.Prelude.{◌≡◌, slice_get};
 ghost use Rattle.pt_tree.specs.declared.kind.Kind.TheVariants as kind;
 ghost use Rattle.pt_walk.specs.Site.{divided as divided_finding, found, is_shorty as is_shorty_item, non_shorties, without_object as without_object_finding};
-ghost use Rattle.pt_walk.specs.NonShorties.{summary};
+ghost use Rattle.pt_walk.specs.NonShorties.{non_shorty_kind, one_more, summary};
 
 use crate::Cause;
 use pt_tree::{Kind, Listing, Name};
@@ -62,19 +62,38 @@ enum NonShorties {
     Several,
 }
 
+impl NonShorties {
+    // These and one more.
+    fn and(self, index: usize, kind: Kind) -> NonShorties
+        ensures { result ≡ one_more self index kind }
+    {
+        match self {
+            NonShorties::None => NonShorties::One(index, kind),
+            _ => NonShorties::Several,
+        }
+    }
+}
+
 fn non_shorties_of(listing: &Listing) -> NonShorties
     ensures { result ≡ summary (non_shorties listing.now) }
 {
     let mut found = NonShorties::None;
     for i in 0..listing.len() {
-        if let Some((name, kind)) = listing.get(i) && !is_shorty(name, kind) {
-            found = match found {
-                NonShorties::None => NonShorties::One(i, kind),
-                _ => NonShorties::Several,
-            };
+        if let Some(kind) = non_shorty(listing, i) {
+            found = found.and(i, kind);
         }
     }
     found
+}
+
+// The kind of the i-th entry, where it is no shorty.
+fn non_shorty(listing: &Listing, i: usize) -> Option<Kind>
+    ensures { result ≡ non_shorty_kind (slice_get listing.now i) }
+{
+    match listing.get(i) {
+        Some((name, kind)) if !is_shorty(name, kind) => Some(kind),
+        _ => None,
+    }
 }
 
 fn is_shorty(name: &Name, kind: Kind) -> bool
