@@ -1,1 +1,4 @@
+mod LastFrame
 mod OneMore
+mod OuterNames
+mod Places

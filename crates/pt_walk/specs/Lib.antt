@@ -3,3 +3,4 @@ pub mod Limits
 pub mod NonShorties
 pub mod Site
 pub mod SiteLaws
+pub mod Trail

@@ -1,0 +1,128 @@
+ghost use Rattle.std.specs.Prelude.{◌≡◌, ◌<◌, [], Some, IfOk, IsTrue, OnOk, OnErr, IsSome, length};
+ghost use Rattle.std.specs.Option.{option_copied};
+ghost use Rattle.pt_tree.specs.Listing.{items_lent};
+ghost use Rattle.pt_walk.specs.Trail.{advanced, can_enter, current_entry, entered, entries_held, has_place, innermost_listing, is_trail, parent, sought, trail_path};
+
+use crate::frame::Frame;
+use pt_tree::{Kind, Listing, MemoryFault, Name, NamePath};
+use std::alloc::Global;
+use std::marker::Model;
+
+/// The listings on the way to where a walk stands, each with the place reached in it, from 0 to its length. It is seen
+/// as their list, the innermost first. The place of each but the innermost is at the directory that was entered from
+/// it.
+#[derive(Debug, Drop)]
+pub struct Trail {
+    // The innermost is the last.
+    frames: Vec<Frame>,
+}
+
+impl Model for Trail {
+    ghost use Rattle.std.specs.Prelude.{◌≡◌, List, reverse, true};
+    ghost use Rattle.pt_walk.specs.declared.frame.Frame.{Frame};
+    ghost use Rattle.pt_walk.specs.Trail.{is_trail};
+
+    ghost Value = { List Frame };
+
+    ghost view = { λ t. reverse t.frames.items };
+
+    ghost invariant = { λ t. is_trail (reverse t.frames.items) ≡ true };
+}
+
+impl Trail {
+    /// A trail of no listings.
+    pub fn new(alloc: Global) -> Trail
+        ensures { result ≡ [] }
+    {
+        Trail {
+            frames: Vec::new(alloc),
+        }
+    }
+
+    /// Enters a listing, at its place 0. There is none yet, or the innermost place is at a directory. After `Memory`
+    /// the trail is as before.
+    pub fn enter(&mut self, listing: Listing) -> Result<(), MemoryFault>
+        requires { IsTrue (can_enter self.old) }
+        ensures ok { OnOk result (self.new ≡ entered listing self.old) }
+        ensures err { OnErr result (self.new ≡ self.old) }
+    {
+        self.frames.push(Frame { listing, place: 0 })?;
+        Ok(())
+    }
+
+    /// Moves the innermost place: there is an innermost listing, and the place is one of it or its end.
+    pub fn seek(&mut self, place: usize)
+        requires { IsTrue (has_place place self.old) }
+        ensures { self.new ≡ sought place self.old }
+    {
+        let last = self.frames.len() - 1;
+        self.frames[last].place = place;
+    }
+
+    /// Moves the innermost place to the next entry, or to the end: it is at an entry.
+    pub fn advance(&mut self)
+        requires { IsSome (current_entry self.old) }
+        ensures { self.new ≡ advanced self.old }
+    {
+        let last = self.frames.len() - 1;
+        let frame = &mut self.frames[last];
+        prove!(frame.place < frame.listing.len());
+        frame.place += 1;
+    }
+
+    /// Leaves the innermost listing, of which there is one. The place of the one around it stays at the directory that
+    /// is left.
+    pub fn leave(&mut self)
+        requires { 0 < length self.old }
+        ensures { self.new ≡ parent self.old }
+    {
+        let _ = self.frames.pop();
+    }
+
+    /// The entry at the innermost place; None at the end of the listing, and where there are no listings.
+    pub fn current(&self) -> Option<(&Name, Kind)>
+        ensures { items_lent result ≡ current_entry self.now }
+    {
+        let frame = self.frames.last()?;
+        frame.listing.get(frame.place)
+    }
+
+    /// The innermost listing; None where there are no listings.
+    pub fn innermost(&self) -> Option<&Listing>
+        ensures { option_copied result ≡ innermost_listing self.now }
+    {
+        let frame = self.frames.last()?;
+        Some(&frame.listing)
+    }
+
+    /// How many listings there are.
+    pub fn len(&self) -> usize
+        ensures len { result ≡ length self.now }
+        ensures trail { IsTrue (is_trail self.now) }
+    {
+        self.frames.len()
+    }
+
+    /// The path from the outermost listing to the innermost: the names at the places of all but the innermost.
+    pub fn path(&self) -> Result<NamePath, MemoryFault>
+        ensures { IfOk result (λ path. path ≡ trail_path self.now) }
+    {
+        let mut path = NamePath::new(*self.frames.allocator());
+        let outer = self.frames.len().saturating_sub(1);
+        for frame in &self.frames[..outer] {
+            frame.add_name(&mut path)?;
+        }
+        Ok(path)
+    }
+
+    /// How many entries the listings have together.
+    pub fn records(&self) -> u128
+        ensures { result ≡ entries_held self.now }
+    {
+        let mut total = 0;
+        for frame in &self.frames {
+            total += frame.listing.len() as u128;
+        }
+        total
+    }
+}
