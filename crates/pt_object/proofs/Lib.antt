@@ -1,0 +1,4 @@
+mod Halving
+mod Indexed
+mod Inserting
+mod Noting

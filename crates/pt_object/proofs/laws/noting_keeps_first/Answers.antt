@@ -1,0 +1,5 @@
+use Rattle.pt_object.proofs.Noting as noting
+use Rattle.pt_object.proofs.laws.noting_keeps_first.Goals as goal
+
+pub returns : goal.returns
+returns c = noting.noting_keeps_first

@@ -1,0 +1,7 @@
+pub mod Algorithm
+pub mod Contents
+pub mod Digest
+pub mod Distinct
+pub mod Hasher
+pub mod Index
+pub mod Rows

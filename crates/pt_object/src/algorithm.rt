@@ -1,0 +1,21 @@
+ghost use Rattle.std.specs.Prelude.{◌≡◌};
+ghost use Rattle.pt_object.specs.Algorithm.{algorithm_word};
+
+/// The digest algorithms that an inventory may name (OCFL 1.1, "Digests").
+#[derive(Clone, Copy, Debug, PartialEq, Eq)]
+pub enum Algorithm {
+    Sha512,
+    Sha256,
+}
+
+impl Algorithm {
+    /// Its word in an inventory and in a sidecar's name: `sha512` or `sha256`.
+    pub fn word(self) -> &'static str
+        ensures { result.now ≡ algorithm_word self }
+    {
+        match self {
+            Algorithm::Sha512 => "sha512",
+            Algorithm::Sha256 => "sha256",
+        }
+    }
+}

@@ -1,0 +1,127 @@
+ghost use Rattle.std.specs.Prelude.{◌≡◌, ◌==◌, ◌<◌, [], false, IfOk, IsTrue, OnOk, OnErr, length, not, slice_get};
+ghost use Rattle.std.specs.Option.{option_copied};
+ghost use Rattle.pt_object.specs.Contents.{DigestsDiffer, first_path, is_noted, noted};
+ghost use Rattle.pt_object.specs.Index.{IsWithinBinaryDigits};
+
+use crate::Digest;
+use crate::index::search;
+use pt_tree::{MemoryFault, NamePath};
+use std::alloc::Global;
+use std::marker::Model;
+
+/// A digest, with the path of the first file that has it.
+#[derive(Debug, Drop)]
+pub struct Content {
+    pub digest: Digest,
+    pub path: NamePath,
+}
+
+/// The distinct contents of an object, seen as their list in the order in which they were noted.
+#[derive(Debug, Drop)]
+pub struct Contents {
+    items: Vec<Content>,
+    // The positions of the items, in the order of their digests.
+    index: Vec<usize>,
+}
+
+impl Model for Contents {
+    ghost use Rattle.std.specs.Prelude.{List};
+    ghost use Rattle.pt_object.specs.declared.contents.Content.{Content};
+    ghost use Rattle.pt_object.specs.Index.{IsIndex};
+
+    ghost Value = { List Content };
+
+    ghost view = { λ c. c.items.items };
+
+    ghost invariant = { λ c. IsIndex c.items.items c.index.items };
+}
+
+impl Contents {
+    /// No contents. It takes no memory.
+    pub fn new(alloc: Global) -> Contents
+        ensures { result ≡ [] }
+    {
+        Contents {
+            items: Vec::new(alloc),
+            index: Vec::new(alloc),
+        }
+    }
+
+    /// Notes a file: true where its digest is new, which is then added at the end with a copy of the path; false
+    /// where an item has the digest already. After `Memory`, which only a new digest can meet, all is as before.
+    pub fn note(&mut self, digest: &Digest, path: &NamePath) -> Result<bool, MemoryFault>
+        ensures answer { IfOk result (λ is_new. is_new ≡ not (is_noted self.old digest.now)) }
+        ensures ok { OnOk result (self.new ≡ noted self.old digest.now path.now) }
+        ensures known { IsTrue (is_noted self.old digest.now) → result ≡ Ok false }
+        ensures err { OnErr result (self.new ≡ self.old) }
+    {
+        let place = match search(&self.items, &self.index, digest).found {
+            Ok(_) => return Ok(false),
+            Err(place) => place,
+        };
+        let path = path.copy()?;
+        self.items.reserve(1)?;
+        self.index.reserve(1)?;
+        let position = self.items.len();
+        self.items
+            .push(Content {
+                digest: *digest,
+                path,
+            })
+            .unwrap();
+        self.index.insert(place, position).unwrap();
+        Ok(true)
+    }
+
+    /// The path of the first file that was noted with the digest. It takes no memory.
+    pub fn first(&self, digest: &Digest) -> Option<&NamePath>
+        ensures { option_copied result ≡ first_path self.now digest.now }
+    {
+        self.first_counted(digest).0
+    }
+
+    /// What `first` gives, and how many digests were compared for it: at most as many as the number of items has
+    /// binary digits, and none only where there are no items.
+    pub fn first_counted(&self, digest: &Digest) -> (Option<&NamePath>, u32)
+        ensures path { option_copied result.0 ≡ first_path self.now digest.now }
+        ensures few { IsWithinBinaryDigits result.1 (length self.now) }
+        ensures some { 0 < length self.now → 0 < result.1 }
+    {
+        let searched = search(&self.items, &self.index, digest);
+        let path = match searched.found {
+            Ok(position) => Some(&self.items[position].path),
+            Err(_) => None,
+        };
+        (path, searched.comparisons)
+    }
+
+    /// Takes all contents away. It takes no memory.
+    pub fn clear(&mut self)
+        ensures { self.new ≡ [] }
+    {
+        self.items.clear();
+        self.index.clear();
+    }
+
+    /// How many there are. No two have one digest.
+    pub fn len(&self) -> usize
+        ensures len { result ≡ length self.now }
+        ensures differ { DigestsDiffer self.now }
+    {
+        self.items.len()
+    }
+
+    /// Whether there are none.
+    pub fn is_empty(&self) -> bool
+        ensures { result ≡ (length self.now == 0) }
+    {
+        self.items.is_empty()
+    }
+
+    /// The i-th, from 0 on; None from the length on.
+    pub fn get(&self, i: usize) -> Option<&Content>
+        ensures { option_copied result ≡ slice_get self.now i }
+    {
+        self.items.get(i)
+    }
+}

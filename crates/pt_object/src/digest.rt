@@ -1,0 +1,116 @@
+ghost use Rattle.std.specs.Prelude.{◌≡◌, ◌⊎◌, IfOk, Some, length};
+ghost use Rattle.std.specs.Str.{bytes_eq};
+ghost use Rattle.std.specs.String.{string_bytes};
+ghost use Rattle.std.specs.Cmp.{partial_equiv_from_equiv};
+ghost use Rattle.std.specs.Cmp.Lexicographic.{nat_list_eq_equiv, nat_list_cmp_total, texts_ties, texts_po};
+ghost use Rattle.std.proofs.Common.{rules};
+ghost use Rattle.hex.specs.Hex.{encode_lower};
+ghost use Rattle.pt_object.specs.Digest.{digest_cmp};
+
+use pt_tree::MemoryFault;
+use std::alloc::Global;
+use std::cmp::Ordering;
+use std::marker::Model;
+
+// The bytes of a digest, by their number.
+#[derive(Clone, Copy, Debug)]
+enum Bytes {
+    Short([u8; 32]),
+    Long([u8; 64]),
+}
+
+/// A digest, seen as its bytes: 32 of SHA-256 or 64 of SHA-512. Digests come in the order of their bytes.
+#[derive(Clone, Copy, Debug)]
+pub struct Digest {
+    bytes: Bytes,
+}
+
+impl Model for Digest {
+    ghost use Rattle.std.specs.Prelude.{◌≡◌, List, ℕ, length};
+    ghost use Rattle.std.proofs.Common.{ap};
+    ghost use Rattle.pt_object.specs.Digest.{bytes_of, size_of, with_bytes, with_bytes-bytes_of};
+
+    ghost Value = { List ℕ };
+
+    ghost view = { λ d. bytes_of d.bytes };
+
+    ghost invariant = { λ d. length (bytes_of d.bytes) ≡ size_of d.bytes };
+
+    ghost inverse = { λ bytes. record { bytes = with_bytes bytes } };
+
+    ghost inverse_ok = { λ d h. ap (λ b. record { bytes = b }) (with_bytes-bytes_of d.bytes h) };
+}
+
+impl Digest {
+    pub(crate) fn short(bytes: [u8; 32]) -> Digest
+        ensures { result ≡ bytes }
+    {
+        Digest {
+            bytes: Bytes::Short(bytes),
+        }
+    }
+
+    pub(crate) fn long(bytes: [u8; 64]) -> Digest
+        ensures { result ≡ bytes }
+    {
+        Digest {
+            bytes: Bytes::Long(bytes),
+        }
+    }
+
+    /// The bytes.
+    pub fn bytes(&self) -> &[u8]
+        ensures bytes { result.now ≡ self.now }
+        ensures size { (length self.now ≡ 32) ⊎ (length self.now ≡ 64) }
+    {
+        match &self.bytes {
+            Bytes::Short(bytes) => bytes,
+            Bytes::Long(bytes) => bytes,
+        }
+    }
+
+    /// The bytes in lower-case hex, as an inventory has them; `Memory` where a growth was refused.
+    pub fn hex(&self, alloc: Global) -> Result<String, MemoryFault>
+        ensures { IfOk result (λ text. string_bytes text ≡ encode_lower self.now) }
+    {
+        Ok(hex::encode(alloc, self.bytes())?)
+    }
+}
+
+impl PartialEq for Digest {
+    ghost eq = { bytes_eq };
+
+    ghost laws = { partial_equiv_from_equiv nat_list_eq_equiv };
+
+    fn eq(&self, other: &Digest) -> bool {
+        self.bytes() == other.bytes()
+    }
+}
+
+impl Eq for Digest {
+    ghost laws = { nat_list_eq_equiv };
+}
+
+impl PartialOrd for Digest {
+    ghost partial_cmp = { λ x y. Some (digest_cmp x y) };
+
+    ghost laws = { texts_po };
+
+    fn partial_cmp(&self, other: &Digest) -> Option<Ordering> {
+        Some(self.cmp(other))
+    }
+}
+
+impl Ord for Digest {
+    ghost cmp = { digest_cmp };
+
+    ghost total = { nat_list_cmp_total };
+
+    ghost matches_partial_cmp = { Prim.search rules };
+
+    ghost matches_eq = { texts_ties };
+
+    fn cmp(&self, other: &Digest) -> Ordering {
+        self.bytes().cmp(other.bytes())
+    }
+}

@@ -1,0 +1,57 @@
+#![tactic(auto, unfolding(crate::specs::Hasher::HasBeenFed))]
+
+ghost use Rattle.std.specs.Prelude.{◌≡◌, [], ◌++◌, List, ℕ};
+ghost use Rattle.pt_object.specs.Algorithm.{digest_of};
+ghost use Rattle.pt_object.specs.declared.algorithm.Algorithm.{Algorithm};
+
+use crate::{Algorithm, Digest};
+use pt_tree::Block;
+use sha2::{Digest as _, Sha256, Sha512};
+
+#[derive(Drop)]
+enum Core {
+    Sha512(Sha512),
+    Sha256(Sha256),
+}
+
+/// The digest of what is fed to it, block by block. It takes no memory.
+#[derive(Drop)]
+pub struct Hasher {
+    core: Core,
+}
+
+impl Hasher {
+    ghost use Rattle.pt_object.specs.Hasher.{HasBeenFed};
+
+    /// A hasher that has been fed nothing.
+    pub fn start(algorithm: Algorithm) -> Hasher
+        ensures { HasBeenFed algorithm result [] }
+    {
+        let core = match algorithm {
+            Algorithm::Sha512 => Core::Sha512(Sha512::new()),
+            Algorithm::Sha256 => Core::Sha256(Sha256::new()),
+        };
+        Hasher { core }
+    }
+
+    /// Feeds the bytes of a block, of any number, to it.
+    pub fn feed(&mut self, block: &Block)
+        ensures { (algorithm : Algorithm) (fed : List ℕ) →
+            HasBeenFed algorithm self.old fed → HasBeenFed algorithm self.new (fed ++ block.now.items) }
+    {
+        match &mut self.core {
+            Core::Sha512(core) => core.update(block.as_slice()),
+            Core::Sha256(core) => core.update(block.as_slice()),
+        }
+    }
+
+    /// The digest of all that it has been fed.
+    pub fn end(self) -> Digest
+        ensures { (algorithm : Algorithm) (fed : List ℕ) → HasBeenFed algorithm self fed → result ≡ digest_of algorithm fed }
+    {
+        match self.core {
+            Core::Sha512(core) => Digest::long(core.finalize()),
+            Core::Sha256(core) => Digest::short(core.finalize()),
+        }
+    }
+}

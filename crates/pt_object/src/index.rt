@@ -1,0 +1,57 @@
+// The search for a digest in the index of a list of contents.
+ghost use Rattle.std.specs.Prelude.{◌≡◌, ◌+◌, ◌^◌, ◌<◌, MatchResult, is_ok, length};
+ghost use Rattle.pt_object.specs.Digest.{digest_cmp};
+ghost use Rattle.pt_object.specs.Contents.{is_noted};
+ghost use Rattle.pt_object.specs.Index.{IsAt, IsIndex, IsPlaceOf, IsWithinBinaryDigits};
+
+use crate::{Content, Digest};
+use std::cmp::Ordering;
+
+// Where a digest is: the position of its item, or the place in the index where it belongs; and how many digests
+// were compared to find that.
+#[derive(Drop)]
+pub(crate) struct Searched {
+    pub(crate) found: Result<usize, usize>,
+    pub(crate) comparisons: u32,
+}
+
+// The one search: it halves the part of the index in which the digest can be, with the middle taken out.
+pub(crate) fn search(items: &[Content], index: &[usize], digest: &Digest) -> Searched
+    requires { IsIndex items.now index.now }
+    ensures known { is_ok result.found ≡ is_noted items.now digest.now }
+    ensures found { MatchResult result.found (IsAt items.now digest.now) (IsPlaceOf items.now index.now digest.now) }
+    ensures few { IsWithinBinaryDigits result.comparisons (length items.now) }
+    ensures some { 0 < length items.now → 0 < result.comparisons }
+{
+    let mut comparisons = 0;
+    let mut low = 0;
+    let mut high = index.len();
+    'halving: while low < high {
+        let middle = low + (high - low) / 2;
+        let position = index[middle];
+        match compare(&items[position].digest, digest, &mut comparisons) {
+            Ordering::Less => low = middle + 1,
+            Ordering::Equal => {
+                return Searched {
+                    found: Ok(position),
+                    comparisons,
+                };
+            }
+            Ordering::Greater => high = middle,
+        }
+    }
+    Searched {
+        found: Err(low),
+        comparisons,
+    }
+}
+
+// The one comparison of two digests, which it counts.
+fn compare(a: &Digest, b: &Digest, comparisons: &mut u32) -> Ordering
+    requires { comparisons.old + 1 < 2 ^ 32 }
+    ensures order { result ≡ digest_cmp a.now b.now }
+    ensures counted { comparisons.new ≡ comparisons.old + 1 }
+{
+    *comparisons += 1;
+    a.cmp(b)
+}
