@@ -1,0 +1,36 @@
+# The targets of pairtree2ocfl. `make help` lists them.
+
+RT ?= rt
+PYTHON ?= python3
+PREFIX ?= /usr/local
+
+PROGRAM := bin/pairtree2ocfl
+BUILT := crates/pairtree2ocfl/out/pairtree2ocfl
+
+.DEFAULT_GOAL := build
+.PHONY: help build demo test install clean toolchain
+
+help: ## list the targets
+	@sed -n 's/^\([a-z]*\):.*## \(.*\)/make \1\t\2/p' $(MAKEFILE_LIST)
+
+build: toolchain ## prove and build the program, at bin/pairtree2ocfl (the default)
+	cd crates/pairtree2ocfl && $(RT) run -- --help > /dev/null
+	@mkdir -p bin
+	@cp $(BUILT) $(PROGRAM).new && mv $(PROGRAM).new $(PROGRAM)
+
+demo: build ## build the program and run it on the input in demo/
+	@sh demo/run $(PROGRAM)
+
+test: build ## every test: the toolchain's gate, then the built program's tests
+	@$(PYTHON) tests/all.py $(RT) $(PROGRAM)
+
+install: ## copy the program to PREFIX/bin (PREFIX is /usr/local unless given)
+	@test -x $(PROGRAM) || { echo "pairtree2ocfl: run make first, which builds $(PROGRAM)" >&2; exit 1; }
+	mkdir -p $(DESTDIR)$(PREFIX)/bin
+	cp $(PROGRAM) $(DESTDIR)$(PREFIX)/bin/pairtree2ocfl
+
+clean: ## remove what was built and what the checks keep
+	rm -rf bin crates/*/out
+
+toolchain:
+	@command -v $(RT) > /dev/null || { echo "pairtree2ocfl: the Rattle toolchain is missing: no command '$(RT)' on the PATH (make RT=/path/to/rt names it)" >&2; exit 1; }

@@ -1,0 +1,12 @@
+use Rattle.std.proofs.Common.{rules, ◌≡◌, ◌∙◌, ap, ap₂, codes, true}
+use Rattle.std.proofs.lemmas.Result.{IfOk-weaker}
+use Rattle.clap.specs.Words.{App, app_of, new_app, with_subcommand}
+use Rattle.clap.specs.Simple.{on_top}
+use Rattle.pt_cli.specs.Grammar.{names_app}
+use Rattle.pt_cli.proofs.grammar.parser.Goals as goal
+
+pub returns : goal.returns
+returns c =
+    let top_is : app_of c.subcommand_required-top.result ≡ on_top (λ s. record s { subcommand_required = true }) (new_app (codes "pairtree2ocfl")) = search rules in
+    let names_is : app_of c.in_ok-names_parser.field-0 ≡ names_app = search rules in
+    IfOk-weaker c.subcommand.result _ _ (λ r adds. adds.shape (search rules) ∙ ap₂ with_subcommand top_is (ap (λ (a : App). a.top) names_is)) c.subcommand.ensures

@@ -1,0 +1,4 @@
+pub mod Grammar
+pub mod Names
+pub mod Output
+pub mod Words

@@ -1,0 +1,19 @@
+//! The program `pairtree2ocfl`: its words, its commands and its statuses.
+#![tactic(auto)]
+
+mod command;
+mod grammar;
+mod names;
+mod output;
+mod program;
+mod text;
+mod words;
+
+pub use command::Command;
+pub use names::{NamesFault, names_to};
+pub use program::run;
+pub use text::Text;
+pub use words::{WordsFault, read_words};
+
+#[cfg(test)]
+mod tests;

@@ -1,0 +1,78 @@
+ghost use Rattle.std.specs.Prelude.{◌≡◌, ◌↔◌, [], IfOk, IfErr, OnOk, length, ◌<◌, IsErrOf};
+ghost use Rattle.std.specs.Io.KnownBytes.{Appends};
+ghost use Rattle.pt_cli.specs.Names.{names_text, names_number, LeavesWritten};
+
+use crate::output::put;
+use pt_name::{Layout, pairpath};
+use pt_tree::MemoryFault;
+use std::alloc::Global;
+use std::io::Write;
+use thiserror::Error;
+
+/// Why the names of an identifier weren't written whole.
+#[derive(Clone, Copy, Debug, PartialEq, Eq, Error)]
+pub enum NamesFault {
+    /// The identifier is empty. Nothing was written.
+    #[error("the identifier is empty")]
+    Empty,
+    /// The output failed. A front of the two lines may have been written.
+    #[error("cannot write the output")]
+    Write,
+    /// A growth was refused. Nothing was written.
+    #[error("out of memory")]
+    Memory,
+}
+
+impl NamesFault {
+    /// The fault's number: 1 `Empty`, 2 `Write`, 3 `Memory`.
+    pub fn number(&self) -> u8
+        ensures { result ≡ names_number self.now }
+    {
+        match self {
+            NamesFault::Empty => 1,
+            NamesFault::Write => 2,
+            NamesFault::Memory => 3,
+        }
+    }
+}
+
+impl From<MemoryFault> for NamesFault {
+    ghost use Rattle.std.specs.Prelude.{◌≡◌};
+    ghost use Rattle.pt_cli.specs.declared.names.NamesFault.TheVariants.{Memory};
+
+    ghost from_gives = { λ _ e. e ≡ Memory };
+
+    fn from(_: MemoryFault) -> Self {
+        NamesFault::Memory
+    }
+}
+
+/// Writes the pairpath of an identifier by Pairtree 0.1, LF, its place in the default layout of extension
+/// 0003-hash-and-id-n-tuple-storage-layout, LF; then flushes.
+///
+/// `Empty` for the empty identifier, which is tested first. `Memory` where a growth was refused, before anything is
+/// written. `Write` where the output answers an error, or takes nothing of a piece that isn't empty: a front of the
+/// two lines was written then. After the other refusals nothing was.
+pub fn names_to<W: Write>(alloc: Global, id: &str, out: &mut W) -> Result<(), NamesFault>
+    ensures empty { IsErrOf result NamesFault.Empty ↔ (id.now ≡ []) }
+    ensures ok { OnOk result (Appends (W.contents out.old) (W.contents out.new) (names_text id.now)) }
+    ensures err { IfErr result (λ fault. LeavesWritten fault (W.contents out.old) (W.contents out.new) (names_text id.now)) }
+{
+    if id.is_empty() {
+        return Err(NamesFault::Empty);
+    }
+    let text = two_lines(alloc, id.as_bytes())?;
+    put(out, &text)
+}
+
+// The two lines of an identifier that isn't empty.
+fn two_lines(alloc: Global, id: &[u8]) -> Result<Vec<u8>, MemoryFault>
+    requires { 0 < length id.now }
+    ensures { IfOk result (λ text. text.items ≡ names_text id.now) }
+{
+    let mut text = pairpath(alloc, id)?;
+    text.push(b'\n')?;
+    text.extend_from_slice(&Layout::default_form().place_text(alloc, id)?)?;
+    text.push(b'\n')?;
+    Ok(text)
+}

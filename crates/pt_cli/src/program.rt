@@ -1,0 +1,63 @@
+use crate::{Command, NamesFault, WordsFault, names_to, read_words};
+use std::env::Env;
+use std::process::ExitCode;
+use std::{env, io};
+
+const DONE: u8 = 0;
+
+const REFUSED: u8 = 2;
+
+const FAILED: u8 = 3;
+
+/// Runs the program on the words that it was started with, and gives its exit status: 0 done or help was asked for,
+/// 2 the words were refused, 3 an output failed or memory is wanting.
+pub fn run<R: Print + Eprint + Env + AllocGlobal>(rt: &R) -> ExitCode {
+    let status = match words(rt) {
+        Ok(words) => answer(rt, words.as_slice()),
+        Err(error) if error.kind() == io::ErrorKind::OutOfMemory => failed(rt, NamesFault::Memory),
+        Err(_) => refused(rt, "the arguments are not text"),
+    };
+    ExitCode::from(status)
+}
+
+fn words<R: Env + AllocGlobal>(rt: &R) -> io::Result<Vec<String>> {
+    Ok(env::args(rt)?.collect(rt.alloc())?)
+}
+
+// Does what the words ask for, and says how it went.
+fn answer<R: Print + Eprint + AllocGlobal>(rt: &R, words: &[String]) -> u8 {
+    match read_words(rt.alloc(), words) {
+        Ok(Command::Names(id)) => names(rt, id.as_str()),
+        Err(WordsFault::Help(text)) => match print!(rt; "{text}") {
+            Ok(()) => DONE,
+            Err(_) => failed(rt, NamesFault::Write),
+        },
+        Err(WordsFault::Words(text)) => {
+            let _ = eprint!(rt; "{text}");
+            REFUSED
+        }
+        Err(WordsFault::EmptyId) => refused(rt, "the identifier is empty"),
+        Err(WordsFault::Memory) => failed(rt, NamesFault::Memory),
+    }
+}
+
+fn names<R: Print + Eprint + AllocGlobal>(rt: &R, id: &str) -> u8 {
+    match names_to(rt.alloc(), id, &mut io::writer(rt)) {
+        Ok(()) => DONE,
+        Err(NamesFault::Empty) => refused(rt, "the identifier is empty"),
+        Err(fault) => failed(rt, fault),
+    }
+}
+
+// Says why the words were refused.
+fn refused(rt: &impl Eprint, reason: &str) -> u8 {
+    let _ = eprintln!(rt; "pairtree2ocfl: {reason}");
+    REFUSED
+}
+
+// Says which fault ended the program: 3 an output that fails, 4 want of memory.
+fn failed(rt: &impl Eprint, fault: NamesFault) -> u8 {
+    let number = if fault == NamesFault::Memory { 4 } else { 3 };
+    let _ = eprintln!(rt; "pairtree2ocfl: fault {number}: {fault}");
+    FAILED
+}

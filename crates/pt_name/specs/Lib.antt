@@ -1,0 +1,5 @@
+pub mod Hex
+pub mod Clean
+pub mod Tuples
+pub mod Layout
+pub mod Place

@@ -1,0 +1,15 @@
+//! The names of Pairtree 0.1 and of OCFL places: an identifier cleaned and cut into a pairpath, and its place in a
+//! storage root by extension 0003-hash-and-id-n-tuple-storage-layout.
+#![tactic(auto)]
+
+mod cleaning;
+mod encoding;
+mod hex_pair;
+mod layout;
+
+pub use cleaning::{clean, pairpath};
+pub use encoding::{encoded, last_name};
+pub use layout::{Layout, LayoutFault};
+
+#[cfg(test)]
+mod tests;

@@ -1,0 +1,149 @@
+"""The built program's tests: the status and both streams of each case.
+
+Usage: program.py PROGRAM. The last line is 'N passed, M failed'.
+"""
+
+import hashlib
+import os
+import subprocess
+import sys
+
+
+class Case:
+    """Arguments, and what the program must answer. A stream is given whole, or as a function that judges it."""
+
+    def __init__(self, name, args, status, out=b"", err=b"", stdout_file=None):
+        self.name = name
+        self.args = args
+        self.status = status
+        self.out = out
+        self.err = err
+        self.stdout_file = stdout_file
+
+    def faults(self, program):
+        """What the program does that it should not."""
+        with open(self.stdout_file or os.devnull, "wb") as stdout_file:
+            done = subprocess.run(
+                [program, *self.args],
+                stdin=subprocess.DEVNULL,
+                stdout=stdout_file if self.stdout_file else subprocess.PIPE,
+                stderr=subprocess.PIPE,
+                timeout=60,
+            )
+        if done.returncode != self.status:
+            yield f"the status is {done.returncode}, not {self.status}"
+        streams = (("standard output", done.stdout or b"", self.out), ("standard error", done.stderr, self.err))
+        for stream, found, wanted in streams:
+            if not (wanted(found) if callable(wanted) else found == wanted):
+                yield f"{stream} is {found!r}" + ("" if callable(wanted) else f", not {wanted!r}")
+
+
+def names(identifier, pairpath, place):
+    """The case of `names`, with its two lines."""
+    return Case(f"names {identifier[:40]!r}", ["names", identifier], 0, f"{pairpath}\n{place}\n".encode())
+
+
+def tuples(identifier):
+    """The three tuples of three digits that stand before the last name."""
+    digits = hashlib.sha256(identifier).hexdigest()
+    return "/".join((digits[0:3], digits[3:6], digits[6:9]))
+
+
+def in_pairs(text):
+    """A text in pieces of two with `/` between."""
+    return "/".join(text[i : i + 2] for i in range(0, len(text), 2))
+
+
+def is_help(text):
+    """The parser's help, which tells how the program is used and lists its commands."""
+    return b"Usage: pairtree2ocfl" in text and b"names" in text
+
+
+def is_refusal(text):
+    """The parser's refusal: what is wrong, and how the program is used."""
+    return text.startswith(b"error: ") and b"Usage: pairtree2ocfl" in text
+
+
+def long_cases():
+    """Last names at the limit of 100 characters, and beyond."""
+    hundred = "a" * 100
+    yield names(hundred, in_pairs(hundred), f"{tuples(hundred.encode())}/{hundred}")
+    longer = "a" * 101
+    digits = hashlib.sha256(longer.encode()).hexdigest()
+    yield names(longer, in_pairs(longer), f"{tuples(longer.encode())}/{hundred}-{digits}")
+    slashes = "/" * 33 + "a"
+    yield names(slashes, in_pairs("=" * 33 + "a"), f"{tuples(slashes.encode())}/{'%2f' * 33}a")
+    more = "/" * 34
+    digits = hashlib.sha256(more.encode()).hexdigest()
+    yield names(more, in_pairs("=" * 34), f"{tuples(more.encode())}/{'%2f' * 33}%-{digits}")
+
+
+CASES = [
+    names("abc", "ab/c", "ba7/816/bf8/abc"),
+    names("ark:/13030/xt12t3", "ar/k+/=1/30/30/=x/t1/2t/3", "4b8/4fe/385/ark%3a%2f13030%2fxt12t3"),
+    names("..hor/rib:le-$id", ",,/ho/r=/ri/b+/le/-$/id", "487/326/d8c/%2e%2ehor%2frib%3ale-%24id"),
+    names("object-01", "ob/je/ct/-0/1", "3c0/ff4/240/object-01"),
+    names(
+        "what-the-*@?#!^!?",
+        "wh/at/-t/he/-^/2a/@^/3f/#!/^5/e!/^3/f",
+        "fd1/d8a/b04/what-the-%2a%40%3f%23%21%5e%21%3f",
+    ),
+    names(
+        "http://n2t.info/urn:nbn:se:kb:repos-1",
+        in_pairs("http+==n2t,info=urn+nbn+se+kb+repos-1"),
+        tuples(b"http://n2t.info/urn:nbn:se:kb:repos-1")
+        + "/http%3a%2f%2fn2t%2einfo%2furn%3anbn%3ase%3akb%3arepos-1",
+    ),
+    names("\u00e9", "^c/3^/a9", tuples(b"\xc3\xa9") + "/%c3%a9"),
+    names("a\\ b", "a^/5c/^2/0b", tuples(b"a\\ b") + "/a%5c%20b"),
+    *long_cases(),
+    Case("help on standard output", ["--help"], 0, is_help),
+    Case("help on one command", ["names", "--help"], 0, is_help),
+    Case("the empty identifier", ["names", ""], 2, b"", b"pairtree2ocfl: the identifier is empty\n"),
+    Case("no words at all", [], 2, b"", is_refusal),
+    Case("names without an identifier", ["names"], 2, b"", is_refusal),
+    Case("two identifiers", ["names", "a", "b"], 2, b"", is_refusal),
+    Case("a command that there isn't", ["carry"], 2, b"", is_refusal),
+    Case("no version is told", ["--version"], 2, b"", is_refusal),
+    Case(
+        "arguments that are not UTF-8",
+        ["names", b"\xff"],
+        2,
+        b"",
+        b"pairtree2ocfl: the arguments are not text\n",
+    ),
+    Case(
+        "an output that is full",
+        ["names", "abc"],
+        3,
+        b"",
+        b"pairtree2ocfl: fault 3: cannot write the output\n",
+        "/dev/full",
+    ),
+    Case(
+        "help to an output that is full",
+        ["--help"],
+        3,
+        b"",
+        b"pairtree2ocfl: fault 3: cannot write the output\n",
+        "/dev/full",
+    ),
+]
+
+
+def run_cases(program):
+    """Runs each case, says what is wrong, and gives how many passed and failed."""
+    passed = failed = 0
+    for case in CASES:
+        faults = list(case.faults(os.path.abspath(program)))
+        for fault in faults:
+            print(f"{case.name}: {fault}")
+        print(f"program {case.name} ... {'FAILED' if faults else 'ok'}")
+        passed, failed = passed + (not faults), failed + bool(faults)
+    return passed, failed
+
+
+if __name__ == "__main__":
+    PASSED, FAILED = run_cases(sys.argv[1])
+    print(f"{PASSED} passed, {FAILED} failed")
+    sys.exit(1 if FAILED else 0)
