@@ -1,4 +1,7 @@
+mod Ahead
 mod LastFrame
 mod OneMore
 mod OuterNames
+mod Paths
 mod Places
+mod Standing

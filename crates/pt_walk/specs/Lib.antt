@@ -1,6 +1,9 @@
 pub mod Cause
+pub mod Left
 pub mod Limits
 pub mod NonShorties
+pub mod Object
 pub mod Site
 pub mod SiteLaws
+pub mod Sites
 pub mod Trail

@@ -12,3 +12,6 @@ pub use cause::Cause;
 pub use limits::{Limits, LimitsFault};
 pub use site::{At, Finding, Form, judge};
 pub use trail::Trail;
+
+#[cfg(test)]
+mod tests;

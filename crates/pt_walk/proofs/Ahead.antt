@@ -1,0 +1,55 @@
+-- The entry at the innermost place of a trail through a tree.
+use Rattle.std.proofs.Common.{◌≡◌, ℕ, List, [], ◌∷◌, ◌++◌, ◌+◌, ◌≤◌, length, true, false, refl, ◌∙◌, ap, sym, subst, add-one, suc, zero}
+use Rattle.std.specs.Prelude.{Bool, cond, Option, None, Some, slice_get, option_to_list, unwrap_or}
+use Rattle.std.specs.Option.{option_map}
+use Rattle.pt_tree.specs.declared.kind.Kind.{Kind}
+use Rattle.pt_tree.specs.Listing.{Item}
+use Rattle.pt_tree.specs.Path.{Path}
+use Rattle.pt_tree.specs.Forest.{Forest, none, file, other, dir, Node, File, Dir, Other, dir_at, is_proper, kind_of, listing_at, listing_of, node_at}
+use Rattle.pt_walk.specs.declared.frame.Frame.{Frame}
+use Rattle.pt_walk.specs.Left.{entries_from, inside_at}
+use Rattle.pt_walk.specs.Trail.{entry_at, name_at, names_to}
+use Rattle.pt_walk.proofs.Paths.{DirAt, dir_listed, node_below, proper_at}
+use Rattle.pt_walk.proofs.Standing.{Standing, standing, with_entry}
+
+-- what is known of the entry: its node, with which the rest of its directory begins, and which stands at its path
+pub record Ahead (top : Forest) (path : Path) (place : ℕ) (item : Item) : Type 0 where
+  pub node : Node
+  pub kind_is : kind_of node ≡ item.1
+  pub rest_is : entries_from place (inside_at top path) ≡ with_entry item.0 node (entries_from (place + 1) (inside_at top path))
+  pub node_is : node_at (Dir top) (path ++ item.0 ∷ []) ≡ Some node
+
+pub ahead : (top : Forest) (path : Path) (items : List Item) (place : ℕ) (item : Item) → is_proper top ≡ true → listing_at top path ≡ Some items → slice_get items place ≡ Some item → Ahead top path place item
+ahead top path items place item proper listed e =
+    let at = dir_listed top path items listed in
+    let here : inside_at top path ≡ at.inside = ap (λ o. unwrap_or o none) at.dir_is in
+    let it = standing at.inside place item (proper_at top path at.inside proper at.node_is) (ap (λ l. slice_get l place) at.items_are ∙ e) in
+    let rest : entries_from place at.inside ≡ with_entry item.0 it.node (entries_from (place + 1) at.inside) =
+    it.rest_is ∙ ap (λ k. with_entry item.0 it.node (entries_from k at.inside)) (sym (add-one place)) in
+    record {
+      node = it.node;
+      kind_is = it.kind_is;
+      rest_is = subst (λ (d : Forest). entries_from place d ≡ with_entry item.0 it.node (entries_from (place + 1) d)) (sym here) rest;
+      node_is = node_below top path item.0 at.inside at.node_is ∙ it.found_is;
+    }
+
+nothing_from : (f : Forest) (place : ℕ) → slice_get (listing_of f) place ≡ None → entries_from place f ≡ none
+nothing_from none zero e = refl
+nothing_from none (suc i) e = refl
+nothing_from (file n b f) zero e = absurd (cc)
+nothing_from (other n f) zero e = absurd (cc)
+nothing_from (dir n d f) zero e = absurd (cc)
+nothing_from (file n b f) (suc i) e = nothing_from f i e
+nothing_from (other n f) (suc i) e = nothing_from f i e
+nothing_from (dir n d f) (suc i) e = nothing_from f i e
+
+-- at the end nothing is left of the directory
+pub nothing_ahead : (top : Forest) (path : Path) (items : List Item) (place : ℕ) → listing_at top path ≡ Some items → slice_get items place ≡ None → entries_from place (inside_at top path) ≡ none
+nothing_ahead top path items place listed e =
+    let at = dir_listed top path items listed in
+    let here : inside_at top path ≡ at.inside = ap (λ o. unwrap_or o none) at.dir_is in
+    ap (entries_from place) here ∙ nothing_from at.inside place (ap (λ l. slice_get l place) at.items_are ∙ e)
+
+-- the path of a directory that is entered
+pub names_to-entry : (frame : Frame) (frames : List Frame) (item : Item) → entry_at frame ≡ Some item → names_to (frame ∷ frames) ≡ names_to frames ++ item.0 ∷ []
+names_to-entry frame frames item e = ap (λ o. names_to frames ++ option_to_list (option_map (λ (x : Item). x.0) o)) e
