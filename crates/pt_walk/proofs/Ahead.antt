@@ -1,16 +1,16 @@
 -- The entry at the innermost place of a trail through a tree.
-use Rattle.std.proofs.Common.{◌≡◌, ℕ, List, [], ◌∷◌, ◌++◌, ◌+◌, ◌≤◌, length, true, false, refl, ◌∙◌, ap, sym, subst, add-one, suc, zero}
-use Rattle.std.specs.Prelude.{Bool, cond, Option, None, Some, slice_get, option_to_list, unwrap_or}
-use Rattle.std.specs.Option.{option_map}
-use Rattle.pt_tree.specs.declared.kind.Kind.{Kind}
+use Rattle.std.proofs.Common.{◌≡◌, ℕ, List, [], ◌∷◌, ◌++◌, ◌+◌, true, refl, ◌∙◌, ap, sym, subst, add-one, suc, zero}
+use Rattle.std.specs.Prelude.{None, Some, slice_get, option_to_list, unwrap_or}
+use Rattle.std.specs.Option.{option_and_then, option_map}
+use Rattle.pt_tree.specs.declared.kind.Kind.TheVariants as kind
 use Rattle.pt_tree.specs.Listing.{Item}
 use Rattle.pt_tree.specs.Path.{Path}
-use Rattle.pt_tree.specs.Forest.{Forest, none, file, other, dir, Node, File, Dir, Other, dir_at, is_proper, kind_of, listing_at, listing_of, node_at}
+use Rattle.pt_tree.specs.Forest.{Forest, none, file, other, dir, Node, File, Dir, Other, as_dir, as_file, dir_at, file_at, is_proper, kind_of, listing_at, listing_of, node_at}
 use Rattle.pt_walk.specs.declared.frame.Frame.{Frame}
-use Rattle.pt_walk.specs.Left.{entries_from, inside_at}
-use Rattle.pt_walk.specs.Trail.{entry_at, name_at, names_to}
-use Rattle.pt_walk.proofs.Paths.{DirAt, dir_listed, node_below, proper_at}
-use Rattle.pt_walk.proofs.Standing.{Standing, standing, with_entry}
+use Rattle.pt_walk.specs.Left.{bytes_at, entries_from, inside_at}
+use Rattle.pt_walk.specs.Trail.{entry_at, names_to}
+use Rattle.pt_walk.proofs.Paths.{dir_listed, node_below, proper_at}
+use Rattle.pt_walk.proofs.Standing.{standing, with_entry}
 
 -- what is known of the entry: its node, with which the rest of its directory begins, and which stands at its path
 pub record Ahead (top : Forest) (path : Path) (place : ℕ) (item : Item) : Type 0 where
@@ -53,3 +53,60 @@ nothing_ahead top path items place listed e =
 -- the path of a directory that is entered
 pub names_to-entry : (frame : Frame) (frames : List Frame) (item : Item) → entry_at frame ≡ Some item → names_to (frame ∷ frames) ≡ names_to frames ++ item.0 ∷ []
 names_to-entry frame frames item e = ap (λ o. names_to frames ++ option_to_list (option_map (λ (x : Item). x.0) o)) e
+
+-- the entry is a directory
+pub record DirAhead (top : Forest) (path : Path) (place : ℕ) (name : List ℕ) : Type 0 where
+  pub rest_is : entries_from place (inside_at top path) ≡ dir name (inside_at top (path ++ name ∷ [])) (entries_from (place + 1) (inside_at top path))
+  pub dir_is : dir_at top (path ++ name ∷ []) ≡ Some (inside_at top (path ++ name ∷ []))
+
+dir_from : (top : Forest) (path : Path) (place : ℕ) (name : List ℕ) (node : Node) → kind_of node ≡ kind.Dir
+    → entries_from place (inside_at top path) ≡ with_entry name node (entries_from (place + 1) (inside_at top path)) → node_at (Dir top) (path ++ name ∷ []) ≡ Some node → DirAhead top path place name
+dir_from top path place name (File bytes) is rest at = absurd (cc)
+dir_from top path place name Other is rest at = absurd (cc)
+dir_from top path place name (Dir inside) is rest at =
+    let there : dir_at top (path ++ name ∷ []) ≡ Some inside = ap (option_and_then as_dir) at in
+    let here : inside_at top (path ++ name ∷ []) ≡ inside = ap (λ o. unwrap_or o none) there in
+    record {
+      rest_is = rest ∙ ap (λ d. dir name d (entries_from (place + 1) (inside_at top path))) (sym here);
+      dir_is = there ∙ ap (λ (d : Forest). Some d) (sym here);
+    }
+
+pub dir_ahead : (top : Forest) (path : Path) (items : List Item) (place : ℕ) (name : List ℕ) → is_proper top ≡ true → listing_at top path ≡ Some items → slice_get items place ≡ Some (name, kind.Dir) → DirAhead top path place name
+dir_ahead top path items place name proper listed e =
+    let it = ahead top path items place (name, kind.Dir) proper listed e in
+    dir_from top path place name it.node it.kind_is it.rest_is it.node_is
+
+-- the entry is a file
+pub record FileAhead (top : Forest) (path : Path) (place : ℕ) (name : List ℕ) : Type 0 where
+  pub rest_is : entries_from place (inside_at top path) ≡ file name (bytes_at top (path ++ name ∷ [])) (entries_from (place + 1) (inside_at top path))
+  pub file_is : file_at top (path ++ name ∷ []) ≡ Some (bytes_at top (path ++ name ∷ []))
+
+file_from : (top : Forest) (path : Path) (place : ℕ) (name : List ℕ) (node : Node) → kind_of node ≡ kind.File
+    → entries_from place (inside_at top path) ≡ with_entry name node (entries_from (place + 1) (inside_at top path)) → node_at (Dir top) (path ++ name ∷ []) ≡ Some node → FileAhead top path place name
+file_from top path place name (Dir inside) is rest at = absurd (cc)
+file_from top path place name Other is rest at = absurd (cc)
+file_from top path place name (File bytes) is rest at =
+    let there : file_at top (path ++ name ∷ []) ≡ Some bytes = ap (option_and_then as_file) at in
+    let here : bytes_at top (path ++ name ∷ []) ≡ bytes = ap (λ o. unwrap_or o []) there in
+    record {
+      rest_is = rest ∙ ap (λ b. file name b (entries_from (place + 1) (inside_at top path))) (sym here);
+      file_is = there ∙ ap (λ (b : List ℕ). Some b) (sym here);
+    }
+
+pub file_ahead : (top : Forest) (path : Path) (items : List Item) (place : ℕ) (name : List ℕ) → is_proper top ≡ true → listing_at top path ≡ Some items → slice_get items place ≡ Some (name, kind.File) → FileAhead top path place name
+file_ahead top path items place name proper listed e =
+    let it = ahead top path items place (name, kind.File) proper listed e in
+    file_from top path place name it.node it.kind_is it.rest_is it.node_is
+
+other_from : (top : Forest) (path : Path) (place : ℕ) (name : List ℕ) (node : Node) → kind_of node ≡ kind.Other
+    → entries_from place (inside_at top path) ≡ with_entry name node (entries_from (place + 1) (inside_at top path)) → entries_from place (inside_at top path) ≡ other name (entries_from (place + 1) (inside_at top path))
+other_from top path place name (File bytes) is rest = absurd (cc)
+other_from top path place name (Dir inside) is rest = absurd (cc)
+other_from top path place name Other is rest = rest
+
+-- the entry is neither
+pub other_ahead : (top : Forest) (path : Path) (items : List Item) (place : ℕ) (name : List ℕ) → is_proper top ≡ true → listing_at top path ≡ Some items → slice_get items place ≡ Some (name, kind.Other)
+    → entries_from place (inside_at top path) ≡ other name (entries_from (place + 1) (inside_at top path))
+other_ahead top path items place name proper listed e =
+    let it = ahead top path items place (name, kind.Other) proper listed e in
+    other_from top path place name it.node it.kind_is it.rest_is

@@ -1,7 +1,10 @@
 mod Ahead
 mod LastFrame
+mod ObjectSteps
 mod OneMore
 mod OuterNames
 mod Paths
 mod Places
+mod SiteSteps
 mod Standing
+mod TrailSteps

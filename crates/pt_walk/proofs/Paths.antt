@@ -1,6 +1,6 @@
 -- What stands at a path of a proper tree, one name further.
-use Rattle.std.proofs.Common.{◌≡◌, ℕ, List, [], ◌∷◌, ◌++◌, ◌+◌, true, false, refl, ◌∙◌, ap, sym, subst, inl, inr, ◌⊎◌}
-use Rattle.std.specs.Prelude.{Bool, cond, Option, None, Some}
+use Rattle.std.proofs.Common.{◌≡◌, ℕ, List, [], ◌∷◌, ◌++◌, true, refl, ◌∙◌, ap, sym, subst, inl, inr}
+use Rattle.std.specs.Prelude.{cond, Option, None, Some}
 use Rattle.std.specs.Option.{option_map, option_and_then}
 use Rattle.std.specs.Str.{bytes_eq}
 use Rattle.std.proofs.lemmas.Bool.{and_parts, cases_Bool}

@@ -1,12 +1,12 @@
 -- What stands at a place of a proper directory.
-use Rattle.std.proofs.Common.{◌≡◌, ℕ, List, [], ◌∷◌, ◌++◌, ◌+◌, ◌&&◌, true, false, refl, ◌∙◌, ap, sym, subst, suc, zero, ◌⊎◌, inl, inr}
-use Rattle.std.specs.Prelude.{Bool, cond, Option, None, Some, slice_get}
-use Rattle.std.specs.Ordering.{nat_cmp, is_eq, is_lt}
-use Rattle.std.specs.Cmp.Lexicographic.{slice_cmp, texts_ties}
+use Rattle.std.proofs.Common.{◌≡◌, ℕ, List, [], ◌∷◌, ◌&&◌, true, false, refl, ◌∙◌, ap, sym, subst, suc, zero}
+use Rattle.std.specs.Prelude.{cond, Option, Some, slice_get}
+use Rattle.std.specs.Ordering.{is_eq, is_lt}
+use Rattle.std.specs.Cmp.Lexicographic.{texts_ties}
 use Rattle.std.specs.declared.cmp.Ordering.{Ordering}
 use Rattle.std.specs.declared.cmp.Ordering.TheVariants.{Less, Equal, Greater}
 use Rattle.std.specs.Str.{bytes_eq}
-use Rattle.std.proofs.lemmas.Bool.{and_parts, and_from, cases_Bool, true≢false, false≢true}
+use Rattle.std.proofs.lemmas.Bool.{and_parts, and_from}
 use Rattle.std.proofs.lemmas.Cmp.{nat_list_cmp_total, nat_list_eq_equiv}
 use Rattle.pt_tree.specs.declared.kind.Kind.{Kind}
 use Rattle.pt_tree.specs.declared.kind.Kind.TheVariants as kind

@@ -1,7 +1,7 @@
 -- What of a walk is still to come, at a trail through a tree.
-use Rattle.std.specs.Prelude.{◌≡◌, ℕ, ◌+◌, ◌&&◌, suc, zero, Bool, true, false, cond, List, [], ◌∷◌, ◌++◌, length, Option, None, Some, unwrap_or, take}
+use Rattle.std.specs.Prelude.{◌≡◌, ℕ, ◌+◌, ◌&&◌, suc, zero, Bool, false, cond, List, [], ◌∷◌, ◌++◌, length, Some, unwrap_or, take}
 use Rattle.std.specs.Option.{option_map}
-use Rattle.pt_tree.specs.Forest.{Forest, none, file, other, dir, Node, File, Dir, Other, dir_at, find, listing_at, listing_of}
+use Rattle.pt_tree.specs.Forest.{Forest, none, file, other, dir, Node, File, Dir, Other, dir_at, file_at, find, listing_at, listing_of}
 use Rattle.pt_tree.specs.Listing.{Item}
 use Rattle.pt_tree.specs.Path.{Path}
 use Rattle.pt_walk.specs.declared.frame.Frame.{Frame}
@@ -13,6 +13,10 @@ use Rattle.pt_walk.specs.Trail.{names_to}
 -- what the directory at this path holds
 abbrev pub inside_at : Forest → Path → Forest
 inside_at top path = unwrap_or (dir_at top path) none
+
+-- the bytes of the file at this path
+abbrev pub bytes_at : Forest → Path → List ℕ
+bytes_at top path = unwrap_or (file_at top path) []
 
 -- the entries of a directory from this index on
 abbrev pub entries_from : ℕ → Forest → Forest

@@ -3,7 +3,10 @@ pub mod Left
 pub mod Limits
 pub mod NonShorties
 pub mod Object
+pub mod ObjectWalk
 pub mod Site
 pub mod SiteLaws
+pub mod SiteWalk
 pub mod Sites
 pub mod Trail
+pub mod TrailLaws

@@ -1,5 +1,5 @@
 -- What an object holds, in the order in which it is walked. A path leads from below the object's directory.
-use Rattle.std.specs.Prelude.{ℕ, ◌+◌, ◌||◌, Bool, true, false, cond, nat_le, nat_lt, List, [], ◌∷◌, ◌++◌, length, Option, None, Some, is_none}
+use Rattle.std.specs.Prelude.{ℕ, ◌+◌, ◌||◌, cond, nat_le, nat_lt, List, [], ◌∷◌, ◌++◌, length, Option, None, Some, is_none}
 use Rattle.pt_tree.specs.Forest.{Forest, none, file, other, dir, Node, File, Dir, Other}
 use Rattle.pt_tree.specs.Path.{Path, joined}
 use Rattle.pt_walk.specs.declared.cause.Cause.{Cause}

@@ -31,6 +31,11 @@ is_last at.Last = true
 abbrev pub visit_of : ℕ → Path → Forest → Visit
 visit_of depth path inside = cond (is_last (at_of path)) Past (cond (nat_lt depth (length path + 1)) Deep (Listed inside))
 
+abbrev pub is_listed : Visit → Bool
+is_listed (Listed inside) = true
+is_listed Past = false
+is_listed Deep = false
+
 -- what is walked below it
 abbrev pub walked : Visit → List Site → List Site
 walked (Listed inside) sites = sites

@@ -220,4 +220,25 @@ fn a_trail_enters_advances_and_leaves(rt: HostRuntime) -> Result<(), Fail> {
 #[test]
 fn laws_are_called() {
     laws::pair_finds_as_last();
+    laws::starts_with_the_top();
+    laws::enters_the_next_site();
+    laws::passes_the_next_site();
+    laws::passes_non_shorties();
+    laws::leaves_the_site();
+    laws::ends_with_the_top();
+    laws::starts_with_the_object();
+    laws::starts_with_the_gathered();
+    laws::reads_the_next_file();
+    laws::meets_the_next_other();
+    laws::enters_the_next_directory();
+    laws::passes_the_next_shorty();
+    laws::leaves_the_directory();
+    laws::ends_with_the_object();
+    laws::fits_when_entered();
+    laws::fits_when_moved();
+    laws::directory_is_there();
+    laws::file_is_there();
+    laws::listing_is_there();
+    laws::path_grows();
+    laws::holds_what_is_listed();
 }
