@@ -1,4 +1,6 @@
 mod Ahead
+mod BadEntries
+mod Findings
 mod LastFrame
 mod ObjectSteps
 mod OneMore

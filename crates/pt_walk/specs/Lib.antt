@@ -3,6 +3,7 @@ pub mod Left
 pub mod Limits
 pub mod NonShorties
 pub mod Object
+pub mod ObjectLaws
 pub mod ObjectWalk
 pub mod Site
 pub mod SiteLaws

@@ -1,5 +1,6 @@
 //! Laws on what a walk finds, and on what of it is still to come. Each is the contract of a function that does nothing.
-ghost use Rattle.pt_walk.specs.SiteLaws.{PairFindsAsLast};
+ghost use Rattle.pt_walk.specs.ObjectLaws.{CountsInTurn, LooksBehindGoodEntries, GoodEntriesGrow, BadEntryIsFirst, SplitsAtTheFirstBad};
+ghost use Rattle.pt_walk.specs.SiteLaws.{PairFindsAsLast, CandidateIsTheOnlyNonShorty, InteriorHoldsShorties, LastNameSaysWhere};
 ghost use Rattle.pt_walk.specs.SiteWalk.{StartsWithTheTop, EntersTheNextSite, PassesTheNextSite, PassesNonShorties, LeavesTheSite, EndsWithTheTop};
 ghost use Rattle.pt_walk.specs.ObjectWalk.{StartsWithTheObject, StartsWithTheGathered, ReadsTheNextFile, MeetsTheNextOther, EntersTheNextDirectory, PassesTheNextShorty, LeavesTheDirectory, EndsWithTheObject};
 ghost use Rattle.pt_walk.specs.TrailLaws.{FitsWhenEntered, FitsWhenMoved, DirectoryIsThere, FileIsThere, ListingIsThere, PathGrows, HoldsWhatIsListed};
@@ -112,4 +113,44 @@ pub fn path_grows()
 /// A trail through a tree holds as many records as the directories from the top down to the innermost have entries.
 pub fn holds_what_is_listed()
     ensures { HoldsWhatIsListed }
+{}
+
+/// A candidate is a directory with a longer name than a shorty has, and every other entry of its site is a shorty.
+pub fn candidate_is_the_only_non_shorty()
+    ensures { CandidateIsTheOnlyNonShorty }
+{}
+
+/// A site that only leads on holds shorties alone.
+pub fn interior_holds_shorties()
+    ensures { InteriorHoldsShorties }
+{}
+
+/// Where a site stands goes by the last name of its path.
+pub fn last_name_says_where()
+    ensures { LastNameSaysWhere }
+{}
+
+/// The files of some entries and then of others are those of the first and then of the others; so it is with the number of directories without entries.
+pub fn counts_in_turn()
+    ensures { CountsInTurn }
+{}
+
+/// Behind entries none of which is bad, the first bad one is that of the others.
+pub fn looks_behind_good_entries()
+    ensures { LooksBehindGoodEntries }
+{}
+
+/// An entry for which there is no cause is one more of those that are not bad.
+pub fn good_entries_grow()
+    ensures { GoodEntriesGrow }
+{}
+
+/// An entry for which there is a cause, behind entries none of which is bad, is the first bad one.
+pub fn bad_entry_is_first()
+    ensures { BadEntryIsFirst }
+{}
+
+/// The first bad entry of an object stands behind those before it, and there is a cause for it; without one no entry is bad.
+pub fn splits_at_the_first_bad()
+    ensures { SplitsAtTheFirstBad }
 {}

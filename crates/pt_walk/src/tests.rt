@@ -241,4 +241,12 @@ fn laws_are_called() {
     laws::listing_is_there();
     laws::path_grows();
     laws::holds_what_is_listed();
+    laws::candidate_is_the_only_non_shorty();
+    laws::interior_holds_shorties();
+    laws::last_name_says_where();
+    laws::counts_in_turn();
+    laws::looks_behind_good_entries();
+    laws::good_entries_grow();
+    laws::bad_entry_is_first();
+    laws::splits_at_the_first_bad();
 }
