@@ -2,6 +2,10 @@ pub mod Algorithm
 pub mod Contents
 pub mod Digest
 pub mod Distinct
+pub mod Files
 pub mod Hasher
 pub mod Index
+pub mod Meta
+pub mod MetaParts
+pub mod Moment
 pub mod Rows

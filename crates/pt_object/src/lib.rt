@@ -4,9 +4,12 @@
 mod algorithm;
 mod contents;
 mod digest;
+mod files;
 mod hasher;
 mod index;
 pub mod laws;
+mod meta;
+mod moment;
 mod rows;
 #[cfg(test)]
 mod tests;
@@ -14,5 +17,7 @@ mod tests;
 pub use algorithm::Algorithm;
 pub use contents::{Content, Contents};
 pub use digest::Digest;
+pub use files::{object_declaration, root_declaration, sidecar};
 pub use hasher::Hasher;
+pub use meta::{Meta, MetaFault};
 pub use rows::{Row, Rows};

@@ -1,4 +1,7 @@
-use crate::{Algorithm, Content, Contents, Digest, Hasher, Rows};
+use crate::{
+    Algorithm, Content, Contents, Digest, Hasher, Meta, MetaFault, Rows, object_declaration,
+    root_declaration, sidecar,
+};
 use pt_tree::{Block, Name, NamePath};
 use std::alloc::Global;
 use std::process::Abort;
@@ -188,4 +191,65 @@ fn notes_in_any_order_of_digests(rt: HostRuntime) -> Result<(), Fail> {
     notes_in_order(&rt, rt.alloc(), &digests)?;
     digests.reverse();
     notes_in_order(&rt, rt.alloc(), &digests)
+}
+
+#[test]
+fn takes_moments_to_the_second(rt: HostRuntime) {
+    let rows = [
+        ("2024-05-01T12:00:00Z", true),
+        ("2024-02-29T23:59:59+05:30", true),
+        ("2024-05-01T12:00:00-00:00", true),
+        ("0000-01-01T00:00:00Z", true),
+        ("2024-02-30T00:00:00Z", false),
+        ("2023-02-29T00:00:00Z", false),
+        ("2024-05-01T24:00:00Z", false),
+        ("2024-05-01T12:00:60Z", false),
+        ("2024-05-01T12:00:00.5Z", false),
+        ("2024-05-01T12:00:00z", false),
+        ("2024-05-01t12:00:00Z", false),
+        ("2024-05-01T12:00:00+24:00", false),
+        ("2024-05-01T12:00:00+05:30Z", false),
+        ("2024-05-01T12:00:00", false),
+        ("2024-13-01T12:00:00Z", false),
+        ("", false),
+    ];
+    for (created, good) in rows {
+        let meta = Meta::of(rt.alloc(), created, "Ada", None, "");
+        assert_eq!(rt; meta.is_ok(), good, "{created}");
+        if !good {
+            assert!(rt;
+                refused_as(
+                    Meta::of(rt.alloc(), created, "", None, "m"),
+                    MetaFault::Created
+                )
+            );
+        }
+    }
+    let unnamed = Meta::of(rt.alloc(), "2024-05-01T12:00:00Z", "", Some("a"), "m");
+    assert!(rt; refused_as(unnamed, MetaFault::EmptyName));
+    assert_eq!(rt; MetaFault::Memory.number(), 3);
+}
+
+fn refused_as(meta: Result<Meta, MetaFault>, fault: MetaFault) -> bool {
+    match meta {
+        Ok(_) => false,
+        Err(refusal) => refusal == fault,
+    }
+}
+
+#[test]
+fn bytes_of_declarations_and_sidecars(rt: HostRuntime) -> Result<(), Fail> {
+    assert_eq!(rt; object_declaration(), b"ocfl_object_1.1\n".as_slice());
+    assert_eq!(rt; root_declaration(), b"ocfl_1.1\n".as_slice());
+    let short = sidecar(rt.alloc(), "abc", Algorithm::Sha256)?;
+    assert_eq!(rt;
+        short.as_str(),
+        "ba7816bf8f01cfea414140de5dae2223b00361a396177a9cb410ff61f20015ad inventory.json\n"
+    );
+    let long = sidecar(rt.alloc(), "abc", Algorithm::Sha512)?;
+    assert_eq!(rt;
+        long.as_str(),
+        format!(in rt.alloc(); "{OF_ABC} inventory.json\n")?.as_str()
+    );
+    Ok(())
 }

@@ -1,0 +1,15 @@
+-- The bytes of the files beside an object's contents and its inventory.
+use Rattle.std.specs.Prelude.{ℕ, List, ◌++◌, codes}
+use Rattle.hex.specs.Hex.{encode_lower}
+use Rattle.pt_object.specs.Algorithm.{digest_of}
+use Rattle.pt_object.specs.declared.algorithm.Algorithm.{Algorithm}
+
+abbrev pub object_declaration_bytes : List ℕ
+object_declaration_bytes = codes "ocfl_object_1.1\n"
+
+abbrev pub root_declaration_bytes : List ℕ
+root_declaration_bytes = codes "ocfl_1.1\n"
+
+-- the digest of the inventory's text, a space, the inventory's name and LF
+abbrev pub sidecar_text : Algorithm → List ℕ → List ℕ
+sidecar_text algorithm text = encode_lower (digest_of algorithm text) ++ codes " inventory.json\n"
