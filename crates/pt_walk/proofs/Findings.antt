@@ -63,8 +63,8 @@ sole j (x ∷ items) i k e = elim (cases_Bool (is_shorty x)) [
       }
   | inr longer ↦
       let counted : (j, x.1) ∷ non_shorties_from (j + 1) items ≡ (i, k) ∷ [] = sym (ap (λ b. cond b (non_shorties_from (j + 1) items) ((j, x.1) ∷ non_shorties_from (j + 1) items)) longer) ∙ e in
-      let first : (j, x.1) ≡ (i, k) = cc in
       let rest : non_shorties_from (j + 1) items ≡ [] = cc in
+      let first : (j, x.1) ≡ (i, k) = cc in
       let at = ap (λ (p : ℕ × Kind). p.0) first in
       let kind_is = ap (λ (p : ℕ × Kind). p.1) first in
       record {

@@ -1,5 +1,6 @@
 mod Ahead
 mod BadEntries
+mod FilePaths
 mod Findings
 mod LastFrame
 mod ObjectSteps

@@ -20,15 +20,15 @@ less Less h = refl
 less Equal h = absurd (cc)
 less Greater h = absurd (cc)
 
-is_before-trans : (x y z : List ℕ) → is_before x y ≡ true → is_before y z ≡ true → is_before x z ≡ true
+pub is_before-trans : (x y z : List ℕ) → is_before x y ≡ true → is_before y z ≡ true → is_before x z ≡ true
 is_before-trans x y z a b =
     ap is_lt (nat_list_cmp_total.trans x y z (less _ a) (less _ b))
 
 -- a name that comes before another is another
-is_before-apart : (x y : List ℕ) → is_before x y ≡ true → bytes_eq x y ≡ false
+pub is_before-apart : (x y : List ℕ) → is_before x y ≡ true → bytes_eq x y ≡ false
 is_before-apart x y before = texts_ties x y ∙ ap is_eq (less _ before)
 
-bytes_eq-itself : (x : List ℕ) → bytes_eq x x ≡ true
+pub bytes_eq-itself : (x : List ℕ) → bytes_eq x x ≡ true
 bytes_eq-itself x = nat_list_eq_equiv.refl x
 
 -- the parts of a proper directory

@@ -1,14 +1,15 @@
 -- A trail through a tree, step by step.
-use Rattle.std.proofs.Common.{◌≡◌, ℕ, List, [], ◌∷◌, ◌++◌, ◌+◌, ◌&&◌, length, true, refl, arith, ◌∙◌, ap, sym, subst}
-use Rattle.std.specs.Prelude.{Option, None, Some, unwrap_or}
+use Rattle.std.proofs.Common.{◌≡◌, ℕ, List, [], ◌∷◌, ◌++◌, ◌+◌, ◌&&◌, length, true, refl, arith, ◌∙◌, ap, sym, subst, zero, suc, take, drop, append-nil, append_assoc, length-append}
+use Rattle.std.specs.Prelude.{Option, None, Some, unwrap_or, option_to_list}
 use Rattle.std.specs.Option.{option_and_then, option_map}
 use Rattle.std.proofs.lemmas.Bool.{and_from, and_parts}
 use Rattle.pt_tree.specs.Forest.{Forest, none, Node, File, Dir, Other, find, is_proper, listing_of, node_at}
 use Rattle.pt_tree.specs.Listing.{Item}
 use Rattle.pt_tree.specs.Path.{Path}
 use Rattle.pt_walk.specs.Left.{inside_at, listed_from}
-use Rattle.pt_walk.specs.Trail.{are_outer, entry_at, is_dir_entry, is_frame, names_to}
-use Rattle.pt_walk.specs.TrailLaws.{FitsWhenEntered, FitsWhenMoved, DirectoryIsThere, FileIsThere, ListingIsThere, PathGrows, HoldsWhatIsListed}
+use Rattle.pt_walk.specs.Trail.{are_outer, entry_at, is_dir_entry, is_frame, names_to, name_at}
+use Rattle.pt_walk.specs.declared.frame.Frame.{Frame}
+use Rattle.pt_walk.specs.TrailLaws.{FitsWhenEntered, FitsWhenMoved, DirectoryIsThere, FileIsThere, ListingIsThere, PathGrows, HoldsWhatIsListed, PathSplits, PathHasANameForEach}
 use Rattle.pt_walk.proofs.Ahead.{dir_ahead, file_ahead, names_to-entry}
 use Rattle.pt_walk.proofs.Paths.{dir_listed, proper_at}
 
@@ -82,3 +83,26 @@ holds_listed top frame (outer ∷ frames) is fits =
     let items = ap length at.items_are in
     let whole = ap (listed_from (Dir top)) names in
     omega (arith, more, before, items, whole)
+
+pub path_splits : PathSplits
+path_splits zero frames = sym (append-nil (names_to frames))
+path_splits (suc k) [] = refl
+path_splits (suc k) (frame ∷ frames) =
+    ap (λ l. l ++ name_at frame) (path_splits k frames) ∙ append_assoc (names_to (drop k frames)) (names_to (take k frames)) (name_at frame)
+
+one_name : (o : Option Item) → is_dir_entry o ≡ true → length (option_to_list (option_map (λ (x : Item). x.0) o)) ≡ 1
+one_name None h = absurd (cc)
+one_name (Some item) h = refl
+
+outer_names : (frames : List Frame) → are_outer frames ≡ true → length (names_to frames) ≡ length frames
+outer_names [] is = refl
+outer_names (frame ∷ frames) is =
+    let parts = and_parts (is_frame frame) (is_dir_entry (entry_at frame) && are_outer frames) is in
+    let inner = and_parts (is_dir_entry (entry_at frame)) (are_outer frames) parts.1 in
+    let more = length-append (names_to frames) (name_at frame) in
+    let one = one_name (entry_at frame) inner.0 in
+    let before = outer_names frames inner.1 in
+    omega (arith, more, one, before)
+
+pub name_for_each : PathHasANameForEach
+name_for_each frame frames is = outer_names frames (and_parts (is_frame frame) (are_outer frames) is).1

@@ -4,6 +4,7 @@ pub mod Limits
 pub mod NonShorties
 pub mod Object
 pub mod ObjectLaws
+pub mod ObjectPaths
 pub mod ObjectWalk
 pub mod Site
 pub mod SiteLaws

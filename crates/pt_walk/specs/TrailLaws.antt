@@ -1,5 +1,5 @@
 -- What holds of every trail through a tree.
-use Rattle.std.specs.Prelude.{◌≡◌, ℕ, true, List, [], ◌∷◌, ◌++◌, Some}
+use Rattle.std.specs.Prelude.{◌≡◌, ℕ, true, List, [], ◌∷◌, ◌++◌, Some, drop, take, length}
 use Rattle.pt_tree.specs.declared.kind.Kind.TheVariants as kind
 use Rattle.pt_tree.specs.Forest.{Forest, dir_at, file_at, is_proper, listing_at, listing_of}
 use Rattle.pt_tree.specs.Listing.{Item}
@@ -40,3 +40,11 @@ PathGrows = (frame : Frame) (frames : List Frame) (item : Item) → entry_at fra
 abbrev pub HoldsWhatIsListed : Type 0
 HoldsWhatIsListed =
     (top : Forest) (frame : Frame) (frames : List Frame) → is_trail (frame ∷ frames) ≡ true → Fits top (frame ∷ frames) → entries_held (frame ∷ frames) ≡ listed top (names_to frames)
+
+-- the path of the innermost listing is that of any listing around it, and the names from there on
+abbrev pub PathSplits : Type 0
+PathSplits = (k : ℕ) (frames : List Frame) → names_to frames ≡ names_to (drop k frames) ++ names_to (take k frames)
+
+-- it has as many names as there are listings around the innermost
+abbrev pub PathHasANameForEach : Type 0
+PathHasANameForEach = (frame : Frame) (frames : List Frame) → is_trail (frame ∷ frames) ≡ true → length (names_to frames) ≡ length frames

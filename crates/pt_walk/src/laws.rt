@@ -1,9 +1,10 @@
 //! Laws on what a walk finds, and on what of it is still to come. Each is the contract of a function that does nothing.
+ghost use Rattle.pt_walk.specs.ObjectPaths.{FilesPartInOrder, GatheredIsProper};
 ghost use Rattle.pt_walk.specs.ObjectLaws.{CountsInTurn, LooksBehindGoodEntries, GoodEntriesGrow, BadEntryIsFirst, SplitsAtTheFirstBad};
 ghost use Rattle.pt_walk.specs.SiteLaws.{PairFindsAsLast, CandidateIsTheOnlyNonShorty, InteriorHoldsShorties, LastNameSaysWhere};
 ghost use Rattle.pt_walk.specs.SiteWalk.{StartsWithTheTop, EntersTheNextSite, PassesTheNextSite, PassesNonShorties, LeavesTheSite, EndsWithTheTop};
 ghost use Rattle.pt_walk.specs.ObjectWalk.{StartsWithTheObject, StartsWithTheGathered, ReadsTheNextFile, MeetsTheNextOther, EntersTheNextDirectory, PassesTheNextShorty, LeavesTheDirectory, EndsWithTheObject};
-ghost use Rattle.pt_walk.specs.TrailLaws.{FitsWhenEntered, FitsWhenMoved, DirectoryIsThere, FileIsThere, ListingIsThere, PathGrows, HoldsWhatIsListed};
+ghost use Rattle.pt_walk.specs.TrailLaws.{FitsWhenEntered, FitsWhenMoved, DirectoryIsThere, FileIsThere, ListingIsThere, PathGrows, HoldsWhatIsListed, PathSplits, PathHasANameForEach};
 
 /// How many bytes its own name has changes nothing in what a site is found to be.
 pub fn pair_finds_as_last()
@@ -153,4 +154,24 @@ pub fn bad_entry_is_first()
 /// The first bad entry of an object stands behind those before it, and there is a cause for it; without one no entry is bad.
 pub fn splits_at_the_first_bad()
     ensures { SplitsAtTheFirstBad }
+{}
+
+/// The path of the innermost listing is that of any listing around it and the names from there on.
+pub fn path_splits()
+    ensures { PathSplits }
+{}
+
+/// The path of the innermost listing has as many names as there are listings around it.
+pub fn path_has_a_name_for_each()
+    ensures { PathHasANameForEach }
+{}
+
+/// The paths of an object's files are one or more names each, rise name by name, and none is another or leads to it.
+pub fn files_part_in_order()
+    ensures { FilesPartInOrder }
+{}
+
+/// What a proper site holds beside its shorties is proper.
+pub fn gathered_is_proper()
+    ensures { GatheredIsProper }
 {}

@@ -249,4 +249,8 @@ fn laws_are_called() {
     laws::good_entries_grow();
     laws::bad_entry_is_first();
     laws::splits_at_the_first_bad();
+    laws::path_splits();
+    laws::path_has_a_name_for_each();
+    laws::files_part_in_order();
+    laws::gathered_is_proper();
 }
