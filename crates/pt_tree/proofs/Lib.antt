@@ -1,3 +1,12 @@
 mod Joining
 mod Rising
 mod Texts
+pub mod Blocks
+mod Finding
+mod Names
+mod Paths
+mod Trees
+mod Opened
+mod Placing
+mod Planted
+mod Proper

@@ -1,9 +1,15 @@
 -- A listing that gains an entry at its end.
-use Rattle.std.proofs.Common.{◌≡◌, ℕ, List, [], ◌∷◌, ◌++◌, ◌-◌, length, true, refl, arith, ◌∙◌, ap, add-one, suc, zero, sym}
-use Rattle.std.specs.Prelude.{Bool, Some, slice_get}
+use Rattle.std.proofs.Common.{◌≡◌, ℕ, List, [], ◌∷◌, ◌++◌, ◌-◌, length, true, false, refl, arith, ◌∙◌, ap, add-one, suc, zero, sym, subst}
+use Rattle.std.specs.Prelude.{Bool, cond, None, Some, Err, slice_get}
 use Rattle.std.proofs.lemmas.Bool.{and_parts, and_from}
 use Rattle.pt_tree.specs.declared.kind.Kind.{Kind}
-use Rattle.pt_tree.specs.Listing.{Item, is_before, names_rise, can_follow}
+use Rattle.pt_tree.specs.declared.kind.Kind.TheVariants as kind
+use Rattle.pt_tree.specs.declared.listing.ListingFault.{ListingFault}
+use Rattle.pt_tree.specs.declared.listing.ListingFault.TheVariants as fault
+use Rattle.pt_tree.specs.Entries.{first_item}
+use Rattle.pt_tree.specs.Refusal.{Answers}
+use Rattle.pt_tree.specs.Listing.{Item, is_before, names_rise, can_follow, listing_refusal}
+use Rattle.pt_tree.specs.Forest.{Forest, none, file, other, dir, listing_of, comes_before, is_proper}
 
 -- it goes by the last entry
 pub can_follow-last : (items : List Item) (name : List ℕ) (last : Item) → slice_get items (length items - 1) ≡ Some last → can_follow items name ≡ is_before last.0 name
@@ -19,3 +25,47 @@ names_rise-push (x ∷ []) name kind rise follows = and_from _ _ follows refl
 names_rise-push (x ∷ y ∷ items) name kind rise follows =
     let parts = and_parts (is_before x.0 y.0) (names_rise (y ∷ items)) rise in
     and_from _ _ parts.0 (names_rise-push (y ∷ items) name kind parts.1 follows)
+
+-- what rises may be added entry by entry
+pub can_follow-rises : (items : List Item) (x : Item) (rest : List Item) → names_rise (items ++ x ∷ rest) ≡ true → can_follow items x.0 ≡ true
+can_follow-rises [] x rest rise = refl
+can_follow-rises (y ∷ []) x rest rise = (and_parts (is_before y.0 x.0) (names_rise (x ∷ rest)) rise).0
+can_follow-rises (y ∷ z ∷ items) x rest rise = can_follow-rises (z ∷ items) x rest (and_parts (is_before y.0 z.0) (names_rise (z ∷ items ++ x ∷ rest)) rise).1
+
+follows_first : (name : List ℕ) (f : Forest) → comes_before name f ≡ true → (k : Kind) → names_rise (listing_of f) ≡ true → names_rise ((name, k) ∷ listing_of f) ≡ true
+follows_first name none before k rise = refl
+follows_first name (file n b f) before k rise = and_from _ _ before rise
+follows_first name (other n f) before k rise = and_from _ _ before rise
+follows_first name (dir n e f) before k rise = and_from _ _ before rise
+
+-- a proper directory's names rise
+pub names_rise-proper : (f : Forest) → is_proper f ≡ true → names_rise (listing_of f) ≡ true
+names_rise-proper none proper = refl
+names_rise-proper (file n b f) proper =
+    let p = and_parts _ _ (and_parts _ _ proper).1 in follows_first n f p.0 kind.File (names_rise-proper f p.1)
+names_rise-proper (other n f) proper =
+    let p = and_parts _ _ (and_parts _ _ proper).1 in follows_first n f p.0 kind.Other (names_rise-proper f p.1)
+names_rise-proper (dir n e f) proper =
+    let p = and_parts _ _ (and_parts _ _ proper).1 in
+    follows_first n f p.0 kind.Dir (names_rise-proper f (and_parts _ _ p.1).1)
+
+first_listing : (f after : Forest) (name : List ℕ) (k : Kind) → Some (name, k, after) ≡ first_item f → listing_of f ≡ (name, k) ∷ listing_of after
+first_listing none after name k is = absurd (cc)
+first_listing (file n b f) after name k is = let same : (name, k, after) ≡ (n, kind.File, f) = cc in ap (λ (x : List ℕ × Kind × Forest). (x.0, x.1) ∷ listing_of x.2) (sym same)
+first_listing (other n f) after name k is = let same : (name, k, after) ≡ (n, kind.Other, f) = cc in ap (λ (x : List ℕ × Kind × Forest). (x.0, x.1) ∷ listing_of x.2) (sym same)
+first_listing (dir n e f) after name k is = let same : (name, k, after) ≡ (n, kind.Dir, f) = cc in ap (λ (x : List ℕ × Kind × Forest). (x.0, x.1) ∷ listing_of x.2) (sym same)
+
+-- so a proper directory's listing takes each entry in turn
+pub can_follow-first : (all f after : Forest) (items : List Item) (name : List ℕ) (k : Kind) → is_proper all ≡ true → items ++ listing_of f ≡ listing_of all → Some (name, k, after) ≡ first_item f → can_follow items name ≡ true
+can_follow-first all f after items name k proper so_far is =
+    can_follow-rises items (name, k) (listing_of after) (ap names_rise (ap (λ (l : List Item). items ++ l) (sym (first_listing f after name k is)) ∙ so_far) ∙ names_rise-proper all proper)
+
+pub refused_late : (items : List Item) (name : List ℕ) (e : ListingFault) (P : Unit {0} → Type 0) → can_follow items name ≡ true → e ≡ fault.NotRising → Answers (listing_refusal items name) fault.Memory (Err e) P → ⊥
+refused_late items name e P follows is answer =
+    let Q : Bool → Type 0 = λ b. Answers (cond b None (Some fault.NotRising)) fault.Memory (Err e) P in
+    let memory : e ≡ fault.Memory = subst Q follows answer in
+    cc
+
+pub is_before-empty : (name : List ℕ) → is_before name [] ≡ false
+is_before-empty [] = refl
+is_before-empty (x ∷ name) = refl

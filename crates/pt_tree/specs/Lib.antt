@@ -1,5 +1,16 @@
+pub mod Dest
+pub mod Entries
+pub mod Failures
 pub mod Faults
+pub mod Forest
+pub mod Fuse
 pub mod Listing
+pub mod Log
+pub mod MemSource
 pub mod Name
+pub mod Opening
 pub mod Path
+pub mod Planting
 pub mod Refusal
+pub mod Source
+pub mod Tree

@@ -90,7 +90,8 @@ impl Name {
 
     /// A second name of the same bytes; `Memory` where a growth was refused.
     pub fn copy(&self) -> Result<Name, MemoryFault>
-        ensures { IfOk result (λ name. name ≡ self.now) }
+        ensures bytes { IfOk result (λ name. name ≡ self.now) }
+        ensures name { IsTrue (is_name self.now) }
     {
         Ok(Name {
             bytes: self.bytes.clone()?,

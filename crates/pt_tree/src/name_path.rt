@@ -3,7 +3,8 @@ ghost use Rattle.std.specs.Str.{is_utf8};
 ghost use Rattle.std.specs.Cmp.{partial_equiv_from_equiv};
 ghost use Rattle.std.specs.Cmp.Lexicographic.{nat_list_eq_equiv, lists_equiv};
 ghost use Rattle.std.specs.Option.{option_copied};
-ghost use Rattle.pt_tree.specs.Path.{joined, same_path};
+ghost use Rattle.std.specs.Option.{option_map};
+ghost use Rattle.pt_tree.specs.Path.{joined, same_path, split_path, split_lent};
 
 use crate::{MemoryFault, Name};
 use std::alloc::Global;
@@ -61,6 +62,21 @@ impl NamePath {
         ensures { option_copied result ≡ slice_get self.now i }
     {
         self.names.get(i)
+    }
+
+    // The names.
+    pub(crate) fn names(&self) -> &[Name]
+        ensures { result.now ≡ self.now }
+    {
+        &self.names
+    }
+
+    // The parent's names and the last name; None for the top.
+    pub(crate) fn split(&self) -> Option<(&[Name], &Name)>
+        ensures { option_map split_lent result ≡ split_path self.now }
+    {
+        let (last, dir) = self.names.split_last()?;
+        Some((dir, last))
     }
 
     /// The names with `/` between, as a text in UTF-8.

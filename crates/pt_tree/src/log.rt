@@ -1,0 +1,27 @@
+ghost use Rattle.std.specs.Prelude.{◌≡◌, ℕ, List, Option, OnOk, OnErr};
+ghost use Rattle.pt_tree.specs.Failures.{IsCounted};
+ghost use Rattle.pt_tree.specs.Log.{Gains, GainsPart};
+
+use crate::TreeFault;
+
+/// What takes the lines of a run, one behind the other.
+///
+/// A log may tell its bytes, and goes on telling. `Device` is answered only where the count of failures rose in the
+/// call, or stood at its greatest value, 2^64 - 1; and `Memory` where a growth was refused.
+pub trait Log {
+    /// The bytes that it holds, if it tells them.
+    ghost told: { Self → Option (List ℕ) };
+
+    /// How often it failed, up to 2^64 - 1.
+    ghost failed: { Self → ℕ };
+
+    /// How often it failed.
+    fn failures(&self) -> u64
+        ensures { result ≡ failed self.now };
+
+    /// Puts a piece at the end. A failed call leaves a part of the piece, from its start.
+    fn put(&mut self, piece: &[u8]) -> Result<(), TreeFault>
+        ensures ok { OnOk result (Gains (told self.old) (told self.new) piece.now) }
+        ensures part { OnErr result (GainsPart (told self.old) (told self.new) piece.now) }
+        ensures failures { IsCounted (failed self.old) (failed self.new) result };
+}

@@ -1,0 +1,66 @@
+ghost use Rattle.std.specs.Prelude.{◌≡◌, ℕ, [], Option, Some, true, IfOk, OnOk, OnErr};
+ghost use Rattle.std.specs.Option.{option_map};
+ghost use Rattle.pt_tree.specs.Failures.{IsCounted, IsOneMoreCall};
+ghost use Rattle.pt_tree.specs.Forest.{is_proper};
+ghost use Rattle.pt_tree.specs.Source.{Reading, CanList, IsListed, CanOpen, CanRead, IsRead, after_open, after_next};
+
+use crate::{Block, Listing, NamePath, TreeFault};
+
+/// A tree of files to read from.
+///
+/// A source may tell what it holds: then contracts say what its calls give. No call changes its tree, or whether it
+/// tells. Each call but `failures` raises the number of calls by one, failed or not, told or not; a running program
+/// can't ask for that number.
+///
+/// Each call answers `Device` only where the count of failures rose in it, or stood at its greatest value, 2^64 - 1;
+/// and `Memory` where a growth was refused.
+pub trait Source {
+    /// What it tells, if it does: its tree, and what is left of the open file.
+    ghost told: { Self → Option Reading };
+
+    /// How often it failed, up to 2^64 - 1.
+    ghost failed: { Self → ℕ };
+
+    /// It was called so many times.
+    ghost called: { Self → ℕ → Type 0 };
+
+    /// How often it failed.
+    fn failures(&self) -> u64
+        ensures { result ≡ failed self.now };
+
+    /// The names and kinds in the directory at a path, in the order of the names' bytes. Links aren't followed.
+    ///
+    /// Where the source tells, a directory has to be there. The open file stays as it is.
+    fn list(&mut self, path: &NamePath) -> Result<Listing, TreeFault>
+        requires { CanList (told self.old) path.now }
+        ensures listing { IfOk result (λ listing. IsListed (told self.old) path.now listing) }
+        ensures same { told self.new ≡ told self.old }
+        ensures failures { IsCounted (failed self.old) (failed self.new) result }
+        ensures calls { IsOneMoreCall (called self.old) (called self.new) };
+
+    /// Makes the file at a path the open one, read from its start; after a fault the open file stays as it was.
+    ///
+    /// Where the source tells, a file has to be there.
+    fn open(&mut self, path: &NamePath) -> Result<(), TreeFault>
+        requires { CanOpen (told self.old) path.now }
+        ensures opened { OnOk result (told self.new ≡ option_map (after_open path.now) (told self.old)) }
+        ensures same { OnErr result (told self.new ≡ told self.old) }
+        ensures failures { IsCounted (failed self.old) (failed self.new) result }
+        ensures calls { IsOneMoreCall (called self.old) (called self.new) };
+
+    /// The block becomes the next bytes of the open file: 8,192 of them unless the file ends first, none at its end,
+    /// and none again after it. On a fault the block is empty, and the file is read on from where it was.
+    ///
+    /// Where the source tells, a file has to be open.
+    fn next(&mut self, block: &mut Block) -> Result<(), TreeFault>
+        requires { CanRead (told self.old) }
+        ensures block { OnOk result (IsRead (told self.old) block.new.items) }
+        ensures moved { OnOk result (told self.new ≡ option_map after_next (told self.old)) }
+        ensures empty { OnErr result (block.new.items ≡ []) }
+        ensures same { OnErr result (told self.new ≡ told self.old) }
+        ensures failures { IsCounted (failed self.old) (failed self.new) result }
+        ensures calls { IsOneMoreCall (called self.old) (called self.new) };
+
+    /// In each directory of a tree that is told the names rise, so that none comes twice.
+    ghost proper: { (source : Self) (state : Reading) → told source ≡ Some state → is_proper state.tree ≡ true };
+}
