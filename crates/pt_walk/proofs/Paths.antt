@@ -4,6 +4,7 @@ use Rattle.std.specs.Prelude.{cond, Option, None, Some}
 use Rattle.std.specs.Option.{option_map, option_and_then}
 use Rattle.std.specs.Str.{bytes_eq}
 use Rattle.std.proofs.lemmas.Bool.{and_parts, cases_Bool}
+use Rattle.pt_walk.specs.TrailLaws.{ReadsBelowADirectory}
 use Rattle.pt_walk.proofs.Standing.{dir_parts}
 use Rattle.pt_tree.specs.Listing.{Item}
 use Rattle.pt_tree.specs.Path.{Path}
@@ -95,3 +96,17 @@ proper_at f (name ∷ path) inside proper e = by_found (λ g. proper_at g path i
     by_found each (Some (File bytes)) found h = absurd (file_leads_nowhere bytes path inside h)
     by_found each (Some Other) found h = absurd (other_leads_nowhere path inside h)
     by_found each (Some (Dir g)) found h = each g (find-proper f name g proper found) h
+
+dir_node : (tree : Forest) (path : Path) (inside : Forest) → dir_at tree path ≡ Some inside → node_at (Dir tree) path ≡ Some (Dir inside)
+dir_node tree path inside e = by_node (node_at (Dir tree) path) refl e
+  where
+    by_node : (o : Option Node) → node_at (Dir tree) path ≡ o → option_and_then as_dir o ≡ Some inside → node_at (Dir tree) path ≡ Some (Dir inside)
+    by_node None is h = absurd (cc)
+    by_node (Some (File bytes)) is h = absurd (cc)
+    by_node (Some Other) is h = absurd (cc)
+    by_node (Some (Dir d)) is h = let same : d ≡ inside = cc in is ∙ ap (λ (f : Forest). Some (Dir f)) same
+
+pub reads_below : ReadsBelowADirectory
+reads_below tree inside path below e =
+    let at = dir_node tree path inside e in
+    (node_at-append (Dir tree) path below ∙ ap (option_and_then (λ n. node_at n below)) at, λ proper. proper_at tree path inside proper at)

@@ -50,6 +50,10 @@ empties ((path, File bytes) ∷ others) = empties others
 empties ((path, Dir inside) ∷ others) = emptiness inside + empties others
 empties ((path, Other) ∷ others) = empties others
 
+-- how many directories without entries an object has, its own directory included
+abbrev pub empties_of : Forest → ℕ
+empties_of object = emptiness object + empties (entries object)
+
 -- why an object isn't carried that has this entry after so many files, if its directory has this depth
 abbrev pub entry_cause : Bounds → ℕ → ℕ → Entry → Option Cause
 entry_cause limits depth held (path, File bytes) =

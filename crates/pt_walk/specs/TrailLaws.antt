@@ -1,8 +1,9 @@
 -- What holds of every trail through a tree.
 use Rattle.std.specs.Prelude.{◌≡◌, ℕ, true, List, [], ◌∷◌, ◌++◌, Some, drop, take, length}
 use Rattle.pt_tree.specs.declared.kind.Kind.TheVariants as kind
-use Rattle.pt_tree.specs.Forest.{Forest, dir_at, file_at, is_proper, listing_at, listing_of}
+use Rattle.pt_tree.specs.Forest.{Forest, Dir, dir_at, node_at, file_at, is_proper, listing_at, listing_of}
 use Rattle.pt_tree.specs.Listing.{Item}
+use Rattle.pt_tree.specs.Path.{Path}
 use Rattle.pt_walk.specs.declared.frame.Frame.{Frame}
 use Rattle.pt_walk.specs.Left.{Fits, bytes_at, inside_at, listed}
 use Rattle.pt_walk.specs.Trail.{advanced, entered, entries_held, entry_at, is_trail, names_to, parent, sought}
@@ -48,3 +49,8 @@ PathSplits = (k : ℕ) (frames : List Frame) → names_to frames ≡ names_to (d
 -- it has as many names as there are listings around the innermost
 abbrev pub PathHasANameForEach : Type 0
 PathHasANameForEach = (frame : Frame) (frames : List Frame) → is_trail (frame ∷ frames) ≡ true → length (names_to frames) ≡ length frames
+
+-- what stands below a directory of a tree is what stands in it, and a directory of a proper tree is proper
+abbrev pub ReadsBelowADirectory : Type 0
+ReadsBelowADirectory =
+    (tree inside : Forest) (path below : Path) → dir_at tree path ≡ Some inside → (node_at (Dir tree) (path ++ below) ≡ node_at (Dir inside) below) × (is_proper tree ≡ true → is_proper inside ≡ true)

@@ -4,7 +4,7 @@ ghost use Rattle.pt_walk.specs.ObjectLaws.{CountsInTurn, LooksBehindGoodEntries,
 ghost use Rattle.pt_walk.specs.SiteLaws.{PairFindsAsLast, CandidateIsTheOnlyNonShorty, InteriorHoldsShorties, LastNameSaysWhere};
 ghost use Rattle.pt_walk.specs.SiteWalk.{StartsWithTheTop, EntersTheNextSite, PassesTheNextSite, PassesNonShorties, LeavesTheSite, EndsWithTheTop};
 ghost use Rattle.pt_walk.specs.ObjectWalk.{StartsWithTheObject, StartsWithTheGathered, ReadsTheNextFile, MeetsTheNextOther, EntersTheNextDirectory, PassesTheNextShorty, LeavesTheDirectory, EndsWithTheObject};
-ghost use Rattle.pt_walk.specs.TrailLaws.{FitsWhenEntered, FitsWhenMoved, DirectoryIsThere, FileIsThere, ListingIsThere, PathGrows, HoldsWhatIsListed, PathSplits, PathHasANameForEach};
+ghost use Rattle.pt_walk.specs.TrailLaws.{FitsWhenEntered, FitsWhenMoved, DirectoryIsThere, FileIsThere, ListingIsThere, PathGrows, HoldsWhatIsListed, PathSplits, PathHasANameForEach, ReadsBelowADirectory};
 
 /// How many bytes its own name has changes nothing in what a site is found to be.
 pub fn pair_finds_as_last()
@@ -174,4 +174,9 @@ pub fn files_part_in_order()
 /// What a proper site holds beside its shorties is proper.
 pub fn gathered_is_proper()
     ensures { GatheredIsProper }
+{}
+
+/// What stands below a directory of a tree is what stands in it, and a directory of a proper tree is proper.
+pub fn reads_below_a_directory()
+    ensures { ReadsBelowADirectory }
 {}

@@ -253,4 +253,5 @@ fn laws_are_called() {
     laws::path_has_a_name_for_each();
     laws::files_part_in_order();
     laws::gathered_is_proper();
+    laws::reads_below_a_directory();
 }
