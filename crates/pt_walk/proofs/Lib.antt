@@ -1,13 +1,13 @@
 mod Ahead
-mod BadEntries
-mod FilePaths
-mod Findings
+pub mod BadEntries
+pub mod FilePaths
+pub mod Findings
 mod LastFrame
-mod ObjectSteps
+pub mod ObjectSteps
 mod OneMore
 mod OuterNames
-mod Paths
+pub mod Paths
 mod Places
-mod SiteSteps
+pub mod SiteSteps
 mod Standing
-mod TrailSteps
+pub mod TrailSteps
