@@ -1,4 +1,4 @@
 mod Halving
 mod Indexed
 mod Inserting
-mod Noting
+pub mod Noting

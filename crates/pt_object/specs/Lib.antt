@@ -8,4 +8,5 @@ pub mod Index
 pub mod Meta
 pub mod MetaParts
 pub mod Moment
+pub mod RootFiles
 pub mod Rows

@@ -9,6 +9,8 @@ use pt_tree::MemoryFault;
 use sha2::{Digest as _, Sha256, Sha512};
 use std::alloc::Global;
 
+pub(crate) const ROOT_DECLARATION: &str = "ocfl_1.1\n";
+
 /// What the file `0=ocfl_object_1.1` of an object holds (OCFL 1.1, "Object Conformance Declaration").
 pub fn object_declaration() -> &'static [u8]
     ensures { result.now ≡ object_declaration_bytes }
@@ -20,7 +22,7 @@ pub fn object_declaration() -> &'static [u8]
 pub fn root_declaration() -> &'static [u8]
     ensures { result.now ≡ root_declaration_bytes }
 {
-    b"ocfl_1.1\n"
+    ROOT_DECLARATION.as_bytes()
 }
 
 /// The sidecar of an inventory's text: its digest in lower-case hex, a space, `inventory.json` and LF (OCFL 1.1,

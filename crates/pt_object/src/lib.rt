@@ -7,9 +7,11 @@ mod digest;
 mod files;
 mod hasher;
 mod index;
+mod json;
 pub mod laws;
 mod meta;
 mod moment;
+mod root;
 mod rows;
 #[cfg(test)]
 mod tests;
@@ -20,4 +22,5 @@ pub use digest::Digest;
 pub use files::{object_declaration, root_declaration, sidecar};
 pub use hasher::Hasher;
 pub use meta::{Meta, MetaFault};
+pub use root::{RootFiles, root_files};
 pub use rows::{Row, Rows};

@@ -1,7 +1,8 @@
 use crate::{
     Algorithm, Content, Contents, Digest, Hasher, Meta, MetaFault, Rows, object_declaration,
-    root_declaration, sidecar,
+    root_declaration, root_files, sidecar,
 };
+use pt_name::Layout;
 use pt_tree::{Block, Name, NamePath};
 use std::alloc::Global;
 use std::process::Abort;
@@ -251,5 +252,41 @@ fn bytes_of_declarations_and_sidecars(rt: HostRuntime) -> Result<(), Fail> {
         long.as_str(),
         format!(in rt.alloc(); "{OF_ABC} inventory.json\n")?.as_str()
     );
+    Ok(())
+}
+
+const LAYOUT: &str =
+    "{\"description\":\"SHA-256 of the identifier in tuples, then the encoded identifier\",\"extension\":\"0003-hash-and-id-n-tuple-storage-layout\"}";
+
+const CONFIG: &str =
+    "{\"digestAlgorithm\":\"sha256\",\"extensionName\":\"0003-hash-and-id-n-tuple-storage-layout\"";
+
+#[test]
+fn root_files_of_layouts(rt: HostRuntime) -> Result<(), Fail> {
+    for (size, count) in [(3, 3), (2, 4), (0, 0)] {
+        let layout = Layout::of(size, count)?;
+        let files = root_files(rt.alloc(), layout)?;
+        let config = format!(in rt.alloc();
+            "{CONFIG},\"numberOfTuples\":{count},\"tupleSize\":{size}}}"
+        )?;
+        let rows = [
+            ("0=ocfl_1.1", "ocfl_1.1\n"),
+            ("ocfl_layout.json", LAYOUT),
+            (
+                "extensions/0003-hash-and-id-n-tuple-storage-layout/config.json",
+                config.as_str(),
+            ),
+        ];
+        for (i, (want_path, want_text)) in rows.iter().enumerate() {
+            match files.get(i) {
+                Some((path, bytes)) => {
+                    assert_eq!(rt; path.join()?.as_slice(), want_path.as_bytes());
+                    assert_eq!(rt; bytes, want_text.as_bytes());
+                }
+                None => assert!(rt; false, "no file {i}"),
+            }
+        }
+        assert!(rt; files.get(3).is_none());
+    }
     Ok(())
 }

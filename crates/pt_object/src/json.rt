@@ -1,0 +1,20 @@
+// Objects of JSON that are built member by member.
+ghost use Rattle.std.specs.Prelude.{◌≡◌, OnOk};
+ghost use Rattle.serde_json.specs.Data.{put, string};
+ghost use Rattle.serde_json.specs.View.{members_view};
+
+use serde_json::{Map, Value};
+use std::alloc::{AllocError, Global};
+
+// Puts a text at a key.
+pub(crate) fn put_text(
+    members: &mut Map<String, Value>,
+    alloc: Global,
+    key: &str,
+    text: &str,
+) -> Result<(), AllocError>
+    ensures { OnOk result (members_view members.new.entries ≡ put key.now (string text.now) (members_view members.old.entries)) }
+{
+    let text = String::from_str(alloc, text)?;
+    serde_json::put(members, alloc, key, Value::from(text))
+}

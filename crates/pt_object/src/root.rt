@@ -1,0 +1,96 @@
+ghost use Rattle.std.specs.Prelude.{◌≡◌, IfOk, map, slice_get};
+ghost use Rattle.std.specs.String.{string_bytes};
+ghost use Rattle.serde_json.specs.View.{view};
+ghost use Rattle.pt_object.specs.RootFiles.{config_text, config_tree, files_lent, layout_text, root_files_of};
+
+use crate::files::ROOT_DECLARATION;
+use crate::json::put_text;
+use pt_name::Layout;
+use pt_tree::{MemoryFault, Name, NamePath};
+use serde_json::{Map, Value, json};
+use std::alloc::{AllocError, Global};
+use std::marker::Model;
+
+const EXTENSION: &str = "0003-hash-and-id-n-tuple-storage-layout";
+
+const DESCRIPTION: &str = "SHA-256 of the identifier in tuples, then the encoded identifier";
+
+/// The three files of a storage root, seen as the list of their paths and bytes.
+#[derive(Debug, Drop)]
+pub struct RootFiles {
+    files: Vec<(NamePath, String)>,
+}
+
+impl Model for RootFiles {
+    ghost use Rattle.std.specs.Prelude.{List, ℕ, map};
+    ghost use Rattle.std.specs.String.{string_bytes};
+    ghost use Rattle.pt_tree.specs.Path.{Path};
+
+    ghost Value = { List (Path × List ℕ) };
+
+    ghost view = { λ r. map (λ f. (f.0, string_bytes f.1)) r.files.items };
+}
+
+impl RootFiles {
+    /// The i-th file, from 0 on; None from 3 on.
+    pub fn get(&self, i: usize) -> Option<(&NamePath, &[u8])>
+        ensures { files_lent result ≡ slice_get self.now i }
+    {
+        let (path, text) = self.files.get(i)?;
+        Some((path, text.as_bytes()))
+    }
+}
+
+/// The files of a storage root of this layout (OCFL 1.1, "Root Structure"; extension 0003): the declaration, the
+/// layout's description and the configuration. `Memory` where a growth was refused.
+pub fn root_files(alloc: Global, layout: Layout) -> Result<RootFiles, MemoryFault>
+    ensures { IfOk result (λ files. files ≡ root_files_of layout) }
+{
+    let mut files = Vec::with_capacity(alloc, 3)?;
+    let declaration = String::from_str(alloc, ROOT_DECLARATION)?;
+    files.push((path_of(alloc, &["0=ocfl_1.1"])?, declaration))?;
+    files.push((path_of(alloc, &["ocfl_layout.json"])?, layout_file(alloc)?))?;
+    files.push((
+        path_of(alloc, &["extensions", EXTENSION, "config.json"])?,
+        config_file(alloc, layout.size(), layout.count())?,
+    ))?;
+    Ok(RootFiles { files })
+}
+
+fn layout_file(alloc: Global) -> Result<String, MemoryFault>
+    ensures { IfOk result (λ text. string_bytes text ≡ layout_text) }
+{
+    let value = json!(in alloc; {"description": DESCRIPTION, "extension": EXTENSION})?;
+    Ok(value.to_string(alloc)?)
+}
+
+fn config_file(alloc: Global, size: u32, count: u32) -> Result<String, MemoryFault>
+    ensures { IfOk result (λ text. string_bytes text ≡ config_text (record { size = size; count = count })) }
+{
+    let value = config(alloc, size, count)?;
+    Ok(value.to_string(alloc)?)
+}
+
+fn config(alloc: Global, size: u32, count: u32) -> Result<Value, AllocError>
+    ensures { IfOk result (λ value. view value ≡ config_tree size count) }
+{
+    let mut members = Map::new(alloc);
+    put_text(&mut members, alloc, "digestAlgorithm", "sha256")?;
+    put_text(&mut members, alloc, "extensionName", EXTENSION)?;
+    serde_json::put(&mut members, alloc, "numberOfTuples", Value::from(count))?;
+    serde_json::put(&mut members, alloc, "tupleSize", Value::from(size))?;
+    Ok(Value::from(members))
+}
+
+fn path_of(alloc: Global, names: &[&str]) -> Result<NamePath, MemoryFault>
+    ensures { IfOk result (λ path. path ≡ map (λ name. name.now) names.now) }
+{
+    let mut path = NamePath::new(alloc);
+    for name in names {
+        match Name::of(alloc, name.as_bytes()) {
+            Ok(name) => path.push(name)?,
+            Err(_) => return Err(MemoryFault::Memory),
+        }
+    }
+    Ok(path)
+}
