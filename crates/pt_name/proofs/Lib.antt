@@ -1,2 +1,10 @@
+pub mod Answering
+pub mod Digits
+pub mod NamesJoined
+pub mod LineEnds
 pub mod Pieces
+pub mod PlaceNames
+pub mod Places
+pub mod Readings
+pub mod Spelled
 pub mod Tuples

@@ -3,3 +3,5 @@ pub mod Clean
 pub mod Tuples
 pub mod Layout
 pub mod Place
+pub mod Prefix
+pub mod Reading

@@ -1,5 +1,5 @@
 -- The place of an identifier in a storage root: extension 0003-hash-and-id-n-tuple-storage-layout.
-use Rattle.std.specs.Prelude.{ℕ, zero, suc, Bool, ◌==◌, ◌||◌, ◌&&◌, nat_le, if◌then◌else◌, List, [], ◌∷◌, ◌++◌, length, take, drop}
+use Rattle.std.specs.Prelude.{◌≡◌, ◌<◌, ◌≤◌, ℕ, true, All, zero, suc, Bool, ◌==◌, ◌||◌, ◌&&◌, nat_le, if◌then◌else◌, List, [], ◌∷◌, ◌++◌, length, take, drop}
 use Rattle.std.specs.List.{flat_map}
 use Rattle.sha2.specs.Sha256.{sha256}
 use Rattle.hex.specs.Hex.{encode_lower}
@@ -42,6 +42,20 @@ tuples_from size (suc count) digits = take size digits ∷ tuples_from size coun
 abbrev pub place_of : Tuples → List ℕ → Path
 place_of tuples id = tuples_from tuples.size tuples.count (digest_text id) ++ last_name_of id ∷ []
 
--- each name with `/` behind it
-abbrev pub slashed : Path → List ℕ
-slashed names = flat_map (λ name. name ++ 47 ∷ []) names
+-- a byte that names of a place may have: a safe one, or `%`
+abbrev pub IsPlaceByte : ℕ → Type 0
+IsPlaceByte byte = (is_safe byte || byte == 37) ≡ true
+
+-- a name of 1 to 255 such bytes
+pub record IsPlaceName (bytes : List ℕ) : Type 0 where
+  pub some : 0 < length bytes
+  pub bound : length bytes ≤ 255
+  pub safe : All IsPlaceByte bytes
+
+-- What two identifiers have in common whose places are one: both encodings are shortened, to the same characters, and
+-- the SHA-256 is one.
+pub record SharesShortName (a b : List ℕ) : Type 0 where
+  pub first_long : 100 < length (encoded_of a)
+  pub second_long : 100 < length (encoded_of b)
+  pub front : take 100 (encoded_of a) ≡ take 100 (encoded_of b)
+  pub digest : sha256 a ≡ sha256 b

@@ -1,9 +1,9 @@
-ghost use Rattle.std.specs.Prelude.{◌≡◌, ◌++◌, ◌*◌, ◌<◌, ◌≤◌, length, IfOk, OnOk, Result};
+ghost use Rattle.std.specs.Prelude.{◌≡◌, [], ◌∷◌, ◌++◌, ◌*◌, ◌<◌, ◌≤◌, length, All, IfOk, OnOk, Result};
 ghost use Rattle.pt_tree.specs.Path.{joined};
-ghost use Rattle.pt_name.specs.Place.{place_of, slashed, tuples_from};
+ghost use Rattle.pt_name.specs.Place.{IsPlaceByte, IsPlaceName, place_of, tuples_from};
 
 use crate::encoding::{digest_digits, last_name_with};
-use pt_tree::MemoryFault;
+use pt_tree::{MemoryFault, Name, NameFault, NamePath};
 use std::alloc::Global;
 use std::marker::Model;
 use thiserror::Error;
@@ -107,39 +107,66 @@ impl Layout {
         self.count
     }
 
-    /// The place of an identifier that isn't empty: the tuples, cut from the front of its SHA-256 in lower-case hex,
-    /// and its last name, with `/` between.
+    /// The place of an identifier that isn't empty, by extension 0003: the tuples, cut from the front of its SHA-256 in
+    /// lower-case hex, and its last name.
     ///
     /// Takes any bytes. `Memory` where a growth was refused.
-    #[tactic(auto, using(crate::proofs::Tuples::joined_place))]
+    pub fn place(&self, alloc: Global, id: &[u8]) -> Result<NamePath, MemoryFault>
+        requires { 0 < length id.now }
+        ensures { IfOk result (λ path. path ≡ place_of self.now id.now) }
+    {
+        let digits = digest_digits(id);
+        let mut path = NamePath::new(alloc);
+        let (size, count) = (self.size as usize, self.count as usize);
+        push_tuples(alloc, &mut path, size, count, &digits)?;
+        push_name(alloc, &mut path, &last_name_with(alloc, id, &digits)?)?;
+        Ok(path)
+    }
+
+    /// The same place as a text: its names with `/` between.
+    ///
+    /// Takes any bytes. `Memory` where a growth was refused.
     pub fn place_text(&self, alloc: Global, id: &[u8]) -> Result<Vec<u8>, MemoryFault>
         requires { 0 < length id.now }
         ensures { IfOk result (λ text. text.items ≡ joined (place_of self.now id.now)) }
     {
-        let digits = digest_digits(id);
-        let mut text = Vec::new(alloc);
-        push_tuples(&mut text, self.size as usize, self.count as usize, &digits)?;
-        text.extend_from_slice(&last_name_with(alloc, id, &digits)?)?;
-        Ok(text)
+        self.place(alloc, id)?.join()
     }
 }
 
-// Adds `count` tuples of `size` digits from the front of the digits, with `/` behind each.
+// Adds `count` tuples of `size` digits from the front of the digits.
 fn push_tuples(
-    text: &mut Vec<u8>,
+    alloc: Global,
+    path: &mut NamePath,
     size: usize,
     count: usize,
     digits: &[u8],
 ) -> Result<(), MemoryFault>
-    requires { size * count ≤ length digits.now }
-    ensures { OnOk result (text.new.items ≡ text.old.items ++ slashed (tuples_from size count digits.now)) }
+    requires enough { size * count ≤ length digits.now }
+    requires some { 0 < count → 0 < size }
+    requires bound { size ≤ 32 }
+    requires safe { All IsPlaceByte digits.now }
+    ensures { OnOk result (path.new ≡ path.old ++ tuples_from size count digits.now) }
 {
     let mut rest = digits;
     for _ in 0..count {
         let (tuple, after) = rest.split_at(size);
-        text.extend_from_slice(tuple)?;
-        text.push(b'/')?;
+        push_name(alloc, path, tuple)?;
         rest = after;
     }
     Ok(())
+}
+
+// Adds a name of 1 to 255 bytes that a place may have.
+fn push_name(alloc: Global, path: &mut NamePath, bytes: &[u8]) -> Result<(), MemoryFault>
+    requires { IsPlaceName bytes.now }
+    ensures { OnOk result (path.new ≡ path.old ++ bytes.now ∷ []) }
+{
+    match Name::of(alloc, bytes) {
+        Ok(name) => path.push(name),
+        Err(fault) => match fault {
+            NameFault::Memory => Err(MemoryFault::Memory),
+            _ => unreachable!(),
+        },
+    }
 }

@@ -5,11 +5,18 @@
 mod cleaning;
 mod encoding;
 mod hex_pair;
+mod joining;
+pub mod laws;
 mod layout;
+mod prefix;
+mod reading;
 
 pub use cleaning::{clean, pairpath};
 pub use encoding::{encoded, last_name};
+pub use joining::concatenated;
 pub use layout::{Layout, LayoutFault};
+pub use prefix::{PrefixFault, read_prefix};
+pub use reading::{UncleanFault, unclean};
 
 #[cfg(test)]
 mod tests;

@@ -1,4 +1,5 @@
 use super::*;
+use pt_tree::{Name, NamePath};
 use std::test::Fail;
 
 // An identifier, its pairpath and its place in the default layout.
@@ -120,22 +121,120 @@ fn layouts(rt: HostRuntime) -> Result<(), Fail> {
 }
 
 #[test]
+fn texts_read_back(rt: HostRuntime) -> Result<(), Fail> {
+    let alloc = rt.alloc();
+    let rows: [(&[u8], &str); 9] = [
+        (b"^2A", "*"),
+        (b"^2a", "*"),
+        (b"a\\", "a\\"),
+        (b"a^5c", "a\\"),
+        (b"ark+=13030=xt12t3", "ark:/13030/xt12t3"),
+        (b"ab/c", "ab/c"),
+        (b"\"*<>?|", "\"*<>?|"),
+        (b"^c3^A9", "\u{e9}"),
+        (b"", ""),
+    ];
+    for (text, id) in rows {
+        assert_eq!(rt; unclean(alloc, text)?.as_str(), id, "{text:?}");
+    }
+    let refused: [(&[u8], UncleanFault); 9] = [
+        (b"^ff^2", UncleanFault::Malformed),
+        (b"^ff", UncleanFault::NotUtf8),
+        (b"^2", UncleanFault::Malformed),
+        (b"^", UncleanFault::Malformed),
+        (b"^2g", UncleanFault::Malformed),
+        (b"a b", UncleanFault::Malformed),
+        (b"\x7f", UncleanFault::Malformed),
+        (b"\xc3\xa9", UncleanFault::Malformed),
+        (b"^^2a", UncleanFault::Malformed),
+    ];
+    for (text, fault) in refused {
+        match unclean(alloc, text) {
+            Ok(_) => assert!(rt; false, "{text:?}"),
+            Err(found) => assert_eq!(rt; found, fault, "{text:?}"),
+        }
+    }
+    let numbers = [
+        UncleanFault::Malformed.number(),
+        UncleanFault::NotUtf8.number(),
+        UncleanFault::Memory.number(),
+    ];
+    assert_eq!(rt; numbers, [1, 2, 3]);
+    Ok(())
+}
+
+#[test]
+fn prefixes(rt: HostRuntime) -> Result<(), Fail> {
+    let alloc = rt.alloc();
+    let letters = [b'a'; 1025];
+    let mut with_line_end = letters;
+    with_line_end[1024] = b'\n';
+    let rows: [(&[u8], &[u8]); 5] = [
+        (b"uc1.\r\n\n", b"uc1."),
+        (b"\n", b""),
+        (b"", b""),
+        (b"a\nb\r", b"a\nb"),
+        (&letters[..1024], &letters[..1024]),
+    ];
+    for (bytes, prefix) in rows {
+        assert_eq!(rt; read_prefix(alloc, bytes)?.as_bytes(), prefix);
+    }
+    let refused: [(&[u8], PrefixFault); 3] = [
+        (&letters, PrefixFault::TooLong),
+        (&with_line_end, PrefixFault::TooLong),
+        (b"\xff", PrefixFault::NotUtf8),
+    ];
+    for (bytes, fault) in refused {
+        match read_prefix(alloc, bytes) {
+            Ok(_) => assert!(rt; false, "{fault}"),
+            Err(found) => assert_eq!(rt; found, fault),
+        }
+    }
+    let numbers = [
+        PrefixFault::TooLong.number(),
+        PrefixFault::NotUtf8.number(),
+        PrefixFault::Memory.number(),
+    ];
+    assert_eq!(rt; numbers, [1, 2, 3]);
+    Ok(())
+}
+
+#[test]
 fn places_in_other_layouts(rt: HostRuntime) -> Result<(), Fail> {
     let alloc = rt.alloc();
-    let rows: [(u32, u32, &[u8]); 3] = [
-        (2, 4, b"ba/78/16/bf/abc"),
-        (0, 0, b"abc"),
+    let rows: [(u32, u32, usize, &[u8]); 4] = [
+        (3, 3, 4, b"ba7/816/bf8/abc"),
+        (2, 4, 5, b"ba/78/16/bf/abc"),
+        (0, 0, 1, b"abc"),
         (
             32,
             2,
+            3,
             b"ba7816bf8f01cfea414140de5dae2223/b00361a396177a9cb410ff61f20015ad/abc",
         ),
     ];
-    for (size, count, place) in rows {
+    for (size, count, names, place) in rows {
+        let path = Layout::of(size, count)?.place(alloc, b"abc")?;
+        assert_eq!(rt; path.len(), names, "{size} by {count}");
+        assert_eq!(rt; path.join()?.as_slice(), place, "{size} by {count}");
         let text = Layout::of(size, count)?.place_text(alloc, b"abc")?;
         assert_eq!(rt; text.as_slice(), place, "{size} by {count}");
     }
     let text = Layout::default_form().place_text(alloc, b"\n")?;
     assert_eq!(rt; text.as_slice(), b"01b/a47/19c/%0a".as_slice());
+    Ok(())
+}
+
+#[test]
+fn identifiers_are_read_from_joined_names(rt: HostRuntime) -> Result<(), Fail> {
+    let alloc = rt.alloc();
+    let mut path = NamePath::new(alloc);
+    for name in [b"^6".as_slice(), b"1b", b"c"] {
+        path.push(Name::of(alloc, name)?)?;
+    }
+    let text = concatenated(alloc, &path)?;
+    assert_eq!(rt; text.as_slice(), b"^61bc".as_slice());
+    assert_eq!(rt; unclean(alloc, &text)?.as_str(), "abc");
+    assert!(rt; concatenated(alloc, &NamePath::new(alloc))?.is_empty());
     Ok(())
 }
