@@ -71,19 +71,19 @@ all-append test (x ∷ xs) ys a b =
     let parts = and_parts (test x) (list_all test xs) a in
     and_from (test x) (list_all test (xs ++ ys)) parts.0 (all-append test xs ys parts.1 b)
 
-comes_before-trans : (n m : List ℕ) (f : Forest) → is_before n m ≡ true → comes_before m f ≡ true → comes_before n f ≡ true
+pub comes_before-trans : (n m : List ℕ) (f : Forest) → is_before n m ≡ true → comes_before m f ≡ true → comes_before n f ≡ true
 comes_before-trans n m none a b = refl
 comes_before-trans n m (file name bytes after) a b = is_before-trans n m name a b
 comes_before-trans n m (other name after) a b = is_before-trans n m name a b
 comes_before-trans n m (dir name inside after) a b = is_before-trans n m name a b
 
-file_parts : (n b : List ℕ) (f : Forest) → is_proper (file n b f) ≡ true → (is_name n ≡ true) × (comes_before n f ≡ true) × (is_proper f ≡ true)
+pub file_parts : (n b : List ℕ) (f : Forest) → is_proper (file n b f) ≡ true → (is_name n ≡ true) × (comes_before n f ≡ true) × (is_proper f ≡ true)
 file_parts n b f proper =
     let first = and_parts (is_name n) (comes_before n f && is_proper f) proper in
     let second = and_parts (comes_before n f) (is_proper f) first.1 in
     (first.0, second.0, second.1)
 
-dir_names : (n : List ℕ) (inside f : Forest) → is_proper (dir n inside f) ≡ true → (is_name n ≡ true) × (comes_before n f ≡ true)
+pub dir_names : (n : List ℕ) (inside f : Forest) → is_proper (dir n inside f) ≡ true → (is_name n ≡ true) × (comes_before n f ≡ true)
 dir_names n inside f proper =
     let first = and_parts (is_name n) (comes_before n f && (is_proper inside && is_proper f)) proper in
     (first.0, (and_parts (comes_before n f) (is_proper inside && is_proper f) first.1).0)

@@ -8,6 +8,7 @@ mod OneMore
 mod OuterNames
 pub mod Paths
 mod Places
+pub mod Reached
 pub mod SiteSteps
 mod Standing
 pub mod TrailSteps

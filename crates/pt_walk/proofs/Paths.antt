@@ -77,11 +77,11 @@ find-proper (dir n d f) name inside proper e =
           find-proper f name inside parts.1 (sym later ∙ e)
     ]
 
-file_leads_nowhere : (bytes : List ℕ) (path : Path) (inside : Forest) → node_at (File bytes) path ≡ Some (Dir inside) → ⊥
+pub file_leads_nowhere : (bytes : List ℕ) (path : Path) (inside : Forest) → node_at (File bytes) path ≡ Some (Dir inside) → ⊥
 file_leads_nowhere bytes [] inside e = cc
 file_leads_nowhere bytes (name ∷ path) inside e = cc
 
-other_leads_nowhere : (path : Path) (inside : Forest) → node_at Other path ≡ Some (Dir inside) → ⊥
+pub other_leads_nowhere : (path : Path) (inside : Forest) → node_at Other path ≡ Some (Dir inside) → ⊥
 other_leads_nowhere [] inside e = cc
 other_leads_nowhere (name ∷ path) inside e = cc
 

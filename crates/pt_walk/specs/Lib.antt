@@ -10,5 +10,6 @@ pub mod Site
 pub mod SiteLaws
 pub mod SiteWalk
 pub mod Sites
+pub mod SitesReached
 pub mod Trail
 pub mod TrailLaws

@@ -1,4 +1,5 @@
 //! Laws on what a walk finds, and on what of it is still to come. Each is the contract of a function that does nothing.
+ghost use Rattle.pt_walk.specs.SitesReached.{ListedSitesAreReached, ReachedSitesAreListed};
 ghost use Rattle.pt_walk.specs.ObjectPaths.{FilesPartInOrder, GatheredIsProper};
 ghost use Rattle.pt_walk.specs.ObjectLaws.{CountsInTurn, LooksBehindGoodEntries, GoodEntriesGrow, BadEntryIsFirst, SplitsAtTheFirstBad};
 ghost use Rattle.pt_walk.specs.SiteLaws.{PairFindsAsLast, CandidateIsTheOnlyNonShorty, InteriorHoldsShorties, LastNameSaysWhere};
@@ -179,4 +180,14 @@ pub fn gathered_is_proper()
 /// What stands below a directory of a tree is what stands in it, and a directory of a proper tree is proper.
 pub fn reads_below_a_directory()
     ensures { ReadsBelowADirectory }
+{}
+
+/// Each site that is listed is a directory that shorties lead to, none of them below a name of one byte, and no more of them than the limit allows.
+pub fn listed_sites_are_reached()
+    ensures { ListedSitesAreReached }
+{}
+
+/// Each directory that shorties lead to so is a site that is listed.
+pub fn reached_sites_are_listed()
+    ensures { ReachedSitesAreListed }
 {}

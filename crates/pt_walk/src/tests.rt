@@ -254,4 +254,6 @@ fn laws_are_called() {
     laws::files_part_in_order();
     laws::gathered_is_proper();
     laws::reads_below_a_directory();
+    laws::listed_sites_are_reached();
+    laws::reached_sites_are_listed();
 }
