@@ -1,4 +1,6 @@
+mod Grouped
 mod Halving
 mod Indexed
 mod Inserting
 pub mod Noting
+mod Trees

@@ -5,6 +5,7 @@ pub mod Distinct
 pub mod Files
 pub mod Hasher
 pub mod Index
+pub mod Inventory
 pub mod Meta
 pub mod MetaParts
 pub mod Moment

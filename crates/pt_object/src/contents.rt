@@ -1,7 +1,7 @@
-ghost use Rattle.std.specs.Prelude.{◌≡◌, ◌==◌, ◌<◌, [], false, IfOk, IsTrue, OnOk, OnErr, length, not, slice_get};
+ghost use Rattle.std.specs.Prelude.{◌≡◌, ◌==◌, ◌<◌, [], false, IfOk, IsTrue, MatchOption, OnOk, OnErr, length, not, slice_get};
 ghost use Rattle.std.specs.Option.{option_copied};
 ghost use Rattle.pt_object.specs.Contents.{DigestsDiffer, first_path, is_noted, noted};
-ghost use Rattle.pt_object.specs.Index.{IsWithinBinaryDigits};
+ghost use Rattle.pt_object.specs.Index.{IsAt, IsWithinBinaryDigits};
 
 use crate::Digest;
 use crate::index::search;
@@ -123,5 +123,18 @@ impl Contents {
         ensures { option_copied result ≡ slice_get self.now i }
     {
         self.items.get(i)
+    }
+
+    pub(crate) fn as_slice(&self) -> &[Content]
+        ensures { result.now ≡ self.now }
+    {
+        &self.items
+    }
+
+    // The position of the item with the digest.
+    pub(crate) fn position(&self, digest: &Digest) -> Option<usize>
+        ensures { MatchOption result (is_noted self.now digest.now ≡ false) (IsAt self.now digest.now) }
+    {
+        search(&self.items, &self.index, digest).found.ok()
     }
 }

@@ -1,8 +1,12 @@
-// Objects of JSON that are built member by member.
-ghost use Rattle.std.specs.Prelude.{◌≡◌, OnOk};
-ghost use Rattle.serde_json.specs.Data.{put, string};
-ghost use Rattle.serde_json.specs.View.{members_view};
+// Parts of an inventory's JSON: texts at their keys, and lists of paths.
+ghost use Rattle.std.specs.Prelude.{◌≡◌, [], ◌∷◌, ◌++◌, IfOk, OnOk, codes, map};
+ghost use Rattle.std.specs.String.{string_bytes};
+ghost use Rattle.serde_json.specs.Data.{array, put, string};
+ghost use Rattle.serde_json.specs.View.{members_view, view};
+ghost use Rattle.pt_tree.specs.Path.{joined};
+ghost use Rattle.pt_object.specs.Inventory.{content_path, texts};
 
+use pt_tree::{MemoryFault, NamePath};
 use serde_json::{Map, Value};
 use std::alloc::{AllocError, Global};
 
@@ -17,4 +21,34 @@ pub(crate) fn put_text(
 {
     let text = String::from_str(alloc, text)?;
     serde_json::put(members, alloc, key, Value::from(text))
+}
+
+// The list of the path where the content of the file with this logical path is stored.
+pub(crate) fn stored_path(alloc: Global, path: &NamePath) -> Result<Value, MemoryFault>
+    ensures { IfOk result (λ value. view value ≡ array (texts (content_path path.now ∷ []))) }
+{
+    let mut text = String::from_str(alloc, "v1/content/")?;
+    text.push_str(path_text(path)?.as_str())?;
+    let mut items = Vec::new(alloc);
+    items.push(Value::from(text))?;
+    Ok(Value::from(items))
+}
+
+// The list of these logical paths.
+pub(crate) fn path_list(alloc: Global, paths: &[&NamePath]) -> Result<Value, MemoryFault>
+    ensures { IfOk result (λ value. view value ≡ array (texts (map (λ path. joined path.now) paths.now))) }
+{
+    let mut items = Vec::new(alloc);
+    for path in paths {
+        items.push(Value::from(path_text(path)?))?;
+    }
+    Ok(Value::from(items))
+}
+
+// The names of the path with `/` between.
+fn path_text(path: &NamePath) -> Result<String, MemoryFault>
+    ensures { IfOk result (λ text. string_bytes text ≡ joined path.now) }
+{
+    let bytes = path.join()?;
+    Ok(String::from_utf8(bytes).unwrap())
 }

@@ -101,4 +101,35 @@ impl Meta {
             message: String::from_str(alloc, message)?,
         })
     }
+
+    /// The moment, as it was given.
+    pub fn created(&self) -> &str
+        ensures { result.now ≡ self.now.created }
+    {
+        self.created.as_str()
+    }
+
+    /// The name.
+    pub fn name(&self) -> &str
+        ensures { result.now ≡ self.now.name }
+    {
+        self.name.as_str()
+    }
+
+    /// The address; None where none was given, or an empty one.
+    pub fn address(&self) -> Option<&str>
+        ensures { option_map (λ a. a.now) result ≡ self.now.address }
+    {
+        match &self.address {
+            Some(address) => Some(address.as_str()),
+            None => None,
+        }
+    }
+
+    /// The message.
+    pub fn message(&self) -> &str
+        ensures { result.now ≡ self.now.message }
+    {
+        self.message.as_str()
+    }
 }

@@ -81,4 +81,10 @@ impl Rows {
     {
         self.rows.get(i)
     }
+
+    pub(crate) fn as_slice(&self) -> &[Row]
+        ensures { result.now ≡ self.now }
+    {
+        &self.rows
+    }
 }
