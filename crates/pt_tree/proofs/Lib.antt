@@ -1,8 +1,13 @@
 mod Joining
 mod Rising
+mod SourceCalls
 mod Texts
 pub mod Blocks
+mod Calls
+mod Canonical
+mod DestCalls
 mod Finding
+mod AtPaths
 mod Names
 mod Paths
 mod Trees
@@ -10,3 +15,4 @@ mod Opened
 mod Placing
 mod Planted
 mod Proper
+mod Renamed

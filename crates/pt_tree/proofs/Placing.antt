@@ -9,7 +9,8 @@ use Rattle.pt_tree.specs.Path.{Path, same_path, rest_below, parent, last_name}
 use Rattle.pt_tree.specs.Forest.{Forest, Node, File, Dir, Other, find, node_at, as_dir, dir_at, is_proper, first_name, first_node, inserted, removed, rewritten, changed, picked, picked_at}
 use Rattle.pt_tree.specs.Tree.{Entry, Bytes, Folder, Special, Tree, entry_of, tree_of, edited_by, put, added, moved, moved_at, without, without_at, IsTree, CanMake, CanMove}
 use Rattle.pt_tree.proofs.Names.{same_name, name_itself, bytes_eq-sym}
-use Rattle.pt_tree.proofs.Trees.{entry_below, spliced, on_the_way, tree-changed, tree-inserted, tree-removed, tree-rewritten, edited_below}
+use Rattle.pt_tree.specs.TreeLaws.{entry_below, in_folder}
+use Rattle.pt_tree.proofs.Trees.{spliced, on_the_way, tree-changed, tree-inserted, tree-removed, tree-rewritten, edited_below}
 
 -- the rest of q below p is nothing: they are one path
 abbrev pub is_here : Option Path → Bool
@@ -159,19 +160,3 @@ tree-edited_at piece f n path d is = λ i q. (tree-changed_at (edited_below g (t
     by q None is = sym (cond-false _ _ _ (same_path-rest (n ∷ path) q ∙ ap is_here is))
     by q (Some []) is = sym (cond-true _ _ _ (same_path-rest (n ∷ path) q ∙ ap is_here is))
     by q (Some (m ∷ rest)) is = sym (cond-false _ _ _ (same_path-rest (n ∷ path) q ∙ ap is_here is))
-
-in_folder : (x : Node) (p : Path) (n : List ℕ) → IsSome (entry_below x (p ++ n ∷ [])) → entry_below x p ≡ Some Folder
-in_folder (File b) [] n h = absurd (cc)
-in_folder Other [] n h = absurd (cc)
-in_folder (Dir e) [] n h = refl
-in_folder (File b) (m ∷ p) n h = absurd (cc)
-in_folder Other (m ∷ p) n h = absurd (cc)
-in_folder (Dir e) (m ∷ p) n h = by (λ x h. in_folder x p n h) (find e m) h
-  where
-    by : ((x : Node) → IsSome (entry_below x (p ++ n ∷ [])) → entry_below x p ≡ Some Folder) → (o : Option Node) → IsSome (option_map entry_of (option_and_then (λ node. node_at node (p ++ n ∷ [])) o)) → option_map entry_of (option_and_then (λ node. node_at node p) o) ≡ Some Folder
-    by later None h = absurd (cc)
-    by later (Some x) h = later x h
-
--- what a forest shows is a tree
-pub IsTree-tree_of : (f : Forest) → IsTree (tree_of f)
-IsTree-tree_of f = record { top = refl; above = λ p n. in_folder (Dir f) p n }

@@ -7,12 +7,9 @@ use Rattle.std.proofs.lemmas.Bool.{true≢false, false≢true, cases_Bool, cond-
 use Rattle.pt_tree.specs.Path.{Path, same_path, rest_below, parent, last_name}
 use Rattle.pt_tree.specs.Forest.{Forest, none, Node, File, Dir, Other, find, node_at, as_dir, as_file, dir_at, file_at, is_proper, first_name, first_node, inserted, removed, rewritten, changed}
 use Rattle.pt_tree.specs.Tree.{Entry, Bytes, Folder, Special, Tree, entry_of, tree_of, edited_by}
+use Rattle.pt_tree.specs.TreeLaws.{entry_below}
 use Rattle.pt_tree.proofs.Names.{same_name, name_itself}
 use Rattle.pt_tree.proofs.Finding.{find-inserted, find-removed, find-rewritten, find-changed, node_edited}
-
--- what stands at a path from a node
-abbrev pub entry_below : Node → Path → Option Entry
-entry_below node path = option_map entry_of (node_at node path)
 
 -- with what `below` says of the rest, where there is one
 abbrev pub spliced : Option Path → (Path → Option Entry) → Option Entry → Option Entry

@@ -163,3 +163,10 @@ changed g none (n ∷ path) = none
 changed g (file name bytes after) (n ∷ path) = file name bytes (changed g after (n ∷ path))
 changed g (other name after) (n ∷ path) = other name (changed g after (n ∷ path))
 changed g (dir name inside after) (n ∷ path) = cond (bytes_eq name n) (dir name (changed g inside path) after) (dir name inside (changed g after (n ∷ path)))
+
+-- the first entry under another name
+abbrev pub named : List ℕ → Forest → Forest
+named n none = none
+named n (file name bytes after) = file n bytes after
+named n (other name after) = other n after
+named n (dir name inside after) = dir n inside after

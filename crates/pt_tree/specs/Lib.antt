@@ -6,7 +6,10 @@ pub mod Forest
 pub mod Fuse
 pub mod Listing
 pub mod Log
+pub mod MemDest
+pub mod MemDestTells
 pub mod MemSource
+pub mod MemSourceTells
 pub mod Name
 pub mod Opening
 pub mod Path
@@ -14,3 +17,4 @@ pub mod Planting
 pub mod Refusal
 pub mod Source
 pub mod Tree
+pub mod TreeLaws

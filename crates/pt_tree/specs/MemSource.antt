@@ -1,11 +1,15 @@
 -- What a source in memory holds.
-use Rattle.std.specs.Prelude.{◌≡◌, ℕ, ◌+◌, ◌%◌, ◌^◌, drop, List, Option, None, Some}
+use Rattle.std.specs.Prelude.{◌≡◌, ℕ, Bool, true, false, ◌+◌, ◌%◌, ◌^◌, take, drop, length, List, Option, None, Some, Result, Ok, Err, MatchResult}
 use Rattle.std.specs.Option.{option_map, option_and_then}
 use Rattle.pt_tree.specs.declared.mem_source.MemSource.{MemSource}
 use Rattle.pt_tree.specs.declared.fuse.Fuse.{Fuse}
 use Rattle.pt_tree.specs.Entries.{forest_of, open_of}
-use Rattle.pt_tree.specs.Forest.{Forest, none, file_at}
-use Rattle.pt_tree.specs.Fuse.{after_call}
+use Rattle.pt_tree.specs.declared.faults.TreeFault.{TreeFault}
+use Rattle.pt_tree.specs.declared.faults.TreeFault.TheVariants.{Device, Memory}
+use Rattle.pt_tree.specs.Forest.{Forest, none, file_at, listing_at}
+use Rattle.pt_tree.specs.Listing.{Item}
+use Rattle.pt_tree.specs.Opening.{moved_on}
+use Rattle.pt_tree.specs.Fuse.{after_call, after_failure, is_blown, with_fuse}
 use Rattle.pt_tree.specs.Path.{Path}
 use Rattle.pt_tree.specs.Source.{Reading}
 use Rattle.pt_tree.specs.Tree.{Entry, tree_of, put}
@@ -42,3 +46,33 @@ after_source_call s = record s { fuse = after_call s.fuse; calls = (s.calls + 1)
 pub record IsPlanted (entry : Entry) (p : Path) (old new : SourceState) : Type 0 where
   pub planted : tree_of new.tree ≡ put (tree_of old.tree) p entry
   pub others : new ≡ record old { tree = new.tree }
+
+-- with another fuse
+abbrev pub fused : Option ℕ → SourceState → SourceState
+fused left s = record s { fuse = with_fuse left s.fuse }
+
+-- a call that was counted failed beside that
+abbrev pub after_source_failure : SourceState → SourceState
+after_source_failure s = record (after_source_call s) { fuse = after_failure (after_call s.fuse) }
+
+-- A call: it fails by the fuse, or because what it needs isn't there; else P says what it gives.
+abbrev pub CallGives : {T X : Type 0} → Bool → SourceState → SourceState → Option X → Result T TreeFault → (X → Type 0) → Type 0
+CallGives true old new needed result P = (result ≡ Err Device) × (new ≡ after_source_call old)
+CallGives false old new None result P = (result ≡ Err Device) × (new ≡ after_source_failure old)
+CallGives false old new (Some x) result P = P x
+
+-- `list` gives the directory's names and kinds, unless memory runs out
+abbrev pub ListGives : SourceState → SourceState → Path → Result (List Item) TreeFault → Type 0
+ListGives old new p result = CallGives (is_blown old.fuse) old new (listing_at old.tree p) result (λ items. (new ≡ after_source_call old) × MatchResult result (λ listing. listing ≡ items) (λ e. e ≡ Memory))
+
+-- `open` opens the file at its start
+abbrev pub OpenGives : SourceState → SourceState → Path → Result (Unit {0}) TreeFault → Type 0
+OpenGives old new p result = CallGives (is_blown old.fuse) old new (file_at old.tree p) result (λ bytes. (result ≡ Ok tt) × (new ≡ record (after_source_call old) { reading = Some (p, 0) }))
+
+-- `next` gives the next bytes and moves on behind them
+abbrev pub NextGives : SourceState → SourceState → List ℕ → Result (Unit {0}) TreeFault → Type 0
+NextGives old new block result = CallGives (is_blown old.fuse) old new (unread_of old) result (λ bytes. (result ≡ Ok tt) × (block ≡ take 8192 bytes) × (new ≡ record (after_source_call old) { reading = moved_on old.reading (length block) }))
+
+-- it was called so many times, as its counter that wraps tells
+abbrev pub source_called : MemSource → ℕ → Type 0
+source_called s n = n % 2 ^ 64 ≡ s.calls

@@ -42,3 +42,8 @@ split_path (x ∷ p) = Some (parent (x ∷ p), last_name (x ∷ p))
 
 abbrev pub split_lent : Bor Path × Bor (List ℕ) → Path × List ℕ
 split_lent s = (s.0.now, s.1.now)
+
+-- not the top
+abbrev pub IsBelowTop : Path → Type 0
+IsBelowTop [] = ⊥
+IsBelowTop (x ∷ p) = Unit {0}

@@ -1,7 +1,7 @@
 // The two faults that calls all over the workspace share.
 ghost use Rattle.std.specs.Prelude.{◌≡◌};
-ghost use Rattle.pt_tree.specs.declared.faults.MemoryFault.{MemoryFault};
 ghost use Rattle.pt_tree.specs.declared.faults.MemoryFault.TheVariants as memory;
+ghost use Rattle.pt_tree.specs.declared.faults.TreeFault.TheVariants as tree;
 ghost use Rattle.pt_tree.specs.Faults.{memory_number, tree_number};
 
 use std::alloc::{AllocError, AllocFailed};
@@ -62,5 +62,21 @@ impl TreeFault {
             TreeFault::Device => 1,
             TreeFault::Memory => 2,
         }
+    }
+}
+
+impl From<MemoryFault> for TreeFault {
+    ghost from_gives = { λ _ e. e ≡ tree.Memory };
+
+    fn from(_: MemoryFault) -> Self {
+        TreeFault::Memory
+    }
+}
+
+impl From<AllocError> for TreeFault {
+    ghost from_gives = { λ _ e. e ≡ tree.Memory };
+
+    fn from(_: AllocError) -> Self {
+        TreeFault::Memory
     }
 }

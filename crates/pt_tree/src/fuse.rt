@@ -12,7 +12,7 @@ pub struct Fuse {
 }
 
 impl Fuse {
-    ghost use Rattle.pt_tree.specs.Fuse.{after_call, after_failure, fuse_answer};
+    ghost use Rattle.pt_tree.specs.Fuse.{after_call, after_failure, fuse_answer, is_blown as is_blown_fuse};
 
     /// No fuse, and no failure yet.
     pub fn new() -> Fuse
@@ -23,6 +23,13 @@ impl Fuse {
             left: None,
             failures: 0,
         }
+    }
+
+    /// Whether the next call fails.
+    pub fn is_blown(&self) -> bool
+        ensures { result ≡ is_blown_fuse self.now }
+    {
+        self.left == Some(0)
     }
 
     /// Counts a call: it passes, or fails where the fuse is used up.

@@ -1,10 +1,10 @@
-ghost use Rattle.std.specs.Prelude.{◌≡◌, ◌==◌, ◌++◌, [], ◌∷◌, IfOk, IsTrue, OnOk, OnErr, length, slice_get};
+ghost use Rattle.std.specs.Prelude.{◌≡◌, ◌==◌, ◌++◌, [], ◌∷◌, IfOk, IsTrue, is_some, OnOk, OnErr, length, slice_get};
 ghost use Rattle.std.specs.Str.{is_utf8};
 ghost use Rattle.std.specs.Cmp.{partial_equiv_from_equiv};
 ghost use Rattle.std.specs.Cmp.Lexicographic.{nat_list_eq_equiv, lists_equiv};
 ghost use Rattle.std.specs.Option.{option_copied};
 ghost use Rattle.std.specs.Option.{option_map};
-ghost use Rattle.pt_tree.specs.Path.{joined, same_path, split_path, split_lent};
+ghost use Rattle.pt_tree.specs.Path.{joined, rest_below, same_path, split_path, split_lent};
 
 use crate::{MemoryFault, Name};
 use std::alloc::Global;
@@ -79,6 +79,13 @@ impl NamePath {
         Some((dir, last))
     }
 
+    // Whether it is at or below another path.
+    pub(crate) fn is_within(&self, other: &NamePath) -> bool
+        ensures { result ≡ is_some (rest_below other.now self.now) }
+    {
+        is_below(other.names(), self.names())
+    }
+
     /// The names with `/` between, as a text in UTF-8.
     pub fn join(&self) -> Result<Vec<u8>, MemoryFault>
         ensures names { IfOk result (λ text. text.items ≡ joined self.now) }
@@ -118,4 +125,17 @@ impl PartialEq for NamePath {
 
 impl Eq for NamePath {
     ghost laws = { lists_equiv nat_list_eq_equiv };
+}
+
+// Whether a path goes on from another.
+fn is_below(above: &[Name], path: &[Name]) -> bool
+    ensures { result ≡ is_some (rest_below above.now path.now) }
+{
+    let [first, above @ ..] = above else {
+        return true;
+    };
+    match path {
+        [name, path @ ..] => first == name && is_below(above, path),
+        [] => false,
+    }
 }

@@ -1,17 +1,17 @@
 //! Planting in a memory tree: what is refused, and the entries that are planted.
 ghost use Rattle.std.specs.Prelude.{◌≡◌, None, true, IfOk, IsTrue};
-ghost use Rattle.std.specs.Option.{option_map};
+ghost use Rattle.std.specs.Option.{option_copied, option_map};
 ghost use Rattle.pt_tree.specs.declared.planting.PlantFault.TheVariants as fault;
 ghost use Rattle.pt_tree.specs.Path.{last_name};
-ghost use Rattle.pt_tree.specs.Forest.{file, dir, other, none, is_proper};
-ghost use Rattle.pt_tree.specs.Tree.{entry_of, put, tree_of};
+ghost use Rattle.pt_tree.specs.Forest.{file, dir, other, none, file_at, is_proper};
+ghost use Rattle.pt_tree.specs.Tree.{entry_of, kind_of_entry, put, tree_of};
 ghost use Rattle.pt_tree.specs.Entries.{forest_of, node_of, open_of};
 ghost use Rattle.pt_tree.specs.Planting.{IsLeafOf, is_folder, leaf_entry, plant_refusal, plant_number};
 ghost use Rattle.pt_tree.specs.Name.{is_name};
 
 use crate::changes::insert;
 use crate::entries::{Entries, File, Found, at};
-use crate::{MemoryFault, Name, NamePath};
+use crate::{Kind, MemoryFault, Name, NamePath};
 use std::alloc::Global;
 use thiserror::Error;
 
@@ -115,4 +115,26 @@ pub fn other_leaf(alloc: Global, name: &Name) -> Result<Entries, MemoryFault>
     ensures name { IsTrue (is_name name.now) }
 {
     Ok(Entries::Other(name.copy()?, Box::new(alloc, Entries::End)?))
+}
+
+/// The bytes of the file at a path, if one is there.
+pub fn file_in<'a>(entries: &'a Entries, path: &NamePath) -> Option<&'a [u8]>
+    ensures { option_copied result ≡ file_at (forest_of entries.now) path.now }
+{
+    match at(entries, path.names()) {
+        Some(Found::File(bytes)) => Some(bytes),
+        _ => None,
+    }
+}
+
+/// The kind of what stands at a path, if anything does.
+pub fn kind_in(entries: &Entries, path: &NamePath) -> Option<Kind>
+    ensures { result ≡ option_map kind_of_entry (tree_of (forest_of entries.now) path.now) }
+{
+    match at(entries, path.names()) {
+        Some(Found::File(_)) => Some(Kind::File),
+        Some(Found::Dir(_)) => Some(Kind::Dir),
+        Some(Found::Other) => Some(Kind::Other),
+        None => None,
+    }
 }
