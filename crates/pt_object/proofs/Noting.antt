@@ -1,15 +1,17 @@
 -- Contents to which all rows of a list are noted.
-use Rattle.std.proofs.Common.{◌≡◌, ℕ, Bool, List, [], ◌∷◌, ◌++◌, refl, sym, ◌∙◌, ap, cond, true, false, inl, inr, append_assoc, append-nil, ◌⊎◌}
+use Rattle.std.proofs.Common.{◌≡◌, ℕ, Bool, List, [], ◌∷◌, ◌++◌, refl, sym, ◌∙◌, ap, cond, true, false, inl, inr, append_assoc, append-nil, ◌⊎◌, ◌+◌, ◌<◌, ◌≤◌, length, get_or, take}
 use Rattle.std.specs.Prelude.{find, map, ◌||◌, Option, Some, None, is_some}
 use Rattle.std.specs.List.{list_any}
 use Rattle.std.specs.Option.{option_map, option_or}
 use Rattle.std.specs.Str.{bytes_eq}
 use Rattle.std.specs.Cmp.Lexicographic.{bytes_decides}
 use Rattle.std.proofs.lemmas.Bool.{cases_Bool}
+use Rattle.std.proofs.lemmas.List.{take_more, take_all}
+use Rattle.std.proofs.lemmas.List.Sums.{fold_push}
 use Rattle.std.proofs.lemmas.List.Folds.{list_any-append}
 use Rattle.pt_tree.specs.Path.{Path}
 use Rattle.pt_object.specs.Contents.{content_of, first_path, has_digest, is_noted, noted}
-use Rattle.pt_object.specs.Distinct.{content_of_row, distinct_after, noted_all, row_has_digest, NotingGivesDistinct, NotingKeepsFirst}
+use Rattle.pt_object.specs.Distinct.{content_of_row, distinct, distinct_after, noted_all, row_has_digest, NotingGivesDistinct, NotingKeepsFirst}
 use Rattle.pt_object.specs.declared.contents.Content.{Content}
 use Rattle.pt_object.specs.declared.rows.Row.{Row}
 
@@ -117,3 +119,16 @@ noted_all-first items (row ∷ rows) d =
 
 pub noting_keeps_first : NotingKeepsFirst
 noting_keeps_first rows d = noted_all-first [] rows d
+
+-- one more row noted
+pub noted_more : (rows : List Row) (i : ℕ) (row : Row) (items new : List Content) → i < length rows → row ≡ get_or rows i row → items ≡ noted_all [] (take i rows)
+    → new ≡ noted items row.digest row.path → new ≡ noted_all [] (take (i + 1) rows)
+noted_more rows i row items new within is so_far last =
+    last
+    ∙ ap (λ (l : List Content). noted l row.digest row.path) so_far
+    ∙ sym (fold_push (λ (l : List Content) (r : Row). noted l r.digest r.path) [] (take i rows) row)
+    ∙ sym (ap (noted_all []) (take_more rows i row within ∙ ap (λ (r : Row). take i rows ++ r ∷ []) (sym is)))
+
+-- all rows noted
+pub noted_whole : (rows : List Row) (i : ℕ) (items : List Content) → items ≡ noted_all [] (take i rows) → length rows ≤ i → items ≡ map content_of_row (distinct rows)
+noted_whole rows i items so_far whole = so_far ∙ ap (noted_all []) (take_all i rows whole) ∙ noting_gives_distinct rows

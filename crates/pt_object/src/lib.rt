@@ -9,6 +9,8 @@ mod grouping;
 mod hasher;
 mod index;
 mod inventories;
+#[cfg(test)]
+mod inventory_tests;
 mod json;
 pub mod laws;
 mod meta;

@@ -9,10 +9,10 @@ use std::process::Abort;
 use std::test::Fail;
 
 // The SHA-512 of `abc` and of the empty text.
-const OF_ABC: &str =
+pub(crate) const OF_ABC: &str =
     "ddaf35a193617abacc417349ae20413112e6fa4e89a97ea20a9eeee64b55d39a2192992a274fc1a836ba3c23a3feebbd454d4423643ce80e2a9ac94fa54ca49f";
 
-const OF_NOTHING: &str =
+pub(crate) const OF_NOTHING: &str =
     "cf83e1357eefb8bdf1542850d66d8007d620e4050b5715dc83f4a921d36ce9ce47d0d13c5d85f2b0ff8318d2877eec2f63b931bd47417a81a538327af927da3e";
 
 fn digest_of_blocks(algorithm: Algorithm, blocks: &[&[u8]]) -> Digest {
