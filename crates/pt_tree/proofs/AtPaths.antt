@@ -75,6 +75,7 @@ added_nowhere t p piece h = λ i q. at q (same_path q p) refl i
     same (Some (Bytes b)) h = absurd (cc)
     same (Some Folder) h = refl
     same (Some Special) h = refl
+
     at : (q : Path) (s : Bool) → same_path q p ≡ s → t q ≡ cond s (edited_by (λ bytes. bytes ++ piece) (t p)) (t q)
     at q true is = ap t (same_from q p is) ∙ same (t p) h
     at q false is = refl
@@ -82,14 +83,14 @@ added_nowhere t p piece h = λ i q. at q (same_path q p) refl i
 -- ---- the same, for a path that is split
 
 pub take_at : (f : Forest) (path at : Path) (name : List ℕ) → Some (at, name) ≡ split_path path → is_proper f ≡ true → IsSome (tree_of f path) → IsBelowTop path
-  → tree_of (changed (removed name) f at) ≡ without (tree_of f) path
+    → tree_of (changed (removed name) f at) ≡ without (tree_of f) path
 take_at f [] at name is proper stands below = absurd below
 take_at f (n ∷ p) at name is proper stands below =
     let parts = split_parts (n ∷ p) at name is in
     (λ i. tree_of (changed (removed (parts.1 i)) f (parts.0 i))) ∙ tree_taken f n p proper stands
 
 pub append_at : (f : Forest) (path at : Path) (name piece : List ℕ) → Some (at, name) ≡ split_path path → IsSome (tree_of f path)
-  → tree_of (changed (rewritten (λ bytes. bytes ++ piece) name) f at) ≡ added (tree_of f) path piece
+    → tree_of (changed (rewritten (λ bytes. bytes ++ piece) name) f at) ≡ added (tree_of f) path piece
 append_at f [] at name piece is stands = absurd (cc)
 append_at f (n ∷ p) at name piece is stands =
     let parts = split_parts (n ∷ p) at name is in

@@ -15,13 +15,13 @@ take_min xs n = elim (cases_lt n (length xs)) [
 
 -- the open file is below a directory
 pub moved_inside : (name : List ℕ) (inside moved after : Option (Path × ℕ)) (n : ℕ) → true ≡ is_some inside → moved ≡ moved_on inside n
-  → option_or (option_map (λ o. (name ∷ o.0, o.1)) moved) after ≡ moved_on (option_or (option_map (λ o. (name ∷ o.0, o.1)) inside) after) n
+    → option_or (option_map (λ o. (name ∷ o.0, o.1)) moved) after ≡ moved_on (option_or (option_map (λ o. (name ∷ o.0, o.1)) inside) after) n
 moved_inside name None moved after n found is = absurd (true≢false found)
 moved_inside name (Some o) moved after n found is = ap (λ m. option_or (option_map (λ o. (name ∷ o.0, o.1)) m) after) is
 
 -- or after it
 pub moved_behind : (name : List ℕ) (inside same after moved : Option (Path × ℕ)) (n m : ℕ) → false ≡ is_some inside → same ≡ moved_on inside m → moved ≡ moved_on after n
-  → option_or (option_map (λ o. (name ∷ o.0, o.1)) same) moved ≡ moved_on (option_or (option_map (λ o. (name ∷ o.0, o.1)) inside) after) n
+    → option_or (option_map (λ o. (name ∷ o.0, o.1)) same) moved ≡ moved_on (option_or (option_map (λ o. (name ∷ o.0, o.1)) inside) after) n
 moved_behind name None same after moved n m found unmoved is = ap (λ s. option_or (option_map (λ o. (name ∷ o.0, o.1)) s) moved) unmoved ∙ is
 moved_behind name (Some o) same after moved n m found unmoved is = absurd (false≢true found)
 

@@ -61,8 +61,8 @@ open_gives old mid new path bytes passes called found is =
     (refl, is ∙ ap (λ (s : SourceState). record s { reading = opened old.tree path }) called ∙ ap (λ o. record (after_source_call old) { reading = o }) (opened-file old.tree path (ap is_some found)))
 
 pub next_gives : (old mid new : SourceState) (e : Entries) (block before : List ℕ) → is_blown old.fuse ≡ false → mid ≡ after_source_call old
-  → is_proper (forest_of e) ≡ true → forest_of e ≡ old.tree → open_of e ≡ old.reading → true ≡ is_some (open_of e) → block ≡ block_after (marked_of e) before
-  → new ≡ record mid { reading = moved_on (open_of e) (length block) } → NextGives old new block (Ok tt)
+    → is_proper (forest_of e) ≡ true → forest_of e ≡ old.tree → open_of e ≡ old.reading → true ≡ is_some (open_of e) → block ≡ block_after (marked_of e) before
+    → new ≡ record mid { reading = moved_on (open_of e) (length block) } → NextGives old new block (Ok tt)
 next_gives old mid new e block before passes called proper tree reading is_open gives is = by (open_of e) refl is_open
   where
     by : (o : Option (Path × ℕ)) → open_of e ≡ o → true ≡ is_some o → NextGives old new block (Ok tt)
@@ -70,7 +70,7 @@ next_gives old mid new e block before passes called proper tree reading is_open 
     by (Some o) at is_open =
         let m = is_marked e o proper at in
         let unread : unread_of old ≡ Some (drop o.1 m.bytes) =
-            ap (λ r. option_and_then (λ (o : Path × ℕ). option_map (drop o.1) (file_at old.tree o.0)) r) (sym reading ∙ at)
-            ∙ ap (λ (f : Forest). option_map (drop o.1) (file_at f o.0)) (sym tree) ∙ ap (option_map (drop o.1)) m.found in
+        ap (λ r. option_and_then (λ (o : Path × ℕ). option_map (drop o.1) (file_at old.tree o.0)) r) (sym reading ∙ at)
+        ∙ ap (λ (f : Forest). option_map (drop o.1) (file_at f o.0)) (sym tree) ∙ ap (option_map (drop o.1)) m.found in
         gives_found (is_blown old.fuse) old new (unread_of old) (Ok tt) _ (drop o.1 m.bytes) passes unread
         (refl, gives ∙ ap (λ k. block_after k before) m.marked, is ∙ ap (λ (s : SourceState). record s { reading = moved_on (open_of e) (length block) }) called ∙ ap (λ r. record (after_source_call old) { reading = moved_on r (length block) }) reading)

@@ -56,6 +56,7 @@ added_nothing t (Some p) = λ i q. at q (same_path q p) refl i
     same (Some (Bytes b)) = ap (λ (l : List ℕ). Some (Bytes l)) (sym (append-nil b))
     same (Some Folder) = refl
     same (Some Special) = refl
+
     at : (q : Path) (s : Bool) → same_path q p ≡ s → t q ≡ cond s (edited_by (λ bytes. bytes ++ []) (t p)) (t q)
     at q true is = ap t (same_from q p is) ∙ same (t p)
     at q false is = refl

@@ -52,9 +52,9 @@ find-in_front (dir n d g) f x m is = ap (λ o. cond (bytes_eq n m) o (find f m))
 
 -- a step of an insertion behind an entry k that holds y, of which the rest is f with the leaf, or before it
 inserted_step : (leaf f : Forest) (k m : List ℕ) (x y : Node) (before : Bool) (here there : Forest) → bytes_eq k (first_name leaf) ≡ false
-  → find here m ≡ cond (bytes_eq k m) (Some y) (cond (bytes_eq (first_name leaf) m) (Some x) (find f m))
-  → find there m ≡ cond (bytes_eq (first_name leaf) m) (Some x) (cond (bytes_eq k m) (Some y) (find f m))
-  → find (cond before here there) m ≡ cond (bytes_eq (first_name leaf) m) (Some x) (cond (bytes_eq k m) (Some y) (find f m))
+    → find here m ≡ cond (bytes_eq k m) (Some y) (cond (bytes_eq (first_name leaf) m) (Some x) (find f m))
+    → find there m ≡ cond (bytes_eq (first_name leaf) m) (Some x) (cond (bytes_eq k m) (Some y) (find f m))
+    → find (cond before here there) m ≡ cond (bytes_eq (first_name leaf) m) (Some x) (cond (bytes_eq k m) (Some y) (find f m))
 inserted_step leaf f k m x y true here there apart behind front = behind ∙ cond-swap (bytes_eq k m) (bytes_eq (first_name leaf) m) (Some y) (Some x) (find f m) (differ k (first_name leaf) m apart)
 inserted_step leaf f k m x y false here there apart behind front = front
 
@@ -72,7 +72,7 @@ find-inserted leaf (dir k d f) x m is absent =
 
 -- a step of a removal at an entry k that holds y
 removed_step : (n k m : List ℕ) (y : Node) (f here : Forest) → find f k ≡ None → find here m ≡ cond (bytes_eq k m) (Some y) (cond (bytes_eq n m) None (find f m))
-  → find (cond (bytes_eq k n) f here) m ≡ cond (bytes_eq n m) None (cond (bytes_eq k m) (Some y) (find f m))
+    → find (cond (bytes_eq k n) f here) m ≡ cond (bytes_eq n m) None (cond (bytes_eq k m) (Some y) (find f m))
 removed_step n k m y f here behind kept = elim (cases_Bool (bytes_eq k n)) [
   | inl same ↦
       ap (λ g. find g m) (cond-true (bytes_eq k n) f here same)
@@ -102,9 +102,9 @@ node_edited g Other = Other
 
 -- a step of an edit at an entry k that holds y, and y' afterwards
 edited_step : (g : List ℕ → List ℕ) (n k m : List ℕ) (y : Node) (f here there : Forest)
-  → find here m ≡ cond (bytes_eq k m) (Some (node_edited g y)) (find f m)
-  → find there m ≡ cond (bytes_eq k m) (Some y) (cond (bytes_eq n m) (option_map (node_edited g) (find f m)) (find f m))
-  → find (cond (bytes_eq k n) here there) m ≡ cond (bytes_eq n m) (option_map (node_edited g) (cond (bytes_eq k m) (Some y) (find f m))) (cond (bytes_eq k m) (Some y) (find f m))
+    → find here m ≡ cond (bytes_eq k m) (Some (node_edited g y)) (find f m)
+    → find there m ≡ cond (bytes_eq k m) (Some y) (cond (bytes_eq n m) (option_map (node_edited g) (find f m)) (find f m))
+    → find (cond (bytes_eq k n) here there) m ≡ cond (bytes_eq n m) (option_map (node_edited g) (cond (bytes_eq k m) (Some y) (find f m))) (cond (bytes_eq k m) (Some y) (find f m))
 edited_step g n k m y f here there first later = elim (cases_Bool (bytes_eq k n)) [
   | inl same ↦
       ap (λ h. find h m) (cond-true (bytes_eq k n) here there same) ∙ first
@@ -118,6 +118,7 @@ edited_step g n k m y f here there first later = elim (cases_Bool (bytes_eq k n)
     by true false e = absurd (true≢false e)
     by false true e = absurd (false≢true e)
     by false false e = refl
+
     others : (km nm : Bool) → (km ≡ true → nm ≡ true → ⊥) → cond km (Some y) (cond nm (option_map (node_edited g) (find f m)) (find f m)) ≡ cond nm (option_map (node_edited g) (cond km (Some y) (find f m))) (cond km (Some y) (find f m))
     others true true no_both = absurd (no_both refl refl)
     others true false no_both = refl
@@ -138,7 +139,7 @@ other_entry k n y x o h apart = by (bytes_eq k n) refl h
     by false is h = (is, h)
 
 pub find-changed : (g : Forest → Forest) (f : Forest) (n : List ℕ) (path : Path) (e : Forest) (m : List ℕ) → find f n ≡ Some (Dir e)
-  → find (changed g f (n ∷ path)) m ≡ cond (bytes_eq n m) (Some (Dir (changed g e path))) (find f m)
+    → find (changed g f (n ∷ path)) m ≡ cond (bytes_eq n m) (Some (Dir (changed g e path))) (find f m)
 find-changed g none n path e m is = absurd (cc)
 find-changed g (file k b f) n path e m is =
     let p = other_entry k n (File b) (Dir e) (find f n) is (λ h. cc) in

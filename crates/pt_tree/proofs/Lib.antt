@@ -1,6 +1,7 @@
 mod Joining
 mod Rising
 mod SourceCalls
+mod Swaps
 mod Texts
 pub mod Blocks
 mod Calls
@@ -16,3 +17,4 @@ mod Placing
 mod Planted
 mod Proper
 mod Renamed
+pub mod Written

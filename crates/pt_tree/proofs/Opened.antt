@@ -30,6 +30,7 @@ opened-file (file m b f) (n ∷ path) h = by (opened-file f (n ∷ path)) (bytes
     here : (path : Path) → bytes_eq m n ≡ true → IsSome (option_and_then as_file (node_at (File b) path)) → option_or (cond (is_just (n ∷ path) m) (Some (m ∷ [], 0)) None) (opened f (n ∷ path)) ≡ Some (n ∷ path, 0)
     here [] same h = ap (λ t. option_or (cond (t && true) (Some (m ∷ [], 0)) None) (opened f (n ∷ []))) (bytes_eq-sym m n true same) ∙ ap (λ (l : List ℕ). Some (l ∷ [], 0)) (same_name m n same)
     here (k ∷ path) same h = absurd (cc)
+
     by : (IsSome (file_at f (n ∷ path)) → opened f (n ∷ path) ≡ Some (n ∷ path, 0)) → (t : Bool) → bytes_eq m n ≡ t → IsSome (option_and_then as_file (option_and_then (λ node. node_at node path) (cond t (Some (File b)) (find f n)))) → option_or (cond (is_just (n ∷ path) m) (Some (m ∷ [], 0)) None) (opened f (n ∷ path)) ≡ Some (n ∷ path, 0)
     by later true same h = here path same h
     by later false apart h = ap (λ t. option_or (cond (t && same_path path []) (Some (m ∷ [], 0)) None) (opened f (n ∷ path))) (bytes_eq-sym m n false apart) ∙ later h
@@ -38,14 +39,15 @@ opened-file (other m f) (n ∷ path) h = by (opened-file f (n ∷ path)) (bytes_
     here : (path : Path) → IsSome (option_and_then as_file (node_at Other path)) → ⊥
     here [] h = cc
     here (k ∷ path) h = cc
+
     by : (IsSome (file_at f (n ∷ path)) → opened f (n ∷ path) ≡ Some (n ∷ path, 0)) → (t : Bool) → IsSome (option_and_then as_file (option_and_then (λ node. node_at node path) (cond t (Some Other) (find f n)))) → opened f (n ∷ path) ≡ Some (n ∷ path, 0)
     by later true h = absurd (here path h)
     by later false h = later h
 opened-file (dir m d f) (n ∷ path) h = by (opened-file d path) (opened-file f (n ∷ path)) (bytes_eq m n) refl h
   where
     by : (IsSome (file_at d path) → opened d path ≡ Some (path, 0)) → (IsSome (file_at f (n ∷ path)) → opened f (n ∷ path) ≡ Some (n ∷ path, 0)) → (t : Bool) → bytes_eq m n ≡ t
-      → IsSome (option_and_then as_file (option_and_then (λ node. node_at node path) (cond t (Some (Dir d)) (find f n))))
-      → option_or (option_map (λ (x : Path × ℕ). (m ∷ x.0, x.1)) (opened d (below (n ∷ path) m))) (opened f (n ∷ path)) ≡ Some (n ∷ path, 0)
+        → IsSome (option_and_then as_file (option_and_then (λ node. node_at node path) (cond t (Some (Dir d)) (find f n))))
+        → option_or (option_map (λ (x : Path × ℕ). (m ∷ x.0, x.1)) (opened d (below (n ∷ path) m))) (opened f (n ∷ path)) ≡ Some (n ∷ path, 0)
     by inside later true same h =
         ap (λ t. option_or (option_map (λ (x : Path × ℕ). (m ∷ x.0, x.1)) (opened d (cond t path []))) (opened f (n ∷ path))) (bytes_eq-sym m n true same)
         ∙ ap (λ o. option_or (option_map (λ (x : Path × ℕ). (m ∷ x.0, x.1)) o) (opened f (n ∷ path))) (inside h)
@@ -78,7 +80,7 @@ pub record IsMarked (e : Entries) (o : Path × ℕ) : Type 0 where
 
 -- a file that is found behind the first entry is found past it
 found_past : (m : List ℕ) (x : Node) (f : Forest) (p : Path) (b : List ℕ) → ((n : List ℕ) (path : Path) (y : Node) → option_and_then (λ node. node_at node path) (find f n) ≡ Some y → bytes_eq m n ≡ false)
-  → (whole : Forest) → ((n : List ℕ) → find whole n ≡ cond (bytes_eq m n) (Some x) (find f n)) → file_at f p ≡ Some b → file_at whole p ≡ Some b
+    → (whole : Forest) → ((n : List ℕ) → find whole n ≡ cond (bytes_eq m n) (Some x) (find f n)) → file_at f p ≡ Some b → file_at whole p ≡ Some b
 found_past m x f [] b apart whole first is = absurd (cc)
 found_past m x f (n ∷ path) b apart whole first is =
     ap (λ o. option_and_then as_file (option_and_then (λ node. node_at node path) o)) (first n ∙ cond-false (bytes_eq m n) (Some x) (find f n) (by (option_and_then (λ node. node_at node path) (find f n)) refl is)) ∙ is
@@ -88,9 +90,9 @@ found_past m x f (n ∷ path) b apart whole first is =
     by (Some y) at h = apart n path y at
 
 marked_later : (e after : Entries) (m : List ℕ) (x : Node) (o : Path × ℕ) → IsMarked after o
-  → ((n : List ℕ) (path : Path) (y : Node) → option_and_then (λ node. node_at node path) (find (forest_of after) n) ≡ Some y → bytes_eq m n ≡ false)
-  → ((n : List ℕ) → find (forest_of e) n ≡ cond (bytes_eq m n) (Some x) (find (forest_of after) n))
-  → marked_of e ≡ marked_of after → IsMarked e o
+    → ((n : List ℕ) (path : Path) (y : Node) → option_and_then (λ node. node_at node path) (find (forest_of after) n) ≡ Some y → bytes_eq m n ≡ false)
+    → ((n : List ℕ) → find (forest_of e) n ≡ cond (bytes_eq m n) (Some x) (find (forest_of after) n))
+    → marked_of e ≡ marked_of after → IsMarked e o
 marked_later e after m x o later apart first same =
     record { bytes = later.bytes; marked = same ∙ later.marked; found = found_past m x (forest_of after) o.0 later.bytes apart (forest_of e) first later.found }
 
@@ -100,6 +102,7 @@ is_marked (File' name held p after) o proper is = by (is_marked after o (proper_
   where
     parts : (is_name name ≡ true) × (comes_before name (forest_of after) ≡ true) × (is_proper (forest_of after) ≡ true)
     parts = proper_file name held.bytes.items (forest_of after) proper
+
     by : (open_of after ≡ Some o → IsMarked after o) → (place : Option ℕ) → held.place ≡ place → option_or (option_map (λ k. (name ∷ [], k)) place) (open_of after) ≡ Some o → IsMarked (File' name held p after) o
     by later None at is =
         marked_later (File' name held p after) after name (File held.bytes.items) o (later is)
@@ -121,8 +124,9 @@ is_marked (Dir' name p inside q after) o proper is =
   where
     parts : (is_name name ≡ true) × (comes_before name (forest_of after) ≡ true) × (is_proper (forest_of after) ≡ true) × (is_proper (forest_of inside) ≡ true)
     parts = proper_dir name (forest_of inside) (forest_of after) proper
+
     by : ((o : Path × ℕ) → open_of inside ≡ Some o → IsMarked inside o) → (open_of after ≡ Some o → IsMarked after o) → (i : Option (Path × ℕ)) → open_of inside ≡ i
-      → option_or (option_map (λ (x : Path × ℕ). (name ∷ x.0, x.1)) i) (open_of after) ≡ Some o → IsMarked (Dir' name p inside q after) o
+        → option_or (option_map (λ (x : Path × ℕ). (name ∷ x.0, x.1)) i) (open_of after) ≡ Some o → IsMarked (Dir' name p inside q after) o
     by within later None at is =
         marked_later (Dir' name p inside q after) after name (Dir (forest_of inside)) o (later is)
         (λ n path y. behind name (forest_of after) n path y parts.1 parts.2) (λ n. refl)

@@ -45,16 +45,16 @@ below_dir f (n ∷ p) d (m ∷ q) r is rest = by (λ e below rest. below_dir e p
 
 -- a change at the last name of a path is a change at the path
 at_path : (E : Path → Option Entry → Option Entry) (path : Path) (n : List ℕ) (q : Path) (D : Path → Option Entry) (here : Option Entry)
-  → ((r : Path) → rest_below (parent (n ∷ path)) q ≡ Some r → D r ≡ here)
-  → spliced (rest_below (parent (n ∷ path)) q) (λ r. spliced (rest_below (last_name (n ∷ path) ∷ []) r) (λ rest. E rest (D r)) (D r)) here
+    → ((r : Path) → rest_below (parent (n ∷ path)) q ≡ Some r → D r ≡ here)
+    → spliced (rest_below (parent (n ∷ path)) q) (λ r. spliced (rest_below (last_name (n ∷ path) ∷ []) r) (λ rest. E rest (D r)) (D r)) here
     ≡ spliced (rest_below (n ∷ path) q) (λ rest. E rest here) here
 at_path E [] n q D here same = ap (λ o. spliced (rest_below (n ∷ []) q) (λ rest. E rest o) o) (same q refl)
 at_path E (m ∷ path) n [] D here same = refl
 at_path E (m ∷ path) n (k ∷ q) D here same = by (at_path E path m q D here) (bytes_eq n k) same
   where
     by : (((r : Path) → rest_below (parent (m ∷ path)) q ≡ Some r → D r ≡ here) → spliced (rest_below (parent (m ∷ path)) q) (λ r. spliced (rest_below (last_name (m ∷ path) ∷ []) r) (λ rest. E rest (D r)) (D r)) here ≡ spliced (rest_below (m ∷ path) q) (λ rest. E rest here) here)
-      → (t : Bool) → ((r : Path) → cond t (rest_below (parent (m ∷ path)) q) None ≡ Some r → D r ≡ here)
-      → spliced (cond t (rest_below (parent (m ∷ path)) q) None) (λ r. spliced (rest_below (last_name (m ∷ path) ∷ []) r) (λ rest. E rest (D r)) (D r)) here ≡ spliced (cond t (rest_below (m ∷ path) q) None) (λ rest. E rest here) here
+        → (t : Bool) → ((r : Path) → cond t (rest_below (parent (m ∷ path)) q) None ≡ Some r → D r ≡ here)
+        → spliced (cond t (rest_below (parent (m ∷ path)) q) None) (λ r. spliced (rest_below (last_name (m ∷ path) ∷ []) r) (λ rest. E rest (D r)) (D r)) here ≡ spliced (cond t (rest_below (m ∷ path) q) None) (λ rest. E rest here) here
     by later true same = later same
     by later false same = refl
 
@@ -62,8 +62,8 @@ abbrev pub IsAtLast : (Path → Option Entry → Option Entry) → (Forest → F
 IsAtLast E g n d = (r : Path) → tree_of (g d) r ≡ spliced (rest_below (n ∷ []) r) (λ rest. E rest (tree_of d r)) (tree_of d r)
 
 pub tree-changed_at : (E : Path → Option Entry → Option Entry) (g : Forest → Forest) (f : Forest) (n : List ℕ) (path : Path) (d : Forest) (q : Path)
-  → dir_at f (parent (n ∷ path)) ≡ Some d → IsAtLast E g (last_name (n ∷ path)) d
-  → tree_of (changed g f (parent (n ∷ path))) q ≡ spliced (rest_below (n ∷ path) q) (λ rest. E rest (tree_of f q)) (tree_of f q)
+    → dir_at f (parent (n ∷ path)) ≡ Some d → IsAtLast E g (last_name (n ∷ path)) d
+    → tree_of (changed g f (parent (n ∷ path))) q ≡ spliced (rest_below (n ∷ path) q) (λ rest. E rest (tree_of f q)) (tree_of f q)
 tree-changed_at E g f n path d q is last =
     tree-changed g f (parent (n ∷ path)) d q is
     ∙ ap (λ (B : Path → Option Entry). spliced (rest_below (parent (n ∷ path)) q) B (tree_of f q)) (λ i r. last r i)
@@ -108,6 +108,7 @@ absent_node (Dir e) (n ∷ p) (m ∷ q) r absent rest = by (at (λ x absent rest
     at : ((x : Node) → entry_below x p ≡ None → rest_below p q ≡ Some r → entry_below x q ≡ None) → (o : Option Node) → option_map entry_of (option_and_then (λ node. node_at node p) o) ≡ None → rest_below p q ≡ Some r → option_map entry_of (option_and_then (λ node. node_at node q) o) ≡ None
     at later None absent rest = refl
     at later (Some x) absent rest = later x absent rest
+
     by : (rest_below p q ≡ Some r → option_map entry_of (option_and_then (λ node. node_at node q) (find e n)) ≡ None) → (t : Bool) → bytes_eq n m ≡ t → cond t (rest_below p q) None ≡ Some r → entry_below (Dir e) (m ∷ q) ≡ None
     by later true same rest = ap (λ (l : List ℕ). option_map entry_of (option_and_then (λ node. node_at node q) (find e l))) (sym (same_name n m same)) ∙ later rest
     by later false apart rest = absurd (cc)
@@ -121,7 +122,7 @@ IsLeaf x = (m : List ℕ) (rest : Path) → entry_below x (m ∷ rest) ≡ None
 
 -- an entry put into its directory is put at its path
 pub tree-planted : (leaf f : Forest) (path : Path) (x : Node) → CanMake (tree_of f) path → first_name leaf ≡ last_name path → first_node leaf ≡ Some x → IsLeaf x
-  → tree_of (changed (inserted leaf) f (parent path)) ≡ put (tree_of f) path (entry_of x)
+    → tree_of (changed (inserted leaf) f (parent path)) ≡ put (tree_of f) path (entry_of x)
 tree-planted leaf f [] x can name is single = absurd (by can.absent)
   where
     by : Some Folder ≡ None → ⊥
@@ -130,9 +131,11 @@ tree-planted leaf f (n ∷ path) x can name is single = λ i q. (at q ∙ placed
   where
     d : HasDir f (parent (n ∷ path))
     d = dir-folder f (parent (n ∷ path)) can.in_folder
+
     at : (q : Path) → tree_of (changed (inserted leaf) f (parent (n ∷ path))) q ≡ spliced (rest_below (n ∷ path) q) (entry_below x) (tree_of f q)
     at q = tree-changed_at (λ rest _. entry_below x rest) (inserted leaf) f n path d.0 q d.1
         (λ r. tree-inserted leaf d.0 x r is (ap (find d.0) name ∙ absent_last f n path d.0 d.1 can.absent) ∙ ap (λ (l : List ℕ). spliced (rest_below (l ∷ []) r) (entry_below x) (tree_of d.0 r)) name)
+
     placed : (q : Path) (o : Option Path) → rest_below (n ∷ path) q ≡ o → spliced o (entry_below x) (tree_of f q) ≡ put (tree_of f) (n ∷ path) (entry_of x) q
     placed q None is = sym (cond-false _ _ _ (same_path-rest (n ∷ path) q ∙ ap is_here is))
     placed q (Some []) is = sym (cond-true _ _ _ (same_path-rest (n ∷ path) q ∙ ap is_here is))
@@ -140,7 +143,7 @@ tree-planted leaf f (n ∷ path) x can name is single = λ i q. (at q ∙ placed
 
 -- an entry taken out of its directory is gone from its path, with all below
 pub tree-removed_at : (f : Forest) (n : List ℕ) (path : Path) (d : Forest) → dir_at f (parent (n ∷ path)) ≡ Some d → is_proper d ≡ true
-  → tree_of (changed (removed (last_name (n ∷ path))) f (parent (n ∷ path))) ≡ without (tree_of f) (n ∷ path)
+    → tree_of (changed (removed (last_name (n ∷ path))) f (parent (n ∷ path))) ≡ without (tree_of f) (n ∷ path)
 tree-removed_at f n path d is proper = λ i q. (tree-changed_at (λ _ _. None) (removed (last_name (n ∷ path))) f n path d q is (λ r. tree-removed (last_name (n ∷ path)) d r proper) ∙ by q (rest_below (n ∷ path) q)) i
   where
     by : (q : Path) (o : Option Path) → spliced o (λ _. None) (tree_of f q) ≡ without_at o (tree_of f q)
@@ -149,13 +152,15 @@ tree-removed_at f n path d is proper = λ i q. (tree-changed_at (λ _ _. None) (
 
 -- a file edited in its directory is edited at its path
 pub tree-edited_at : (piece : List ℕ) (f : Forest) (n : List ℕ) (path : Path) (d : Forest) → dir_at f (parent (n ∷ path)) ≡ Some d
-  → tree_of (changed (rewritten (λ bytes. bytes ++ piece) (last_name (n ∷ path))) f (parent (n ∷ path))) ≡ added (tree_of f) (n ∷ path) piece
+    → tree_of (changed (rewritten (λ bytes. bytes ++ piece) (last_name (n ∷ path))) f (parent (n ∷ path))) ≡ added (tree_of f) (n ∷ path) piece
 tree-edited_at piece f n path d is = λ i q. (tree-changed_at (edited_below g (tree_of f (n ∷ path))) (rewritten g (last_name (n ∷ path))) f n path d q is last ∙ by q (rest_below (n ∷ path) q) refl) i
   where
     g : List ℕ → List ℕ
     g = λ bytes. bytes ++ piece
+
     last : IsAtLast (λ rest here. edited_below g (tree_of f (n ∷ path)) rest here) (rewritten g (last_name (n ∷ path))) (last_name (n ∷ path)) d
     last r = tree-rewritten g (last_name (n ∷ path)) d r ∙ ap (λ o. spliced (rest_below (last_name (n ∷ path) ∷ []) r) (λ rest. edited_below g o rest (tree_of d r)) (tree_of d r)) (below_dir f (parent (n ∷ path)) d (n ∷ path) (last_name (n ∷ path) ∷ []) is (rest_below-parent n path))
+
     by : (q : Path) (o : Option Path) → rest_below (n ∷ path) q ≡ o → spliced o (λ rest. edited_below g (tree_of f (n ∷ path)) rest (tree_of f q)) (tree_of f q) ≡ added (tree_of f) (n ∷ path) piece q
     by q None is = sym (cond-false _ _ _ (same_path-rest (n ∷ path) q ∙ ap is_here is))
     by q (Some []) is = sym (cond-true _ _ _ (same_path-rest (n ∷ path) q ∙ ap is_here is))

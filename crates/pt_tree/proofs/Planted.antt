@@ -63,20 +63,20 @@ alone n Folder name = and_from _ _ name refl
 alone n Special name = and_from _ _ name refl
 
 pub tree_planted : (f leaf : Forest) (path : Path) → plant_refusal (tree_of f) path ≡ None → IsLeafOf (last_name path) leaf
-  → tree_of (changed (inserted leaf) f (parent path)) ≡ put (tree_of f) path (leaf_entry leaf)
+    → tree_of (changed (inserted leaf) f (parent path)) ≡ put (tree_of f) path (leaf_entry leaf)
 tree_planted f leaf path free is =
     let e = leaf_entry leaf in
     tree-planted leaf f path (node_of_entry e) (can_plant (tree_of f) path free) (ap first_name is.alone ∙ named (last_name path) e) (ap first_node is.alone ∙ holds (last_name path) e) (leaf_is e)
     ∙ ap (put (tree_of f) path) (shown e)
 
 pub proper_planted : (f leaf : Forest) (path : Path) → plant_refusal (tree_of f) path ≡ None → IsLeafOf (last_name path) leaf → is_proper f ≡ true
-  → is_proper (changed (inserted leaf) f (parent path)) ≡ true
+    → is_proper (changed (inserted leaf) f (parent path)) ≡ true
 proper_planted f leaf [] free is proper = absurd (cc)
 proper_planted f leaf (n ∷ p) free is proper =
     let e = leaf_entry leaf in
     let can = can_plant (tree_of f) (n ∷ p) free in
     let first = ap first_name is.alone ∙ named (last_name (n ∷ p)) e in
     proper-changed (inserted leaf) f (parent (n ∷ p)) (λ d at proper_d.
-      proper-inserted leaf d (node_of_entry e) (ap first_node is.alone ∙ holds (last_name (n ∷ p)) e)
-      (ap (λ (g : Forest). is_proper (first_alone g)) is.alone ∙ alone (last_name (n ∷ p)) e is.name)
-      (ap (find d) first ∙ absent_last f n p d at can.absent) proper_d) proper
+    proper-inserted leaf d (node_of_entry e) (ap first_node is.alone ∙ holds (last_name (n ∷ p)) e)
+    (ap (λ (g : Forest). is_proper (first_alone g)) is.alone ∙ alone (last_name (n ∷ p)) e is.name)
+    (ap (find d) first ∙ absent_last f n p d at can.absent) proper_d) proper

@@ -45,6 +45,7 @@ picked_in (file m b f) (k ∷ p) d n proper is = picked_in f (k ∷ p) d n (prop
     no_dir : (p : Path) → option_and_then as_dir (node_at (File b) p) ≡ Some d → ⊥
     no_dir [] h = cc
     no_dir (x ∷ p) h = cc
+
     by : (t : Bool) → option_and_then as_dir (option_and_then (λ node. node_at node p) (cond t (Some (File b)) (find f k))) ≡ Some d → dir_at f (k ∷ p) ≡ Some d
     by true h = absurd (no_dir p h)
     by false h = h
@@ -53,6 +54,7 @@ picked_in (other m f) (k ∷ p) d n proper is = picked_in f (k ∷ p) d n (prope
     no_dir : (p : Path) → option_and_then as_dir (node_at Other p) ≡ Some d → ⊥
     no_dir [] h = cc
     no_dir (x ∷ p) h = cc
+
     by : (t : Bool) → option_and_then as_dir (option_and_then (λ node. node_at node p) (cond t (Some Other) (find f k))) ≡ Some d → dir_at f (k ∷ p) ≡ Some d
     by true h = absurd (no_dir p h)
     by false h = h
@@ -61,7 +63,7 @@ picked_in (dir m e f) (k ∷ p) d n proper is =
     by (λ h. picked_in e p d n parts.3 h) (λ h. picked_in f (k ∷ p) d n parts.2 h) (bytes_eq m k) is
   where
     by : (dir_at e p ≡ Some d → picked_at e p n ≡ picked n d) → (dir_at f (k ∷ p) ≡ Some d → picked_at f (k ∷ p) n ≡ picked n d) → (t : Bool)
-      → option_and_then as_dir (option_and_then (λ node. node_at node p) (cond t (Some (Dir e)) (find f k))) ≡ Some d → cond t (picked_at e p n) (picked_at f (k ∷ p) n) ≡ picked n d
+        → option_and_then as_dir (option_and_then (λ node. node_at node p) (cond t (Some (Dir e)) (find f k))) ≡ Some d → cond t (picked_at e p n) (picked_at f (k ∷ p) n) ≡ picked n d
     by inside later true h = inside h
     by inside later false h = later h
 
@@ -158,6 +160,7 @@ module _ (f : Forest) (x : List ℕ) (from : Path) (y : List ℕ) (to : Path) (p
       at : (q : Path) → tree_of (changed (inserted leaf) left (parent (y ∷ to))) q ≡ spliced (rest_below (y ∷ to) q) (entry_below held.0) (tree_of left q)
       at q = tree-changed_at (λ rest _. entry_below held.0 rest) (inserted leaf) left y to target.0 q target.1
           (λ r. tree-inserted leaf target.0 held.0 r leaf_is.1 (ap (find target.0) leaf_is.0 ∙ absent) ∙ ap (λ (l : List ℕ). spliced (rest_below (l ∷ []) r) (entry_below held.0) (tree_of target.0 r)) leaf_is.0)
+
       by : (q : Path) (o w : Option Path) → spliced o (entry_below held.0) (without_at w (tree_of f q)) ≡ moved_at (tree_of f) (x ∷ from) o w q
       by q (Some rest) w = ap (option_map entry_of) (sym (node-append (Dir f) (x ∷ from) rest held.0 held.1))
       by q None (Some rest) = refl
@@ -168,13 +171,13 @@ module _ (f : Forest) (x : List ℕ) (from : Path) (y : List ℕ) (to : Path) (p
       let left_proper = proper_taken f (last_name (x ∷ from)) (parent (x ∷ from)) proper in
       let picked_proper = ap is_proper (picked_in f (parent (x ∷ from)) source.0 (last_name (x ∷ from)) proper source.1) ∙ proper-picked (last_name (x ∷ from)) source.0 (proper_dir_at f (parent (x ∷ from)) source.0 proper source.1) in
       proper-changed (inserted leaf) left (parent (y ∷ to)) (λ d is proper_d.
-        let same : target.0 ≡ d = cc (target.1) in
-        proper-inserted leaf d held.0 leaf_is.1 (proper_named (last_name (y ∷ to)) _ name picked_proper) (ap (find d) leaf_is.0 ∙ ap (λ (e : Forest). find e (last_name (y ∷ to))) (sym same) ∙ absent) proper_d) left_proper
+      let same : target.0 ≡ d = cc (target.1) in
+      proper-inserted leaf d held.0 leaf_is.1 (proper_named (last_name (y ∷ to)) _ name picked_proper) (ap (find d) leaf_is.0 ∙ ap (λ (e : Forest). find e (last_name (y ∷ to))) (sym same) ∙ absent) proper_d) left_proper
 
 -- the move, for paths that are split
 pub rename_at : (f : Forest) (from to from_at to_at : Path) (from_name to_name : List ℕ) → Some (from_at, from_name) ≡ split_path from → Some (to_at, to_name) ≡ split_path to
-  → is_proper f ≡ true → CanMove (tree_of f) from to → is_name to_name ≡ true
-  → (tree_of (changed (inserted (named to_name (picked_at f from_at from_name))) (changed (removed from_name) f from_at) to_at) ≡ moved (tree_of f) from to)
+    → is_proper f ≡ true → CanMove (tree_of f) from to → is_name to_name ≡ true
+    → (tree_of (changed (inserted (named to_name (picked_at f from_at from_name))) (changed (removed from_name) f from_at) to_at) ≡ moved (tree_of f) from to)
     × (is_proper (changed (inserted (named to_name (picked_at f from_at from_name))) (changed (removed from_name) f from_at) to_at) ≡ true)
 rename_at f [] to from_at to_at from_name to_name is_from is_to proper can name = absurd (cc)
 rename_at f (x ∷ from) [] from_at to_at from_name to_name is_from is_to proper can name = absurd (cc)
@@ -182,8 +185,8 @@ rename_at f (x ∷ from) (y ∷ to) from_at to_at from_name to_name is_from is_t
     let a = split_parts (x ∷ from) from_at from_name is_from in
     let b = split_parts (y ∷ to) to_at to_name is_to in
     let same : changed (inserted (named to_name (picked_at f from_at from_name))) (changed (removed from_name) f from_at) to_at
-      ≡ changed (inserted (named (last_name (y ∷ to)) (picked_at f (parent (x ∷ from)) (last_name (x ∷ from))))) (changed (removed (last_name (x ∷ from))) f (parent (x ∷ from))) (parent (y ∷ to)) =
-        λ i. changed (inserted (named (b.1 i) (picked_at f (a.0 i) (a.1 i)))) (changed (removed (a.1 i)) f (a.0 i)) (b.0 i) in
+    ≡ changed (inserted (named (last_name (y ∷ to)) (picked_at f (parent (x ∷ from)) (last_name (x ∷ from))))) (changed (removed (last_name (x ∷ from))) f (parent (x ∷ from))) (parent (y ∷ to)) =
+    λ i. changed (inserted (named (b.1 i) (picked_at f (a.0 i) (a.1 i)))) (changed (removed (a.1 i)) f (a.0 i)) (b.0 i) in
     (ap tree_of same ∙ tree_renamed f x from y to proper can, ap is_proper same ∙ proper_renamed f x from y to proper can (ap is_name (sym b.1) ∙ name))
 
 -- neither path of a move is the top

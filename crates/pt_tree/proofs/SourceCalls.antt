@@ -22,8 +22,8 @@ pub listed : (old new : SourceState) (p : Path) (r : Result (List Item) TreeFaul
 listed old new p r gives = by (is_blown old.fuse) (listing_at old.tree p) r refl gives
   where
     by : (t : Bool) (o : Option (List Item)) (r : Result (List Item) TreeFault) → listing_at old.tree p ≡ o
-      → CallGives t old new o r (λ items. (new ≡ after_source_call old) × MatchResult r (λ listing. listing ≡ items) (λ e. e ≡ Memory))
-      → IfOk r (λ items. IsListed (Some (reading_of old)) p items)
+        → CallGives t old new o r (λ items. (new ≡ after_source_call old) × MatchResult r (λ listing. listing ≡ items) (λ e. e ≡ Memory))
+        → IfOk r (λ items. IsListed (Some (reading_of old)) p items)
     by t o (Err e) at g = tt
     by true o (Ok items) at g = absurd (cc)
     by false None (Ok items) at g = absurd (cc)
@@ -37,8 +37,8 @@ pub read : (old new : SourceState) (block : List ℕ) (r : Result (Unit {0}) Tre
 read old new block r gives = by (is_blown old.fuse) (unread_of old) r refl gives
   where
     by : (t : Bool) (o : Option (List ℕ)) (r : Result (Unit {0}) TreeFault) → unread_of old ≡ o
-      → CallGives t old new o r (λ bytes. (r ≡ Ok tt) × (block ≡ take 8192 bytes) × (new ≡ record (after_source_call old) { reading = moved_on old.reading (length block) }))
-      → OnOk r (IsRead (Some (reading_of old)) block)
+        → CallGives t old new o r (λ bytes. (r ≡ Ok tt) × (block ≡ take 8192 bytes) × (new ≡ record (after_source_call old) { reading = moved_on old.reading (length block) }))
+        → OnOk r (IsRead (Some (reading_of old)) block)
     by t o (Err e) at g = tt
     by true o (Ok u) at g = absurd (cc)
     by false None (Ok u) at g = absurd (cc)
@@ -53,7 +53,7 @@ past_block k b = sym (drop-drop (length (take 8192 (drop k b))) k b) ∙ elim (c
 
 -- what is left of the open file is what is left behind the block
 pub unread_moved : (old : SourceState) (bytes block : List ℕ) → unread_of old ≡ Some bytes → block ≡ take 8192 bytes
-  → unread_of (record (after_source_call old) { reading = moved_on old.reading (length block) }) ≡ option_map (drop 8192) (unread_of old)
+    → unread_of (record (after_source_call old) { reading = moved_on old.reading (length block) }) ≡ option_map (drop 8192) (unread_of old)
 unread_moved old bytes block is b = by old.reading is
   where
     at : (o : Path × ℕ) (held : Option (List ℕ)) → option_map (drop o.1) held ≡ Some bytes → option_map (drop (o.1 + length block)) held ≡ option_map (drop 8192) (option_map (drop o.1) held)
@@ -61,8 +61,9 @@ unread_moved old bytes block is b = by old.reading is
     at o (Some held) h =
         let same : drop o.1 held ≡ bytes = cc in
         ap (λ (l : List ℕ). Some l) (ap (λ (l : List ℕ). drop (o.1 + length l) held) (b ∙ ap (take 8192) (sym same)) ∙ past_block o.1 held)
+
     by : (r : Option (Path × ℕ)) → option_and_then (λ (o : Path × ℕ). option_map (drop o.1) (file_at old.tree o.0)) r ≡ Some bytes
-      → option_and_then (λ (o : Path × ℕ). option_map (drop o.1) (file_at old.tree o.0)) (moved_on r (length block)) ≡ option_map (drop 8192) (option_and_then (λ (o : Path × ℕ). option_map (drop o.1) (file_at old.tree o.0)) r)
+        → option_and_then (λ (o : Path × ℕ). option_map (drop o.1) (file_at old.tree o.0)) (moved_on r (length block)) ≡ option_map (drop 8192) (option_and_then (λ (o : Path × ℕ). option_map (drop o.1) (file_at old.tree o.0)) r)
     by None h = absurd (cc)
     by (Some o) h = at o (file_at old.tree o.0) h
 
@@ -70,8 +71,8 @@ pub moved : (old new : SourceState) (block : List ℕ) (r : Result (Unit {0}) Tr
 moved old new block r gives = by (is_blown old.fuse) (unread_of old) r refl gives
   where
     by : (t : Bool) (o : Option (List ℕ)) (r : Result (Unit {0}) TreeFault) → unread_of old ≡ o
-      → CallGives t old new o r (λ bytes. (r ≡ Ok tt) × (block ≡ take 8192 bytes) × (new ≡ record (after_source_call old) { reading = moved_on old.reading (length block) }))
-      → OnOk r (Some (reading_of new) ≡ option_map after_next (Some (reading_of old)))
+        → CallGives t old new o r (λ bytes. (r ≡ Ok tt) × (block ≡ take 8192 bytes) × (new ≡ record (after_source_call old) { reading = moved_on old.reading (length block) }))
+        → OnOk r (Some (reading_of new) ≡ option_map after_next (Some (reading_of old)))
     by t o (Err e) at g = tt
     by true o (Ok u) at g = absurd (cc)
     by false None (Ok u) at g = absurd (cc)

@@ -38,7 +38,7 @@ on_the_way f n path d h = by (find f n) refl h
     by (Some (Dir e)) is h = (e, is, h)
 
 pub tree-changed : (g : Forest → Forest) (f : Forest) (path : Path) (d : Forest) (q : Path) → dir_at f path ≡ Some d
-  → tree_of (changed g f path) q ≡ spliced (rest_below path q) (tree_of (g d)) (tree_of f q)
+    → tree_of (changed g f path) q ≡ spliced (rest_below path q) (tree_of (g d)) (tree_of f q)
 tree-changed g f [] d q is = let same : f ≡ d = cc in ap (λ (h : Forest). tree_of (g h) q) same
 tree-changed g f (n ∷ path) d [] is = refl
 tree-changed g f (n ∷ path) d (m ∷ q) is =
@@ -46,7 +46,7 @@ tree-changed g f (n ∷ path) d (m ∷ q) is =
     by way.0 way.1 (tree-changed g way.0 path d q way.2) (bytes_eq n m) refl
   where
     by : (e : Forest) → find f n ≡ Some (Dir e) → tree_of (changed g e path) q ≡ spliced (rest_below path q) (tree_of (g d)) (tree_of e q)
-      → (t : Bool) → bytes_eq n m ≡ t → tree_of (changed g f (n ∷ path)) (m ∷ q) ≡ spliced (cond t (rest_below path q) None) (tree_of (g d)) (tree_of f (m ∷ q))
+        → (t : Bool) → bytes_eq n m ≡ t → tree_of (changed g f (n ∷ path)) (m ∷ q) ≡ spliced (cond t (rest_below path q) None) (tree_of (g d)) (tree_of f (m ∷ q))
     by e found below true at =
         ap (λ o. option_map entry_of (option_and_then (λ node. node_at node q) o)) (find-changed g f n path e m found ∙ cond-true _ _ _ at)
         ∙ below
@@ -55,7 +55,7 @@ tree-changed g f (n ∷ path) d (m ∷ q) is =
         ap (λ o. option_map entry_of (option_and_then (λ node. node_at node q) o)) (find-changed g f n path e m found ∙ cond-false _ _ _ apart)
 
 pub tree-inserted : (leaf d : Forest) (x : Node) (q : Path) → first_node leaf ≡ Some x → find d (first_name leaf) ≡ None
-  → tree_of (inserted leaf d) q ≡ spliced (rest_below (first_name leaf ∷ []) q) (entry_below x) (tree_of d q)
+    → tree_of (inserted leaf d) q ≡ spliced (rest_below (first_name leaf ∷ []) q) (entry_below x) (tree_of d q)
 tree-inserted leaf d x [] is absent = refl
 tree-inserted leaf d x (m ∷ q) is absent = ap (λ o. option_map entry_of (option_and_then (λ node. node_at node q) o)) (find-inserted leaf d x m is absent) ∙ by (bytes_eq (first_name leaf) m)
   where
@@ -77,12 +77,12 @@ edited_below g was [] here = edited_by g was
 edited_below g was (n ∷ rest) here = here
 
 pub tree-rewritten : (g : List ℕ → List ℕ) (n : List ℕ) (d : Forest) (q : Path)
-  → tree_of (rewritten g n d) q ≡ spliced (rest_below (n ∷ []) q) (λ rest. edited_below g (tree_of d (n ∷ [])) rest (tree_of d q)) (tree_of d q)
+    → tree_of (rewritten g n d) q ≡ spliced (rest_below (n ∷ []) q) (λ rest. edited_below g (tree_of d (n ∷ [])) rest (tree_of d q)) (tree_of d q)
 tree-rewritten g n d [] = refl
 tree-rewritten g n d (m ∷ q) = ap (λ o. option_map entry_of (option_and_then (λ node. node_at node q) o)) (find-rewritten g n d m) ∙ by (bytes_eq n m) refl
   where
     at : (q : Path) (o : Option Node) → option_map entry_of (option_and_then (λ node. node_at node q) (option_map (node_edited g) o))
-      ≡ edited_below g (option_map entry_of (option_and_then (λ node. node_at node []) o)) q (option_map entry_of (option_and_then (λ node. node_at node q) o))
+        ≡ edited_below g (option_map entry_of (option_and_then (λ node. node_at node []) o)) q (option_map entry_of (option_and_then (λ node. node_at node q) o))
     at [] None = refl
     at [] (Some (File b)) = refl
     at [] (Some (Dir e)) = refl
@@ -91,7 +91,8 @@ tree-rewritten g n d (m ∷ q) = ap (λ o. option_map entry_of (option_and_then 
     at (k ∷ q) (Some (File b)) = refl
     at (k ∷ q) (Some (Dir e)) = refl
     at (k ∷ q) (Some Other) = refl
+
     by : (t : Bool) → bytes_eq n m ≡ t → option_map entry_of (option_and_then (λ node. node_at node q) (cond t (option_map (node_edited g) (find d m)) (find d m)))
-      ≡ spliced (cond t (Some q) None) (λ rest. edited_below g (tree_of d (n ∷ [])) rest (tree_of d (m ∷ q))) (tree_of d (m ∷ q))
+        ≡ spliced (cond t (Some q) None) (λ rest. edited_below g (tree_of d (n ∷ [])) rest (tree_of d (m ∷ q))) (tree_of d (m ∷ q))
     by true same = at q (find d m) ∙ ap (λ (l : List ℕ). edited_below g (tree_of d (l ∷ [])) q (tree_of d (m ∷ q))) (sym (same_name n m same))
     by false apart = refl

@@ -1,5 +1,5 @@
 -- The tree that a memory tree's entries make, and its open file.
-use Rattle.std.specs.Prelude.{ℕ, List, [], ◌∷◌, ◌++◌, Option, None, Some}
+use Rattle.std.specs.Prelude.{ℕ, Bool, true, false, List, [], ◌∷◌, ◌++◌, Option, None, Some}
 use Rattle.std.specs.Option.{option_map, option_or}
 use Rattle.pt_tree.specs.declared.entries.Entries.{Entries, End, File', Other', Dir'}
 use Rattle.pt_tree.specs.declared.entries.Found.{Found}
@@ -57,3 +57,7 @@ marked_of (Dir' name p inside q after) = option_or (marked_of inside) (marked_of
 abbrev pub edited : Edit → List ℕ → List ℕ
 edited (Append piece) bytes = bytes ++ piece.now
 edited (Replace new) bytes = new.items
+
+abbrev pub is_replace : Edit → Bool
+is_replace (Append piece) = false
+is_replace (Replace new) = true

@@ -6,8 +6,10 @@ pub mod Forest
 pub mod Fuse
 pub mod Listing
 pub mod Log
+pub mod LooseSource
 pub mod MemDest
 pub mod MemDestTells
+pub mod MemLog
 pub mod MemSource
 pub mod MemSourceTells
 pub mod Name

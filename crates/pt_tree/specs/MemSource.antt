@@ -6,11 +6,11 @@ use Rattle.pt_tree.specs.declared.fuse.Fuse.{Fuse}
 use Rattle.pt_tree.specs.Entries.{forest_of, open_of}
 use Rattle.pt_tree.specs.declared.faults.TreeFault.{TreeFault}
 use Rattle.pt_tree.specs.declared.faults.TreeFault.TheVariants.{Device, Memory}
-use Rattle.pt_tree.specs.Forest.{Forest, none, file_at, listing_at}
+use Rattle.pt_tree.specs.Forest.{Forest, none, changed, file_at, listing_at, rewritten}
 use Rattle.pt_tree.specs.Listing.{Item}
 use Rattle.pt_tree.specs.Opening.{moved_on}
 use Rattle.pt_tree.specs.Fuse.{after_call, after_failure, is_blown, with_fuse}
-use Rattle.pt_tree.specs.Path.{Path}
+use Rattle.pt_tree.specs.Path.{Path, last_name, parent}
 use Rattle.pt_tree.specs.Source.{Reading}
 use Rattle.pt_tree.specs.Tree.{Entry, tree_of, put}
 
@@ -76,3 +76,7 @@ NextGives old new block result = CallGives (is_blown old.fuse) old new (unread_o
 -- it was called so many times, as its counter that wraps tells
 abbrev pub source_called : MemSource → ℕ → Type 0
 source_called s n = n % 2 ^ 64 ≡ s.calls
+
+-- the file at a path holds other bytes
+abbrev pub swapped : Path → List ℕ → SourceState → SourceState
+swapped p bytes s = record s { tree = changed (rewritten (λ _. bytes) (last_name p)) s.tree (parent p) }

@@ -1,8 +1,8 @@
 //! Changes of a memory tree's entries. None of them takes memory, but for bytes that are appended.
-ghost use Rattle.std.specs.Prelude.{◌≡◌, ◌++◌, [], None, is_ok, if◌then◌else◌, OnOk, OnErr};
+ghost use Rattle.std.specs.Prelude.{◌≡◌, ◌++◌, [], None, true, IsOk, is_ok, if◌then◌else◌, OnOk, OnErr};
 ghost use Rattle.pt_tree.specs.Forest.{changed, first_alone, first_name, in_front, inserted, picked, picked_at, removed, rewritten, without_first};
 ghost use Rattle.pt_tree.specs.Listing.{is_before};
-ghost use Rattle.pt_tree.specs.Entries.{edited, forest_of, open_of};
+ghost use Rattle.pt_tree.specs.Entries.{edited, is_replace, forest_of, open_of};
 
 use crate::Name;
 use crate::entries::{Entries, File};
@@ -165,10 +165,16 @@ pub enum Edit<'a> {
 }
 
 /// Edits the file of a name in the directory at a path, if there is one. It stays open, if it is, at its place.
-pub fn edit_bytes(entries: &mut Entries, dir: &[Name], name: &Name, edit: Edit<'_>) -> Result<(), AllocError>
+pub fn edit_bytes(
+    entries: &mut Entries,
+    dir: &[Name],
+    name: &Name,
+    edit: Edit<'_>,
+) -> Result<(), AllocError>
     ensures ok { OnOk result (forest_of entries.new ≡ changed (rewritten (edited edit.entry) name.now) (forest_of entries.old) dir.now) }
     ensures err { OnErr result (forest_of entries.new ≡ forest_of entries.old) }
     ensures marked { open_of entries.new ≡ open_of entries.old }
+    ensures replaced { is_replace edit.entry ≡ true → IsOk result }
 {
     let [next, rest @ ..] = dir else {
         return edit_here(entries, name, edit);
@@ -191,6 +197,7 @@ fn edit_here(entries: &mut Entries, name: &Name, edit: Edit<'_>) -> Result<(), A
     ensures ok { OnOk result (forest_of entries.new ≡ rewritten (edited edit.entry) name.now (forest_of entries.old)) }
     ensures err { OnErr result (forest_of entries.new ≡ forest_of entries.old) }
     ensures marked { open_of entries.new ≡ open_of entries.old }
+    ensures replaced { is_replace edit.entry ≡ true → IsOk result }
 {
     match entries {
         Entries::End => Ok(()),
@@ -222,6 +229,7 @@ fn edit_file(file: &mut File, edit: Edit<'_>) -> Result<(), AllocError>
     ensures ok { OnOk result (file.new.bytes.items ≡ edited edit.entry file.old.bytes.items) }
     ensures err { OnErr result (file.new.bytes.items ≡ file.old.bytes.items) }
     ensures place { file.new.place ≡ file.old.place }
+    ensures replaced { is_replace edit.entry ≡ true → IsOk result }
 {
     match edit {
         Edit::Append(piece) => file.bytes.extend_from_slice(piece),

@@ -1,6 +1,7 @@
 ghost use Rattle.std.specs.Prelude.{◌≡◌, ℕ, List, Option, OnOk, OnErr};
 ghost use Rattle.pt_tree.specs.Failures.{IsCounted};
-ghost use Rattle.pt_tree.specs.Log.{Gains, GainsPart};
+ghost use Rattle.pt_tree.specs.Log.{AppendsFront};
+ghost use Rattle.std.specs.Io.KnownBytes.{Appends};
 
 use crate::TreeFault;
 
@@ -21,7 +22,7 @@ pub trait Log {
 
     /// Puts a piece at the end. A failed call leaves a part of the piece, from its start.
     fn put(&mut self, piece: &[u8]) -> Result<(), TreeFault>
-        ensures ok { OnOk result (Gains (told self.old) (told self.new) piece.now) }
-        ensures part { OnErr result (GainsPart (told self.old) (told self.new) piece.now) }
+        ensures ok { OnOk result (Appends (told self.old) (told self.new) piece.now) }
+        ensures part { OnErr result (AppendsFront (told self.old) (told self.new) piece.now) }
         ensures failures { IsCounted (failed self.old) (failed self.new) result };
 }

@@ -1,4 +1,4 @@
-ghost use Rattle.std.specs.Prelude.{◌≡◌, [], Some, None, IsTrue, IfOk, OnOk, OnErr};
+ghost use Rattle.std.specs.Prelude.{◌≡◌, ◌<◌, [], Some, None, IsTrue, IfOk, OnOk, OnErr, length};
 ghost use Rattle.std.specs.Prelude.{true};
 ghost use Rattle.std.specs.Option.{option_copied, option_map};
 ghost use Rattle.pt_tree.specs.Entries.{forest_of};
@@ -6,6 +6,7 @@ ghost use Rattle.pt_tree.specs.Forest.{is_proper};
 
 use crate::entries::{Entries, Found, at, list};
 use crate::fuse::Fuse;
+use crate::moving::rewrite;
 use crate::opening::{open, read_on};
 use crate::planting::{dir_leaf, file_in, file_leaf, other_leaf, plant, refusal};
 use crate::{Block, Listing, NamePath, PlantFault, Source, TreeFault};
@@ -22,7 +23,7 @@ pub struct MemSource {
 }
 
 impl MemSource {
-    ghost use Rattle.pt_tree.specs.MemSource.{source_state, source_tree, new_state, fused, after_source_call, IsPlanted, ListGives, OpenGives, NextGives};
+    ghost use Rattle.pt_tree.specs.MemSource.{source_state, source_tree, new_state, fused, after_source_call, swapped, IsPlanted, ListGives, OpenGives, NextGives};
     ghost use Rattle.pt_tree.specs.Fuse.{fuse_answer};
     ghost use Rattle.pt_tree.specs.Forest.{file_at};
     ghost use Rattle.pt_tree.specs.Refusal.{Answers};
@@ -106,6 +107,19 @@ impl MemSource {
         ensures { source_state self.new ≡ fused calls (source_state self.old) }
     {
         self.fuse.left = calls;
+    }
+
+    // The allocator that it was made with.
+    pub(crate) fn alloc(&self) -> Global {
+        self.alloc
+    }
+
+    // The file at a path holds other bytes; an open file is read on in them.
+    pub(crate) fn replace(&mut self, path: &NamePath, bytes: Vec<u8>)
+        requires { 0 < length path.now }
+        ensures { source_state self.new ≡ swapped path.now bytes.items (source_state self.old) }
+    {
+        rewrite(&mut self.entries, path, bytes);
     }
 
     // One more call, by the fuse.

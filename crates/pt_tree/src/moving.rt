@@ -1,8 +1,8 @@
 //! Changes of a memory tree at whole paths: taking away, adding to a file, renaming.
-ghost use Rattle.std.specs.Prelude.{◌≡◌, true, IsSome, OnOk, OnErr};
-ghost use Rattle.pt_tree.specs.Entries.{forest_of};
-ghost use Rattle.pt_tree.specs.Forest.{is_proper, named};
-ghost use Rattle.pt_tree.specs.Path.{IsBelowTop};
+ghost use Rattle.std.specs.Prelude.{◌≡◌, ◌<◌, true, length, IsSome, OnOk, OnErr};
+ghost use Rattle.pt_tree.specs.Entries.{forest_of, open_of};
+ghost use Rattle.pt_tree.specs.Forest.{changed, is_proper, named, rewritten};
+ghost use Rattle.pt_tree.specs.Path.{IsBelowTop, last_name, parent};
 ghost use Rattle.pt_tree.specs.Tree.{CanMove, added, moved, tree_of, without};
 
 use crate::changes::{Edit, edit_bytes, insert, remove};
@@ -38,6 +38,20 @@ pub fn append(entries: &mut Entries, path: &NamePath, piece: &[u8]) -> Result<()
     };
     edit_bytes(entries, dir, name, Edit::Append(piece))?;
     Ok(())
+}
+
+/// Lets the file at a path hold other bytes; if it is open, it stays open at its place.
+pub fn rewrite(entries: &mut Entries, path: &NamePath, bytes: Vec<u8>)
+    requires proper { is_proper (forest_of entries.old) ≡ true }
+    requires below { 0 < length path.now }
+    ensures forest { forest_of entries.new ≡ changed (rewritten (λ _. bytes.items) (last_name path.now)) (forest_of entries.old) (parent path.now) }
+    ensures marked { open_of entries.new ≡ open_of entries.old }
+    ensures proper { is_proper (forest_of entries.new) ≡ true }
+{
+    let Some((dir, name)) = path.split() else {
+        unreachable!()
+    };
+    edit_bytes(entries, dir, name, Edit::Replace(bytes)).unwrap();
 }
 
 /// Moves what stands at `from`, with all below, to `to`.

@@ -11,7 +11,7 @@ returns-clause-ok c =
     let forest = c.insert.ensures.forest ∙ (λ i. changed (inserted (leaf i)) (c.remove-moved.ensures.forest i) c.in-Some-split.to_dir.now) in
     ap tree_of forest
     ∙ (rename_at (forest_of c.args.entries.now) c.args.from.now c.args.to.now c.in-Some.from_dir.now c.in-Some-split.to_dir.now c.in-Some.from_name.now c.in-Some-split.to_name.now
-      c.in-Some.ensures c.in-Some-split.ensures c.requires.proper c.requires.may c.in_ok-name.ensures.name).0
+    c.in-Some.ensures c.in-Some-split.ensures c.requires.proper c.requires.may c.in_ok-name.ensures.name).0
 
 pub returns-clause-proper : goal.returns-clause-proper
 returns-clause-proper c =
@@ -19,4 +19,4 @@ returns-clause-proper c =
     let forest = c.insert.ensures.forest ∙ (λ i. changed (inserted (leaf i)) (c.remove-moved.ensures.forest i) c.in-Some-split.to_dir.now) in
     ap is_proper forest
     ∙ (rename_at (forest_of c.args.entries.now) c.args.from.now c.args.to.now c.in-Some.from_dir.now c.in-Some-split.to_dir.now c.in-Some.from_name.now c.in-Some-split.to_name.now
-      c.in-Some.ensures c.in-Some-split.ensures c.requires.proper c.requires.may c.in_ok-name.ensures.name).1
+    c.in-Some.ensures c.in-Some-split.ensures c.requires.proper c.requires.may c.in_ok-name.ensures.name).1

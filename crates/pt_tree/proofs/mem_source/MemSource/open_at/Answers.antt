@@ -16,8 +16,8 @@ returns c =
     let called = c.in_ok-count_call.ensures.state in
     let tree : mid.tree ≡ old.tree = ap (λ s. s.tree) called in
     let found =
-        ap (λ f. file_at f path) (sym tree) ∙ ap (file_at mid.tree) (sym c.names.ensures)
-        ∙ ap (option_and_then as_file) (sym c.in-Some-File.ensures ∙ ap (λ f. Some (node_of f)) c.in-Some-File.field-0-is)
+    ap (λ f. file_at f path) (sym tree) ∙ ap (file_at mid.tree) (sym c.names.ensures)
+    ∙ ap (option_and_then as_file) (sym c.in-Some-File.ensures ∙ ap (λ f. Some (node_of f)) c.in-Some-File.field-0-is)
     in
     let reading = c.open.ensures.marked ∙ ap (opened mid.tree) c.names-2.ensures ∙ ap (λ f. opened f path) tree in
     open_gives old mid _ path c.in-Some-File.field-0-0.now (passed old.fuse c.in_ok-count_call.ensures.answer) called found

@@ -1,0 +1,65 @@
+ghost use Rattle.std.specs.Prelude.{◌≡◌, ◌≢◌, Err, OnOk, OnErr, MatchBool};
+ghost use Rattle.std.specs.Io.KnownBytes.{Appends};
+ghost use Rattle.pt_tree.specs.Failures.{IsCounted};
+ghost use Rattle.pt_tree.specs.Log.{AppendsFront};
+
+use crate::{Log, TreeFault};
+use std::io::Write;
+
+/// A log over a writer, flushed at each put. It takes no memory, and tells what its writer tells.
+#[derive(Drop)]
+pub struct WriterLog<W: Write> {
+    writer: W,
+    failures: u64,
+}
+
+impl<W: Write> WriterLog<W> {
+    /// A log that writes to a writer.
+    pub fn new(writer: W) -> WriterLog<W>
+        ensures writer { result.writer ≡ writer }
+        ensures failures { result.failures ≡ 0 }
+    {
+        WriterLog {
+            writer,
+            failures: 0,
+        }
+    }
+}
+
+impl<W: Write> Log for WriterLog<W> {
+    ghost told = { λ l. W.contents l.writer };
+
+    ghost failed = { λ l. l.failures };
+
+    fn failures(&self) -> u64 {
+        self.failures
+    }
+
+    fn put(&mut self, piece: &[u8]) -> Result<(), TreeFault>
+        ensures ok { OnOk result (Appends (W.contents self.old.writer) (W.contents self.new.writer) piece.now) }
+        ensures part { OnErr result (AppendsFront (W.contents self.old.writer) (W.contents self.new.writer) piece.now) }
+        ensures failures { IsCounted self.old.failures self.new.failures result }
+        ensures no_memory { result ≢ Err TreeFault.Memory }
+    {
+        if write_out(&mut self.writer, piece) {
+            return Ok(());
+        }
+        self.failures = self.failures.saturating_add(1);
+        Err(TreeFault::Device)
+    }
+}
+
+// Writes all the bytes and flushes. An error, or zero for a piece that isn't empty, ends it; nothing is tried again.
+fn write_out<W: Write>(out: &mut W, bytes: &[u8]) -> bool
+    ensures { MatchBool result (Appends (W.contents out.old) (W.contents out.new) bytes.now)
+        (AppendsFront (W.contents out.old) (W.contents out.new) bytes.now) }
+{
+    let mut done = 0;
+    while done < bytes.len() {
+        match out.write(&bytes[done..]) {
+            Ok(0) | Err(_) => return false,
+            Ok(taken) => done += taken,
+        }
+    }
+    out.flush().is_ok()
+}
