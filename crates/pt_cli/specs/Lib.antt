@@ -1,4 +1,3 @@
 pub mod Grammar
 pub mod Names
-pub mod Output
 pub mod Words

@@ -4,7 +4,7 @@ use Rattle.std.specs.Io.KnownBytes.{Keeps}
 use Rattle.pt_tree.specs.Path.{joined}
 use Rattle.pt_name.specs.Clean.{pairpath_of}
 use Rattle.pt_name.specs.Place.{place_of}
-use Rattle.pt_cli.specs.Output.{AppendsFront}
+use Rattle.pt_tree.specs.Log.{AppendsFront}
 use Rattle.pt_cli.specs.declared.names.NamesFault.{NamesFault}
 use Rattle.pt_cli.specs.declared.names.NamesFault.TheVariants as fault
 

@@ -1,6 +1,6 @@
 ghost use Rattle.std.specs.Prelude.{◌≡◌, MatchResult};
 ghost use Rattle.std.specs.Io.KnownBytes.{Appends};
-ghost use Rattle.pt_cli.specs.Output.{AppendsFront};
+ghost use Rattle.pt_tree.specs.Log.{AppendsFront};
 
 use crate::NamesFault;
 use std::io::Write;

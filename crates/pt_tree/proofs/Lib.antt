@@ -6,8 +6,10 @@ mod Texts
 pub mod Blocks
 mod Calls
 mod Canonical
+mod Conditions
 mod DestCalls
 mod Finding
+pub mod Held
 mod AtPaths
 mod Names
 mod Paths

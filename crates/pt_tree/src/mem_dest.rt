@@ -292,3 +292,33 @@ fn add(entries: &mut Entries, writing: &Option<NamePath>, piece: &[u8]) -> Resul
         None => Ok(()),
     }
 }
+
+// What the trait's calls need, as tests.
+impl MemDest {
+    ghost use Rattle.pt_tree.specs.Dest.{MayMake, MayMove, CanPeek};
+    ghost use Rattle.pt_tree.specs.MemDest.{dest_told};
+
+    // Whether something may be made at a path.
+    pub(crate) fn may_make(&self, path: &NamePath) -> bool
+        ensures { IsTrue result → MayMake (dest_told self.now) path.now }
+    {
+        refusal(&self.entries, path).is_none()
+    }
+
+    // Whether something may be moved.
+    pub(crate) fn may_move(&self, from: &NamePath, to: &NamePath) -> bool
+        ensures { IsTrue result → MayMove (dest_told self.now) from.now to.now }
+    {
+        if to.is_within(from) || kind_in(&self.entries, from).is_none() {
+            return false;
+        }
+        refusal(&self.entries, to).is_none()
+    }
+
+    // Whether a file is at a path.
+    pub(crate) fn has_file(&self, path: &NamePath) -> bool
+        ensures { IsTrue result → CanPeek (dest_told self.now) path.now }
+    {
+        self.file(path).is_some()
+    }
+}

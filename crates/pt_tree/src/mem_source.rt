@@ -226,3 +226,26 @@ impl Source for MemSource {
         self.next_of(block)
     }
 }
+
+// What the trait's calls need, as tests.
+impl MemSource {
+    ghost use Rattle.pt_tree.specs.Source.{CanList, CanOpen};
+    ghost use Rattle.pt_tree.specs.MemSourceTells.{source_told};
+
+    // Whether a file is at a path.
+    pub(crate) fn has_file(&self, path: &NamePath) -> bool
+        ensures { IsTrue result → CanOpen (source_told self.now) path.now }
+    {
+        self.file(path).is_some()
+    }
+
+    // Whether a directory is at a path.
+    pub(crate) fn has_dir(&self, path: &NamePath) -> bool
+        ensures { IsTrue result → CanList (source_told self.now) path.now }
+    {
+        match at(&self.entries, path.names()) {
+            Some(Found::Dir(_)) => true,
+            _ => false,
+        }
+    }
+}

@@ -1,5 +1,5 @@
 use Rattle.std.proofs.Common.{arith, length-drop, length-take}
-use Rattle.pt_cli.proofs.Written.{front_more}
+use Rattle.pt_tree.proofs.Written.{front_more}
 use Rattle.pt_cli.proofs.output.put.Goals as goal
 
 pub loop-done-preserved : goal.loop-done-preserved

@@ -1,7 +1,0 @@
--- What a failed output leaves.
-use Rattle.std.specs.Prelude.{ℕ, List, Option, take}
-use Rattle.std.specs.Io.KnownBytes.{Appends}
-
--- known bytes grow by a front of these
-abbrev pub AppendsFront : Option (List ℕ) → Option (List ℕ) → List ℕ → Type 0
-AppendsFront old new bytes = (n : ℕ) × Appends old new (take n bytes)
