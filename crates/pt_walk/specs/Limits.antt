@@ -30,3 +30,7 @@ limits_of bounds = cond (has_zero bounds) (Err fault.Zero) (cond (is_too_large b
 abbrev pub limits_number : LimitsFault → ℕ
 limits_number fault.Zero = 1
 limits_number fault.TooLarge = 2
+
+-- each limit at its greatest value
+abbrev pub greatest_limits : Bounds
+greatest_limits = record { files = 1000000; path_bytes = 4000; depth = 600; file_bytes = 2 ^ 43; turns = 2 ^ 40 }

@@ -10,7 +10,7 @@ mod trail;
 
 pub use cause::Cause;
 pub use limits::{Limits, LimitsFault};
-pub use site::{At, Finding, Form, judge};
+pub use site::{At, Finding, Form, is_shorty, judge};
 pub use trail::Trail;
 
 #[cfg(test)]

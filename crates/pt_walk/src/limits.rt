@@ -1,5 +1,5 @@
 ghost use Rattle.std.specs.Prelude.{◌≡◌, IsTrue};
-ghost use Rattle.pt_walk.specs.Limits.{are_limits, limits_number, limits_of};
+ghost use Rattle.pt_walk.specs.Limits.{are_limits, greatest_limits, limits_number, limits_of};
 
 use std::marker::Model;
 use thiserror::Error;
@@ -92,6 +92,19 @@ impl Limits {
             file_bytes,
             turns,
         })
+    }
+
+    /// The greatest limits, each at its greatest value.
+    pub fn greatest() -> Limits
+        ensures { result ≡ greatest_limits }
+    {
+        Limits {
+            files: MOST_FILES,
+            path_bytes: MOST_PATH_BYTES,
+            depth: MOST_DEPTH,
+            file_bytes: MOST_FILE_BYTES,
+            turns: MOST_TURNS,
+        }
     }
 
     /// How many files one object may have, 1 to 1,000,000.

@@ -96,7 +96,9 @@ fn non_shorty(listing: &Listing, i: usize) -> Option<Kind>
     }
 }
 
-fn is_shorty(name: &Name, kind: Kind) -> bool
+/// Whether an entry is a shorty: a directory whose name has one or two bytes, one piece of a cleaned identifier
+/// (Pairtree 0.1, "Mapping identifiers to paths").
+pub fn is_shorty(name: &Name, kind: Kind) -> bool
     ensures { result ≡ is_shorty_item (name.now, kind) }
 {
     kind == Kind::Dir && matches!(name.bytes().len(), 1 | 2)

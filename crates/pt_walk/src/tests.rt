@@ -2,7 +2,7 @@
 ghost use Rattle.std.specs.Prelude.{◌≡◌};
 ghost use Rattle.pt_walk.specs.Trail.{current_entry, is_dir_entry};
 
-use crate::{At, Cause, Finding, Form, Limits, LimitsFault, Trail, judge, laws};
+use crate::{At, Cause, Finding, Form, Limits, LimitsFault, Trail, is_shorty, judge, laws};
 use pt_tree::{Kind, Listing, Name};
 use std::test::Fail;
 
@@ -135,6 +135,22 @@ fn causes_have_numbers_and_words(rt: HostRuntime) {
 }
 
 #[test]
+fn shorties_are_directories_of_one_or_two_bytes(rt: HostRuntime) -> Result<(), Fail> {
+    let alloc = rt.alloc();
+    for (name, kind, answer) in [
+        ("a", Kind::Dir, true),
+        ("ab", Kind::Dir, true),
+        ("abc", Kind::Dir, false),
+        ("ab", Kind::File, false),
+        ("ab", Kind::Other, false),
+    ] {
+        let entry = Name::of(alloc, name.as_bytes())?;
+        assert_eq!(rt; is_shorty(&entry, kind), answer);
+    }
+    Ok(())
+}
+
+#[test]
 fn limits_end_at_their_greatest_values(rt: HostRuntime) -> Result<(), Fail> {
     let limits = Limits::of(1_000_000, 4_000, 600, 8_796_093_022_208, 1_099_511_627_776)?;
     assert_eq!(rt; limits.files(), 1_000_000);
@@ -142,6 +158,7 @@ fn limits_end_at_their_greatest_values(rt: HostRuntime) -> Result<(), Fail> {
     assert_eq!(rt; limits.depth(), 600);
     assert_eq!(rt; limits.file_bytes(), 8_796_093_022_208);
     assert_eq!(rt; limits.turns(), 1_099_511_627_776);
+    assert_eq!(rt; Limits::greatest(), limits);
     assert_eq!(rt; Limits::of(1, 1, 1, 1, 1)?.depth(), 1);
     for (numbers, fault) in [
         ([0, 1, 1, 1, 1], LimitsFault::Zero),

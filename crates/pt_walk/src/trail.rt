@@ -1,4 +1,4 @@
-ghost use Rattle.std.specs.Prelude.{◌≡◌, ◌<◌, [], Some, IfOk, IsTrue, OnOk, OnErr, IsSome, length};
+ghost use Rattle.std.specs.Prelude.{◌≡◌, ◌<◌, ◌≤◌, ◌*◌, ◌-◌, ◌^◌, [], Some, IfOk, IsTrue, OnOk, OnErr, IsSome, length};
 ghost use Rattle.std.specs.Option.{option_copied};
 ghost use Rattle.pt_tree.specs.Listing.{items_lent};
 ghost use Rattle.pt_walk.specs.Trail.{advanced, can_enter, current_entry, entered, entries_held, has_place, innermost_listing, is_trail, parent, sought, trail_path};
@@ -117,7 +117,8 @@ impl Trail {
 
     /// How many entries the listings have together.
     pub fn records(&self) -> u128
-        ensures { result ≡ entries_held self.now }
+        ensures value { result ≡ entries_held self.now }
+        ensures few { result ≤ (2 ^ 64 - 1) * (2 ^ 64 - 1) }
     {
         let mut total = 0;
         for frame in &self.frames {
