@@ -2,5 +2,23 @@ mod Grouped
 mod Halving
 mod Indexed
 mod Inserting
+pub mod InventoryText
 pub mod Noting
+pub mod Texts
 mod Trees
+pub mod Ways
+pub mod Making
+pub mod MakingFiles
+pub mod Staged
+pub mod MakingObjects
+pub mod ObjectScripts
+pub mod RootScripts
+mod DigestKeys
+mod InOrder
+pub mod Stored
+pub mod Manifests
+pub mod Groups
+pub mod VersionStates
+mod Worked
+mod Moved
+mod RowFiles

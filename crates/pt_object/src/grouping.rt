@@ -4,7 +4,7 @@ ghost use Rattle.serde_json.specs.Data.{object, no_members};
 ghost use Rattle.serde_json.specs.View.{view};
 ghost use Rattle.pt_object.specs.Inventory.{groups_lent, paths_with, put_paths};
 
-use crate::json::path_list;
+use crate::json_parts::path_list;
 use crate::{Contents, Row, Rows};
 use pt_tree::{MemoryFault, NamePath};
 use serde_json::{Map, Value};

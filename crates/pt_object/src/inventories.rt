@@ -8,7 +8,7 @@ ghost use Rattle.pt_object.specs.Distinct.{content_of_row, distinct};
 ghost use Rattle.pt_object.specs.Inventory.{document_tree, inventory_text, inventory_tree, put_content, user_tree, version_tree};
 
 use crate::grouping::state;
-use crate::json::{put_text, stored_path};
+use crate::json_parts::{put_text, stored_path};
 use crate::{Algorithm, Contents, Meta, Rows};
 use pt_tree::MemoryFault;
 use serde_json::{Map, Value};

@@ -11,10 +11,12 @@ mod index;
 mod inventories;
 #[cfg(test)]
 mod inventory_tests;
-mod json;
+mod json_parts;
 pub mod laws;
 mod meta;
 mod moment;
+#[cfg(test)]
+mod object_tests;
 mod root;
 mod rows;
 #[cfg(test)]

@@ -4,7 +4,7 @@ ghost use Rattle.serde_json.specs.View.{view};
 ghost use Rattle.pt_object.specs.RootFiles.{config_text, config_tree, files_lent, layout_text, root_files_of};
 
 use crate::files::ROOT_DECLARATION;
-use crate::json::put_text;
+use crate::json_parts::put_text;
 use pt_name::Layout;
 use pt_tree::{MemoryFault, Name, NamePath};
 use serde_json::{Map, Value, json};
