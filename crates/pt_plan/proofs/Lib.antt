@@ -1,0 +1,4 @@
+pub mod CarriedFiles
+pub mod FilesInOrder
+pub mod Growing
+pub mod Worked

@@ -1,0 +1,123 @@
+-- The items of a source, in the order in which they are walked, each with its verdict.
+use Rattle.std.specs.Prelude.{ℕ, Bool, true, false, ◌==◌, ◌&&◌, cond, not, nat_lt, List, [], ◌∷◌, ◌++◌, codes, length, map, Option, None, Some}
+use Rattle.std.specs.List.{concat}
+use Rattle.std.specs.Option.{option_map}
+use Rattle.std.specs.Str.{is_utf8}
+use Rattle.pt_name.specs.Place.{place_of}
+use Rattle.pt_name.specs.Reading.{reading_of}
+use Rattle.pt_object.specs.FilePaths.{File}
+use Rattle.pt_tree.specs.Forest.{Forest, none, file, other, dir, listing_of}
+use Rattle.pt_tree.specs.Path.{Path, same_path}
+use Rattle.pt_walk.specs.Left.{entries_from}
+use Rattle.pt_walk.specs.Limits.{Bounds}
+use Rattle.pt_walk.specs.Object.{Entry, entries, files, first_bad, without_shorties}
+use Rattle.pt_walk.specs.Site.{found}
+use Rattle.pt_walk.specs.Sites.{Site, Visit, Listed, Past, Deep, at_of}
+use Rattle.pt_walk.specs.declared.cause.Cause.{Cause}
+use Rattle.pt_walk.specs.declared.cause.Cause.TheVariants as cause
+use Rattle.pt_walk.specs.declared.site.Finding.{Finding}
+use Rattle.pt_walk.specs.declared.site.Finding.TheVariants as finding
+use Rattle.pt_plan.specs.Job.{Job, form_of}
+use Rattle.pt_plan.specs.Store.{prefix_of, sites_of}
+
+-- an object of a site: the directory that encapsulates it, or, if it is gathered, the site without its shorties
+pub record PairtreeObject : Type 0 where
+  pub at : Path
+  pub gathered : Bool
+  pub inside : Forest
+
+-- what a directory on the way comes to: it only leads on; it is passed over; or it has an object with an identifier
+pub data Verdict : Type 0 where
+  Interior : Verdict
+  Skip : (why : Cause) → Verdict
+  Named : (id : List ℕ) → (object : PairtreeObject) → Verdict
+
+-- what comes of an object: it is passed over for a cause, or its files are carried
+pub data Outcome : Type 0 where
+  Fails : (why : Cause) → Outcome
+  Holds : (files : List File) → Outcome
+
+-- a directory on the way, how it is met, and what it comes to
+pub record Item : Type 0 where
+  pub path : Path
+  pub visit : Visit
+  pub verdict : Verdict
+
+-- ---- the outcome of an object
+
+-- the encapsulating directory itself is too deep to be listed; a site never is
+abbrev pub is_too_deep : Bounds → PairtreeObject → Bool
+is_too_deep limits object = not object.gathered && nat_lt limits.depth (length object.at)
+
+-- the first entry of the object for which there is a cause, with the cause
+abbrev pub bad_entry : Bounds → PairtreeObject → Option (Entry × Cause)
+bad_entry limits object = first_bad limits (length object.at) 0 (entries object.inside)
+
+-- why the object isn't carried
+abbrev pub cause_of : Bounds → PairtreeObject → Option Cause
+cause_of limits object = cond (is_too_deep limits object) (Some cause.Limit) (option_map (λ bad. bad.1) (bad_entry limits object))
+
+-- by the cause against it, if there is one
+abbrev pub outcome_by : List File → Option Cause → Outcome
+outcome_by files None = Holds files
+outcome_by files (Some why) = Fails why
+
+-- the cause of the first bad entry, or, if there is none, all files
+abbrev pub outcome : Bounds → PairtreeObject → Outcome
+outcome limits object = outcome_by (files (entries object.inside)) (cause_of limits object)
+
+-- ---- the verdict on a site
+
+-- no tuples are used, and the place is that of the storage root's own extensions (OCFL 1.1, "Root Structure")
+abbrev pub is_reserved : Job → List ℕ → Bool
+is_reserved job id = job.tuples.count == 0 && same_path (place_of job.tuples id) (codes "extensions" ∷ [])
+
+-- an object with this identifier, unless its place is reserved
+abbrev pub named : Job → List ℕ → PairtreeObject → Verdict
+named job id object = cond (is_reserved job id) (Skip cause.Reserved) (Named id object)
+
+-- by what the site's names read: nothing; bytes that aren't UTF-8; or the identifier's part behind the prefix
+abbrev pub verdict_by_reading : Job → List ℕ → PairtreeObject → Option (List ℕ) → Verdict
+verdict_by_reading job prefix object None = Skip cause.Name
+verdict_by_reading job prefix object (Some read) = cond (is_utf8 read) (named job (prefix ++ read) object) (Skip cause.Utf8)
+
+-- the names of the site's path are read with nothing between (Pairtree 0.1, "Identifier string cleaning")
+abbrev pub verdict_on_object : Job → List ℕ → Path → PairtreeObject → Verdict
+verdict_on_object job prefix site object = verdict_by_reading job prefix object (reading_of (concat site))
+
+-- the first entry as an object of the site at this path, if it is a directory
+abbrev pub encapsulated : Path → Forest → Option PairtreeObject
+encapsulated site none = None
+encapsulated site (file name bytes after) = None
+encapsulated site (other name after) = None
+encapsulated site (dir name inside after) = Some (record { at = site ++ name ∷ []; gathered = false; inside = inside })
+
+-- the object of a site that is gathered
+abbrev pub gathered_from : Path → Forest → PairtreeObject
+gathered_from site entries = record { at = site; gathered = true; inside = without_shorties entries }
+
+-- a candidate is always a directory
+abbrev pub verdict_on_candidate : Job → List ℕ → Path → Option PairtreeObject → Verdict
+verdict_on_candidate job prefix site None = Interior
+verdict_on_candidate job prefix site (Some object) = verdict_on_object job prefix site object
+
+-- by what the site with these entries was found to be
+abbrev pub verdict_by_finding : Job → List ℕ → Path → Forest → Finding → Verdict
+verdict_by_finding job prefix site inside finding.Interior = Interior
+verdict_by_finding job prefix site inside (finding.Skip why) = Skip why
+verdict_by_finding job prefix site inside (finding.Candidate i) = verdict_on_candidate job prefix site (encapsulated site (entries_from i inside))
+verdict_by_finding job prefix site inside finding.Gathered = verdict_on_object job prefix site (gathered_from site inside)
+
+-- a site that is listed comes to what it is found to be; a shorty below a name of one byte, or too deep, is passed over
+abbrev pub verdict_of : Job → List ℕ → Path → Visit → Verdict
+verdict_of job prefix path (Listed inside) = verdict_by_finding job prefix path inside (found (listing_of inside) (at_of path) (form_of job))
+verdict_of job prefix path Past = Skip cause.Past
+verdict_of job prefix path Deep = Skip cause.Limit
+
+-- the directory on the way, with its verdict
+abbrev pub item_of : Job → List ℕ → Site → Item
+item_of job prefix site = record { path = site.0; visit = site.1; verdict = verdict_of job prefix site.0 site.1 }
+
+-- the directories on the way, in the order of the walk, each with its verdict
+abbrev pub items : Job → Forest → List Item
+items job source = map (item_of job (prefix_of source)) (sites_of job.limits.depth source)

@@ -1,0 +1,20 @@
+-- What a run has to do, beside its source, destination and log.
+use Rattle.std.specs.Prelude.{Bool, cond}
+use Rattle.pt_name.specs.Tuples.{Tuples}
+use Rattle.pt_object.specs.MetaParts.{MetaParts}
+use Rattle.pt_object.specs.declared.algorithm.Algorithm.{Algorithm}
+use Rattle.pt_walk.specs.Limits.{Bounds}
+use Rattle.pt_walk.specs.declared.site.Form.{Form}
+use Rattle.pt_walk.specs.declared.site.Form.TheVariants as form
+
+-- how the objects' versions are described, the layout's tuples, the algorithm of the inventories, the limits, and whether divided sites are gathered
+pub record Job : Type 0 where
+  pub meta : MetaParts
+  pub tuples : Tuples
+  pub algorithm : Algorithm
+  pub limits : Bounds
+  pub gather : Bool
+
+-- how a divided site is judged
+abbrev pub form_of : Job → Form
+form_of job = cond job.gather form.Gathering form.Plain

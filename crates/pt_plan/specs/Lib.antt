@@ -1,0 +1,11 @@
+pub mod Bound
+pub mod Carried
+pub mod FileLaws
+pub mod ItemLaws
+pub mod Items
+pub mod Job
+pub mod Lines
+pub mod Store
+pub mod Work
+pub mod Worked
+pub mod WorkedStores

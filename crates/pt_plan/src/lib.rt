@@ -1,0 +1,16 @@
+//! What a run is made of: the phases that it goes through, turn by turn.
+#![tactic(auto)]
+
+mod identifier;
+pub mod laws;
+mod object;
+mod phase;
+
+pub use identifier::Identifier;
+pub use object::Object;
+pub use phase::{Part, Phase, Position};
+
+#[cfg(test)]
+mod tests;
+#[cfg(test)]
+mod worked_tests;

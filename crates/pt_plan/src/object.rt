@@ -1,0 +1,17 @@
+use crate::Identifier;
+use pt_tree::NamePath;
+
+/// An object that is being carried.
+#[derive(Debug, Drop)]
+pub struct Object {
+    /// Its identifier.
+    pub id: Identifier,
+    /// Its place, from the storage root on.
+    pub place: NamePath,
+    /// Whether it is gathered from its site, and not encapsulated in a directory there.
+    pub gathered: bool,
+    /// How many listings lead to its site, the site's own among them: the trail's length there.
+    pub site: usize,
+    /// How many directories without entries were met in it.
+    pub empty: u64,
+}

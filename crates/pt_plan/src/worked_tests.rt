@@ -1,0 +1,83 @@
+// The worked stores, computed from the definitions by the prover.
+ghost use Rattle.pt_plan.specs.Worked.{BadNamesLog, BoundOfEmptyStore, BoundOfEqualContents, BoundOfGathering, DepthsAreLimited, DepthsOfChains, DividedLog, DividedSitesAreGathered, EmptyDirectoriesAreCounted, EmptyStoreLog, ExtensionsLog, FirstBadEntryCounts, LengthsAreLimited, LineFeedLog, LinesComeInOrder, OneIdentifierFlatLog, OneObjectFlatLog, OneObjectIsCarried, OneObjectIsNamed, OneObjectLog, PrefixIsRead, PresentComesFirst, SecondRunCarriesNothing, StoresAreKnown, StraysLog, UsableRootsAreTold, WaysAreTold, WorkOfFirstRuns, WorkOfGathering, WorkOfSecondRun, WorkOfSkips, WorkWithOtherTuples};
+
+use crate::laws;
+use std::test::Fail;
+
+fn stores()
+    ensures { StoresAreKnown }
+{}
+
+fn verdicts()
+    ensures object { OneObjectIsNamed }
+    ensures prefix { PrefixIsRead }
+{}
+
+fn logs()
+    ensures empty { EmptyStoreLog }
+    ensures strays { StraysLog }
+    ensures names { BadNamesLog }
+    ensures divided { DividedLog }
+    ensures reserved { ExtensionsLog }
+    ensures object { OneObjectLog }
+    ensures flat { OneObjectFlatLog }
+    ensures order { LinesComeInOrder }
+    ensures escaped { LineFeedLog }
+    ensures present { OneIdentifierFlatLog }
+{}
+
+fn limits()
+    ensures first { FirstBadEntryCounts }
+    ensures lengths { LengthsAreLimited }
+    ensures depths { DepthsAreLimited }
+    ensures chains { DepthsOfChains }
+{}
+
+fn objects()
+    ensures empty { EmptyDirectoriesAreCounted }
+    ensures gathered { DividedSitesAreGathered }
+    ensures carried { OneObjectIsCarried }
+    ensures again { SecondRunCarriesNothing }
+    ensures taken { PresentComesFirst }
+    ensures ways { WaysAreTold }
+    ensures roots { UsableRootsAreTold }
+{}
+
+fn turns()
+    ensures first { WorkOfFirstRuns }
+    ensures second { WorkOfSecondRun }
+    ensures tuples { WorkWithOtherTuples }
+    ensures skips { WorkOfSkips }
+    ensures gathering { WorkOfGathering }
+{}
+
+fn records()
+    ensures equal { BoundOfEqualContents }
+    ensures gathering { BoundOfGathering }
+    ensures none { BoundOfEmptyStore }
+{}
+
+#[test]
+fn worked_stores_follow_from_the_definitions(_rt: HostRuntime) -> Result<(), Fail> {
+    stores();
+    verdicts();
+    logs();
+    limits();
+    objects();
+    turns();
+    records();
+    Ok(())
+}
+
+#[test]
+fn each_law_can_be_called(_rt: HostRuntime) -> Result<(), Fail> {
+    laws::files_come_in_order();
+    laws::carried_files_come_in_order();
+    laws::taken_against_earlier();
+    laws::carried_grows();
+    laws::text_grows();
+    laws::all_items_are_all();
+    laws::begins_with_the_base();
+    laws::what_stands_stays();
+    Ok(())
+}
