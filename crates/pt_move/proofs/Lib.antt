@@ -1,0 +1,10 @@
+pub mod Calls
+pub mod Candidates
+pub mod Held
+pub mod Leaving
+pub mod Limits
+pub mod Migrating
+pub mod Stepping
+pub mod Tables
+pub mod UnderWay
+pub mod Untold

@@ -1,0 +1,6 @@
+pub mod Counting
+pub mod Fault
+pub mod Fits
+pub mod Held
+pub mod Lines
+pub mod Stepping

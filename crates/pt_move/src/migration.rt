@@ -1,0 +1,38 @@
+#![tactic(auto, using(crate::proofs::Migrating::migrating))]
+
+ghost use Rattle.std.specs.Prelude.{◌≡◌, ◌≢◌, ◌≤◌, None, IfErr, IfOk};
+ghost use Rattle.pt_move.specs.Counting.{Counts};
+ghost use Rattle.pt_move.specs.Fits.{lines_put};
+ghost use Rattle.pt_move.specs.declared.fault.Fault.TheVariants as fault;
+
+use crate::{Fault, Job, Mover, Report, Turn};
+use pt_tree::{Dest, Log, Source};
+use std::alloc::Global;
+
+/// Carries the objects of a Pairtree store (Pairtree 0.1) into the storage root of a destination (OCFL 1.1), and tells
+/// of each in the log. The run goes on to its end or to its first fault, whatever the three hold, and makes at most as
+/// many turns as its limit allows.
+///
+/// `Source`, `Dest` and `Log` are answered only where that device's count of failures rose, or stood at its greatest
+/// value, and then no other answer is given; `Ended` is never answered. What is promised so far is for a source and a
+/// destination that tell nothing.
+pub fn migrate<S: Source, D: Dest, L: Log>(
+    alloc: Global,
+    source: &mut S,
+    dest: &mut D,
+    log: &mut L,
+    job: Job,
+) -> Result<Report, Fault>
+    requires source { S.told source.old ≡ None }
+    requires dest { D.told dest.old ≡ None }
+    ensures source { Counts 1 (S.failed source.old) (S.failed source.new) result }
+    ensures dest { Counts 2 (D.failed dest.old) (D.failed dest.new) result }
+    ensures log { Counts 3 (L.failed log.old) (L.failed log.new) result }
+    ensures turns { IfOk result (λ report. report.turns ≤ job.limits.turns) }
+    ensures lines { IfOk result (λ report. lines_put report ≤ report.turns) }
+    ensures never_ended { IfErr result (λ f. f ≢ fault.Ended) }
+{
+    let mut mover = Mover::start(alloc, job);
+    while mover.step(source, dest, log)? == Turn::More {}
+    Ok(mover.report())
+}
