@@ -1,1 +1,12 @@
+pub mod Building
+pub mod Complete
+pub mod Migrating
 pub mod Parsed
+mod HostNames
+mod HostReads
+mod HostTexts
+mod HostUntold
+pub mod Passing
+pub mod Present
+pub mod Reading
+pub mod Stopping

@@ -1,24 +1,41 @@
 -- From what the parser says of its error or its matches to what the words are answered.
-use Rattle.std.proofs.Common.{◌≡◌, inl, inr, ℕ, List, [], ◌∷◌, Result, Err, Option, Some, None, option_map, refl, sym, subst, true, ◌∙◌}
-use Rattle.clap.specs.Words.{Kinds, IsAmong, HasKind, Row, kind_of, is_simple, is_simple_and_free}
+use Rattle.std.proofs.Common.{◌≡◌, ◌∙◌, inl, inr, Bool, List, [], ◌∷◌, Result, Ok, Err, Option, Some, None, if◌then◌else◌, option_map, refl, sym, ap, subst, true, false}
+use Rattle.std.specs.Borrow.{Bor}
+use Rattle.std.specs.Str.{bytes_eq}
+use Rattle.std.specs.Prelude.{⊤, codes}
+use Rattle.clap.specs.Words.{Kinds, IsAmong, HasKind, Row, Text, first_of, kind_of, is_simple, is_simple_and_free}
 use Rattle.clap.specs.declared.error.Error.{Error}
 use Rattle.clap.specs.declared.error.kind.ErrorKind.{ErrorKind}
 use Rattle.clap.specs.declared.error.kind.ErrorKind.TheVariants as kind
 use Rattle.clap.proofs.OnLiterals.{clap_on_literals}
-use Rattle.pt_cli.specs.Grammar.{program}
-use Rattle.pt_cli.specs.Words.{Answers, HasRefusal, RefusedAs}
+use Rattle.pt_name.specs.Layout.{layout_of}
+use Rattle.pt_name.specs.Tuples.{Tuples}
+use Rattle.pt_name.specs.declared.layout.LayoutFault.{LayoutFault}
+use Rattle.pt_object.specs.Meta.{meta_refusal}
+use Rattle.pt_object.specs.declared.meta.MetaFault.{MetaFault}
+use Rattle.pt_object.specs.declared.meta.MetaFault.TheVariants as meta_fault
+use Rattle.pt_cli.specs.Grammar.{SpellsAlgorithms, program}
+use Rattle.pt_cli.specs.Options.{Options, options_in}
+use Rattle.pt_cli.specs.Words.{Answers, HasRefusal, OrNone, RefusedAs, answer_to, command_answer, described, migrate_answer, names_answer}
 use Rattle.pt_cli.specs.declared.command.Command.{Command}
 use Rattle.pt_cli.specs.declared.words.WordsFault.{WordsFault}
 use Rattle.pt_cli.specs.declared.words.WordsFault.TheVariants as fault
 
 -- the parser's answers are known from the words alone
-pub program-simple : is_simple program ≡ true
+pub program-simple : (algorithms : Bor (List (Bor Text))) → is_simple (program algorithms) ≡ true
 unfolding clap_on_literals
-program-simple = refl
+program-simple algorithms = refl
 
-pub program-free : is_simple_and_free program ≡ true
+pub program-free : (algorithms : Bor (List (Bor Text))) → is_simple_and_free (program algorithms) ≡ true
 unfolding clap_on_literals
-program-free = refl
+program-free algorithms = refl
+
+-- the words of the two algorithms, at some place
+abbrev pub some_words : Bor (List (Bor Text))
+some_words = record { ref_ptr = (0, 0); now = record { ref_ptr = (0, 0); now = codes "sha512" } ∷ record { ref_ptr = (0, 0); now = codes "sha256" } ∷ [] }
+
+pub some_words-spell : SpellsAlgorithms some_words
+some_words-spell = refl
 
 -- a kind that isn't help is a refusal
 refusal_among : (k : ErrorKind) (kinds : Kinds) → IsAmong k kinds → (k ≡ kind.DisplayHelp → ⊥) → HasRefusal kinds
@@ -27,34 +44,76 @@ refusal_among k (x ∷ kinds) (inl e) other = inl (λ h. other (e ∙ h))
 refusal_among k (x ∷ kinds) (inr h) other = inr (refusal_among k kinds h other)
 
 -- the parser's error, refused
-pub answers_error : (kinds : Kinds) (found : Option (List ℕ × List Row)) (e : Error) (f : WordsFault) → HasKind kinds e
+pub answers_error : (kinds : Kinds) (found : Option (Text × List Row)) (e : Error) (f : WordsFault) → HasKind kinds e
     → RefusedAs (kind_of e) f → Answers kinds found (Err f)
 answers_error kinds found e (fault.Help text) (inl none) h = cc (none, h)
 answers_error kinds found e (fault.Help text) (inr k) h = subst (λ x. IsAmong x kinds) h k
 answers_error kinds found e (fault.Words text) (inl none) h = absurd (h.1 none)
-answers_error kinds found e (fault.Words text) (inr k) h = inl (refusal_among (kind_of e) kinds k h.0)
+answers_error kinds found e (fault.Words text) (inr k) h = refusal_among (kind_of e) kinds k h.0
+answers_error kinds found e fault.Created k h = absurd h
+answers_error kinds found e fault.EmptyName k h = absurd h
 answers_error kinds found e fault.EmptyId k h = absurd h
 answers_error kinds found e fault.Memory k h = tt
+answers_error kinds found e fault.Tuples k h = absurd h
 
--- a pair of two parts
-abbrev pair_of : {X : Type 0} → (X → List ℕ) → (X → List Row) → X → List ℕ × List Row
-pair_of name rows x = (name x, rows x)
+-- a command, or a refusal that isn't the parser's
+abbrev IsOwn : Result Command WordsFault → Type 0
+IsOwn (Err (fault.Help text)) = ⊥
+IsOwn (Err (fault.Words text)) = ⊥
+IsOwn _ = ⊤
 
--- a pair in an option, from its two parts
-pub both_parts : {X : Type 0} (o : Option X) (name : X → List ℕ) (rows : X → List Row) (n : List ℕ) (rs : List Row)
-    → option_map name o ≡ Some n → option_map rows o ≡ Some rs → option_map (pair_of name rows) o ≡ Some (n, rs)
-both_parts None name rows n rs h k = cc
-both_parts (Some x) name rows n rs h k = cc
+names-own : (id : Text) → IsOwn (names_answer id)
+names-own [] = tt
+names-own (x ∷ xs) = tt
 
--- the second parts of an option of pairs
-pub second_part : {X : Type 0} (o : Option X) (name : X → List ℕ) (rows : X → List Row)
-    → option_map (λ (p : List ℕ × List Row). p.1) (option_map (pair_of name rows) o) ≡ option_map rows o
-second_part None name rows = refl
-second_part (Some x) name rows = refl
+described-own : (given : Options) (refusal : Option MetaFault) (layout : Result Tuples LayoutFault) → IsOwn (described given refusal layout)
+described-own given (Some meta_fault.Created) layout = tt
+described-own given (Some meta_fault.EmptyName) layout = tt
+described-own given (Some meta_fault.Memory) layout = tt
+described-own given None (Err f) = tt
+described-own given None (Ok l) = tt
+
+command-own : (found : Text × List Row) (r : Result Command WordsFault) → command_answer found ≡ Some r → IsOwn r
+command-own found r is = go (bytes_eq found.0 (codes "names")) (bytes_eq found.0 (codes "migrate")) (first_of (codes "ID") found.1) (options_in found.1) is
+  where
+    go : (names migrate : Bool) (id : Option Text) (given : Option Options)
+        → (if names then option_map names_answer id else if migrate then option_map migrate_answer given else None) ≡ Some r → IsOwn r
+    go true migrate None given e = absurd (cc)
+    go true migrate (Some id) given e =
+        let same : names_answer id ≡ r = cc in
+        subst IsOwn same (names-own id)
+    go false true id None e = absurd (cc)
+    go false true id (Some given) e =
+        let same : migrate_answer given ≡ r = cc in
+        subst IsOwn same (described-own given (meta_refusal given.created given.name) (layout_of given.size given.count))
+    go false false id given e = absurd (cc)
+
+own : (found : Option (Text × List Row)) (r : Result Command WordsFault) → answer_to found ≡ Some r → IsOwn r
+own None r e = absurd (cc)
+own (Some found) r e = command-own found r e
+
+-- the answer to a command that the parser found
+accepted : (found : Option (Text × List Row)) (r : Result Command WordsFault) → answer_to found ≡ Some r → Answers [] found r
+accepted found (Ok command) e = (refl, e)
+accepted found (Err (fault.Help text)) e = absurd (own found _ e)
+accepted found (Err (fault.Words text)) e = absurd (own found _ e)
+accepted found (Err fault.Created) e = (refl, e)
+accepted found (Err fault.EmptyName) e = (refl, e)
+accepted found (Err fault.EmptyId) e = (refl, e)
+accepted found (Err fault.Memory) e = tt
+accepted found (Err fault.Tuples) e = (refl, e)
+
+pub answers_own : (found : Option (Text × List Row)) (r : Result Command WordsFault) → OrNone (answer_to found) (Some r) → Answers [] found r
+answers_own found r given = go (answer_to found) refl given
+  where
+    go : (o : Option (Result Command WordsFault)) → answer_to found ≡ o → OrNone o (Some r) → Answers [] found r
+    go None e h = absurd h
+    go (Some x) e (inl same) = accepted found r (e ∙ ap Some (sym same))
+    go (Some x) e (inr memory) = subst (λ y. Answers [] found y) (sym memory) tt
 
 -- what the parser accepts, answered
-pub answers_found : (kinds : Kinds) (here found : Option (List ℕ × List Row)) (r : Result Command WordsFault) → kinds ≡ [] → here ≡ found
+pub answers_found : (kinds : Kinds) (here found : Option (Text × List Row)) (r : Result Command WordsFault) → kinds ≡ [] → here ≡ found
     → Answers [] here r → Answers kinds found r
 answers_found kinds here found r none same h =
-    let P : Kinds → Option (List ℕ × List Row) → Type 0 = λ k f. Answers k f r in
+    let P : Kinds → Option (Text × List Row) → Type 0 = λ k f. Answers k f r in
     subst (λ k. P k found) (sym none) (subst (λ f. P [] f) same h)

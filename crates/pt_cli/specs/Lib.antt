@@ -1,3 +1,10 @@
 pub mod Grammar
+pub mod Host
+pub mod HostBytes
+pub mod HostDevices
+pub mod HostNames
+pub mod HostReading
+pub mod HostWriting
 pub mod Names
+pub mod Options
 pub mod Words

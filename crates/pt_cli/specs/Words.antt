@@ -1,53 +1,115 @@
 -- What the words of the command line ask for.
-use Rattle.std.specs.Prelude.{ℕ, ◌≡◌, ◌≢◌, ◌⊎◌, ⊤, List, [], ◌∷◌, Option, Some, None, Result, Ok, Err, if◌then◌else◌, codes, option_and_then}
+use Rattle.std.specs.Prelude.{ℕ, ◌≡◌, ◌≢◌, ◌⊎◌, ⊤, List, [], ◌∷◌, Option, Some, None, Result, Ok, Err, if◌then◌else◌, codes, option_and_then, option_map}
+use Rattle.std.specs.Borrow.{Bor}
 use Rattle.std.specs.Str.{bytes_eq}
-use Rattle.clap.specs.Words.{Kinds, IsAmong, Row, first_of, fault_of, subcommand_of}
+use Rattle.clap.specs.Words.{Kinds, IsAmong, Row, Text, first_of, fault_of, subcommand_of}
 use Rattle.clap.specs.declared.error.kind.ErrorKind.{ErrorKind}
 use Rattle.clap.specs.declared.error.kind.ErrorKind.TheVariants as kind
-use Rattle.pt_cli.specs.Grammar.{program}
+use Rattle.pt_name.specs.Layout.{layout_of}
+use Rattle.pt_name.specs.Tuples.{Tuples}
+use Rattle.pt_name.specs.declared.layout.LayoutFault.{LayoutFault}
+use Rattle.pt_object.specs.Meta.{given_address, meta_refusal, parts_of}
+use Rattle.pt_object.specs.declared.meta.MetaFault.{MetaFault}
+use Rattle.pt_object.specs.declared.meta.MetaFault.TheVariants as meta_fault
+use Rattle.pt_cli.specs.Grammar.{SpellsAlgorithms, program}
+use Rattle.pt_cli.specs.Options.{Options, options_in}
 use Rattle.pt_cli.specs.declared.command.Command.{Command}
-use Rattle.pt_cli.specs.declared.command.Command.TheVariants.{Names}
+use Rattle.pt_cli.specs.declared.command.Command.TheVariants.{Names, Migrate}
 use Rattle.pt_cli.specs.declared.words.WordsFault.{WordsFault}
 use Rattle.pt_cli.specs.declared.words.WordsFault.TheVariants as fault
 
--- the identifier of `names`, if that is the command that the parser found
-abbrev pub names_id : Option (List ℕ × List Row) → Option (List ℕ)
-names_id found = option_and_then (λ c. if bytes_eq c.0 (codes "names") then first_of (codes "ID") c.1 else None) found
+-- what `names` of an identifier is answered
+abbrev pub names_answer : Text → Result Command WordsFault
+names_answer [] = Err fault.EmptyId
+names_answer (x ∷ xs) = Ok (Names (x ∷ xs))
+
+-- what is said of words that describe no version
+abbrev pub words_of_meta : MetaFault → WordsFault
+words_of_meta meta_fault.Created = fault.Created
+words_of_meta meta_fault.EmptyName = fault.EmptyName
+words_of_meta meta_fault.Memory = fault.Memory
+
+-- the migration with these options and this layout
+abbrev pub migration : Options → Tuples → Command
+migration given layout = Migrate (record {
+  meta = parts_of given.created given.name (given_address given.address) given.message;
+  algorithm = given.algorithm;
+  layout = layout;
+  gather = given.gather;
+  source = given.source;
+  dest = given.dest;
+})
+
+-- refused by what the version's description is refused as, and then by the layout
+abbrev pub described : Options → Option MetaFault → Result Tuples LayoutFault → Result Command WordsFault
+described given (Some refusal) layout = Err (words_of_meta refusal)
+described given None (Err refusal) = Err fault.Tuples
+described given None (Ok layout) = Ok (migration given layout)
+
+-- what `migrate` with these options is answered
+abbrev pub migrate_answer : Options → Result Command WordsFault
+migrate_answer given = described given (meta_refusal given.created given.name) (layout_of given.size given.count)
+
+-- what a command and its arguments are answered; None where they ask for nothing that there is
+abbrev pub command_answer : Text × List Row → Option (Result Command WordsFault)
+command_answer found =
+    if bytes_eq found.0 (codes "names") then option_map names_answer (first_of (codes "ID") found.1)
+    else if bytes_eq found.0 (codes "migrate") then option_map migrate_answer (options_in found.1)
+    else None
+
+-- the same of the command that the parser found, if there is one
+abbrev pub answer_to : Option (Text × List Row) → Option (Result Command WordsFault)
+answer_to = option_and_then command_answer
+
+-- the answer, unless memory ran out
+abbrev pub OrMemory : Result Command WordsFault → Result Command WordsFault → Type 0
+OrMemory expected result = (result ≡ expected) ⊎ (result ≡ Err fault.Memory)
+
+-- the same of an answer that there may not be
+abbrev pub OrNone : Option (Result Command WordsFault) → Option (Result Command WordsFault) → Type 0
+OrNone None None = ⊤
+OrNone (Some expected) (Some result) = OrMemory expected result
+OrNone _ _ = ⊥
 
 -- one of the kinds isn't that help was asked for
 abbrev pub HasRefusal : Kinds → Type 0
 HasRefusal [] = ⊥
 HasRefusal (k ∷ ks) = (k ≢ kind.DisplayHelp) ⊎ HasRefusal ks
 
+-- the parser accepts, and this is the answer to the command that it found
+abbrev pub Accepted : Kinds → Option (Text × List Row) → Result Command WordsFault → Type 0
+Accepted kinds found answer = (kinds ≡ []) × (answer_to found ≡ Some answer)
+
 -- What is answered where the parser gives these kinds of error (none, where it accepts) and finds this command:
--- help and refusals are the parser's, and of what it accepts an empty identifier is refused.
-abbrev pub Answers : Kinds → Option (List ℕ × List Row) → Result Command WordsFault → Type 0
-Answers kinds found (Ok (Names id)) = (kinds ≡ []) × (names_id found ≡ Some id) × (id ≢ [])
+-- help and refusals are the parser's, and what it accepts has its answer.
+abbrev pub Answers : Kinds → Option (Text × List Row) → Result Command WordsFault → Type 0
+Answers kinds found (Ok command) = Accepted kinds found (Ok command)
 Answers kinds found (Err (fault.Help text)) = IsAmong kind.DisplayHelp kinds
-Answers kinds found (Err (fault.Words text)) = HasRefusal kinds ⊎ ((kinds ≡ []) × (names_id found ≡ None))
-Answers kinds found (Err fault.EmptyId) = (kinds ≡ []) × (names_id found ≡ Some [])
+Answers kinds found (Err (fault.Words text)) = HasRefusal kinds
+Answers kinds found (Err fault.Created) = Accepted kinds found (Err fault.Created)
+Answers kinds found (Err fault.EmptyName) = Accepted kinds found (Err fault.EmptyName)
+Answers kinds found (Err fault.EmptyId) = Accepted kinds found (Err fault.EmptyId)
 Answers kinds found (Err fault.Memory) = ⊤
+Answers kinds found (Err fault.Tuples) = Accepted kinds found (Err fault.Tuples)
 
 -- how an error of the parser is refused: as Memory at any time, since its text takes memory
 abbrev pub RefusedAs : ErrorKind → WordsFault → Type 0
 RefusedAs k (fault.Help text) = k ≡ kind.DisplayHelp
 RefusedAs k (fault.Words text) = (k ≢ kind.DisplayHelp) × (k ≢ kind.OutOfMemory)
-RefusedAs k fault.EmptyId = ⊥
 RefusedAs k fault.Memory = ⊤
-
--- a refusal of words that ask for no command
-abbrev pub IsMissing : WordsFault → Type 0
-IsMissing (fault.Words text) = ⊤
-IsMissing fault.Memory = ⊤
-IsMissing (fault.Help text) = ⊥
-IsMissing fault.EmptyId = ⊥
+RefusedAs k _ = ⊥
 
 -- what these words, the program's name first, are answered
-abbrev pub ReadsWords : List (List ℕ) → Result Command WordsFault → Type 0
-ReadsWords words result = Answers (fault_of program words) (subcommand_of program words) result
+abbrev pub ReadsWords : List Text → Result Command WordsFault → Type 0
+ReadsWords words result =
+    (algorithms : Bor (List (Bor Text))) × SpellsAlgorithms algorithms
+    × Answers (fault_of (program algorithms) words) (subcommand_of (program algorithms) words) result
 
 abbrev pub words_number : WordsFault → ℕ
 words_number (fault.Help text) = 1
 words_number (fault.Words text) = 2
+words_number fault.Created = 3
+words_number fault.EmptyName = 4
 words_number fault.EmptyId = 5
 words_number fault.Memory = 6
+words_number fault.Tuples = 7

@@ -1,6 +1,8 @@
+use crate::migration::migrate;
 use crate::{Command, NamesFault, WordsFault, names_to, read_words};
 use std::env::Env;
 use std::process::ExitCode;
+use std::rt::Files;
 use std::{env, io};
 
 const DONE: u8 = 0;
@@ -9,9 +11,10 @@ const REFUSED: u8 = 2;
 
 const FAILED: u8 = 3;
 
-/// Runs the program on the words that it was started with, and gives its exit status: 0 done or help was asked for,
-/// 2 the words were refused, 3 an output failed or memory is wanting.
-pub fn run<R: Print + Eprint + Env + AllocGlobal>(rt: &R) -> ExitCode {
+/// Runs the program on the words that it was started with, and gives its exit status: 0 the names were written, all was
+/// carried, or help was asked for; 1 a run ended whose log has present or skip lines; 2 the words were refused; 3 a fault
+/// of the run, an output that failed, or want of memory.
+pub fn run<R: Files + Print + Eprint + Env + AllocGlobal>(rt: &R) -> ExitCode {
     let status = match words(rt) {
         Ok(words) => answer(rt, words.as_slice()),
         Err(error) if error.kind() == io::ErrorKind::OutOfMemory => failed(rt, NamesFault::Memory),
@@ -25,9 +28,10 @@ fn words<R: Env + AllocGlobal>(rt: &R) -> io::Result<Vec<String>> {
 }
 
 // Does what the words ask for, and says how it went.
-fn answer<R: Print + Eprint + AllocGlobal>(rt: &R, words: &[String]) -> u8 {
+fn answer<R: Files + Print + Eprint + AllocGlobal>(rt: &R, words: &[String]) -> u8 {
     match read_words(rt.alloc(), words) {
         Ok(Command::Names(id)) => names(rt, id.as_str()),
+        Ok(Command::Migrate(words)) => migrate(rt, words),
         Err(WordsFault::Help(text)) => match print!(rt; "{text}") {
             Ok(()) => DONE,
             Err(_) => failed(rt, NamesFault::Write),
@@ -36,8 +40,11 @@ fn answer<R: Print + Eprint + AllocGlobal>(rt: &R, words: &[String]) -> u8 {
             let _ = eprint!(rt; "{text}");
             REFUSED
         }
-        Err(WordsFault::EmptyId) => refused(rt, "the identifier is empty"),
         Err(WordsFault::Memory) => failed(rt, NamesFault::Memory),
+        Err(fault) => {
+            let _ = eprintln!(rt; "pairtree2ocfl: {fault}");
+            REFUSED
+        }
     }
 }
 

@@ -1,15 +1,23 @@
-ghost use Rattle.std.specs.Prelude.{◌≡◌, [], map};
-ghost use Rattle.std.specs.Option.{option_copied};
-ghost use Rattle.clap.specs.Words.{kind_of, subcommand_rows_of};
-ghost use Rattle.pt_cli.specs.Words.{Answers, ReadsWords, RefusedAs, IsMissing, words_number};
+ghost use Rattle.std.specs.Prelude.{◌≡◌, [], is_some, map, true};
+ghost use Rattle.std.specs.Option.{option_map};
+ghost use Rattle.clap.specs.Words.{first_of, found_of, kind_of, rows_of, subcommand_rows_of};
+ghost use Rattle.pt_cli.specs.Options.{algorithm_of, number_in, options_in};
+ghost use Rattle.pt_cli.specs.Words.{Answers, OrMemory, OrNone, ReadsWords, RefusedAs, answer_to};
+ghost use Rattle.pt_cli.specs.Words.{migrate_answer, names_answer, words_number};
 
-use crate::grammar::{ID, NAMES, parser};
-use crate::{Command, Text};
+use crate::grammar::{
+    ADDRESS, CREATED, DEST, DIGEST, GATHER, ID, MESSAGE, MIGRATE, NAME, NAMES, SOURCE, TUPLE_SIZE,
+    TUPLES, parser,
+};
+use crate::{Command, Migrate, Text};
 use clap::error::ErrorKind;
-use clap::{ArgMatches, Command as Parser, Error};
+use clap::{ArgMatches, Error};
+use pt_name::{Layout, LayoutFault};
+use pt_object::{Algorithm, Meta, MetaFault};
 use pt_tree::MemoryFault;
 use std::alloc::{AllocError, Global};
 use std::convert::AsStr;
+use std::marker::Model;
 
 /// Why the words of a command line are no command.
 #[derive(Debug, Drop, thiserror::Error)]
@@ -20,24 +28,36 @@ pub enum WordsFault {
     /// The parser refuses the words; this is its text, for standard error.
     #[error("{0}")]
     Words(Text),
+    /// `--created` isn't a moment of RFC 3339 to the second.
+    #[error("--created is not a moment of RFC 3339 to the second")]
+    Created,
+    /// `--name` is empty.
+    #[error("--name is empty")]
+    EmptyName,
     /// The identifier of `names` is empty.
     #[error("the identifier is empty")]
     EmptyId,
     /// A growth was refused.
     #[error("out of memory")]
     Memory,
+    /// `--tuple-size` and `--tuples` are no layout.
+    #[error("the tuples are out of range")]
+    Tuples,
 }
 
 impl WordsFault {
-    /// The fault's number: 1 `Help`, 2 `Words`, 5 `EmptyId`, 6 `Memory`.
+    /// The fault's number: 1 `Help`, 2 `Words`, 3 `Created`, 4 `EmptyName`, 5 `EmptyId`, 6 `Memory`, 7 `Tuples`.
     pub fn number(&self) -> u8
         ensures { result ≡ words_number self.now }
     {
         match self {
             WordsFault::Help(_) => 1,
             WordsFault::Words(_) => 2,
+            WordsFault::Created => 3,
+            WordsFault::EmptyName => 4,
             WordsFault::EmptyId => 5,
             WordsFault::Memory => 6,
+            WordsFault::Tuples => 7,
         }
     }
 }
@@ -64,40 +84,180 @@ impl From<AllocError> for WordsFault {
     }
 }
 
+impl From<MetaFault> for WordsFault {
+    ghost use Rattle.std.specs.Prelude.{◌≡◌};
+    ghost use Rattle.pt_cli.specs.Words.{words_of_meta};
+
+    ghost from_gives = { λ fault e. e ≡ words_of_meta fault };
+
+    fn from(fault: MetaFault) -> Self {
+        match fault {
+            MetaFault::Created => WordsFault::Created,
+            MetaFault::EmptyName => WordsFault::EmptyName,
+            MetaFault::Memory => WordsFault::Memory,
+        }
+    }
+}
+
+impl From<LayoutFault> for WordsFault {
+    ghost use Rattle.std.specs.Prelude.{◌≡◌};
+    ghost use Rattle.pt_cli.specs.declared.words.WordsFault.TheVariants.{Tuples};
+
+    ghost from_gives = { λ _ e. e ≡ Tuples };
+
+    fn from(_: LayoutFault) -> Self {
+        WordsFault::Tuples
+    }
+}
+
+// What `migrate` was given, as its parser reads it: texts and numbers that aren't judged yet.
+#[derive(Drop)]
+struct Given<'a> {
+    created: &'a str,
+    name: &'a str,
+    address: Option<&'a str>,
+    message: &'a str,
+    algorithm: Algorithm,
+    size: u32,
+    count: u32,
+    gather: bool,
+    source: &'a str,
+    dest: &'a str,
+}
+
+impl<'a> Model for Given<'a> {
+    ghost use Rattle.std.specs.Option.{option_map};
+    ghost use Rattle.pt_cli.specs.Options.{Options};
+
+    ghost Value = { Options };
+
+    ghost view = { λ g. record {
+      created = g.created.now;
+      name = g.name.now;
+      address = option_map (λ a. a.now) g.address;
+      message = g.message.now;
+      algorithm = g.algorithm;
+      size = g.size;
+      count = g.count;
+      gather = g.gather;
+      source = g.source.now;
+      dest = g.dest.now;
+    } };
+}
+
 /// Reads the words of a command line, of which the first is the program's name.
 ///
-/// Refused as `Help` where the parser was asked for help, as `Words` where it refuses the words otherwise, then as
-/// `EmptyId` for `names` with the empty identifier; as `Memory` where a growth was refused.
+/// Refused as `Help` where the parser was asked for help, and as `Words` where it refuses the words otherwise. Then for
+/// `names` as `EmptyId`, where the identifier is empty. For `migrate`, in this order, as `Created`, where `--created`
+/// isn't a moment of RFC 3339 to the second; as `EmptyName`, where `--name` is empty; as `Tuples`, where `--tuple-size`
+/// and `--tuples` aren't a layout of extension 0003-hash-and-id-n-tuple-storage-layout. As `Memory` where a growth was
+/// refused.
 pub fn read_words<S: AsStr>(alloc: Global, words: &[S]) -> Result<Command, WordsFault>
     ensures { ReadsWords (map S.text words.now) result }
 {
-    let mut parser = parser(alloc)?;
-    match parser.try_get_matches_from_mut(words) {
-        Ok(matches) => command(alloc, &mut parser, &matches),
+    match parser(alloc)?.try_get_matches_from(words) {
+        Ok(matches) => command(alloc, &matches),
         Err(error) => Err(refusal(alloc, &error)),
     }
 }
 
 // The command that words which the parser accepts ask for.
-fn command(
-    alloc: Global,
-    parser: &mut Parser<'_>,
-    matches: &ArgMatches<'_>,
-) -> Result<Command, WordsFault>
+fn command(alloc: Global, matches: &ArgMatches<'_>) -> Result<Command, WordsFault>
+    requires { is_some (answer_to (subcommand_rows_of matches.now)) ≡ true }
     ensures { Answers [] (subcommand_rows_of matches.now) result }
 {
-    match names_id(matches) {
-        Some("") => Err(WordsFault::EmptyId),
-        Some(id) => Ok(Command::Names(Text::of(alloc, id)?)),
-        None => Err(missing(alloc, parser)),
+    match answer(alloc, matches) {
+        Some(answer) => answer,
+        None => unreachable!(),
     }
 }
 
-// The identifier of `names`, if that is the command that was found.
-fn names_id<'a>(matches: &ArgMatches<'a>) -> Option<&'a str>
-    ensures { option_copied result ≡ Rattle.pt_cli.specs.Words.names_id (subcommand_rows_of matches.now) }
+// What the command that the parser found is answered, if it is one of the program's.
+fn answer(alloc: Global, matches: &ArgMatches<'_>) -> Option<Result<Command, WordsFault>>
+    ensures { OrNone (answer_to (subcommand_rows_of matches.now)) result }
 {
-    matches.subcommand_matches(NAMES)?.get_str(ID)
+    match entered(matches)? {
+        (NAMES, inner) => Some(names(alloc, text(inner, ID)?)),
+        (MIGRATE, inner) => Some(migrate(alloc, &options(inner)?)),
+        _ => None,
+    }
+}
+
+// The command that the parser found, and what was found for its arguments.
+fn entered<'m, 'a>(matches: &'m ArgMatches<'a>) -> Option<(&'a str, &'m ArgMatches<'a>)>
+    ensures { option_map (λ p. (p.0.now, rows_of (found_of p.1.now))) result ≡ subcommand_rows_of matches.now }
+{
+    matches.subcommand()
+}
+
+fn names(alloc: Global, id: &str) -> Result<Command, WordsFault>
+    ensures { OrMemory (names_answer id.now) result }
+{
+    if id.is_empty() {
+        return Err(WordsFault::EmptyId);
+    }
+    Ok(Command::Names(Text::of(alloc, id)?))
+}
+
+fn migrate(alloc: Global, given: &Given<'_>) -> Result<Command, WordsFault>
+    ensures { OrMemory (migrate_answer given.now) result }
+{
+    let meta = Meta::of(
+        alloc,
+        given.created,
+        given.name,
+        given.address,
+        given.message,
+    )?;
+    let layout = Layout::of(given.size, given.count)?;
+    Ok(Command::Migrate(Migrate {
+        meta,
+        algorithm: given.algorithm,
+        layout,
+        gather: given.gather,
+        source: Text::of(alloc, given.source)?,
+        dest: Text::of(alloc, given.dest)?,
+    }))
+}
+
+// The options of `migrate` in its matches. The parser leaves none out that is wanted here.
+fn options<'a>(matches: &ArgMatches<'a>) -> Option<Given<'a>>
+    ensures { result ≡ options_in (rows_of (found_of matches.now)) }
+{
+    Some(Given {
+        created: text(matches, CREATED)?,
+        name: text(matches, NAME)?,
+        address: text(matches, ADDRESS),
+        message: text(matches, MESSAGE)?,
+        algorithm: algorithm(text(matches, DIGEST)?)?,
+        size: number(matches, TUPLE_SIZE)?,
+        count: number(matches, TUPLES)?,
+        gather: text(matches, GATHER) == Some("true"),
+        source: text(matches, SOURCE)?,
+        dest: text(matches, DEST)?,
+    })
+}
+
+fn text<'a>(matches: &ArgMatches<'a>, id: &str) -> Option<&'a str>
+    ensures { option_map (λ s. s.now) result ≡ first_of id.now (rows_of (found_of matches.now)) }
+{
+    matches.get_str(id)
+}
+
+fn number(matches: &ArgMatches<'_>, id: &str) -> Option<u32>
+    ensures { result ≡ number_in id.now (rows_of (found_of matches.now)) }
+{
+    matches.get_one(id)
+}
+
+fn algorithm(word: &str) -> Option<Algorithm>
+    ensures { result ≡ algorithm_of word.now }
+{
+    match word {
+        "sha512" => Some(Algorithm::Sha512),
+        "sha256" => Some(Algorithm::Sha256),
+        _ => None,
+    }
 }
 
 // The parser's error as a refusal of the words.
@@ -108,15 +268,5 @@ fn refusal(alloc: Global, error: &Error) -> WordsFault
         (ErrorKind::OutOfMemory, _) | (_, Err(_)) => WordsFault::Memory,
         (ErrorKind::DisplayHelp, Ok(text)) => WordsFault::Help(text),
         (_, Ok(text)) => WordsFault::Words(text),
-    }
-}
-
-// The refusal of words that ask for no command.
-fn missing(alloc: Global, parser: &mut Parser<'_>) -> WordsFault
-    ensures { IsMissing result }
-{
-    match parser.error(ErrorKind::MissingSubcommand, "a command is wanted") {
-        Ok(error) => refusal(alloc, &error),
-        Err(_) => WordsFault::Memory,
     }
 }

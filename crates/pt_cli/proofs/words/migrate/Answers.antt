@@ -1,0 +1,15 @@
+use Rattle.pt_cli.proofs.Migrating.{carried, no_layout, no_meta}
+use Rattle.pt_cli.proofs.words.migrate.Goals as goal
+
+pub returns-in_err-meta : goal.returns-in_err-meta
+returns-in_err-meta c = no_meta _ _ c.given.view_is c.in_err-meta.field-0.0 c.from_residual.result c.in_err-meta.ensures c.from_residual.ensures.1
+
+pub returns-in_err-layout : goal.returns-in_err-layout
+returns-in_err-layout c =
+    no_layout _ _ c.given.view_is c.in_ok-meta.meta c.in_err-layout.field-0.0 c.from_residual-in_err-layout.result c.in_ok-meta.ensures c.in_err-layout.ensures
+    c.from_residual-in_err-layout.ensures.1
+
+pub returns : goal.returns
+returns c =
+    carried _ _ c.given.view_is c.in_ok-meta.meta _ c.in_ok-layout.layout c.in_ok-of.field-0 c.in_ok-of-2.field-0 c.in_ok-meta.ensures c.meta.view_is c.in_ok-layout.ensures
+    c.in_ok-of.ensures c.in_ok-of-2.ensures

@@ -1,0 +1,72 @@
+-- What `migrate` was given.
+use Rattle.std.specs.Prelude.{ℕ, ◌^◌, ◌&&◌, nat_lt, Bool, false, List, Option, None, Some, if◌then◌else◌, codes, option_and_then}
+use Rattle.std.specs.Option.{option_map_or}
+use Rattle.std.specs.Str.{bytes_eq}
+use Rattle.std.specs.Str.Parse.{digits_value, without_leading_plus}
+use Rattle.clap.specs.Words.{Row, Text, first_of, one_of}
+use Rattle.clap.specs.ValueTests.{is_numeral}
+use Rattle.pt_object.specs.Algorithm.{algorithm_word}
+use Rattle.pt_object.specs.declared.algorithm.Algorithm.{Algorithm}
+use Rattle.pt_object.specs.declared.algorithm.Algorithm.TheVariants.{Sha512, Sha256}
+
+-- the values of the options, with their defaults, and the two paths
+pub record Options : Type 0 where
+  pub created : Text
+  pub name : Text
+  pub address : Option Text
+  pub message : Text
+  pub algorithm : Algorithm
+  pub size : ℕ
+  pub count : ℕ
+  pub gather : Bool
+  pub source : Text
+  pub dest : Text
+
+-- the algorithm of a word
+abbrev pub algorithm_of : Text → Option Algorithm
+algorithm_of word =
+    if bytes_eq word (algorithm_word Sha512) then Some Sha512
+    else if bytes_eq word (algorithm_word Sha256) then Some Sha256
+    else None
+
+-- the number of `u32` that a text writes
+abbrev pub number_of : Text → Option ℕ
+number_of text =
+    let digits = without_leading_plus text in
+    if is_numeral digits && nat_lt (digits_value 10 digits) (2 ^ 32) then Some (digits_value 10 digits) else None
+
+-- the number that an option was given
+abbrev pub number_in : Text → List Row → Option ℕ
+number_in id rows = option_and_then number_of (one_of id rows)
+
+-- a flag was given
+abbrev pub is_set_in : Text → List Row → Bool
+is_set_in id rows = option_map_or (λ text. bytes_eq text (codes "true")) (first_of id rows) false
+
+infixl 10 ◌>>=◌
+abbrev pub ◌>>=◌ : {A B : Type 0} → Option A → (A → Option B) → Option B
+o >>= f = option_and_then f o
+
+-- the options of `migrate` in what its parser found
+abbrev pub options_in : List Row → Option Options
+options_in rows = do
+  created ← first_of (codes "created") rows
+  name ← first_of (codes "name") rows
+  message ← first_of (codes "message") rows
+  algorithm ← first_of (codes "digest") rows >>= algorithm_of
+  size ← number_in (codes "tuple-size") rows
+  count ← number_in (codes "tuples") rows
+  source ← first_of (codes "SOURCE") rows
+  dest ← first_of (codes "DEST") rows
+  Some (record {
+    created = created;
+    name = name;
+    address = first_of (codes "address") rows;
+    message = message;
+    algorithm = algorithm;
+    size = size;
+    count = count;
+    gather = is_set_in (codes "gather") rows;
+    source = source;
+    dest = dest;
+  })

@@ -1,0 +1,142 @@
+ghost use Rattle.std.specs.Prelude.{◌≡◌, [], Some, None, Err, IfOk, IfNone, OnOk, OnErr};
+ghost use Rattle.std.specs.Option.{option_map};
+ghost use Rattle.pt_tree.specs.declared.faults.TreeFault.TheVariants.{Device};
+ghost use Rattle.pt_cli.specs.HostReading.{IsAtStart, ReadsOn, StaysAtPlace};
+
+use crate::host_folder::{Folder, counted, fault_of};
+use crate::host_listing;
+use crate::host_reading::Reading;
+use pt_tree::{Block, Listing, NamePath, Source, TreeFault};
+use std::alloc::Global;
+use std::fs;
+use std::io::{Read, Seek};
+use std::rt::Files;
+
+/// A folder of the system as a source. It tells nothing.
+#[derive(Drop)]
+pub struct HostSource<'a, R: Files> {
+    folder: Folder<'a, R>,
+    reading: Option<Reading<R::File>>,
+    failures: u64,
+    calls: u64,
+}
+
+impl<'a, R: Files> HostSource<'a, R> {
+    /// A source over the folder at a path. It keeps both references, calls nothing and takes no memory.
+    pub fn new(rt: &'a R, alloc: Global, path: &'a str) -> HostSource<'a, R>
+        ensures failures { result.failures ≡ 0 }
+        ensures calls { result.calls ≡ 0 }
+        ensures path { result.folder.path.now ≡ path.now }
+    {
+        HostSource {
+            folder: Folder { rt, alloc, path },
+            reading: None,
+            failures: 0,
+            calls: 0,
+        }
+    }
+}
+
+impl<'a, R: Files> Source for HostSource<'a, R> {
+    ghost use Rattle.std.specs.Prelude.{Option};
+    ghost use Rattle.pt_tree.specs.Source.{Reading, CanList, IsListed, CanOpen, CanRead, IsRead, after_open, after_next};
+    ghost use Rattle.pt_tree.specs.Failures.{IsCounted, IsOneMoreCall};
+    ghost use Rattle.pt_cli.specs.HostDevices.{no_source, was_called, proper_untold};
+
+    ghost told = { no_source };
+
+    ghost failed = { λ s. s.failures };
+
+    ghost called = { λ s. was_called s.calls };
+
+    ghost proper = { proper_untold };
+
+    fn failures(&self) -> u64 {
+        self.failures
+    }
+
+    #[tactic(auto, unfolding(pt_tree::specs::Source::IsListed))]
+    fn list(&mut self, path: &NamePath) -> Result<Listing, TreeFault>
+        ensures listing { IfOk result (λ listing. IsListed (no_source self.old) path.now listing) }
+        ensures same { no_source self.new ≡ no_source self.old }
+        ensures reading { self.new.reading ≡ self.old.reading }
+        ensures failures { IsCounted self.old.failures self.new.failures result }
+        ensures calls { IsOneMoreCall (was_called self.old.calls) (was_called self.new.calls) }
+    {
+        self.calls = self.calls.wrapping_add(1);
+        let listing = host_listing::list(&self.folder, path);
+        counted(&mut self.failures, listing)
+    }
+
+    fn open(&mut self, path: &NamePath) -> Result<(), TreeFault>
+        ensures opened { OnOk result (no_source self.new ≡ option_map (after_open path.now) (no_source self.old)) }
+        ensures same { OnErr result (no_source self.new ≡ no_source self.old) }
+        ensures started { OnOk result (IsAtStart self.new.reading) }
+        ensures reading { OnErr result (self.new.reading ≡ self.old.reading) }
+        ensures failures { IsCounted self.old.failures self.new.failures result }
+        ensures calls { IsOneMoreCall (was_called self.old.calls) (was_called self.new.calls) }
+    {
+        self.calls = self.calls.wrapping_add(1);
+        let opened = open(&self.folder, path);
+        match counted(&mut self.failures, opened) {
+            Ok(file) => {
+                self.reading = Some(Reading::at_start(file));
+                Ok(())
+            }
+            Err(fault) => Err(fault),
+        }
+    }
+
+    #[tactic(auto, unfolding(pt_tree::specs::Source::IsRead))]
+    fn next(&mut self, block: &mut Block) -> Result<(), TreeFault>
+        ensures block { OnOk result (IsRead (no_source self.old) block.new.items) }
+        ensures moved { OnOk result (no_source self.new ≡ option_map after_next (no_source self.old)) }
+        ensures empty { OnErr result (block.new.items ≡ []) }
+        ensures same { OnErr result (no_source self.new ≡ no_source self.old) }
+        ensures bytes { OnOk result (ReadsOn R.File.Read.remaining self.old.reading self.new.reading block.new.items) }
+        ensures closed { IfNone self.old.reading (result ≡ Err Device) }
+        ensures place { OnErr result (StaysAtPlace self.old.reading self.new.reading) }
+        ensures failures { IsCounted self.old.failures self.new.failures result }
+        ensures calls { IsOneMoreCall (was_called self.old.calls) (was_called self.new.calls) }
+    {
+        self.calls = self.calls.wrapping_add(1);
+        let read = read_on(&mut self.reading, block);
+        counted(&mut self.failures, read)
+    }
+}
+
+/// Opens a file of a folder for reading.
+pub fn open<R: Files>(folder: &Folder<'_, R>, path: &NamePath) -> Result<R::File, TreeFault> {
+    let text = folder.text(path)?;
+    fs::open(folder.rt, text.as_str()).map_err(fault_of)
+}
+
+// The block becomes the next bytes of the open file; behind its end the system isn't asked again. Where no file is
+// open, it is a failure. After an error of the system the file is read on from where it was, or is closed where the
+// system can't go back there. On a fault the block is empty.
+fn read_on<F: Read + Seek + Drop>(
+    reading: &mut Option<Reading<F>>,
+    block: &mut Block,
+) -> Result<(), TreeFault>
+    ensures bytes { OnOk result (ReadsOn F.remaining reading.old reading.new block.new.items) }
+    ensures closed { IfNone reading.old (result ≡ Err Device) }
+    ensures empty { OnErr result (block.new.items ≡ []) }
+    ensures place { OnErr result (StaysAtPlace reading.old reading.new) }
+{
+    let Some(mut open) = reading.take() else {
+        block.clear();
+        return Err(TreeFault::Device);
+    };
+    match open.read(block) {
+        Ok(()) => {
+            *reading = Some(open);
+            Ok(())
+        }
+        Err(error) => {
+            if open.go_back() {
+                *reading = Some(open);
+            }
+            Err(fault_of(error))
+        }
+    }
+}

@@ -1,0 +1,65 @@
+// The command `migrate`: a run from one folder to another, whose log is the standard output.
+use crate::{HostDest, HostSource, Migrate};
+use pt_move::{Fault, Job, Report};
+use pt_tree::WriterLog;
+use pt_walk::Limits;
+use std::io;
+use std::rt::Files;
+
+const CARRIED: u8 = 0;
+
+const TOLD: u8 = 1;
+
+const FAILED: u8 = 3;
+
+// Carries the store, and gives the exit status: 0 all was carried, 1 the log has lines that tell of what was not, 3 a
+// fault, of which standard error tells.
+pub(crate) fn migrate<R: Files + Print + Eprint + AllocGlobal>(rt: &R, words: Migrate) -> u8 {
+    let Migrate {
+        meta,
+        algorithm,
+        layout,
+        gather,
+        source,
+        dest,
+    } = words;
+    let job = Job {
+        meta,
+        layout,
+        algorithm,
+        limits: Limits::greatest(),
+        gather,
+    };
+    match carry(rt, source.as_str(), dest.as_str(), job) {
+        Ok(report) => status_of(&report),
+        Err(fault) => failed(rt, fault),
+    }
+}
+
+// Carries a store from folder to folder.
+fn carry<'a, R: Files + Print + AllocGlobal>(
+    rt: &'a R,
+    source: &'a str,
+    dest: &'a str,
+    job: Job,
+) -> Result<Report, Fault> {
+    let alloc = rt.alloc();
+    let mut source = HostSource::new(rt, alloc, source);
+    let mut dest = HostDest::new(rt, alloc, dest);
+    let mut log = WriterLog::new(io::writer(rt));
+    pt_move::migrate(alloc, &mut source, &mut dest, &mut log, job)
+}
+
+fn status_of(report: &Report) -> u8 {
+    if report.present > 0 || report.skipped > 0 {
+        TOLD
+    } else {
+        CARRIED
+    }
+}
+
+fn failed(rt: &impl Eprint, fault: Fault) -> u8 {
+    let number = fault.number();
+    let _ = eprintln!(rt; "pairtree2ocfl: fault {number}: {fault}");
+    FAILED
+}
