@@ -8,7 +8,7 @@ PROGRAM := bin/pairtree2ocfl
 BUILT := crates/pairtree2ocfl/out/pairtree2ocfl
 
 .DEFAULT_GOAL := build
-.PHONY: help build demo test install clean toolchain
+.PHONY: help build demo test bench install clean toolchain
 
 help: ## list the targets
 	@sed -n 's/^\([a-z]*\):.*## \(.*\)/make \1\t\2/p' $(MAKEFILE_LIST)
@@ -18,11 +18,14 @@ build: toolchain ## prove and build the program, at bin/pairtree2ocfl (the defau
 	@mkdir -p bin
 	@cp $(BUILT) $(PROGRAM).new && mv $(PROGRAM).new $(PROGRAM)
 
-demo: build ## build the program and run it on the input in demo/
+demo: build ## build the program and carry the store in demo/ into a temporary folder
 	@sh demo/run $(PROGRAM)
 
 test: build ## every test: the toolchain's gate, then the built program's tests
 	@$(PYTHON) tests/all.py $(RT) $(PROGRAM)
+
+bench: build ## hold a run against sha512sum and cp over the same store
+	@$(PYTHON) bench/bench.py $(PROGRAM)
 
 install: ## copy the program to PREFIX/bin (PREFIX is /usr/local unless given)
 	@test -x $(PROGRAM) || { echo "pairtree2ocfl: run make first, which builds $(PROGRAM)" >&2; exit 1; }

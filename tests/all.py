@@ -9,6 +9,7 @@ import sys
 
 sys.dont_write_bytecode = True
 
+import migration
 import program
 
 
@@ -35,9 +36,8 @@ def run_gate(rt):
 
 def main():
     rt, path = sys.argv[1:]
-    gate_passed, gate_failed = run_gate(rt)
-    passed, failed = program.run_cases(path)
-    passed, failed = passed + gate_passed, failed + gate_failed
+    counts = [run_gate(rt), program.run_cases(path), migration.run_cases(path)]
+    passed, failed = map(sum, zip(*counts))
     print(f"{passed} passed, {failed} failed", flush=True)
     sys.exit(1 if failed else 0)
 
