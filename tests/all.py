@@ -1,8 +1,11 @@
-"""Every test of the repository: the toolchain's gate, then the built program's tests.
+"""Every test of the repository: the toolchain's gate, then the tests of the program that the gate built.
 
-Usage: all.py RT PROGRAM. The last line is 'N passed, M failed', over both; the status is 0 only where nothing failed.
+Usage: all.py RT PROGRAM. What the gate said of a failure is said again at the end. The last line is 'N passed, M failed', over
+all of them; the status is 0 only where nothing failed.
 """
 
+import collections
+import os
 import re
 import subprocess
 import sys
@@ -12,32 +15,38 @@ sys.dont_write_bytecode = True
 import migration
 import program
 
+FAILURE = re.compile(r"^rt: |NOT PROVED|NOT REFUSED|BAD EDIT|FAILED|Error|\berror\b")
+
 
 def run_gate(rt):
-    """Runs the gate, shows what it says, and gives how many passed and failed."""
-    last = ""
-    with subprocess.Popen([rt, "ci"], stdout=subprocess.PIPE, text=True, errors="replace") as gate:
+    """Runs the gate, shows what it says, and gives how many passed and failed, and what to say again."""
+    counts, last = None, collections.deque(maxlen=30)
+    with subprocess.Popen([rt, "ci"], stdout=subprocess.PIPE, stderr=subprocess.STDOUT, text=True, errors="replace") as gate:
         for line in gate.stdout:
-            if last:
-                print(last, flush=True)
-            last = line.rstrip("\n")
-    counts = re.fullmatch(r"(\d+) passed, (\d+) failed", last)
+            line = line.rstrip("\n")
+            counts = re.fullmatch(r"(\d+) passed, (\d+) failed", line)
+            print(f"the gate: {line}" if counts else line, flush=True)
+            if FAILURE.search(line) and not line.endswith(" proved"):
+                last.append(line)
+    last.append(f"the gate ended with status {gate.returncode}")
     if counts is None:
-        print(last)
-        print("the gate gave no counts")
-        return 0, 1
+        return 0, 1, [*last, "the gate gave no counts at its end"]
     passed, failed = int(counts[1]), int(counts[2])
-    print(f"the gate: {last}", flush=True)
-    if gate.returncode != 0 and failed == 0:
-        print(f"the gate ended with status {gate.returncode}")
-        failed = 1
-    return passed, failed
+    return passed, max(failed, int(gate.returncode != 0)), last
 
 
 def main():
     rt, path = sys.argv[1:]
-    counts = [run_gate(rt), program.run_cases(path), migration.run_cases(path)]
+    gate_passed, gate_failed, said = run_gate(rt)
+    counts = [(gate_passed, gate_failed)]
+    if os.path.exists(path):
+        counts += [program.run_cases(path), migration.run_cases(path)]
+    else:
+        counts.append((0, 1))
+        said.append(f"{path} was not built, so its tests did not run")
     passed, failed = map(sum, zip(*counts))
+    if failed:
+        print("\n".join(said))
     print(f"{passed} passed, {failed} failed", flush=True)
     sys.exit(1 if failed else 0)
 

@@ -6,5 +6,7 @@ pub mod Limits
 pub mod Migrating
 pub mod Stepping
 pub mod Tables
+pub mod Telling
 pub mod UnderWay
 pub mod Untold
+pub mod WholeLog

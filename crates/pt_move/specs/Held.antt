@@ -28,3 +28,13 @@ pub record IsHeld (old new : State) : Type 0 where
   pub trail : Moves old.trail new.trail
   pub rows : Gains old.rows new.rows
   pub contents : Gains old.contents new.contents
+
+-- what one turn leaves of what a run holds, where it is counted
+pub record IsHeldCounted (old new : State) : Type 0 where
+  pub phase : new.phase ≡ old.phase
+  pub job : new.job ≡ old.job
+  pub turns : new.counts.turns ≡ old.counts.turns + 1
+  pub lines : lines_put new.counts ≤ lines_put old.counts + 1
+  pub trail : Moves old.trail new.trail
+  pub rows : Gains old.rows new.rows
+  pub contents : Gains old.contents new.contents

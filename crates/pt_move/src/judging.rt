@@ -1,9 +1,10 @@
-#![tactic(auto, using(crate::proofs::Calls::calls, crate::proofs::Candidates::candidates, crate::proofs::Held::held, crate::proofs::Tables::tables, crate::proofs::UnderWay::under_way))]
+#![tactic(auto, using(crate::proofs::Calls::calls, crate::proofs::Candidates::candidates, crate::proofs::Held::held, crate::proofs::Tables::tables, crate::proofs::Telling::telling, crate::proofs::UnderWay::under_way))]
 // Judging a site: what it is, and whether its object may be carried.
 ghost use Rattle.std.specs.Prelude.{◌≡◌, ◌<◌, ◌≤◌, ◌-◌, ◌^◌, [], false, None, IfOk, IfErr, IfSome, length};
 ghost use Rattle.pt_plan.specs.declared.phase.Phase.TheVariants as phase;
 ghost use Rattle.pt_move.specs.Counting.{AtMostCalls, Counts, IsOfTurn, Spares};
 ghost use Rattle.pt_move.specs.Fits.{HasTables, HoldsNone, IsCandidate, IsOfSite, StandsAt, lines_put};
+ghost use Rattle.pt_move.specs.Lines.{GoesOn, Tells};
 ghost use Rattle.pt_move.specs.Held.{IsHeld};
 
 use crate::paths::{STORAGE_ROOT, below, entry_of};
@@ -28,11 +29,13 @@ impl State {
         requires tables { HasTables self.old }
         requires stands { StandsAt phase.Judge self.old (self.old.counts.turns - 1) }
         ensures next { IfOk result (λ p. StandsAt p self.new self.new.counts.turns × HasTables self.new) }
+        ensures goes_on { IfOk result GoesOn }
         ensures held { IsHeld self.old self.new }
         ensures source { Spares 1 result }
         ensures dest_told { D.told dest.new ≡ None }
         ensures dest { Counts 2 (D.failed dest.old) (D.failed dest.new) result }
         ensures log { Counts 3 (L.failed log.old) (L.failed log.new) result }
+        ensures told { Tells (L.told log.old) (L.told log.new) self.old.counts self.new.counts result }
         ensures turn { IsOfTurn result }
     {
         let site = self.trail.path()?;
@@ -74,11 +77,13 @@ impl State {
         requires tables { HasTables self.old }
         requires none { HoldsNone self.old.rows self.old.contents }
         ensures next { IfOk result (λ p. StandsAt p self.new self.new.counts.turns × HasTables self.new) }
+        ensures goes_on { IfOk result GoesOn }
         ensures held { IsHeld self.old self.new }
         ensures source { Spares 1 result }
         ensures dest_told { D.told dest.new ≡ None }
         ensures dest { Counts 2 (D.failed dest.old) (D.failed dest.new) result }
         ensures log { Counts 3 (L.failed log.old) (L.failed log.new) result }
+        ensures told { Tells (L.told log.old) (L.told log.new) self.old.counts self.new.counts result }
         ensures turn { IsOfTurn result }
     {
         let text = concatenated(self.alloc, &site)?;
@@ -116,11 +121,13 @@ impl State {
         requires tables { HasTables self.old }
         requires none { HoldsNone self.old.rows self.old.contents }
         ensures next { IfOk result (λ p. StandsAt p self.new self.new.counts.turns × HasTables self.new) }
+        ensures goes_on { IfOk result GoesOn }
         ensures held { IsHeld self.old self.new }
         ensures source { Spares 1 result }
         ensures dest_told { D.told dest.new ≡ None }
         ensures dest { Counts 2 (D.failed dest.old) (D.failed dest.new) result }
         ensures log { Counts 3 (L.failed log.old) (L.failed log.new) result }
+        ensures told { Tells (L.told log.old) (L.told log.new) self.old.counts self.new.counts result }
         ensures turn { IsOfTurn result }
     {
         let layout = self.job.layout;
@@ -153,10 +160,12 @@ impl State {
         requires tables { HasTables self.old }
         requires none { HoldsNone self.old.rows self.old.contents }
         ensures next { IfOk result (λ p. StandsAt p self.new self.new.counts.turns × HasTables self.new) }
+        ensures goes_on { IfOk result GoesOn }
         ensures held { IsHeld self.old self.new }
         ensures source { Spares 1 result }
         ensures dest { Spares 2 result }
         ensures log { Counts 3 (L.failed log.old) (L.failed log.new) result }
+        ensures told { Tells (L.told log.old) (L.told log.new) self.old.counts self.new.counts result }
         ensures turn { IsOfTurn result }
     {
         let at = match self.directory(index) {
@@ -185,10 +194,12 @@ impl State {
         requires tables { HasTables self.old }
         requires none { HoldsNone self.old.rows self.old.contents }
         ensures next { IfOk result (λ p. StandsAt p self.new self.new.counts.turns × HasTables self.new) }
+        ensures goes_on { IfOk result GoesOn }
         ensures held { IsHeld self.old self.new }
         ensures source { Spares 1 result }
         ensures dest { Spares 2 result }
         ensures log { Counts 3 (L.failed log.old) (L.failed log.new) result }
+        ensures told { Tells (L.told log.old) (L.told log.new) self.old.counts self.new.counts result }
         ensures turn { IsOfTurn result }
     {
         lines::put_skip(self.alloc, log, site, cause, &mut self.counts)?;

@@ -23,6 +23,3 @@ pub use fault::Fault;
 pub use job::{Job, Report, Turn};
 pub use migration::migrate;
 pub use mover::Mover;
-
-#[cfg(test)]
-mod tests;

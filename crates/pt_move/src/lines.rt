@@ -1,16 +1,23 @@
+#![tactic(auto, using(crate::proofs::Telling::putting, crate::proofs::Telling::telling))]
 // The lines of a run's log: each one compact JSON object with its keys in byte order, and LF. A line is counted where it
 // was put whole.
-ghost use Rattle.std.specs.Prelude.{◌≡◌, ◌<◌, ◌^◌, OnOk, OnErr};
+ghost use Rattle.std.specs.Prelude.{◌≡◌, ◌<◌, ◌^◌, ◌++◌, [], ◌∷◌, IfOk, OnOk, OnErr, false};
+ghost use Rattle.std.specs.Io.KnownBytes.{Appends};
+ghost use Rattle.serde_json.specs.Data.{number, put as put_member, string, unsigned};
+ghost use Rattle.serde_json.specs.View.{members_view, view};
+ghost use Rattle.serde_json.specs.Written.{compact_text, has_float};
+ghost use Rattle.pt_tree.specs.Log.{AppendsFront};
+ghost use Rattle.pt_plan.specs.Lines.{Done as DoneLine, Present as PresentLine, Skipped as SkippedLine, End as EndLine};
 ghost use Rattle.pt_move.specs.Counting.{Counts, IsOfTurn, Spares};
-ghost use Rattle.pt_move.specs.Lines.{with_done, with_present, with_skipped};
+ghost use Rattle.pt_move.specs.Lines.{GotFront, GotLine, IsTreeOf, Tells, with_done, with_present, with_skipped};
 
 use crate::paths::text_of;
 use crate::{Fault, Report, devices};
 use pt_plan::Identifier;
 use pt_tree::{Log, MemoryFault, NamePath};
 use pt_walk::Cause;
-use serde_json::{Value, json};
-use std::alloc::Global;
+use serde_json::{Map, Value};
+use std::alloc::{AllocError, Global};
 
 // An object that was carried.
 #[derive(Drop)]
@@ -38,24 +45,34 @@ pub(crate) fn put_done<L: Log>(
     requires { counts.old.done < 2 ^ 40 }
     ensures ok { OnOk result (counts.new ≡ with_done counts.old) }
     ensures err { OnErr result (counts.new ≡ counts.old) }
+    ensures line { OnOk result (GotLine (DoneLine object.now.at.now object.now.bytes object.now.empty object.now.files object.now.id.now object.now.to.now) (L.told log.old) (L.told log.new)) }
+    ensures front { OnErr result (GotFront (DoneLine object.now.at.now object.now.bytes object.now.empty object.now.files object.now.id.now object.now.to.now) (L.told log.old) (L.told log.new)) }
+    ensures told { Tells (L.told log.old) (L.told log.new) counts.old counts.new result }
     ensures source { Spares 1 result }
     ensures dest { Spares 2 result }
     ensures log { Counts 3 (L.failed log.old) (L.failed log.new) result }
     ensures turn { IsOfTurn result }
 {
-    let (at, to) = (text_of(object.at)?, text_of(object.to)?);
-    let value = json!(in alloc; {
-        "as": "done",
-        "at": at,
-        "bytes": object.bytes,
-        "empty": object.empty,
-        "files": object.files,
-        "id": object.id.as_str(),
-        "to": to
-    })?;
+    let value = done_line(alloc, object)?;
     put(alloc, log, &value)?;
     counts.done += 1;
     Ok(())
+}
+
+fn done_line(alloc: Global, object: &Done<'_>) -> Result<Value, MemoryFault>
+    ensures { IfOk result (λ value. IsTreeOf (DoneLine object.now.at.now object.now.bytes object.now.empty object.now.files object.now.id.now object.now.to.now) (view value)) }
+{
+    let at = text_of(object.at)?;
+    let to = text_of(object.to)?;
+    let mut members = Map::new(alloc);
+    put_text(&mut members, alloc, "as", "done")?;
+    put_text(&mut members, alloc, "at", at.as_str())?;
+    put_number(&mut members, alloc, "bytes", object.bytes)?;
+    put_number(&mut members, alloc, "empty", object.empty)?;
+    put_number(&mut members, alloc, "files", object.files)?;
+    put_text(&mut members, alloc, "id", object.id.as_str())?;
+    put_text(&mut members, alloc, "to", to.as_str())?;
+    Ok(Value::from(members))
 }
 
 // Tells that an object's place is taken already.
@@ -70,16 +87,36 @@ pub(crate) fn put_present<L: Log>(
     requires { counts.old.present < 2 ^ 40 }
     ensures ok { OnOk result (counts.new ≡ with_present counts.old) }
     ensures err { OnErr result (counts.new ≡ counts.old) }
+    ensures line { OnOk result (GotLine (PresentLine at.now id.now to.now) (L.told log.old) (L.told log.new)) }
+    ensures front { OnErr result (GotFront (PresentLine at.now id.now to.now) (L.told log.old) (L.told log.new)) }
+    ensures told { Tells (L.told log.old) (L.told log.new) counts.old counts.new result }
     ensures source { Spares 1 result }
     ensures dest { Spares 2 result }
     ensures log { Counts 3 (L.failed log.old) (L.failed log.new) result }
     ensures turn { IsOfTurn result }
 {
-    let (at, to) = (text_of(at)?, text_of(to)?);
-    let value = json!(in alloc; {"as": "present", "at": at, "id": id.as_str(), "to": to})?;
+    let value = present_line(alloc, at, id, to)?;
     put(alloc, log, &value)?;
     counts.present += 1;
     Ok(())
+}
+
+fn present_line(
+    alloc: Global,
+    at: &NamePath,
+    id: &Identifier,
+    to: &NamePath,
+) -> Result<Value, MemoryFault>
+    ensures { IfOk result (λ value. IsTreeOf (PresentLine at.now id.now to.now) (view value)) }
+{
+    let at = text_of(at)?;
+    let to = text_of(to)?;
+    let mut members = Map::new(alloc);
+    put_text(&mut members, alloc, "as", "present")?;
+    put_text(&mut members, alloc, "at", at.as_str())?;
+    put_text(&mut members, alloc, "id", id.as_str())?;
+    put_text(&mut members, alloc, "to", to.as_str())?;
+    Ok(Value::from(members))
 }
 
 // Tells that a site, or a shorty that isn't walked, was passed over.
@@ -93,35 +130,60 @@ pub(crate) fn put_skip<L: Log>(
     requires { counts.old.skipped < 2 ^ 40 }
     ensures ok { OnOk result (counts.new ≡ with_skipped counts.old) }
     ensures err { OnErr result (counts.new ≡ counts.old) }
+    ensures line { OnOk result (GotLine (SkippedLine at.now cause) (L.told log.old) (L.told log.new)) }
+    ensures front { OnErr result (GotFront (SkippedLine at.now cause) (L.told log.old) (L.told log.new)) }
+    ensures told { Tells (L.told log.old) (L.told log.new) counts.old counts.new result }
     ensures source { Spares 1 result }
     ensures dest { Spares 2 result }
     ensures log { Counts 3 (L.failed log.old) (L.failed log.new) result }
     ensures turn { IsOfTurn result }
 {
-    let at = text_of(at)?;
-    let value = json!(in alloc; {"as": "skip", "at": at, "cause": cause.word()})?;
+    let value = skip_line(alloc, at, cause)?;
     put(alloc, log, &value)?;
     counts.skipped += 1;
     Ok(())
 }
 
+fn skip_line(alloc: Global, at: &NamePath, cause: Cause) -> Result<Value, MemoryFault>
+    ensures { IfOk result (λ value. IsTreeOf (SkippedLine at.now cause) (view value)) }
+{
+    let at = text_of(at)?;
+    let mut members = Map::new(alloc);
+    put_text(&mut members, alloc, "as", "skip")?;
+    put_text(&mut members, alloc, "at", at.as_str())?;
+    put_text(&mut members, alloc, "cause", cause.word())?;
+    Ok(Value::from(members))
+}
+
 // Tells that the run is done.
 pub(crate) fn put_end<L: Log>(alloc: Global, log: &mut L, counts: &Report) -> Result<(), Fault>
+    ensures line { OnOk result (GotLine (EndLine counts.now.done counts.now.present counts.now.skipped) (L.told log.old) (L.told log.new)) }
+    ensures front { OnErr result (GotFront (EndLine counts.now.done counts.now.present counts.now.skipped) (L.told log.old) (L.told log.new)) }
+    ensures told { Tells (L.told log.old) (L.told log.new) counts.now counts.now result }
     ensures source { Spares 1 result }
     ensures dest { Spares 2 result }
     ensures log { Counts 3 (L.failed log.old) (L.failed log.new) result }
     ensures turn { IsOfTurn result }
 {
-    let value = json!(in alloc; {
-        "as": "end",
-        "done": counts.done,
-        "present": counts.present,
-        "skip": counts.skipped
-    })?;
+    let value = end_line(alloc, counts)?;
     put(alloc, log, &value)
 }
 
+fn end_line(alloc: Global, counts: &Report) -> Result<Value, AllocError>
+    ensures { IfOk result (λ value. IsTreeOf (EndLine counts.now.done counts.now.present counts.now.skipped) (view value)) }
+{
+    let mut members = Map::new(alloc);
+    put_text(&mut members, alloc, "as", "end")?;
+    put_number(&mut members, alloc, "done", counts.done)?;
+    put_number(&mut members, alloc, "present", counts.present)?;
+    put_number(&mut members, alloc, "skip", counts.skipped)?;
+    Ok(Value::from(members))
+}
+
 fn put<L: Log>(alloc: Global, log: &mut L, value: &Value) -> Result<(), Fault>
+    requires { has_float (view value.now) ≡ false }
+    ensures ok { OnOk result (Appends (L.told log.old) (L.told log.new) (compact_text (view value.now) ++ 10 ∷ [])) }
+    ensures part { OnErr result (AppendsFront (L.told log.old) (L.told log.new) (compact_text (view value.now) ++ 10 ∷ [])) }
     ensures source { Spares 1 result }
     ensures dest { Spares 2 result }
     ensures log { Counts 3 (L.failed log.old) (L.failed log.new) result }
@@ -130,4 +192,29 @@ fn put<L: Log>(alloc: Global, log: &mut L, value: &Value) -> Result<(), Fault>
     let mut text = value.to_string(alloc)?;
     text.push_str("\n")?;
     devices::put(log, text.as_bytes())
+}
+
+// Puts a text at a key.
+fn put_text(
+    members: &mut Map<String, Value>,
+    alloc: Global,
+    key: &str,
+    text: &str,
+) -> Result<(), AllocError>
+    ensures { OnOk result (members_view members.new.entries ≡ put_member key.now (string text.now) (members_view members.old.entries)) }
+{
+    let text = String::from_str(alloc, text)?;
+    serde_json::put(members, alloc, key, Value::from(text))
+}
+
+// Puts a number at a key.
+fn put_number(
+    members: &mut Map<String, Value>,
+    alloc: Global,
+    key: &str,
+    n: u64,
+) -> Result<(), AllocError>
+    ensures { OnOk result (members_view members.new.entries ≡ put_member key.now (number (unsigned n)) (members_view members.old.entries)) }
+{
+    serde_json::put(members, alloc, key, Value::from(n))
 }

@@ -4,6 +4,7 @@ ghost use Rattle.std.specs.Prelude.{◌≡◌, ◌<◌, ◌≤◌, ◌-◌, ◌^
 ghost use Rattle.pt_plan.specs.declared.phase.Phase.TheVariants as phase;
 ghost use Rattle.pt_move.specs.Counting.{AtMostCalls, Counts, IsOfTurn, Spares};
 ghost use Rattle.pt_move.specs.Fits.{HasTables, IsOfRows, IsUnderWay, StandsAt, lines_put};
+ghost use Rattle.pt_move.specs.Lines.{GoesOn};
 ghost use Rattle.pt_move.specs.Held.{IsHeld};
 
 use crate::files::put_file;
@@ -31,12 +32,14 @@ impl State {
         requires tables { HasTables self.old }
         requires stands { StandsAt (phase.Make object part) self.old (self.old.counts.turns - 1) }
         ensures next { IfOk result (λ p. StandsAt p self.new self.new.counts.turns × HasTables self.new) }
+        ensures goes_on { IfOk result GoesOn }
         ensures held { IsHeld self.old self.new }
         ensures source_told { S.told source.new ≡ None }
         ensures source { Counts 1 (S.failed source.old) (S.failed source.new) result }
         ensures dest_told { D.told dest.new ≡ None }
         ensures dest { Counts 2 (D.failed dest.old) (D.failed dest.new) result }
         ensures log { Spares 3 result }
+        ensures counts { self.new.counts ≡ self.old.counts }
         ensures turn { IsOfTurn result }
         ensures calls { AtMostCalls 1 (S.called source.old) (S.called source.new) }
     {
@@ -122,12 +125,14 @@ impl State {
         requires few { self.old.counts.turns ≤ 2 ^ 40 }
         requires tables { HasTables self.old }
         ensures next { IfOk result (λ p. StandsAt p self.new self.new.counts.turns × HasTables self.new) }
+        ensures goes_on { IfOk result GoesOn }
         ensures held { IsHeld self.old self.new }
         ensures source_told { S.told source.new ≡ None }
         ensures source { Counts 1 (S.failed source.old) (S.failed source.new) result }
         ensures dest_told { D.told dest.new ≡ None }
         ensures dest { Counts 2 (D.failed dest.old) (D.failed dest.new) result }
         ensures log { Spares 3 result }
+        ensures counts { self.new.counts ≡ self.old.counts }
         ensures turn { IsOfTurn result }
         ensures calls { AtMostCalls 1 (S.called source.old) (S.called source.new) }
     {

@@ -1,8 +1,9 @@
-#![tactic(auto, using(crate::proofs::Migrating::migrating))]
+#![tactic(auto, using(crate::proofs::Migrating::migrating, crate::proofs::WholeLog::whole_log))]
 
-ghost use Rattle.std.specs.Prelude.{◌≡◌, ◌≢◌, ◌≤◌, None, IfErr, IfOk};
+ghost use Rattle.std.specs.Prelude.{◌≡◌, ◌≢◌, ◌≤◌, None, IfErr, IfOk, OnErr};
 ghost use Rattle.pt_move.specs.Counting.{Counts};
 ghost use Rattle.pt_move.specs.Fits.{lines_put};
+ghost use Rattle.pt_move.specs.Lines.{HasToldAll, HasToldFront};
 ghost use Rattle.pt_move.specs.declared.fault.Fault.TheVariants as fault;
 
 use crate::{Fault, Job, Mover, Report, Turn};
@@ -28,11 +29,13 @@ pub fn migrate<S: Source, D: Dest, L: Log>(
     ensures source { Counts 1 (S.failed source.old) (S.failed source.new) result }
     ensures dest { Counts 2 (D.failed dest.old) (D.failed dest.new) result }
     ensures log { Counts 3 (L.failed log.old) (L.failed log.new) result }
+    ensures told { IfOk result (λ report. HasToldAll (L.told log.old) (L.told log.new) report) }
+    ensures told_front { OnErr result (HasToldFront (L.told log.old) (L.told log.new)) }
     ensures turns { IfOk result (λ report. report.turns ≤ job.limits.turns) }
     ensures lines { IfOk result (λ report. lines_put report ≤ report.turns) }
     ensures never_ended { IfErr result (λ f. f ≢ fault.Ended) }
 {
     let mut mover = Mover::start(alloc, job);
-    while mover.step(source, dest, log)? == Turn::More {}
+    while let Turn::More = mover.step(source, dest, log)? {}
     Ok(mover.report())
 }

@@ -1,6 +1,6 @@
-#![tactic(auto, using(crate::proofs::Calls::calls, crate::proofs::Held::held, crate::proofs::Limits::limits, crate::proofs::Stepping::stepping, crate::proofs::Tables::tables))]
+#![tactic(auto, using(crate::proofs::Calls::calls, crate::proofs::Held::held, crate::proofs::Limits::limits, crate::proofs::Stepping::stepping, crate::proofs::Tables::tables, crate::proofs::Telling::telling, crate::proofs::Telling::counting_before, crate::proofs::Telling::stepping_on))]
 
-ghost use Rattle.std.specs.Prelude.{◌≡◌, ◌≢◌, ◌<◌, ◌≤◌, ◌+◌, None, Ok, Err, OnOk, OnErr, length};
+ghost use Rattle.std.specs.Prelude.{◌≡◌, ◌≢◌, ◌<◌, ◌≤◌, ◌+◌, None, Ok, Err, IfOk, OnOk, OnErr, length};
 ghost use Rattle.pt_plan.specs.declared.phase.Phase.TheVariants as phase;
 ghost use Rattle.pt_walk.specs.Trail.{entries_held};
 ghost use Rattle.pt_move.specs.declared.fault.Fault.TheVariants as fault;
@@ -8,6 +8,7 @@ ghost use Rattle.pt_move.specs.declared.job.Turn.TheVariants as turn;
 ghost use Rattle.pt_move.specs.Counting.{AtMostCalls, Counts, IsOfTurn};
 ghost use Rattle.pt_move.specs.Fits.{IsWell};
 ghost use Rattle.pt_move.specs.Held.{Gains, Moves};
+ghost use Rattle.pt_move.specs.Lines.{FinishTold, Tells};
 ghost use Rattle.pt_move.specs.Stepping.{EndsAs, IsCounted, IsNew, Stays};
 
 use crate::state::State;
@@ -70,6 +71,8 @@ impl Mover {
         ensures one_call { self.old.counts.turns ≢ 1 → AtMostCalls 1 (S.called source.old) (S.called source.new) }
         ensures job { self.new.job ≡ self.old.job }
         ensures turns { IsCounted self.old self.new result }
+        ensures told { Tells (L.told log.old) (L.told log.new) self.old.counts self.new.counts result }
+        ensures finished { IfOk result (λ t. FinishTold t (L.told log.old) (L.told log.new) self.old.counts self.new.counts) }
         ensures trail { Moves self.old.trail self.new.trail }
         ensures rows { Gains self.old.rows self.new.rows }
         ensures contents { Gains self.old.contents self.new.contents }
@@ -85,8 +88,7 @@ impl Mover {
         if self.state.counts.turns >= self.state.job.limits.turns() {
             return Err(Fault::Turns);
         }
-        self.state.counts.turns += 1;
-        let next = self.state.turn(phase, source, dest, log)?;
+        let next = self.state.counted_turn(phase, source, dest, log)?;
         let turn = match &next {
             Phase::Ended => Turn::Finished,
             _ => Turn::More,

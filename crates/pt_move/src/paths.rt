@@ -1,4 +1,8 @@
 // The names that the program knows, and the paths that it makes of them.
+ghost use Rattle.std.specs.Prelude.{◌≡◌, IfOk};
+ghost use Rattle.std.specs.String.{string_bytes};
+ghost use Rattle.pt_tree.specs.Path.{joined};
+
 use pt_tree::{MemoryFault, Name, NamePath};
 use std::alloc::Global;
 
@@ -51,6 +55,8 @@ pub(crate) fn entry_of(mut path: NamePath, name: &Name) -> Result<NamePath, Memo
 }
 
 // The names with `/` between.
-pub(crate) fn text_of(path: &NamePath) -> Result<String, MemoryFault> {
+pub(crate) fn text_of(path: &NamePath) -> Result<String, MemoryFault>
+    ensures { IfOk result (λ text. string_bytes text ≡ joined path.now) }
+{
     Ok(String::from_utf8(path.join()?).unwrap())
 }

@@ -1,9 +1,10 @@
-#![tactic(auto, using(crate::proofs::Calls::calls, crate::proofs::Held::held, crate::proofs::Tables::tables, crate::proofs::Tables::totals, crate::proofs::UnderWay::under_way))]
+#![tactic(auto, using(crate::proofs::Calls::calls, crate::proofs::Held::held, crate::proofs::Tables::tables, crate::proofs::Tables::totals, crate::proofs::Telling::telling, crate::proofs::UnderWay::under_way))]
 // Bringing an object from `staging` to its place in the storage root.
 ghost use Rattle.std.specs.Prelude.{◌≡◌, ◌<◌, ◌≤◌, ◌+◌, ◌-◌, ◌^◌, None, IfOk, length, take};
 ghost use Rattle.pt_plan.specs.declared.phase.Phase.TheVariants as phase;
 ghost use Rattle.pt_move.specs.Counting.{AtMostCalls, Counts, IsOfTurn, Spares};
 ghost use Rattle.pt_move.specs.Fits.{HasTables, StandsAt, lines_put, total_length as total_length_of};
+ghost use Rattle.pt_move.specs.Lines.{GoesOn, Tells};
 ghost use Rattle.pt_move.specs.Held.{IsHeld};
 
 use crate::lines::Done;
@@ -29,11 +30,13 @@ impl State {
         requires tables { HasTables self.old }
         requires stands { StandsAt (phase.Tuples object index) self.old (self.old.counts.turns - 1) }
         ensures next { IfOk result (λ p. StandsAt p self.new self.new.counts.turns × HasTables self.new) }
+        ensures goes_on { IfOk result GoesOn }
         ensures held { IsHeld self.old self.new }
         ensures source { Spares 1 result }
         ensures dest_told { D.told dest.new ≡ None }
         ensures dest { Counts 2 (D.failed dest.old) (D.failed dest.new) result }
         ensures log { Spares 3 result }
+        ensures counts { self.new.counts ≡ self.old.counts }
         ensures turn { IsOfTurn result }
     {
         let count = self.job.layout.count() as usize;
@@ -59,11 +62,13 @@ impl State {
         requires tables { HasTables self.old }
         requires stands { StandsAt (phase.Rename object) self.old (self.old.counts.turns - 1) }
         ensures next { IfOk result (λ p. StandsAt p self.new self.new.counts.turns × HasTables self.new) }
+        ensures goes_on { IfOk result GoesOn }
         ensures held { IsHeld self.old self.new }
         ensures source { Spares 1 result }
         ensures dest_told { D.told dest.new ≡ None }
         ensures dest { Counts 2 (D.failed dest.old) (D.failed dest.new) result }
         ensures log { Spares 3 result }
+        ensures counts { self.new.counts ≡ self.old.counts }
         ensures turn { IsOfTurn result }
     {
         let from = path_of(self.alloc, &[STAGING])?;
@@ -79,10 +84,12 @@ impl State {
         requires tables { HasTables self.old }
         requires stands { StandsAt (phase.Line object) self.old (self.old.counts.turns - 1) }
         ensures next { IfOk result (λ p. StandsAt p self.new self.new.counts.turns × HasTables self.new) }
+        ensures goes_on { IfOk result GoesOn }
         ensures held { IsHeld self.old self.new }
         ensures source { Spares 1 result }
         ensures dest { Spares 2 result }
         ensures log { Counts 3 (L.failed log.old) (L.failed log.new) result }
+        ensures told { Tells (L.told log.old) (L.told log.new) self.old.counts self.new.counts result }
         ensures turn { IsOfTurn result }
     {
         let at = self.object_path(&object)?;

@@ -1,9 +1,10 @@
-#![tactic(auto, using(crate::proofs::Calls::calls, crate::proofs::Held::held, crate::proofs::Leaving::leaving, crate::proofs::Limits::limits, crate::proofs::Tables::tables, crate::proofs::UnderWay::under_way))]
+#![tactic(auto, using(crate::proofs::Calls::calls, crate::proofs::Held::held, crate::proofs::Leaving::leaving, crate::proofs::Limits::limits, crate::proofs::Tables::tables, crate::proofs::Telling::telling, crate::proofs::UnderWay::under_way))]
 // Scanning an object: each of its files is read once, for its digest and its length.
 ghost use Rattle.std.specs.Prelude.{◌≡◌, ◌<◌, ◌≤◌, ◌-◌, ◌+◌, ◌^◌, [], None, IfOk, IsSome, IsTrue, OnOk, drop, length};
 ghost use Rattle.pt_plan.specs.declared.phase.Phase.TheVariants as phase;
 ghost use Rattle.pt_move.specs.Counting.{AtMostCalls, Counts, IsOfTurn, Spares};
 ghost use Rattle.pt_move.specs.Fits.{AreTables, HasRoom, HasTables, IsUnderWay, StandsAt, lines_put};
+ghost use Rattle.pt_move.specs.Lines.{GoesOn, Tells};
 ghost use Rattle.pt_move.specs.Held.{Gains, IsHeld};
 ghost use Rattle.pt_walk.specs.Trail.{current_entry, is_dir_entry, sought};
 
@@ -30,11 +31,13 @@ impl State {
         requires tables { HasTables self.old }
         requires stands { StandsAt (phase.OpenObject object) self.old (self.old.counts.turns - 1) }
         ensures next { IfOk result (λ p. StandsAt p self.new self.new.counts.turns × HasTables self.new) }
+        ensures goes_on { IfOk result GoesOn }
         ensures held { IsHeld self.old self.new }
         ensures source_told { S.told source.new ≡ None }
         ensures source { Counts 1 (S.failed source.old) (S.failed source.new) result }
         ensures dest { Spares 2 result }
         ensures log { Counts 3 (L.failed log.old) (L.failed log.new) result }
+        ensures told { Tells (L.told log.old) (L.told log.new) self.old.counts self.new.counts result }
         ensures turn { IsOfTurn result }
         ensures calls { AtMostCalls 1 (S.called source.old) (S.called source.new) }
     {
@@ -58,11 +61,13 @@ impl State {
         requires tables { HasTables self.old }
         requires stands { StandsAt (phase.Scan object) self.old (self.old.counts.turns - 1) }
         ensures next { IfOk result (λ p. StandsAt p self.new self.new.counts.turns × HasTables self.new) }
+        ensures goes_on { IfOk result GoesOn }
         ensures held { IsHeld self.old self.new }
         ensures source_told { S.told source.new ≡ None }
         ensures source { Counts 1 (S.failed source.old) (S.failed source.new) result }
         ensures dest { Spares 2 result }
         ensures log { Counts 3 (L.failed log.old) (L.failed log.new) result }
+        ensures told { Tells (L.told log.old) (L.told log.new) self.old.counts self.new.counts result }
         ensures turn { IsOfTurn result }
         ensures calls { AtMostCalls 1 (S.called source.old) (S.called source.new) }
     {
@@ -101,11 +106,13 @@ impl State {
         requires few { self.old.counts.turns ≤ 2 ^ 40 }
         requires tables { HasTables self.old }
         ensures next { IfOk result (λ p. StandsAt p self.new self.new.counts.turns × HasTables self.new) }
+        ensures goes_on { IfOk result GoesOn }
         ensures held { IsHeld self.old self.new }
         ensures source_told { S.told source.new ≡ None }
         ensures source { Counts 1 (S.failed source.old) (S.failed source.new) result }
         ensures dest { Spares 2 result }
         ensures log { Counts 3 (L.failed log.old) (L.failed log.new) result }
+        ensures told { Tells (L.told log.old) (L.told log.new) self.old.counts self.new.counts result }
         ensures turn { IsOfTurn result }
         ensures calls { AtMostCalls 1 (S.called source.old) (S.called source.new) }
     {
@@ -132,11 +139,13 @@ impl State {
         requires few { self.old.counts.turns ≤ 2 ^ 40 }
         requires tables { HasTables self.old }
         ensures next { IfOk result (λ p. StandsAt p self.new self.new.counts.turns × HasTables self.new) }
+        ensures goes_on { IfOk result GoesOn }
         ensures held { IsHeld self.old self.new }
         ensures source_told { S.told source.new ≡ None }
         ensures source { Counts 1 (S.failed source.old) (S.failed source.new) result }
         ensures dest { Spares 2 result }
         ensures log { Counts 3 (L.failed log.old) (L.failed log.new) result }
+        ensures told { Tells (L.told log.old) (L.told log.new) self.old.counts self.new.counts result }
         ensures turn { IsOfTurn result }
         ensures calls { AtMostCalls 1 (S.called source.old) (S.called source.new) }
     {
@@ -168,11 +177,13 @@ impl State {
         requires tables { HasTables self.old }
         requires stands { StandsAt (phase.Read object bytes) self.old (self.old.counts.turns - 1) }
         ensures next { IfOk result (λ p. StandsAt p self.new self.new.counts.turns × HasTables self.new) }
+        ensures goes_on { IfOk result GoesOn }
         ensures held { IsHeld self.old self.new }
         ensures source_told { S.told source.new ≡ None }
         ensures source { Counts 1 (S.failed source.old) (S.failed source.new) result }
         ensures dest { Spares 2 result }
         ensures log { Counts 3 (L.failed log.old) (L.failed log.new) result }
+        ensures told { Tells (L.told log.old) (L.told log.new) self.old.counts self.new.counts result }
         ensures turn { IsOfTurn result }
         ensures calls { AtMostCalls 1 (S.called source.old) (S.called source.new) }
     {
@@ -218,10 +229,12 @@ impl State {
         requires few { self.old.counts.turns ≤ 2 ^ 40 }
         requires tables { HasTables self.old }
         ensures next { IfOk result (λ p. StandsAt p self.new self.new.counts.turns × HasTables self.new) }
+        ensures goes_on { IfOk result GoesOn }
         ensures held { IsHeld self.old self.new }
         ensures source { Spares 1 result }
         ensures dest { Spares 2 result }
         ensures log { Counts 3 (L.failed log.old) (L.failed log.new) result }
+        ensures told { Tells (L.told log.old) (L.told log.new) self.old.counts self.new.counts result }
         ensures turn { IsOfTurn result }
     {
         let path = self.site_path(&object)?;

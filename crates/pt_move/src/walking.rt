@@ -1,9 +1,10 @@
-#![tactic(auto, using(crate::proofs::Calls::calls, crate::proofs::Held::held, crate::proofs::Tables::tables, crate::proofs::UnderWay::under_way))]
+#![tactic(auto, using(crate::proofs::Calls::calls, crate::proofs::Held::held, crate::proofs::Tables::tables, crate::proofs::Telling::telling, crate::proofs::UnderWay::under_way))]
 // Walking the sites of a Pairtree.
 ghost use Rattle.std.specs.Prelude.{◌≡◌, ◌<◌, ◌≤◌, ◌-◌, ◌^◌, None, IfOk, IsTrue};
 ghost use Rattle.pt_plan.specs.declared.phase.Phase.TheVariants as phase;
 ghost use Rattle.pt_move.specs.Counting.{AtMostCalls, Counts, IsOfTurn, Spares};
 ghost use Rattle.pt_move.specs.Fits.{HasTables, HoldsNone, StandsAt, lines_put};
+ghost use Rattle.pt_move.specs.Lines.{EndsTold, GoesOn, Tells};
 ghost use Rattle.pt_move.specs.Held.{IsHeld};
 ghost use Rattle.pt_walk.specs.Trail.{current_entry, is_dir_entry};
 
@@ -23,11 +24,13 @@ impl State {
         requires tables { HasTables self.old }
         requires stands { StandsAt phase.OpenRoot self.old (self.old.counts.turns - 1) }
         ensures next { IfOk result (λ p. StandsAt p self.new self.new.counts.turns × HasTables self.new) }
+        ensures goes_on { IfOk result GoesOn }
         ensures held { IsHeld self.old self.new }
         ensures source_told { S.told source.new ≡ None }
         ensures source { Counts 1 (S.failed source.old) (S.failed source.new) result }
         ensures dest { Spares 2 result }
         ensures log { Spares 3 result }
+        ensures counts { self.new.counts ≡ self.old.counts }
         ensures turn { IsOfTurn result }
         ensures calls { AtMostCalls 1 (S.called source.old) (S.called source.new) }
     {
@@ -49,11 +52,13 @@ impl State {
         requires tables { HasTables self.old }
         requires stands { StandsAt phase.Walk self.old (self.old.counts.turns - 1) }
         ensures next { IfOk result (λ p. StandsAt p self.new self.new.counts.turns × HasTables self.new) }
+        ensures goes_on { IfOk result GoesOn }
         ensures held { IsHeld self.old self.new }
         ensures source_told { S.told source.new ≡ None }
         ensures source { Counts 1 (S.failed source.old) (S.failed source.new) result }
         ensures dest { Spares 2 result }
         ensures log { Counts 3 (L.failed log.old) (L.failed log.new) result }
+        ensures told { Tells (L.told log.old) (L.told log.new) self.old.counts self.new.counts result }
         ensures turn { IsOfTurn result }
         ensures calls { AtMostCalls 1 (S.called source.old) (S.called source.new) }
     {
@@ -78,11 +83,13 @@ impl State {
         requires tables { HasTables self.old }
         requires none { HoldsNone self.old.rows self.old.contents }
         ensures next { IfOk result (λ p. StandsAt p self.new self.new.counts.turns × HasTables self.new) }
+        ensures goes_on { IfOk result GoesOn }
         ensures held { IsHeld self.old self.new }
         ensures source_told { S.told source.new ≡ None }
         ensures source { Counts 1 (S.failed source.old) (S.failed source.new) result }
         ensures dest { Spares 2 result }
         ensures log { Counts 3 (L.failed log.old) (L.failed log.new) result }
+        ensures told { Tells (L.told log.old) (L.told log.new) self.old.counts self.new.counts result }
         ensures turn { IsOfTurn result }
         ensures calls { AtMostCalls 1 (S.called source.old) (S.called source.new) }
     {
@@ -137,10 +144,12 @@ impl State {
         requires tables { HasTables self.old }
         requires stands { StandsAt phase.End self.old (self.old.counts.turns - 1) }
         ensures next { IfOk result (λ p. StandsAt p self.new self.new.counts.turns × HasTables self.new) }
+        ensures ends { IfOk result (λ p. EndsTold p (L.told log.old) (L.told log.new) self.old.counts self.new.counts) }
         ensures held { IsHeld self.old self.new }
         ensures source { Spares 1 result }
         ensures dest { Spares 2 result }
         ensures log { Counts 3 (L.failed log.old) (L.failed log.new) result }
+        ensures told { Tells (L.told log.old) (L.told log.new) self.old.counts self.new.counts result }
         ensures turn { IsOfTurn result }
     {
         lines::put_end(self.alloc, log, &self.counts)?;

@@ -1,6 +1,7 @@
 use Rattle.std.proofs.Common.{◌≡◌, ◌-◌}
 use Rattle.std.specs.Prelude.{◌≢◌, None}
 use Rattle.pt_plan.specs.declared.phase.Phase.TheVariants as phase
+use Rattle.pt_move.specs.Lines.{HasTold}
 use Rattle.pt_move.proofs.migration.migrate.Given as goal
 
 abbrev pub decreases-loop-mover : goal.decreases-loop-mover
@@ -14,3 +15,4 @@ invariant-loop-mover g l =
     × (g.L.Log.failed l.log ≡ g.L.Log.failed l.fn.log)
     × (l.mover.job ≡ l.fn.job)
     × (l.mover.phase ≢ phase.Ended)
+    × HasTold (g.L.Log.told l.fn.log) (g.L.Log.told l.log) l.mover.counts

@@ -1,6 +1,6 @@
-#![tactic(auto, using(crate::proofs::Untold::untold))]
+#![tactic(auto, using(pt_move::proofs::Untold::untold))]
 // Runs over a source in memory that tells nothing and a destination that holds nothing: the lines and the turns.
-use crate::{Fault, Job, Mover, Report, Turn, migrate};
+use pt_move::{Fault, Job, Mover, Report, Turn, migrate};
 use pt_name::Layout;
 use pt_object::{Algorithm, Meta};
 use pt_tree::{Block, Dest, Kind, LooseSource, MemLog, MemSource, Name, NamePath, TreeFault};
