@@ -1,4 +1,9 @@
 pub mod CarriedFiles
+pub mod Counts
 pub mod FilesInOrder
 pub mod Growing
+pub mod Levels
+pub mod PlaceShapes
+pub mod Reserved
+pub mod TakenPlaces
 pub mod Worked

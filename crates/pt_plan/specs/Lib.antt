@@ -1,10 +1,12 @@
 pub mod Bound
 pub mod Carried
+pub mod CountLaws
 pub mod FileLaws
 pub mod ItemLaws
 pub mod Items
 pub mod Job
 pub mod Lines
+pub mod PlaceLaws
 pub mod Store
 pub mod Work
 pub mod Worked

@@ -79,5 +79,12 @@ fn each_law_can_be_called(_rt: HostRuntime) -> Result<(), Fail> {
     laws::all_items_are_all();
     laws::begins_with_the_base();
     laws::what_stands_stays();
+    laws::named_is_not_reserved();
+    laws::place_stands_where_taken();
+    laws::next_place_stands_where_taken();
+    laws::lines_tell_numbers();
+    laws::end_line_tells_numbers();
+    laws::each_line_is_counted();
+    laws::counts_grow();
     Ok(())
 }
