@@ -1,9 +1,17 @@
 pub mod CarriedFiles
 pub mod Counts
 pub mod FilesInOrder
+pub mod Folders
 pub mod Growing
+pub mod LaterRoots
 pub mod Levels
+pub mod MovedIn
+pub mod NextObject
 pub mod PlaceShapes
+pub mod Rerun
 pub mod Reserved
+pub mod StagingKeeps
 pub mod TakenPlaces
+pub mod WithObjects
 pub mod Worked
+pub mod WorkedFaults

@@ -1,5 +1,5 @@
 -- Places of one layout have as many names, and none is a root file or a folder above one.
-use Rattle.std.proofs.Common.{◌≡◌, ℕ, zero, suc, ◌+◌, ◌/◌, ◌%◌, ◌<◌, ◌==◌, ◌||◌, ◌&&◌, List, [], ◌∷◌, ◌++◌, Bool, true, false, cond, length, take, drop, refl, sym, ◌∙◌, ap, arith, inl, inr, nat_le}
+use Rattle.std.proofs.Common.{◌≡◌, ℕ, zero, suc, ◌+◌, ◌/◌, ◌%◌, ◌<◌, ◌==◌, ◌||◌, ◌&&◌, List, [], ◌∷◌, ◌++◌, Bool, true, false, cond, length, map, take, drop, refl, sym, ◌∙◌, ap, arith, inl, inr, nat_le}
 use Rattle.std.specs.Prelude.{All, Option, None, Some, codes, is_some, not, slice_index}
 use Rattle.std.specs.List.{list_all}
 use Rattle.std.specs.Str.{bytes_eq}
@@ -14,12 +14,15 @@ use Rattle.pt_name.specs.Place.{digest_text, encoded_of, encoded_spelling, is_sa
 use Rattle.pt_name.specs.Tuples.{Tuples}
 use Rattle.pt_object.proofs.Ways.{same_name}
 use Rattle.pt_object.specs.Root.{base, base_where, root_of}
+use Rattle.pt_object.specs.Script.{folders_above}
 use Rattle.pt_tree.specs.Path.{Path, same_path}
 use Rattle.pt_tree.specs.Tree.{Entry, Tree}
+use Rattle.pt_plan.specs.Carried.{Carried, is_folder_or_free, is_way_free}
 use Rattle.pt_plan.specs.Items.{is_reserved}
 use Rattle.pt_plan.specs.Job.{Job}
 use Rattle.pt_plan.specs.PlaceLaws.{IsRooted}
 use Rattle.pt_plan.proofs.CarriedFiles.{all_take}
+use Rattle.pt_plan.proofs.Growing.{append_nil}
 
 -- ---- lengths
 
@@ -98,24 +101,28 @@ nothing_below : (tuples : Tuples) (name : List ℕ) (more : Path) → bytes_eq n
     → root_of tuples (name ∷ more) ≡ None
 nothing_below tuples name more a b e = rw (a, b, e) refl
 
-nothing_by : (tuples : Tuples) (size count : ℕ) (digits last : List ℕ) → list_all is_digit_like digits ≡ true → list_all is_plain last ≡ true
-    → (count == 0 && same_path (tuples_from size count digits ++ last ∷ []) (codes "extensions" ∷ [])) ≡ false → root_of tuples (tuples_from size count digits ++ last ∷ []) ≡ None
-nothing_by tuples size zero digits last d l reserved =
-    nothing_below tuples last [] (differ is_plain last (codes "0=ocfl_1.1") l refl) (differ is_plain last (codes "ocfl_layout.json") l refl) (by (bytes_eq last (codes "extensions")) reserved)
+nothing_below_tuple : (tuples : Tuples) (name : List ℕ) (more : Path) → list_all is_digit_like name ≡ true → root_of tuples (name ∷ more) ≡ None
+nothing_below_tuple tuples name more d =
+    nothing_below tuples name more (differ is_digit_like name (codes "0=ocfl_1.1") d refl) (differ is_digit_like name (codes "ocfl_layout.json") d refl) (differ is_digit_like name (codes "extensions") d refl)
+
+nothing_by : (tuples : Tuples) (size count : ℕ) (digits last : List ℕ) (rest : Path) → list_all is_digit_like digits ≡ true → list_all is_plain last ≡ true
+    → (count == 0 && same_path (tuples_from size count digits ++ last ∷ []) (codes "extensions" ∷ [])) ≡ false → root_of tuples ((tuples_from size count digits ++ last ∷ []) ++ rest) ≡ None
+nothing_by tuples size zero digits last rest d l reserved =
+    nothing_below tuples last rest (differ is_plain last (codes "0=ocfl_1.1") l refl) (differ is_plain last (codes "ocfl_layout.json") l refl) (by (bytes_eq last (codes "extensions")) reserved)
   where
     by : (t : Bool) → (t && true) ≡ false → t ≡ false
     by true h = h
     by false h = refl
-nothing_by tuples size (suc count) digits last d l reserved =
-    let first = all_take is_digit_like size digits d in
-    nothing_below tuples (take size digits) (tuples_from size count (drop size digits) ++ last ∷ [])
-    (differ is_digit_like (take size digits) (codes "0=ocfl_1.1") first refl)
-    (differ is_digit_like (take size digits) (codes "ocfl_layout.json") first refl)
-    (differ is_digit_like (take size digits) (codes "extensions") first refl)
+nothing_by tuples size (suc count) digits last rest d l reserved =
+    nothing_below_tuple tuples (take size digits) ((tuples_from size count (drop size digits) ++ last ∷ []) ++ rest) (all_take is_digit_like size digits d)
 
-pub nothing_at_place : (job : Job) (id : List ℕ) → is_reserved job id ≡ false → root_of job.tuples (place_of job.tuples id) ≡ None
-nothing_at_place job id reserved =
-    nothing_by job.tuples job.tuples.size job.tuples.count (digest_text id) (last_name_of id) (digits_pass is_digit_like refl refl (sha256 id)) (last_plain id) reserved
+-- nothing stands in a new root at a place or below it
+pub nothing_below_place : (job : Job) (id : List ℕ) → is_reserved job id ≡ false → (rest : Path) → root_of job.tuples (place_of job.tuples id ++ rest) ≡ None
+nothing_below_place job id reserved rest =
+    nothing_by job.tuples job.tuples.size job.tuples.count (digest_text id) (last_name_of id) rest (digits_pass is_digit_like refl refl (sha256 id)) (last_plain id) reserved
+
+nothing_at_place : (job : Job) (id : List ℕ) → is_reserved job id ≡ false → root_of job.tuples (place_of job.tuples id) ≡ None
+nothing_at_place job id reserved = ap (root_of job.tuples) (sym (append_nil (place_of job.tuples id))) ∙ nothing_below_place job id reserved []
 
 -- at a place something stands in the base exactly where it stood in the root
 pub base_at_place : (job : Job) (root : Tree) (id : List ℕ) → IsRooted root → is_reserved job id ≡ false
@@ -125,3 +132,27 @@ base_at_place job root id rooted reserved = by (root []) refl
     by : (o : Option Entry) → root [] ≡ o → is_some (base_where job.tuples root o (place_of job.tuples id)) ≡ is_some (root (place_of job.tuples id))
     by None e = ap is_some (nothing_at_place job id reserved) ∙ sym (ap is_some (rooted e (place_of job.tuples id)))
     by (Some entry) e = refl
+
+-- folders on the way to a place are none of the entries of a new root
+ways_below : (tuples : Tuples) (name : List ℕ) (folders : List Path) → ((more : Path) → root_of tuples (name ∷ more) ≡ None)
+    → list_all (λ folder. is_folder_or_free (root_of tuples folder)) (map (λ (folder : Path). name ∷ folder) folders) ≡ true
+ways_below tuples name [] none = refl
+ways_below tuples name (folder ∷ folders) none =
+    and_from (is_folder_or_free (root_of tuples (name ∷ folder))) (list_all (λ folder. is_folder_or_free (root_of tuples folder)) (map (λ (folder : Path). name ∷ folder) folders))
+    (ap is_folder_or_free (none folder)) (ways_below tuples name folders none)
+
+ways_from : (tuples : Tuples) (name : List ℕ) (path : Path) → ((more : Path) → root_of tuples (name ∷ more) ≡ None)
+    → list_all (λ folder. is_folder_or_free (root_of tuples folder)) (folders_above (name ∷ path)) ≡ true
+ways_from tuples name [] none = refl
+ways_from tuples name (next ∷ path) none =
+    and_from (is_folder_or_free (root_of tuples (name ∷ []))) (list_all (λ folder. is_folder_or_free (root_of tuples folder)) (map (λ (folder : Path). name ∷ folder) (folders_above (next ∷ path))))
+    (ap is_folder_or_free (none [])) (ways_below tuples name (folders_above (next ∷ path)) none)
+
+ways_by : (tuples : Tuples) (size count : ℕ) (digits last : List ℕ) → list_all is_digit_like digits ≡ true
+    → list_all (λ folder. is_folder_or_free (root_of tuples folder)) (folders_above (tuples_from size count digits ++ last ∷ [])) ≡ true
+ways_by tuples size zero digits last d = refl
+ways_by tuples size (suc count) digits last d =
+    ways_from tuples (take size digits) (tuples_from size count (drop size digits) ++ last ∷ []) (λ more. nothing_below_tuple tuples (take size digits) more (all_take is_digit_like size digits d))
+
+pub new_root_ways : (job : Job) (object : Carried) → is_way_free job (root_of job.tuples) object ≡ true
+new_root_ways job object = ways_by job.tuples job.tuples.size job.tuples.count (digest_text object.id) (last_name_of object.id) (digits_pass is_digit_like refl refl (sha256 object.id))

@@ -1,9 +1,9 @@
 -- No named item has a reserved place.
 use Rattle.std.proofs.Common.{◌≡◌, ℕ, zero, suc, Bool, true, false, List, [], ◌∷◌, ◌++◌, refl, subst, cond, map}
 use Rattle.std.specs.Prelude.{Option, None, Some, not, slice_get}
-use Rattle.std.specs.List.{concat}
+use Rattle.std.specs.List.{concat, list_all}
 use Rattle.std.specs.Str.{is_utf8}
-use Rattle.std.proofs.lemmas.Bool.{not-true, not_from_false}
+use Rattle.std.proofs.lemmas.Bool.{and_from, not-true, not_from_false}
 use Rattle.pt_name.specs.Reading.{reading_of}
 use Rattle.pt_tree.specs.Forest.{Forest, none, file, other, dir, listing_of}
 use Rattle.pt_tree.specs.Path.{Path}
@@ -13,13 +13,13 @@ use Rattle.pt_walk.specs.Sites.{Site, Visit, Listed, Past, Deep, at_of}
 use Rattle.pt_walk.specs.declared.cause.Cause.TheVariants as cause
 use Rattle.pt_walk.specs.declared.site.Finding.{Finding}
 use Rattle.pt_walk.specs.declared.site.Finding.TheVariants as finding
-use Rattle.pt_plan.specs.Items.{Interior, Item, Named, PairtreeObject, Skip, Verdict, encapsulated, gathered_from, is_reserved, item_of, named, verdict_by_finding, verdict_by_reading, verdict_of, verdict_on_candidate}
+use Rattle.pt_plan.specs.Items.{Interior, Item, Named, PairtreeObject, Skip, Verdict, encapsulated, gathered_from, is_reserved, item_of, items, named, verdict_by_finding, verdict_by_reading, verdict_of, verdict_on_candidate}
 use Rattle.pt_plan.specs.Job.{Job, form_of}
 use Rattle.pt_plan.specs.PlaceLaws.{NamedIsNotReserved}
 use Rattle.pt_plan.specs.Store.{prefix_of, sites_of}
 
 -- its place isn't reserved, if it has one
-abbrev free : Job → Verdict → Bool
+abbrev pub free : Job → Verdict → Bool
 free job Interior = true
 free job (Skip why) = true
 free job (Named id object) = not (is_reserved job id)
@@ -60,6 +60,16 @@ free_at job prefix (site ∷ ways) zero item is =
     let same : item_of job prefix site ≡ item = cc in
     subst (λ (i : Item). free job i.verdict ≡ true) same (free_verdict job prefix site.0 site.1)
 free_at job prefix (site ∷ ways) (suc k) item is = free_at job prefix ways k item is
+
+abbrev pub free_item : Job → Item → Bool
+free_item job item = free job item.verdict
+
+free_items : (job : Job) (prefix : List ℕ) (ways : List Site) → list_all (free_item job) (map (item_of job prefix) ways) ≡ true
+free_items job prefix [] = refl
+free_items job prefix (site ∷ ways) = and_from (free job (verdict_of job prefix site.0 site.1)) (list_all (free_item job) (map (item_of job prefix) ways)) (free_verdict job prefix site.0 site.1) (free_items job prefix ways)
+
+pub all_free : (job : Job) (source : Forest) → list_all (free_item job) (items job source) ≡ true
+all_free job source = free_items job (prefix_of source) (sites_of job.limits.depth source)
 
 pub named_is_not_reserved : NamedIsNotReserved
 named_is_not_reserved job source k item id object is what =

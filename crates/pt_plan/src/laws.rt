@@ -3,6 +3,8 @@ ghost use Rattle.pt_plan.specs.ItemLaws.{AllItemsAreAll, BeginsWithTheBase, Carr
 ghost use Rattle.pt_plan.specs.FileLaws.{CarriedFilesComeInOrder, FilesComeInOrder};
 ghost use Rattle.pt_plan.specs.PlaceLaws.{NamedIsNotReserved, NextPlaceStandsWhereTaken, PlaceStandsWhereTaken};
 ghost use Rattle.pt_plan.specs.CountLaws.{CountsGrow, EachLineIsCounted, EndLineTellsNumbers, LinesTellNumbers};
+ghost use Rattle.pt_plan.specs.RerunLaws.{RerunEndsAlike, RootStaysWithoutStaging};
+ghost use Rattle.pt_plan.specs.GrowthLaws.{AfterGrows, AfterStays, FoldersGrow, ObjectIsMovedIn, RootIsItsOwn, RootIsMadeInPlace, RootIsMovedIn, RootsHaveNoGaps};
 
 /// In the order of the walk the files of a directory have logical paths that come in order, none leading to another: what
 /// the laws on objects ask of them.
@@ -80,4 +82,56 @@ pub fn each_line_is_counted()
 /// With one item more, each number of the lines grows by that of the item's own line.
 pub fn counts_grow()
     ensures { CountsGrow }
+{}
+
+/// The root that any fault leaves of a run over no root or a usable one is one that a run can end with, and a whole run
+/// over it leaves what one undisturbed run over the first leaves. So it is after any number of such faults.
+pub fn rerun_ends_alike()
+    ensures { RerunEndsAlike }
+{}
+
+/// Taking `staging` away leaves the storage root.
+pub fn root_stays_without_staging()
+    ensures { RootStaysWithoutStaging }
+{}
+
+/// In the storage root of a destination nothing stands below a path where nothing stands.
+pub fn roots_have_no_gaps()
+    ensures { RootsHaveNoGaps }
+{}
+
+/// With one item more that is carried, the root has its tuple directories and its object at its place, and is as it was
+/// elsewhere.
+pub fn after_grows()
+    ensures { AfterGrows }
+{}
+
+/// With one item more that is not carried, the root stays.
+pub fn after_stays()
+    ensures { AfterStays }
+{}
+
+/// One tuple directory more is made where nothing stands, and is there where a folder stands.
+pub fn folders_grow()
+    ensures { FoldersGrow }
+{}
+
+/// What is made at a path below the destination's storage root is made in that root.
+pub fn root_is_made_in_place()
+    ensures { RootIsMadeInPlace }
+{}
+
+/// What stands in `staging`, moved to a place of the storage root, stands at that place of the root.
+pub fn object_is_moved_in()
+    ensures { ObjectIsMovedIn }
+{}
+
+/// A new root, moved out of `staging`, is the destination's storage root.
+pub fn root_is_moved_in()
+    ensures { RootIsMovedIn }
+{}
+
+/// A destination with its own storage root is itself.
+pub fn root_is_its_own()
+    ensures { RootIsItsOwn }
 {}

@@ -86,5 +86,15 @@ fn each_law_can_be_called(_rt: HostRuntime) -> Result<(), Fail> {
     laws::end_line_tells_numbers();
     laws::each_line_is_counted();
     laws::counts_grow();
+    laws::rerun_ends_alike();
+    laws::root_stays_without_staging();
+    laws::roots_have_no_gaps();
+    laws::after_grows();
+    laws::after_stays();
+    laws::folders_grow();
+    laws::root_is_made_in_place();
+    laws::object_is_moved_in();
+    laws::root_is_moved_in();
+    laws::root_is_its_own();
     Ok(())
 }
