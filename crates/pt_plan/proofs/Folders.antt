@@ -3,7 +3,7 @@ use Rattle.std.proofs.Common.{◌≡◌, ℕ, zero, suc, ◌<◌, ◌≤◌, Lis
 use Rattle.std.specs.Prelude.{cond, ◌&&◌, ◌||◌, not, Option, None, Some, is_some}
 use Rattle.std.specs.List.{list_all, list_any}
 use Rattle.std.specs.Str.{bytes_eq}
-use Rattle.std.proofs.lemmas.Bool.{and_from, and_parts, cases_lt, false≢true, true≢false, not-true}
+use Rattle.std.proofs.lemmas.Bool.{and_from, and_parts, cases_lt, false≢true, true≢false, not-true, or_right}
 use Rattle.pt_object.proofs.Ways.{bytes_eq-sym, is_same, leads, path_itself}
 use Rattle.pt_object.specs.Script.{folders_above}
 use Rattle.pt_tree.specs.Path.{Path, rest_below, same_path}
@@ -63,9 +63,9 @@ shorter : (q p : Path) → leads q p ≡ true → leads p q ≡ false → length
 shorter q p on off = elim (cases_lt (length q) (length p)) [
   | inl less ↦ less
   | inr past ↦ elim (cases_lt (length p) (length q)) [
-      | inl more ↦ absurd (true≢false (sym on ∙ longer q p more))
-      | inr equal ↦ absurd (true≢false (sym itself ∙ ap (λ (r : Path). leads r q) (is_same q p (sym (level q p (omega arith)) ∙ on)) ∙ off))
-    ]
+    | inl more ↦ absurd (true≢false (sym on ∙ longer q p more))
+    | inr equal ↦ absurd (true≢false (sym itself ∙ ap (λ (r : Path). leads r q) (is_same q p (sym (level q p (omega arith)) ∙ on)) ∙ off))
+  ]
 ]
   where
     itself : leads q q ≡ true
@@ -98,8 +98,4 @@ each_one test other [] from h = refl
 each_one test other (p ∷ paths) from h =
     let parts = and_parts (test p) (list_all test paths) h in
     and_from (other p) (list_all other paths) (from p (ap (λ b. b || is_one p paths) (path_itself p)) parts.0)
-    (each_one test other paths (λ q one is. from q (either (same_path q p) one) is) parts.1)
-  where
-    either : (s : Bool) {t : Bool} → t ≡ true → (s || t) ≡ true
-    either true e = refl
-    either false e = e
+    (each_one test other paths (λ q one is. from q (or_right (same_path q p) (is_one q paths) one) is) parts.1)

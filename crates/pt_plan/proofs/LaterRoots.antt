@@ -7,6 +7,7 @@ use Rattle.std.proofs.lemmas.Bool.{and_from, and_parts, false≢true, true≢fal
 use Rattle.std.proofs.lemmas.List.Elements.{All-weaker}
 use Rattle.std.proofs.lemmas.List.Folds.{list_all-append}
 use Rattle.pt_name.specs.Place.{place_of}
+use Rattle.pt_name.specs.Tuples.{Tuples}
 use Rattle.pt_object.specs.FilePaths.{File}
 use Rattle.pt_object.specs.Holding.{IsFree}
 use Rattle.pt_object.specs.Object.{rows_of, bytes_in, stored_files}
@@ -34,11 +35,11 @@ use Rattle.pt_plan.proofs.WithObjects.{AreFoldersTo, IsShort, base_stays, base_t
 
 -- ---- the base
 
-pub new_root_files : (job : Job) → All (λ (file : File). root_of job.tuples file.0 ≡ Some (Bytes file.1)) (root_files_of job.tuples)
-new_root_files job zero d h = refl
-new_root_files job (suc zero) d h = refl
-new_root_files job (suc (suc zero)) d h = refl
-new_root_files job (suc (suc (suc k))) d h = absurd (omega arith)
+pub new_root_files : (tuples : Tuples) → All (λ (file : File). root_of tuples file.0 ≡ Some (Bytes file.1)) (root_files_of tuples)
+new_root_files tuples zero d h = refl
+new_root_files tuples (suc zero) d h = refl
+new_root_files tuples (suc (suc zero)) d h = refl
+new_root_files tuples (suc (suc (suc k))) d h = absurd (omega arith)
 
 all_ways : (job : Job) (objects : List Carried) → list_all (is_way_free job (root_of job.tuples)) objects ≡ true
 all_ways job [] = refl
@@ -53,7 +54,7 @@ base_ready : (job : Job) (source : Forest) (root : Tree) → IsTarget job source
 base_ready job source root target = by (root []) refl target
   where
     by : (o : Option Entry) → root [] ≡ o → IsTarget job source root → IsReady job (all_carried job source root) (base_where job.tuples root o)
-    by None e target = record { files = new_root_files job; ways = all_ways job (all_carried job source root) }
+    by None e target = record { files = new_root_files job.tuples; ways = all_ways job (all_carried job source root) }
     by (Some entry) e (inl free) = let none : None ≡ Some entry = sym (free []) ∙ e in absurd (cc)
     by (Some entry) e (inr usable) = record { files = usable.files; ways = usable.ways }
 
@@ -125,10 +126,10 @@ ends_later job source root k folders rooted target to =
         ways = subst (λ (l : List Carried). list_all (is_way_free job later) l ≡ true) (sym again) (ways_stay job first folders start rest parts.1);
       });
       same =
-        ap (λ (l : List Carried). with_objects job l (base job.tuples later)) again
-        ∙ ap (with_objects job rest) (base_stays job later stands)
-        ∙ in_two_lots job first rest folders start to
-        ∙ ap (λ (l : List Carried). with_objects job l start) (sym (carried_in_two job source root k));
+          ap (λ (l : List Carried). with_objects job l (base job.tuples later)) again
+          ∙ ap (with_objects job rest) (base_stays job later stands)
+          ∙ in_two_lots job first rest folders start to
+          ∙ ap (λ (l : List Carried). with_objects job l start) (sym (carried_in_two job source root k));
     }
 
 -- ---- what a fault leaves
@@ -148,10 +149,10 @@ next_folders job source root k tuples object (m, at, is) path h =
     ap (carried job) (drop_at (marked job source root) k m at) ∙ ap (λ (l : List Carried). l ++ carried job (drop (suc k) (marked job source root))) is in
     (short_as job object.id path above.short, ap (λ (l : List Carried). is_on_the_way job l path) next ∙ ap (λ b. b || is_on_the_way job (carried job (drop (suc k) (marked job source root))) path) above.on)
 
-no_folders : (job : Job) (objects : List Carried) → AreFoldersTo job objects []
+pub no_folders : (job : Job) (objects : List Carried) → AreFoldersTo job objects []
 no_folders job objects path h = absurd (false≢true h)
 
-without_folders : (t : Tree) → with_folders [] t ≡ t
+pub without_folders : (t : Tree) → with_folders [] t ≡ t
 without_folders t i path = stands_with_folders [] t path refl i
 
 -- a root that isn't changed

@@ -3,10 +3,12 @@ pub mod Counts
 pub mod FilesInOrder
 pub mod Folders
 pub mod Growing
+pub mod Kept
 pub mod LaterRoots
 pub mod Levels
 pub mod MovedIn
 pub mod NextObject
+pub mod OtherTurns
 pub mod PlaceShapes
 pub mod Rerun
 pub mod Reserved

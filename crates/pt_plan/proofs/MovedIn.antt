@@ -16,16 +16,13 @@ use Rattle.pt_plan.specs.GrowthLaws.{FoldersGrow, HasNoGaps, ObjectIsMovedIn, Ro
 use Rattle.pt_plan.specs.PlaceLaws.{IsRooted}
 use Rattle.pt_plan.specs.Roots.{root_in, storage_root, with_folders, with_root}
 use Rattle.pt_plan.proofs.Folders.{is_one}
+use Rattle.pt_plan.proofs.Growing.{append_nil}
 use Rattle.pt_plan.proofs.Levels.{whole_of}
 
 -- ---- a root of a destination
 
 gap_below : (t : Tree) → IsTree t → (path : Path) (q : Path) → t path ≡ None → t (path ++ q) ≡ None
-gap_below t tree path [] none = ap t (append_nothing path) ∙ none
-  where
-    append_nothing : (xs : Path) → xs ++ [] ≡ xs
-    append_nothing [] = refl
-    append_nothing (x ∷ xs) = ap (λ (ys : Path). x ∷ ys) (append_nothing xs)
+gap_below t tree path [] none = ap t (append_nil path) ∙ none
 gap_below t tree path (name ∷ q) none = ap t (sym (append_assoc path (name ∷ []) q)) ∙ gap_below t tree (path ++ name ∷ []) q (by (t (path ++ name ∷ [])) refl)
   where
     by : (o : Option Entry) → t (path ++ name ∷ []) ≡ o → o ≡ None

@@ -57,7 +57,7 @@ none_where None h = refl
 none_where (Some entry) h = absurd (true≢false h)
 
 -- nothing stands at its place before
-place_is_free : (job : Job) (source : Forest) (root : Tree) (k : ℕ) (object : Carried) → HasNoGaps root → IsCarriedAs job source root k object → after job source root k (place_of_carried job object) ≡ None
+pub place_is_free : (job : Job) (source : Forest) (root : Tree) (k : ℕ) (object : Carried) → HasNoGaps root → IsCarriedAs job source root k object → after job source root k (place_of_carried job object) ≡ None
 place_is_free job source root k object gaps (m, at, is) =
     let next = next_named job object m.1 m.0.verdict is in
     none_where (after job source root k (place_of_carried job object)) (next_place_stands_where_taken job source root k m object.id next.from (gaps []) at next.named ∙ next.free)

@@ -2,7 +2,7 @@
 use Rattle.std.proofs.Common.{◌≡◌, ℕ, zero, suc, ◌<◌, List, [], ◌∷◌, ◌++◌, Bool, true, false, refl, sym, ◌∙◌, ap, subst, arith, cond, drop, take, map, append_assoc, ◌&&◌}
 use Rattle.std.specs.Prelude.{◌||◌, Option, None, Some, flat_map, is_none, is_some}
 use Rattle.std.specs.List.{list_all, list_any}
-use Rattle.std.proofs.lemmas.Bool.{and_parts, false≢true, true≢false, not-true}
+use Rattle.std.proofs.lemmas.Bool.{and_parts, false≢true, not-true, or_right}
 use Rattle.std.proofs.lemmas.Grind.{flat_map-append}
 use Rattle.std.proofs.lemmas.List.{take-append-drop}
 use Rattle.std.proofs.lemmas.List.Folds.{list_any-append}
@@ -42,11 +42,7 @@ none_again taken id job object tells = by (cause_of job.limits object) taken tel
 -- the place of one of some items is claimed
 claimed : (job : Job) (place : Path) (before : List Item) (item : Item) (others : List Item) → claims job place item ≡ true → list_any (claims job place) (before ++ item ∷ others) ≡ true
 claimed job place before item others h =
-    list_any-append (claims job place) before (item ∷ others) ∙ ap (λ b. list_any (claims job place) before || (b || list_any (claims job place) others)) h ∙ by (list_any (claims job place) before)
-  where
-    by : (t : Bool) → (t || true) ≡ true
-    by true = refl
-    by false = refl
+    list_any-append (claims job place) before (item ∷ others) ∙ ap (λ b. list_any (claims job place) before || (b || list_any (claims job place) others)) h ∙ or_right (list_any (claims job place) before) true refl
 
 done_again : (job : Job) (root later : Tree) (done : List Item) → HoldsItems job root later done
     → (before item_and_others earlier : List Item) → before ++ item_and_others ≡ done → list_all (free_item job) item_and_others ≡ true → carried job (marked_after job later earlier item_and_others) ≡ []
@@ -72,11 +68,7 @@ done_again job root later done holds before (item ∷ others) earlier are open_p
             holds id (not-true (is_reserved job id) h)
             ∙ ap (λ (l : List Item). is_taken_place job root l (place_of job.tuples id)) (sym are)
             ∙ ap (λ b. is_some (root (place_of job.tuples id)) || b) (claimed job (place_of job.tuples id) before item others (mine clear))
-            ∙ or_true (is_some (root (place_of job.tuples id)))
-          where
-            or_true : (t : Bool) → (t || true) ≡ true
-            or_true true = refl
-            or_true false = refl
+            ∙ or_right (is_some (root (place_of job.tuples id))) true refl
 
 -- ---- and the others are taken where they were
 

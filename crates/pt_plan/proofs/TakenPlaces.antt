@@ -3,7 +3,7 @@ use Rattle.std.proofs.Common.{◌≡◌, ℕ, zero, suc, List, [], ◌∷◌, �
 use Rattle.std.specs.Prelude.{◌||◌, ◌&&◌, Option, None, Some, is_none, is_some, slice_get}
 use Rattle.std.specs.List.{list_any}
 use Rattle.std.specs.Option.{option_and_then, option_map, option_or}
-use Rattle.std.proofs.lemmas.Bool.{false≢true}
+use Rattle.std.proofs.lemmas.Bool.{false≢true, or_right}
 use Rattle.std.proofs.lemmas.List.Folds.{list_any-append}
 use Rattle.pt_name.specs.Place.{place_of}
 use Rattle.pt_object.proofs.Ways.{is_same, leads}
@@ -64,11 +64,7 @@ some_below job id (object ∷ objects) h = by (entry_of_object job (place_of job
         → is_some (option_or o (entry_of_objects job objects (place_of job.tuples id))) ≡ true
         → (has job (place_of job.tuples id) object || list_any (has job (place_of job.tuples id)) objects) ≡ true
     by (Some entry) is later h = ap (λ b. b || list_any (has job (place_of job.tuples id)) objects) (here (ap is_some is))
-    by None is later h = either (has job (place_of job.tuples id) object) (later h)
-      where
-        either : (s : Bool) {t : Bool} → t ≡ true → (s || t) ≡ true
-        either true e = refl
-        either false e = e
+    by None is later h = or_right (has job (place_of job.tuples id) object) (list_any (has job (place_of job.tuples id)) objects) (later h)
 
 -- at a place something stands with some objects exactly where it stood before, or one of them has the place
 pub stands_with_objects : (job : Job) (id : List ℕ) (objects : List Carried) (t : Tree)

@@ -13,6 +13,7 @@ use Rattle.pt_object.specs.Root.{root_of}
 use Rattle.pt_object.specs.RootFiles.{config_text, layout_text, root_files_of}
 use Rattle.pt_tree.specs.Tree.{Bytes, Entry, bytes_of}
 use Rattle.pt_plan.specs.Carried.{IsUsable}
+use Rattle.pt_plan.proofs.LaterRoots.{new_root_files}
 use Rattle.pt_plan.specs.WorkedStores.{flat_job, store_of_one_object, worked_job}
 use Rattle.pt_plan.specs.Worked.{UsableRootsAreTold, WorkOfSkips, altered_root, BadNamesLog, DividedLog, EmptyStoreLog, ExtensionsLog, OneIdentifierFlatLog, OneObjectFlatLog, OneObjectIsNamed, PrefixIsRead, StoresAreKnown, StraysLog, FirstBadEntryCounts, LengthsAreLimited, DepthsAreLimited, EmptyDirectoriesAreCounted, DividedSitesAreGathered, OneObjectIsCarried, WorkOfFirstRuns, WorkWithOtherTuples, BoundOfEmptyStore, SecondRunCarriesNothing, WorkOfSecondRun, WorkOfGathering, BoundOfEqualContents, BoundOfGathering, OneObjectLog, LinesComeInOrder, LineFeedLog, PresentComesFirst, WaysAreTold, DepthsOfChains}
 
@@ -138,12 +139,6 @@ depths_of_chains = (refl, refl, refl)
 pub work_of_skips : WorkOfSkips
 unfolding is_utf8 chars encode
 work_of_skips = (refl, refl)
-
-new_root_files : (tuples : Tuples) → All (λ file. root_of tuples file.0 ≡ Some (Bytes file.1)) (root_files_of tuples)
-new_root_files tuples zero d h = refl
-new_root_files tuples (suc zero) d h = refl
-new_root_files tuples (suc (suc zero)) d h = refl
-new_root_files tuples (suc (suc (suc k))) d h = absurd (omega arith)
 
 -- the file is there and holds these bytes
 holds : List ℕ → Option Entry → Bool

@@ -41,10 +41,10 @@ pub data IsLeft (job : Job) (source : Forest) (start : Tree) : Tree → List ℕ
   AsItWas : IsLeft job source start start []
   MakingRoot : (now : Tree) → IsFree (root_in start) [] → StandsAtPrefix (root_script job.tuples) start now → IsLeft job source start now []
   Between : (k : ℕ) (log : List ℕ) → k ≤ length (items job source) → IsLogAfter job source (root_in start) k log
-    → IsLeft job source start (with_root start (after job source (root_in start) k)) log
+      → IsLeft job source start (with_root start (after job source (root_in start) k)) log
   Carrying : (k tuples : ℕ) (object : Carried) (now : Tree) (log : List ℕ) → IsCarriedAs job source (root_in start) k object → IsLogAfter job source (root_in start) k log
-    → StandsAtPrefix (script_of object.id object.files job.meta job.algorithm) (with_root start (on_the_way_to job source (root_in start) k object tuples)) now
-    → IsLeft job source start now log
+      → StandsAtPrefix (script_of object.id object.files job.meta job.algorithm) (with_root start (on_the_way_to job source (root_in start) k object tuples)) now
+      → IsLeft job source start now log
 
 -- nothing was changed, and nothing told
 abbrev pub IsUntouched : Tree → Tree → List ℕ → Type 0

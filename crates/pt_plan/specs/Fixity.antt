@@ -44,8 +44,8 @@ pub data IsKept (job : Job) (start : Tree) : Tree → Type 0 where
   AsItWas : IsKept job start start
   MakingRoot : (now : Tree) → IsFree (root_in start) [] → StandsAtPrefix (root_script job.tuples) start now → IsKept job start now
   Holding : (objects : List Carried) → come_to_free_places job (base job.tuples (root_in start)) objects ≡ true
-    → IsKept job start (with_root start (with_objects job objects (base job.tuples (root_in start))))
+      → IsKept job start (with_root start (with_objects job objects (base job.tuples (root_in start))))
   Making : (objects : List Carried) (next : Carried) (tuples : ℕ) (now : Tree) → come_to_free_places job (base job.tuples (root_in start)) (objects ++ next ∷ []) ≡ true
-    → StandsAtPrefix (script_of next.id next.files job.meta job.algorithm) (with_root start (with_folders (take tuples (tuple_folders job next)) (with_objects job objects (base job.tuples (root_in start))))) now
-    ⊎ StandsAtContent (script_of next.id next.files job.meta job.algorithm) (with_root start (with_folders (take tuples (tuple_folders job next)) (with_objects job objects (base job.tuples (root_in start))))) now
-    → IsKept job start now
+      → StandsAtPrefix (script_of next.id next.files job.meta job.algorithm) (with_root start (with_folders (take tuples (tuple_folders job next)) (with_objects job objects (base job.tuples (root_in start))))) now
+      ⊎ StandsAtContent (script_of next.id next.files job.meta job.algorithm) (with_root start (with_folders (take tuples (tuple_folders job next)) (with_objects job objects (base job.tuples (root_in start))))) now
+      → IsKept job start now

@@ -4,6 +4,7 @@ pub mod CountLaws
 pub mod Faults
 pub mod FileLaws
 pub mod Fixity
+pub mod FixityLaws
 pub mod GrowthLaws
 pub mod ItemLaws
 pub mod Items

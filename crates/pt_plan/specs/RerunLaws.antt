@@ -7,6 +7,7 @@ use Rattle.pt_tree.specs.Tree.{Tree, without}
 use Rattle.pt_plan.specs.Carried.{IsUsable, after_all}
 use Rattle.pt_plan.specs.Faults.{MayBeLeft}
 use Rattle.pt_plan.specs.Job.{Job}
+use Rattle.pt_plan.specs.Lines.{all_lines}
 use Rattle.pt_plan.specs.PlaceLaws.{IsRooted}
 use Rattle.pt_plan.specs.Roots.{root_in}
 
@@ -29,3 +30,15 @@ RerunEndsAlike =
 -- taking `staging` away leaves the root
 abbrev pub RootStaysWithoutStaging : Type 0
 RootStaysWithoutStaging = (t : Tree) → root_in (without t staging) ≡ root_in t
+
+-- a job with another limit of turns
+abbrev pub with_turns : Job → ℕ → Job
+with_turns job turns = record job { limits = record job.limits { turns = turns } }
+
+-- the limit of turns has no part in what is carried and told
+abbrev pub TurnsHaveNoPart : Type 0
+TurnsHaveNoPart =
+    (job : Job) (turns : ℕ) (source : Forest) (root : Tree)
+    → (after_all (with_turns job turns) source root ≡ after_all job source root)
+    × (all_lines (with_turns job turns) source root ≡ all_lines job source root)
+    × (IsTarget job source root → IsTarget (with_turns job turns) source root)

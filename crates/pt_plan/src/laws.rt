@@ -3,8 +3,9 @@ ghost use Rattle.pt_plan.specs.ItemLaws.{AllItemsAreAll, BeginsWithTheBase, Carr
 ghost use Rattle.pt_plan.specs.FileLaws.{CarriedFilesComeInOrder, FilesComeInOrder};
 ghost use Rattle.pt_plan.specs.PlaceLaws.{NamedIsNotReserved, NextPlaceStandsWhereTaken, PlaceStandsWhereTaken};
 ghost use Rattle.pt_plan.specs.CountLaws.{CountsGrow, EachLineIsCounted, EndLineTellsNumbers, LinesTellNumbers};
-ghost use Rattle.pt_plan.specs.RerunLaws.{RerunEndsAlike, RootStaysWithoutStaging};
+ghost use Rattle.pt_plan.specs.RerunLaws.{RerunEndsAlike, RootStaysWithoutStaging, TurnsHaveNoPart};
 ghost use Rattle.pt_plan.specs.GrowthLaws.{AfterGrows, AfterStays, FoldersGrow, ObjectIsMovedIn, RootIsItsOwn, RootIsMadeInPlace, RootIsMovedIn, RootsHaveNoGaps};
+ghost use Rattle.pt_plan.specs.FixityLaws.{FaultsLeaveWhatIsKept, RowsMakeWholeObjects};
 
 /// In the order of the walk the files of a directory have logical paths that come in order, none leading to another: what
 /// the laws on objects ask of them.
@@ -134,4 +135,21 @@ pub fn root_is_moved_in()
 /// A destination with its own storage root is itself.
 pub fn root_is_its_own()
     ensures { RootIsItsOwn }
+{}
+
+/// What a fault leaves of a source that tells is such as is left of any source: objects at places where nothing stood,
+/// each whole.
+pub fn faults_leave_what_is_kept()
+    ensures { FaultsLeaveWhatIsKept }
+{}
+
+/// An object made of rows of which none leads to another is whole, with what is held where their contents are stored.
+/// It is the object of those files where that has the rows' digests.
+pub fn rows_make_whole_objects()
+    ensures { RowsMakeWholeObjects }
+{}
+
+/// The limit of turns has no part in what is carried and told: a run with another one leaves the same root.
+pub fn turns_have_no_part()
+    ensures { TurnsHaveNoPart }
 {}

@@ -96,5 +96,8 @@ fn each_law_can_be_called(_rt: HostRuntime) -> Result<(), Fail> {
     laws::object_is_moved_in();
     laws::root_is_moved_in();
     laws::root_is_its_own();
+    laws::faults_leave_what_is_kept();
+    laws::rows_make_whole_objects();
+    laws::turns_have_no_part();
     Ok(())
 }
