@@ -1,11 +1,10 @@
 -- The numbers of a run's lines are numbers of its items.
 use Rattle.std.proofs.Common.{◌≡◌, ℕ, ◌+◌, List, [], ◌∷◌, ◌++◌, Bool, true, false, length, refl, sym, ◌∙◌, ap, arith, cond, take, length-append}
-use Rattle.std.specs.Prelude.{◌&&◌, ◌||◌, Option, None, Some, count_by, flat_map, is_some, not}
+use Rattle.std.specs.Prelude.{◌||◌, Option, None, Some, count_by, flat_map, is_some, not}
 use Rattle.std.specs.List.{list_all}
 use Rattle.std.proofs.lemmas.Bool.{and_from, and_parts, false≢true}
 use Rattle.std.proofs.lemmas.List.Sums.{sum_by-append}
 use Rattle.pt_name.specs.Place.{place_of}
-use Rattle.pt_object.specs.FilePaths.{File}
 use Rattle.pt_tree.specs.Path.{Path}
 use Rattle.pt_tree.specs.Tree.{Tree}
 use Rattle.pt_walk.specs.Object.{entries, files}

@@ -1,6 +1,6 @@
 -- The folders above a path: shorter paths that lead to it.
-use Rattle.std.proofs.Common.{◌≡◌, ℕ, zero, suc, ◌<◌, ◌≤◌, List, [], ◌∷◌, ◌++◌, Bool, true, false, length, refl, sym, ◌∙◌, ap, arith, inl, inr, map, take}
-use Rattle.std.specs.Prelude.{cond, ◌&&◌, ◌||◌, not, Option, None, Some, is_some}
+use Rattle.std.proofs.Common.{◌≡◌, ℕ, zero, suc, ◌<◌, List, [], ◌∷◌, Bool, true, false, length, refl, sym, ◌∙◌, ap, arith, inl, inr, map, take}
+use Rattle.std.specs.Prelude.{cond, ◌&&◌, ◌||◌, not, None, Some, is_some}
 use Rattle.std.specs.List.{list_all, list_any}
 use Rattle.std.specs.Str.{bytes_eq}
 use Rattle.std.proofs.lemmas.Bool.{and_from, and_parts, cases_lt, false≢true, true≢false, not-true, or_right}

@@ -12,7 +12,7 @@ use Rattle.pt_object.specs.declared.rows.Row.{Row}
 use Rattle.pt_tree.specs.Forest.{Forest, is_proper}
 use Rattle.pt_tree.specs.Path.{Path}
 use Rattle.pt_tree.specs.Tree.{Tree}
-use Rattle.pt_plan.specs.Carried.{Carried, Marked, after, carried, carried_among, carried_by, carried_by_outcome, marked, place_of_carried, with_objects}
+use Rattle.pt_plan.specs.Carried.{Carried, Marked, carried, carried_among, carried_by, carried_by_outcome, marked, with_objects}
 use Rattle.pt_plan.specs.Faults.{AsItWas, Between, Carrying, IsCarriedAs, IsLeft, MakingRoot}
 use Rattle.pt_plan.specs.FileLaws.{comes_in_order}
 use Rattle.pt_plan.specs.Fixity.{Holding, IsKept, Making, come_to_free_places, is_place_free, is_whole}

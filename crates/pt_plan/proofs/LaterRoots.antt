@@ -1,25 +1,23 @@
 -- A root that a fault leaves is usable, and a run over it ends as one over the first.
-use Rattle.std.proofs.Common.{◌≡◌, ℕ, zero, suc, ◌<◌, List, [], ◌∷◌, ◌++◌, Bool, true, false, length, refl, sym, ◌∙◌, ap, subst, arith, drop, take, inl, inr}
-use Rattle.std.specs.Prelude.{◌||◌, ◌⊎◌, All, Option, None, Some, is_some, slice_get}
+use Rattle.std.proofs.Common.{◌≡◌, ℕ, zero, suc, List, [], ◌∷◌, ◌++◌, Bool, true, false, refl, sym, ◌∙◌, ap, subst, arith, drop, take, inl, inr}
+use Rattle.std.specs.Prelude.{◌||◌, All, Option, None, Some, is_some, slice_get}
 use Rattle.std.specs.List.{list_all}
 use Rattle.std.specs.Option.{option_or}
-use Rattle.std.proofs.lemmas.Bool.{and_from, and_parts, false≢true, true≢false, false_from_ne_true}
+use Rattle.std.proofs.lemmas.Bool.{and_from, and_parts, false≢true, false_from_ne_true}
 use Rattle.std.proofs.lemmas.List.Elements.{All-weaker}
 use Rattle.std.proofs.lemmas.List.Folds.{list_all-append}
 use Rattle.pt_name.specs.Place.{place_of}
 use Rattle.pt_name.specs.Tuples.{Tuples}
 use Rattle.pt_object.specs.FilePaths.{File}
-use Rattle.pt_object.specs.Holding.{IsFree}
 use Rattle.pt_object.specs.Object.{rows_of, bytes_in, stored_files}
 use Rattle.pt_object.specs.Inventory.{inventory_text}
 use Rattle.pt_object.specs.Root.{base, base_where, root_of}
 use Rattle.pt_object.specs.RootFiles.{root_files_of}
 use Rattle.pt_object.specs.Scripts.{object_items, root_items}
-use Rattle.pt_object.proofs.Ways.{leads}
 use Rattle.pt_tree.specs.Forest.{Forest}
 use Rattle.pt_tree.specs.Path.{Path}
-use Rattle.pt_tree.specs.Tree.{Bytes, Entry, Folder, Special, Tree}
-use Rattle.pt_plan.specs.Carried.{Carried, IsUsable, Marked, after, after_all, all_carried, carried, carried_among, carried_by, entry_of_objects, folder_where, is_folder_or_free, is_on_the_way, is_way_free, marked, place_of_carried, with_objects}
+use Rattle.pt_tree.specs.Tree.{Bytes, Entry, Tree}
+use Rattle.pt_plan.specs.Carried.{Carried, after, all_carried, carried, carried_among, entry_of_objects, folder_where, is_folder_or_free, is_on_the_way, is_way_free, marked, place_of_carried, with_objects}
 use Rattle.pt_plan.specs.Faults.{AsItWas, Between, Carrying, IsCarriedAs, IsLeft, MakingRoot, on_the_way_to}
 use Rattle.pt_plan.specs.Items.{items}
 use Rattle.pt_plan.specs.Job.{Job}
@@ -31,7 +29,7 @@ use Rattle.pt_plan.proofs.PlaceShapes.{new_root_ways}
 use Rattle.pt_plan.proofs.Rerun.{HoldsItems, carried_again, carried_in_two, left_after}
 use Rattle.pt_plan.proofs.StagingKeeps.{root_at_prefix}
 use Rattle.pt_plan.proofs.TakenPlaces.{place_stands_where_taken}
-use Rattle.pt_plan.proofs.WithObjects.{AreFoldersTo, IsShort, base_stays, base_top, in_two_lots, none_of_objects, short_as, stands_with_folders, way-append}
+use Rattle.pt_plan.proofs.WithObjects.{AreFoldersTo, base_stays, base_top, in_two_lots, none_of_objects, short_as, stands_with_folders}
 
 -- ---- the base
 

@@ -1,9 +1,9 @@
 -- Paths of one length, and longer ones.
-use Rattle.std.proofs.Common.{◌≡◌, ℕ, ◌<◌, ◌≤◌, List, [], ◌∷◌, ◌++◌, Bool, true, false, length, refl, sym, ◌∙◌, ap, arith}
-use Rattle.std.specs.Prelude.{cond, ◌&&◌, Option, None, Some, is_some}
+use Rattle.std.proofs.Common.{◌≡◌, ℕ, ◌<◌, List, [], ◌∷◌, ◌++◌, Bool, true, false, length, refl, sym, ◌∙◌, ap, arith}
+use Rattle.std.specs.Prelude.{cond, ◌&&◌, None, Some, is_some}
 use Rattle.std.specs.Str.{bytes_eq}
-use Rattle.std.proofs.lemmas.Bool.{false≢true, true≢false, false_from_ne_true}
-use Rattle.pt_object.proofs.Ways.{is_same, leads, name_itself, path_itself, same_name}
+use Rattle.std.proofs.lemmas.Bool.{false≢true, true≢false}
+use Rattle.pt_object.proofs.Ways.{is_same, leads, path_itself, same_name}
 use Rattle.pt_tree.specs.Path.{Path, rest_below, same_path}
 
 -- the rest of a path, behind the path that it is below

@@ -1,17 +1,17 @@
 -- With one item more, its object stands at its place, and the rest of the root with its tuple directories stays.
-use Rattle.std.proofs.Common.{◌≡◌, ℕ, zero, suc, ◌+◌, ◌<◌, List, [], ◌∷◌, ◌++◌, Bool, true, false, length, refl, sym, ◌∙◌, ap, subst, arith, cond, take, length-append}
-use Rattle.std.specs.Prelude.{◌||◌, ◌&&◌, Option, None, Some, is_none, is_some, not, slice_get}
+use Rattle.std.proofs.Common.{◌≡◌, ℕ, suc, List, [], ◌∷◌, ◌++◌, Bool, true, false, refl, sym, ◌∙◌, ap, cond}
+use Rattle.std.specs.Prelude.{◌||◌, ◌&&◌, Option, None, Some, is_some, not}
 use Rattle.std.specs.Option.{option_and_then, option_or}
-use Rattle.std.proofs.lemmas.Bool.{false≢true, false_from_ne_true, true≢false}
+use Rattle.std.proofs.lemmas.Bool.{false_from_ne_true, true≢false}
 use Rattle.pt_object.proofs.Ways.{leads, leads-itself, leads-longer, leads-on, name_itself}
 use Rattle.pt_object.specs.Holding.{placed, placed_at}
 use Rattle.pt_object.specs.Object.{object_of}
-use Rattle.pt_object.specs.Root.{base, base_where, root_of}
+use Rattle.pt_object.specs.Root.{base, base_where}
 use Rattle.pt_name.specs.Place.{place_of}
 use Rattle.pt_tree.specs.Forest.{Forest}
 use Rattle.pt_tree.specs.Path.{Path, rest_below}
 use Rattle.pt_tree.specs.Tree.{Entry, Folder, Tree}
-use Rattle.pt_plan.specs.Carried.{Carried, Marked, after, carried_among, carried_by, carried_by_outcome, entry_of_object, entry_of_objects, folder_where, is_on_the_way, marked, place_of_carried, with_objects}
+use Rattle.pt_plan.specs.Carried.{Carried, after, carried_among, carried_by, carried_by_outcome, entry_of_object, entry_of_objects, folder_where, is_on_the_way, place_of_carried, with_objects}
 use Rattle.pt_plan.specs.Faults.{IsCarriedAs}
 use Rattle.pt_plan.specs.GrowthLaws.{AfterGrows, AfterStays, HasNoGaps}
 use Rattle.pt_plan.specs.Items.{Fails, Holds, Interior, Named, Outcome, PairtreeObject, Skip, Verdict, is_reserved, outcome}

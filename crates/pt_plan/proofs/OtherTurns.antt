@@ -8,7 +8,7 @@ use Rattle.pt_name.specs.Reading.{reading_of}
 use Rattle.pt_object.specs.Root.{base}
 use Rattle.pt_tree.specs.Forest.{Forest, File as a_file, Dir, Other, listing_of}
 use Rattle.pt_tree.specs.Path.{Path, same_path}
-use Rattle.pt_tree.specs.Tree.{Entry, Tree}
+use Rattle.pt_tree.specs.Tree.{Tree}
 use Rattle.pt_walk.specs.Left.{entries_from}
 use Rattle.pt_walk.specs.Limits.{Bounds}
 use Rattle.pt_walk.specs.Object.{Entry as an_entry, bad_or, entries, entry_cause, files, files_with, first_bad}
@@ -18,10 +18,10 @@ use Rattle.pt_walk.specs.declared.cause.Cause.{Cause}
 use Rattle.pt_walk.specs.declared.cause.Cause.TheVariants as cause
 use Rattle.pt_walk.specs.declared.site.Finding.{Finding}
 use Rattle.pt_walk.specs.declared.site.Finding.TheVariants as finding
-use Rattle.pt_plan.specs.Carried.{Carried, IsUsable, Marked, all_carried, carried, carried_by, carried_by_outcome, entry_of_object, entry_of_objects, folder_where, has_place, is_on_the_way, is_taken, is_way_free, marked, marked_after, with_objects}
+use Rattle.pt_plan.specs.Carried.{Carried, Marked, all_carried, carried, carried_by, carried_by_outcome, entry_of_object, entry_of_objects, folder_where, has_place, is_on_the_way, is_taken, is_way_free, marked, marked_after, with_objects}
 use Rattle.pt_plan.specs.Items.{Interior, Item, Named, PairtreeObject, Skip, Verdict, cause_of, encapsulated, gathered_from, is_too_deep, item_of, items, outcome_by, verdict_by_finding, verdict_by_reading, verdict_of, verdict_on_candidate}
 use Rattle.pt_plan.specs.Job.{Job, form_of}
-use Rattle.pt_plan.specs.Lines.{Line, all_lines, line_by_outcome, line_by_verdict, line_of}
+use Rattle.pt_plan.specs.Lines.{line_by_outcome, line_by_verdict, line_of}
 use Rattle.pt_plan.specs.RerunLaws.{IsTarget, TurnsHaveNoPart, with_turns}
 use Rattle.pt_plan.specs.Store.{prefix_of, sites_of}
 

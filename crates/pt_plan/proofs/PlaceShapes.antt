@@ -1,16 +1,16 @@
 -- Places of one layout have as many names, and none is a root file or a folder above one.
-use Rattle.std.proofs.Common.{◌≡◌, ℕ, zero, suc, ◌+◌, ◌/◌, ◌%◌, ◌<◌, ◌==◌, ◌||◌, ◌&&◌, List, [], ◌∷◌, ◌++◌, Bool, true, false, cond, length, map, take, drop, refl, sym, ◌∙◌, ap, arith, inl, inr, nat_le}
+use Rattle.std.proofs.Common.{◌≡◌, ℕ, zero, suc, ◌/◌, ◌%◌, ◌==◌, ◌||◌, ◌&&◌, List, [], ◌∷◌, ◌++◌, Bool, true, false, cond, length, map, take, drop, refl, sym, ◌∙◌, ap, arith, inl, inr, nat_le}
 use Rattle.std.specs.Prelude.{All, Option, None, Some, codes, is_some, not, slice_index}
 use Rattle.std.specs.List.{list_all}
 use Rattle.std.specs.Str.{bytes_eq}
-use Rattle.std.proofs.lemmas.Bool.{and_from, and_parts, cases_lt, false≢true, true≢false, false_from_ne_true}
+use Rattle.std.proofs.lemmas.Bool.{and_from, and_parts, cases_lt, true≢false, false_from_ne_true}
 use Rattle.std.proofs.lemmas.List.{get_or_past}
 use Rattle.std.proofs.lemmas.List.Elements.{All-cons, All-get_or, All-nil}
 use Rattle.std.proofs.lemmas.List.Folds.{list_all-append}
 use Rattle.hex.specs.Hex.{encode_lower, encode_with, lower_digits}
 use Rattle.sha2.specs.Sha256.{sha256}
 use Rattle.pt_name.specs.Hex.{hex_pair}
-use Rattle.pt_name.specs.Place.{digest_text, encoded_of, encoded_spelling, is_safe, last_name_of, place_of, shortened, tuples_from}
+use Rattle.pt_name.specs.Place.{digest_text, encoded_of, encoded_spelling, is_safe, last_name_of, place_of, tuples_from}
 use Rattle.pt_name.specs.Tuples.{Tuples}
 use Rattle.pt_object.proofs.Ways.{same_name}
 use Rattle.pt_object.specs.Root.{base, base_where, root_of}

@@ -1,6 +1,6 @@
 -- What is carried into a root that holds what the first items brought: the rest.
-use Rattle.std.proofs.Common.{◌≡◌, ℕ, zero, suc, ◌<◌, List, [], ◌∷◌, ◌++◌, Bool, true, false, refl, sym, ◌∙◌, ap, subst, arith, cond, drop, take, map, append_assoc, ◌&&◌}
-use Rattle.std.specs.Prelude.{◌||◌, Option, None, Some, flat_map, is_none, is_some}
+use Rattle.std.proofs.Common.{◌≡◌, ℕ, zero, suc, List, [], ◌∷◌, ◌++◌, Bool, true, false, refl, sym, ◌∙◌, ap, cond, drop, take, append_assoc, ◌&&◌}
+use Rattle.std.specs.Prelude.{◌||◌, Option, None, Some, is_none, is_some}
 use Rattle.std.specs.List.{list_all, list_any}
 use Rattle.std.proofs.lemmas.Bool.{and_parts, false≢true, not-true, or_right}
 use Rattle.std.proofs.lemmas.Grind.{flat_map-append}
@@ -10,19 +10,16 @@ use Rattle.pt_name.specs.Place.{place_of}
 use Rattle.pt_object.proofs.Ways.{path_itself}
 use Rattle.pt_tree.specs.Forest.{Forest}
 use Rattle.pt_tree.specs.Path.{Path, same_path}
-use Rattle.pt_tree.specs.Tree.{Entry, Tree}
+use Rattle.pt_tree.specs.Tree.{Tree}
 use Rattle.pt_walk.specs.Object.{entries, files}
 use Rattle.pt_walk.specs.declared.cause.Cause.{Cause}
-use Rattle.pt_plan.specs.Carried.{Carried, Marked, after, after_all, all_carried, carried, carried_among, carried_by, carried_by_outcome, has_place, is_taken, is_taken_place, marked, marked_after, with_objects}
+use Rattle.pt_plan.specs.Carried.{Carried, Marked, all_carried, carried, carried_among, carried_by, carried_by_outcome, has_place, is_taken, is_taken_place, marked, marked_after}
 use Rattle.pt_plan.specs.Items.{Interior, Item, Named, PairtreeObject, Skip, Verdict, cause_of, is_reserved, items, outcome_by}
 use Rattle.pt_plan.specs.Job.{Job}
-use Rattle.pt_plan.specs.PlaceLaws.{IsRooted}
-use Rattle.pt_plan.specs.Roots.{with_folders}
 use Rattle.pt_plan.proofs.CarriedFiles.{all_take}
-use Rattle.pt_plan.proofs.Folders.{is_one}
 use Rattle.pt_plan.proofs.Growing.{append_nil}
 use Rattle.pt_plan.proofs.Reserved.{all_free, free, free_item}
-use Rattle.pt_plan.proofs.TakenPlaces.{claims, place_stands_where_taken}
+use Rattle.pt_plan.proofs.TakenPlaces.{claims}
 
 -- a root in which something stands at a place exactly where it is taken in another by these items
 abbrev pub HoldsItems : Job → Tree → Tree → List Item → Type 0

@@ -1,14 +1,14 @@
 -- What is made in `staging` leaves the storage root.
-use Rattle.std.proofs.Common.{◌≡◌, ℕ, zero, suc, List, [], ◌∷◌, ◌++◌, Bool, true, false, refl, sym, ◌∙◌, ap, cond, map, take, ◌&&◌}
-use Rattle.std.specs.Prelude.{Option, None, Some, codes, is_some}
+use Rattle.std.proofs.Common.{◌≡◌, ℕ, List, [], ◌∷◌, ◌++◌, Bool, true, false, refl, sym, ◌∙◌, ap, cond, map, take, ◌&&◌}
+use Rattle.std.specs.Prelude.{None, Some, codes, is_some}
 use Rattle.std.specs.List.{list_all}
 use Rattle.std.specs.Str.{bytes_eq}
 use Rattle.std.proofs.lemmas.Bool.{and_from, and_parts, false≢true}
 use Rattle.pt_object.proofs.Ways.{same_name}
-use Rattle.pt_object.specs.Script.{Item, MakeFile, MakeFolder, StandsAtPrefix, cut_item, cut_last, done, item_entry, item_in, item_path, made}
+use Rattle.pt_object.specs.Script.{Item, MakeFile, MakeFolder, StandsAtPrefix, cut_last, done, item_entry, item_in, item_path, made}
 use Rattle.pt_object.specs.Scripts.{staging}
 use Rattle.pt_tree.specs.Path.{Path, rest_below, same_path}
-use Rattle.pt_tree.specs.Tree.{Tree, without}
+use Rattle.pt_tree.specs.Tree.{Tree}
 use Rattle.pt_plan.specs.RerunLaws.{RootStaysWithoutStaging}
 use Rattle.pt_plan.specs.Roots.{root_in, storage_root}
 use Rattle.pt_plan.proofs.CarriedFiles.{all_take}

@@ -1,5 +1,5 @@
 -- Something stands at the place of an item exactly where the place is taken.
-use Rattle.std.proofs.Common.{◌≡◌, ℕ, zero, suc, List, [], ◌∷◌, ◌++◌, Bool, true, false, refl, sym, ◌∙◌, ap, subst, cond, take, append_assoc}
+use Rattle.std.proofs.Common.{◌≡◌, ℕ, zero, suc, List, [], ◌∷◌, ◌++◌, Bool, true, false, refl, sym, ◌∙◌, ap, cond, take, append_assoc}
 use Rattle.std.specs.Prelude.{◌||◌, ◌&&◌, Option, None, Some, is_none, is_some, slice_get}
 use Rattle.std.specs.List.{list_any}
 use Rattle.std.specs.Option.{option_and_then, option_map, option_or}
@@ -14,10 +14,10 @@ use Rattle.pt_tree.specs.Path.{Path, rest_below, same_path}
 use Rattle.pt_tree.specs.Tree.{Entry, Tree}
 use Rattle.pt_walk.specs.Object.{entries, files}
 use Rattle.pt_walk.specs.declared.cause.Cause.{Cause}
-use Rattle.pt_plan.specs.Carried.{Carried, Marked, after, carried, carried_among, carried_by, carried_by_outcome, entry_of_object, entry_of_objects, folder_where, has_place, is_on_the_way, is_taken, is_taken_place, marked, marked_after, place_of_carried, with_objects}
-use Rattle.pt_plan.specs.Items.{Interior, Item, Named, PairtreeObject, Skip, Verdict, cause_of, is_reserved, items, outcome_by}
+use Rattle.pt_plan.specs.Carried.{Carried, Marked, carried, carried_among, carried_by, carried_by_outcome, entry_of_object, entry_of_objects, folder_where, has_place, is_on_the_way, is_taken, is_taken_place, marked, marked_after, place_of_carried, with_objects}
+use Rattle.pt_plan.specs.Items.{Interior, Item, Named, Skip, Verdict, cause_of, items, outcome_by}
 use Rattle.pt_plan.specs.Job.{Job}
-use Rattle.pt_plan.specs.PlaceLaws.{IsRooted, NextPlaceStandsWhereTaken, PlaceStandsWhereTaken}
+use Rattle.pt_plan.specs.PlaceLaws.{NextPlaceStandsWhereTaken, PlaceStandsWhereTaken}
 use Rattle.pt_plan.proofs.Growing.{append_nil, taken_against_earlier}
 use Rattle.pt_plan.proofs.Levels.{level, same_path-sym}
 use Rattle.pt_plan.proofs.PlaceShapes.{as_long, base_at_place}

@@ -1,20 +1,18 @@
 -- Objects and folders in a root, path by path.
-use Rattle.std.proofs.Common.{◌≡◌, ℕ, zero, suc, ◌+◌, ◌<◌, List, [], ◌∷◌, ◌++◌, Bool, true, false, length, refl, sym, ◌∙◌, ap, arith, map, length-append}
+use Rattle.std.proofs.Common.{◌≡◌, ℕ, ◌+◌, ◌<◌, List, [], ◌∷◌, ◌++◌, Bool, true, false, length, refl, sym, ◌∙◌, ap, arith, map, length-append}
 use Rattle.std.specs.Prelude.{◌||◌, Option, None, Some, is_some}
-use Rattle.std.specs.List.{list_any}
 use Rattle.std.specs.Option.{option_and_then, option_or}
 use Rattle.std.proofs.lemmas.Bool.{false≢true, true≢false}
 use Rattle.std.proofs.lemmas.List.Folds.{list_any-append}
 use Rattle.pt_name.specs.Place.{place_of}
-use Rattle.pt_object.specs.Algorithm.{digest_of}
 use Rattle.pt_object.specs.FilePaths.{File}
 use Rattle.pt_object.specs.Holding.{held_at, file_or_folder, leads_to}
 use Rattle.pt_object.specs.Inventory.{inventory_text}
 use Rattle.pt_object.specs.Object.{bytes_in, content_file, file_in, inventory_files, object_files, object_of, rows_of, stored_files, version_folder}
-use Rattle.pt_object.specs.Root.{base, base_where, root_of}
+use Rattle.pt_object.specs.Root.{base, base_where}
 use Rattle.pt_object.specs.declared.algorithm.Algorithm.{Algorithm}
 use Rattle.pt_object.proofs.Ways.{leads}
-use Rattle.pt_tree.specs.Path.{Path, rest_below, same_path}
+use Rattle.pt_tree.specs.Path.{Path, rest_below}
 use Rattle.pt_tree.specs.Tree.{Entry, Folder, Tree}
 use Rattle.pt_plan.specs.Carried.{Carried, entry_of_object, entry_of_objects, folder_where, is_on_the_way, place_of_carried, with_objects}
 use Rattle.pt_plan.specs.Job.{Job}
@@ -22,7 +20,6 @@ use Rattle.pt_plan.specs.Roots.{with_folders}
 use Rattle.pt_plan.proofs.Folders.{is_one}
 use Rattle.pt_plan.proofs.Levels.{longer, whole_of}
 use Rattle.pt_plan.proofs.PlaceShapes.{as_long}
-use Rattle.pt_plan.proofs.TakenPlaces.{below_object}
 
 -- ---- an object's own folder
 

@@ -1,6 +1,5 @@
 -- What a run may leave in its destination, whatever its source gives and however it ends: objects whole and at their places, and nothing else.
-use Rattle.std.specs.Prelude.{◌≡◌, ◌⊎◌, ℕ, Bool, true, false, ◌&&◌, List, [], ◌∷◌, ◌++◌, Some, codes, is_none, is_some, slice_get, take}
-use Rattle.std.specs.List.{list_all}
+use Rattle.std.specs.Prelude.{◌≡◌, ◌⊎◌, ℕ, Bool, true, ◌&&◌, List, [], ◌∷◌, ◌++◌, Some, codes, is_none, is_some, slice_get, take}
 use Rattle.pt_object.specs.FilePaths.{are_apart, paths_of}
 use Rattle.pt_object.specs.Holding.{IsFree}
 use Rattle.pt_object.specs.Root.{base}

@@ -1,5 +1,5 @@
 -- What a fault leaves of the worked stores.
-use Rattle.std.specs.Prelude.{◌≡◌, Bool, true, [], ◌∷◌, codes, length, map, None, Some}
+use Rattle.std.specs.Prelude.{◌≡◌, true, [], ◌∷◌, codes, length, map, None, Some}
 use Rattle.pt_tree.specs.Tree.{Bytes, Folder, Tree}
 use Rattle.pt_plan.specs.Carried.{Carried, after_all, all_carried}
 use Rattle.pt_plan.specs.Faults.{most_told, on_the_way_to}
