@@ -99,3 +99,10 @@ each_one test other (p ∷ paths) from h =
     let parts = and_parts (test p) (list_all test paths) h in
     and_from (other p) (list_all other paths) (from p (ap (λ b. b || is_one p paths) (path_itself p)) parts.0)
     (each_one test other paths (λ q one is. from q (or_right (same_path q p) (is_one q paths) one) is) parts.1)
+
+-- two tests that say the same of each of some paths
+pub each_same : (test other : Path → Bool) (paths : List Path) → ((q : Path) → is_one q paths ≡ true → test q ≡ other q) → list_all test paths ≡ list_all other paths
+each_same test other [] same = refl
+each_same test other (p ∷ paths) same =
+    ap (λ b. b && list_all test paths) (same p (ap (λ b. b || is_one p paths) (path_itself p)))
+    ∙ ap (λ b. other p && b) (each_same test other paths (λ q one. same q (or_right (same_path q p) (is_one q paths) one)))

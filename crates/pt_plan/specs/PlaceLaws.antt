@@ -4,7 +4,7 @@ use Rattle.pt_name.specs.Place.{place_of}
 use Rattle.pt_object.specs.Holding.{IsFree}
 use Rattle.pt_tree.specs.Forest.{Forest}
 use Rattle.pt_tree.specs.Tree.{Tree}
-use Rattle.pt_plan.specs.Carried.{Marked, after, is_taken_place, marked}
+use Rattle.pt_plan.specs.Carried.{Carried, Marked, after, is_taken_place, is_way_free, marked}
 use Rattle.pt_plan.specs.Items.{Item, Named, PairtreeObject, is_reserved, items}
 use Rattle.pt_plan.specs.Job.{Job}
 
@@ -30,3 +30,8 @@ NextPlaceStandsWhereTaken =
     (job : Job) (source : Forest) (root : Tree) (k : ℕ) (m : Marked) (id : List ℕ) (object : PairtreeObject)
     → IsRooted root → slice_get (marked job source root) k ≡ Some m → m.0.verdict ≡ Named id object
     → is_some (after job source root k (place_of job.tuples id)) ≡ m.1
+
+-- the way to a place is as free after the first items as it was: no object and no root file comes to stand in it
+abbrev pub WayStaysFree : Type 0
+WayStaysFree =
+    (job : Job) (source : Forest) (root : Tree) (k : ℕ) (object : Carried) → IsRooted root → is_way_free job (after job source root k) object ≡ is_way_free job root object

@@ -1,7 +1,7 @@
 //! Laws on the definitions of a run. Each is the contract of a function that does nothing.
 ghost use Rattle.pt_plan.specs.ItemLaws.{AllItemsAreAll, BeginsWithTheBase, CarriedGrows, IsTakenAgainstEarlier, TextGrows, WhatStandsStays};
 ghost use Rattle.pt_plan.specs.FileLaws.{CarriedFilesComeInOrder, FilesComeInOrder};
-ghost use Rattle.pt_plan.specs.PlaceLaws.{NamedIsNotReserved, NextPlaceStandsWhereTaken, PlaceStandsWhereTaken};
+ghost use Rattle.pt_plan.specs.PlaceLaws.{NamedIsNotReserved, NextPlaceStandsWhereTaken, PlaceStandsWhereTaken, WayStaysFree};
 ghost use Rattle.pt_plan.specs.CountLaws.{CountsGrow, EachLineIsCounted, EndLineTellsNumbers, LinesTellNumbers};
 ghost use Rattle.pt_plan.specs.RerunLaws.{RerunEndsAlike, RootStaysWithoutStaging, TurnsHaveNoPart};
 ghost use Rattle.pt_plan.specs.GrowthLaws.{AfterGrows, AfterStays, FoldersGrow, ObjectIsMovedIn, RootIsItsOwn, RootIsMadeInPlace, RootIsMovedIn, RootsHaveNoGaps};
@@ -152,4 +152,10 @@ pub fn rows_make_whole_objects()
 /// The limit of turns has no part in what is carried and told: a run with another one leaves the same root.
 pub fn turns_have_no_part()
     ensures { TurnsHaveNoPart }
+{}
+
+/// The way to a place is as free after the first items as it was in the root: no object and no root file comes to stand
+/// in it.
+pub fn way_stays_free()
+    ensures { WayStaysFree }
 {}

@@ -99,5 +99,6 @@ fn each_law_can_be_called(_rt: HostRuntime) -> Result<(), Fail> {
     laws::faults_leave_what_is_kept();
     laws::rows_make_whole_objects();
     laws::turns_have_no_part();
+    laws::way_stays_free();
     Ok(())
 }
