@@ -137,7 +137,7 @@ all_marked job root earlier (item ∷ others) h =
     let parts = and_parts (good_item item) (list_all good_item others) h in
     and_from (good_item item) (list_all good_marked (marked_after job root (earlier ++ item ∷ []) others)) parts.0 (all_marked job root (earlier ++ item ∷ []) others parts.1)
 
-all_take : {X : Type 0} → (p : X → Bool) (k : ℕ) (xs : List X) → list_all p xs ≡ true → list_all p (take k xs) ≡ true
+pub all_take : {X : Type 0} → (p : X → Bool) (k : ℕ) (xs : List X) → list_all p xs ≡ true → list_all p (take k xs) ≡ true
 all_take p zero xs h = refl
 all_take p (suc k) [] h = refl
 all_take p (suc k) (x ∷ xs) h =

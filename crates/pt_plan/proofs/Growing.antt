@@ -12,7 +12,7 @@ use Rattle.pt_plan.specs.Items.{Item, items}
 use Rattle.pt_plan.specs.Job.{Job}
 use Rattle.pt_plan.specs.Lines.{Line, all_lines, end_line, line_of, line_text, lines}
 
-append_nil : {X : Type 0} → (xs : List X) → xs ++ [] ≡ xs
+pub append_nil : {X : Type 0} → (xs : List X) → xs ++ [] ≡ xs
 append_nil [] = refl
 append_nil (x ∷ xs) = ap (λ ys. x ∷ ys) (append_nil xs)
 

@@ -2,17 +2,17 @@
 use Rattle.std.proofs.Common.{refl, arith, ap, ℕ, ◌≡◌, List, []}
 use Rattle.std.specs.Str.{chars, is_utf8, bytes_eq}
 use Rattle.std.specs.Fmt.{digits}
-use Rattle.std.specs.Prelude.{zero, suc, All, Bool, true, false, Option, None, Some}
+use Rattle.std.specs.Prelude.{Bool, true, false, Option, None, Some}
 use lib.Utf8.{encode}
 use Rattle.hex.specs.Hex.{encode_with}
 use Rattle.serde_json.proofs.OnLiterals.{serde_json_on_literals}
 use Rattle.sha2.specs.Sha512.{compress, digest_bytes, first_words, hash_after, rounds, schedule, sha512}
 use Rattle.sha2.specs.Sha256 as short
-use Rattle.pt_name.specs.Tuples.{Tuples}
 use Rattle.pt_object.specs.Root.{root_of}
-use Rattle.pt_object.specs.RootFiles.{config_text, layout_text, root_files_of}
-use Rattle.pt_tree.specs.Tree.{Bytes, Entry, bytes_of}
+use Rattle.pt_object.specs.RootFiles.{config_text, layout_text}
+use Rattle.pt_tree.specs.Tree.{Entry, bytes_of}
 use Rattle.pt_plan.specs.Carried.{IsUsable}
+use Rattle.pt_plan.proofs.LaterRoots.{new_root_files}
 use Rattle.pt_plan.specs.WorkedStores.{flat_job, store_of_one_object, worked_job}
 use Rattle.pt_plan.specs.Worked.{UsableRootsAreTold, WorkOfSkips, altered_root, BadNamesLog, DividedLog, EmptyStoreLog, ExtensionsLog, OneIdentifierFlatLog, OneObjectFlatLog, OneObjectIsNamed, PrefixIsRead, StoresAreKnown, StraysLog, FirstBadEntryCounts, LengthsAreLimited, DepthsAreLimited, EmptyDirectoriesAreCounted, DividedSitesAreGathered, OneObjectIsCarried, WorkOfFirstRuns, WorkWithOtherTuples, BoundOfEmptyStore, SecondRunCarriesNothing, WorkOfSecondRun, WorkOfGathering, BoundOfEqualContents, BoundOfGathering, OneObjectLog, LinesComeInOrder, LineFeedLog, PresentComesFirst, WaysAreTold, DepthsOfChains}
 
@@ -138,12 +138,6 @@ depths_of_chains = (refl, refl, refl)
 pub work_of_skips : WorkOfSkips
 unfolding is_utf8 chars encode
 work_of_skips = (refl, refl)
-
-new_root_files : (tuples : Tuples) → All (λ file. root_of tuples file.0 ≡ Some (Bytes file.1)) (root_files_of tuples)
-new_root_files tuples zero d h = refl
-new_root_files tuples (suc zero) d h = refl
-new_root_files tuples (suc (suc zero)) d h = refl
-new_root_files tuples (suc (suc (suc k))) d h = absurd (omega arith)
 
 -- the file is there and holds these bytes
 holds : List ℕ → Option Entry → Bool

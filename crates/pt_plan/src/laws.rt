@@ -1,6 +1,11 @@
 //! Laws on the definitions of a run. Each is the contract of a function that does nothing.
 ghost use Rattle.pt_plan.specs.ItemLaws.{AllItemsAreAll, BeginsWithTheBase, CarriedGrows, IsTakenAgainstEarlier, TextGrows, WhatStandsStays};
 ghost use Rattle.pt_plan.specs.FileLaws.{CarriedFilesComeInOrder, FilesComeInOrder};
+ghost use Rattle.pt_plan.specs.PlaceLaws.{NamedIsNotReserved, NextPlaceStandsWhereTaken, PlaceStandsWhereTaken, WayStaysFree};
+ghost use Rattle.pt_plan.specs.CountLaws.{CountsGrow, EachLineIsCounted, EndLineTellsNumbers, LinesTellNumbers};
+ghost use Rattle.pt_plan.specs.RerunLaws.{RerunEndsAlike, RootStaysWithoutStaging, TurnsHaveNoPart};
+ghost use Rattle.pt_plan.specs.GrowthLaws.{AfterGrows, AfterStays, FoldersGrow, ObjectIsMovedIn, RootIsItsOwn, RootIsMadeInPlace, RootIsMovedIn, RootsHaveNoGaps};
+ghost use Rattle.pt_plan.specs.FixityLaws.{FaultsLeaveWhatIsKept, RowsMakeWholeObjects};
 
 /// In the order of the walk the files of a directory have logical paths that come in order, none leading to another: what
 /// the laws on objects ask of them.
@@ -41,4 +46,116 @@ pub fn begins_with_the_base()
 /// What stands in the root that stood, or in a new one, stands after any number of items as it was.
 pub fn what_stands_stays()
     ensures { WhatStandsStays }
+{}
+
+/// The place of a named item isn't that of the root's own extensions.
+pub fn named_is_not_reserved()
+    ensures { NamedIsNotReserved }
+{}
+
+/// At a place that isn't reserved something stands after the first items exactly where it is taken by them: no place is a
+/// root file, a folder above one, a tuple directory, or inside another object.
+pub fn place_stands_where_taken()
+    ensures { PlaceStandsWhereTaken }
+{}
+
+/// So it is at the place of the next item.
+pub fn next_place_stands_where_taken()
+    ensures { NextPlaceStandsWhereTaken }
+{}
+
+/// The lines of the first items tell how many of these are carried, how many places are taken, and how many are passed
+/// over.
+pub fn lines_tell_numbers()
+    ensures { LinesTellNumbers }
+{}
+
+/// The end line tells these numbers of all items.
+pub fn end_line_tells_numbers()
+    ensures { EndLineTellsNumbers }
+{}
+
+/// Each line is counted once.
+pub fn each_line_is_counted()
+    ensures { EachLineIsCounted }
+{}
+
+/// With one item more, each number of the lines grows by that of the item's own line.
+pub fn counts_grow()
+    ensures { CountsGrow }
+{}
+
+/// The root that any fault leaves of a run over no root or a usable one is one that a run can end with, and a whole run
+/// over it leaves what one undisturbed run over the first leaves. So it is after any number of such faults.
+pub fn rerun_ends_alike()
+    ensures { RerunEndsAlike }
+{}
+
+/// Taking `staging` away leaves the storage root.
+pub fn root_stays_without_staging()
+    ensures { RootStaysWithoutStaging }
+{}
+
+/// In the storage root of a destination nothing stands below a path where nothing stands.
+pub fn roots_have_no_gaps()
+    ensures { RootsHaveNoGaps }
+{}
+
+/// With one item more that is carried, the root has its tuple directories and its object at its place, and is as it was
+/// elsewhere.
+pub fn after_grows()
+    ensures { AfterGrows }
+{}
+
+/// With one item more that is not carried, the root stays.
+pub fn after_stays()
+    ensures { AfterStays }
+{}
+
+/// One tuple directory more is made where nothing stands, and is there where a folder stands.
+pub fn folders_grow()
+    ensures { FoldersGrow }
+{}
+
+/// What is made at a path below the destination's storage root is made in that root.
+pub fn root_is_made_in_place()
+    ensures { RootIsMadeInPlace }
+{}
+
+/// What stands in `staging`, moved to a place of the storage root, stands at that place of the root.
+pub fn object_is_moved_in()
+    ensures { ObjectIsMovedIn }
+{}
+
+/// A new root, moved out of `staging`, is the destination's storage root.
+pub fn root_is_moved_in()
+    ensures { RootIsMovedIn }
+{}
+
+/// A destination with its own storage root is itself.
+pub fn root_is_its_own()
+    ensures { RootIsItsOwn }
+{}
+
+/// What a fault leaves of a source that tells is such as is left of any source: objects at places where nothing stood,
+/// each whole.
+pub fn faults_leave_what_is_kept()
+    ensures { FaultsLeaveWhatIsKept }
+{}
+
+/// An object made of rows of which none leads to another is whole, with what is held where their contents are stored.
+/// It is the object of those files where that has the rows' digests.
+pub fn rows_make_whole_objects()
+    ensures { RowsMakeWholeObjects }
+{}
+
+/// The limit of turns has no part in what is carried and told: a run with another one leaves the same root.
+pub fn turns_have_no_part()
+    ensures { TurnsHaveNoPart }
+{}
+
+/// The way to a place is as free after the first items as it was in the root: no object and no root file comes to stand
+/// in it.
+pub fn way_stays_free()
+    ensures { WayStaysFree }
 {}

@@ -11,6 +11,8 @@ pub use object::Object;
 pub use phase::{Part, Phase, Position};
 
 #[cfg(test)]
+mod fault_tests;
+#[cfg(test)]
 mod tests;
 #[cfg(test)]
 mod worked_tests;

@@ -79,5 +79,26 @@ fn each_law_can_be_called(_rt: HostRuntime) -> Result<(), Fail> {
     laws::all_items_are_all();
     laws::begins_with_the_base();
     laws::what_stands_stays();
+    laws::named_is_not_reserved();
+    laws::place_stands_where_taken();
+    laws::next_place_stands_where_taken();
+    laws::lines_tell_numbers();
+    laws::end_line_tells_numbers();
+    laws::each_line_is_counted();
+    laws::counts_grow();
+    laws::rerun_ends_alike();
+    laws::root_stays_without_staging();
+    laws::roots_have_no_gaps();
+    laws::after_grows();
+    laws::after_stays();
+    laws::folders_grow();
+    laws::root_is_made_in_place();
+    laws::object_is_moved_in();
+    laws::root_is_moved_in();
+    laws::root_is_its_own();
+    laws::faults_leave_what_is_kept();
+    laws::rows_make_whole_objects();
+    laws::turns_have_no_part();
+    laws::way_stays_free();
     Ok(())
 }

@@ -1,0 +1,76 @@
+-- No named item has a reserved place.
+use Rattle.std.proofs.Common.{◌≡◌, ℕ, zero, suc, Bool, true, false, List, [], ◌∷◌, ◌++◌, refl, subst, cond, map}
+use Rattle.std.specs.Prelude.{Option, None, Some, not, slice_get}
+use Rattle.std.specs.List.{concat, list_all}
+use Rattle.std.specs.Str.{is_utf8}
+use Rattle.std.proofs.lemmas.Bool.{and_from, not-true, not_from_false}
+use Rattle.pt_name.specs.Reading.{reading_of}
+use Rattle.pt_tree.specs.Forest.{Forest, listing_of}
+use Rattle.pt_tree.specs.Path.{Path}
+use Rattle.pt_walk.specs.Left.{entries_from}
+use Rattle.pt_walk.specs.Site.{found}
+use Rattle.pt_walk.specs.Sites.{Site, Visit, Listed, Past, Deep, at_of}
+use Rattle.pt_walk.specs.declared.cause.Cause.TheVariants as cause
+use Rattle.pt_walk.specs.declared.site.Finding.{Finding}
+use Rattle.pt_walk.specs.declared.site.Finding.TheVariants as finding
+use Rattle.pt_plan.specs.Items.{Interior, Item, Named, PairtreeObject, Skip, Verdict, encapsulated, gathered_from, is_reserved, item_of, items, named, verdict_by_finding, verdict_by_reading, verdict_of, verdict_on_candidate}
+use Rattle.pt_plan.specs.Job.{Job, form_of}
+use Rattle.pt_plan.specs.PlaceLaws.{NamedIsNotReserved}
+use Rattle.pt_plan.specs.Store.{prefix_of, sites_of}
+
+-- its place isn't reserved, if it has one
+abbrev pub free : Job → Verdict → Bool
+free job Interior = true
+free job (Skip why) = true
+free job (Named id object) = not (is_reserved job id)
+
+free_named : (job : Job) (id : List ℕ) (object : PairtreeObject) → free job (named job id object) ≡ true
+free_named job id object = by (is_reserved job id) refl
+  where
+    by : (t : Bool) → is_reserved job id ≡ t → free job (cond t (Skip cause.Reserved) (Named id object)) ≡ true
+    by true e = refl
+    by false e = not_from_false (is_reserved job id) e
+
+free_by_reading : (job : Job) (prefix : List ℕ) (object : PairtreeObject) (reading : Option (List ℕ)) → free job (verdict_by_reading job prefix object reading) ≡ true
+free_by_reading job prefix object None = refl
+free_by_reading job prefix object (Some read) = by (is_utf8 read)
+  where
+    by : (t : Bool) → free job (cond t (named job (prefix ++ read) object) (Skip cause.Utf8)) ≡ true
+    by true = free_named job (prefix ++ read) object
+    by false = refl
+
+free_candidate : (job : Job) (prefix : List ℕ) (site : Path) (object : Option PairtreeObject) → free job (verdict_on_candidate job prefix site object) ≡ true
+free_candidate job prefix site None = refl
+free_candidate job prefix site (Some object) = free_by_reading job prefix object (reading_of (concat site))
+
+free_by_finding : (job : Job) (prefix : List ℕ) (site : Path) (inside : Forest) (what : Finding) → free job (verdict_by_finding job prefix site inside what) ≡ true
+free_by_finding job prefix site inside finding.Interior = refl
+free_by_finding job prefix site inside (finding.Skip why) = refl
+free_by_finding job prefix site inside (finding.Candidate i) = free_candidate job prefix site (encapsulated site (entries_from i inside))
+free_by_finding job prefix site inside finding.Gathered = free_by_reading job prefix (gathered_from site inside) (reading_of (concat site))
+
+free_verdict : (job : Job) (prefix : List ℕ) (path : Path) (visit : Visit) → free job (verdict_of job prefix path visit) ≡ true
+free_verdict job prefix path (Listed inside) = free_by_finding job prefix path inside (found (listing_of inside) (at_of path) (form_of job))
+free_verdict job prefix path Past = refl
+free_verdict job prefix path Deep = refl
+
+free_at : (job : Job) (prefix : List ℕ) (ways : List Site) (k : ℕ) (item : Item) → slice_get (map (item_of job prefix) ways) k ≡ Some item → free job item.verdict ≡ true
+free_at job prefix [] k item is = absurd (cc)
+free_at job prefix (site ∷ ways) zero item is =
+    let same : item_of job prefix site ≡ item = cc in
+    subst (λ (i : Item). free job i.verdict ≡ true) same (free_verdict job prefix site.0 site.1)
+free_at job prefix (site ∷ ways) (suc k) item is = free_at job prefix ways k item is
+
+abbrev pub free_item : Job → Item → Bool
+free_item job item = free job item.verdict
+
+free_items : (job : Job) (prefix : List ℕ) (ways : List Site) → list_all (free_item job) (map (item_of job prefix) ways) ≡ true
+free_items job prefix [] = refl
+free_items job prefix (site ∷ ways) = and_from (free job (verdict_of job prefix site.0 site.1)) (list_all (free_item job) (map (item_of job prefix) ways)) (free_verdict job prefix site.0 site.1) (free_items job prefix ways)
+
+pub all_free : (job : Job) (source : Forest) → list_all (free_item job) (items job source) ≡ true
+all_free job source = free_items job (prefix_of source) (sites_of job.limits.depth source)
+
+pub named_is_not_reserved : NamedIsNotReserved
+named_is_not_reserved job source k item id object is what =
+    not-true (is_reserved job id) (subst (λ (v : Verdict). free job v ≡ true) what (free_at job (prefix_of source) (sites_of job.limits.depth source) k item is))
