@@ -1,4 +1,15 @@
 pub mod CarriedFiles
 pub mod FilesInOrder
 pub mod Growing
+pub mod InObject
+pub mod InPairtree
+pub mod NewObject
+pub mod NewRun
+pub mod PlacesKeep
+pub mod ReadsOn
+pub mod ScanSteps
+pub mod ScansKeep
+pub mod StartsKeep
+pub mod WalksKeep
 pub mod Worked
+pub mod WorkedTurns

@@ -1,6 +1,8 @@
 //! Laws on the definitions of a run. Each is the contract of a function that does nothing.
 ghost use Rattle.pt_plan.specs.ItemLaws.{AllItemsAreAll, BeginsWithTheBase, CarriedGrows, IsTakenAgainstEarlier, TextGrows, WhatStandsStays};
 ghost use Rattle.pt_plan.specs.FileLaws.{CarriedFilesComeInOrder, FilesComeInOrder};
+ghost use Rattle.pt_plan.specs.BegunLaws.{NewRunIsBegun};
+ghost use Rattle.pt_plan.specs.SourceLaws.{PlacingKeepsSource, ScanningKeepsSource, StartingKeepsSource, WalkingKeepsSource};
 
 /// In the order of the walk the files of a directory have logical paths that come in order, none leading to another: what
 /// the laws on objects ask of them.
@@ -41,4 +43,29 @@ pub fn begins_with_the_base()
 /// What stands in the root that stood, or in a new one, stands after any number of items as it was.
 pub fn what_stands_stays()
     ensures { WhatStandsStays }
+{}
+
+/// A new run is in progress, whatever its devices tell.
+pub fn new_run_is_begun()
+    ensures { NewRunIsBegun }
+{}
+
+/// The turns of the start keep what holds of a run in progress where the source tells.
+pub fn starting_keeps_source()
+    ensures { StartingKeepsSource }
+{}
+
+/// So do the turns of the walk.
+pub fn walking_keeps_source()
+    ensures { WalkingKeepsSource }
+{}
+
+/// So do the turns of the scan of an object.
+pub fn scanning_keeps_source()
+    ensures { ScanningKeepsSource }
+{}
+
+/// So do the turns that bring an object to its place, and those that tell of it and of the end.
+pub fn placing_keeps_source()
+    ensures { PlacingKeepsSource }
 {}
