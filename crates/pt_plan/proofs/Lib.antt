@@ -1,4 +1,5 @@
 pub mod CarriedFiles
+pub mod DestKeeps
 pub mod FilesInOrder
 pub mod Growing
 pub mod InObject

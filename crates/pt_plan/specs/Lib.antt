@@ -6,6 +6,7 @@ pub mod BegunLaws
 pub mod BegunSource
 pub mod Bound
 pub mod Carried
+pub mod DestLaws
 pub mod FileLaws
 pub mod ItemLaws
 pub mod Items

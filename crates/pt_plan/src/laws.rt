@@ -2,6 +2,7 @@
 ghost use Rattle.pt_plan.specs.ItemLaws.{AllItemsAreAll, BeginsWithTheBase, CarriedGrows, IsTakenAgainstEarlier, TextGrows, WhatStandsStays};
 ghost use Rattle.pt_plan.specs.FileLaws.{CarriedFilesComeInOrder, FilesComeInOrder};
 ghost use Rattle.pt_plan.specs.BegunLaws.{NewRunIsBegun};
+ghost use Rattle.pt_plan.specs.DestLaws.{ScanningKeepsDest, WalkingKeepsDest};
 ghost use Rattle.pt_plan.specs.SourceLaws.{PlacingKeepsSource, ScanningKeepsSource, StartingKeepsSource, WalkingKeepsSource};
 
 /// In the order of the walk the files of a directory have logical paths that come in order, none leading to another: what
@@ -68,4 +69,14 @@ pub fn scanning_keeps_source()
 /// So do the turns that bring an object to its place, and those that tell of it and of the end.
 pub fn placing_keeps_source()
     ensures { PlacingKeepsSource }
+{}
+
+/// The turns of the walk keep what holds of a run in progress where the destination tells.
+pub fn walking_keeps_dest()
+    ensures { WalkingKeepsDest }
+{}
+
+/// So do the turns of the scan of an object.
+pub fn scanning_keeps_dest()
+    ensures { ScanningKeepsDest }
 {}

@@ -91,5 +91,7 @@ fn each_law_can_be_called(_rt: HostRuntime) -> Result<(), Fail> {
     laws::walking_keeps_source();
     laws::scanning_keeps_source();
     laws::placing_keeps_source();
+    laws::walking_keeps_dest();
+    laws::scanning_keeps_dest();
     Ok(())
 }
