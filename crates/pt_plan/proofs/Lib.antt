@@ -11,6 +11,7 @@ pub mod ReadsOn
 pub mod ScanSteps
 pub mod ScansKeep
 pub mod StartsKeep
+pub mod TrailKeeps
 pub mod WalksKeep
 pub mod Worked
 pub mod WorkedTurns

@@ -18,7 +18,7 @@ use Rattle.pt_plan.specs.declared.phase.Phase.TheVariants as phase
 
 held_new : (job : Job) → HeldAt job no_past phase.Begin nothing_held
 held_new job = record {
-  trail = refl;
+  trail = record { is_one = refl; none = refl; entry = tt };
   rows = record {
     order = refl;
     digests = λ k d h. absurd (omega (arith, h));

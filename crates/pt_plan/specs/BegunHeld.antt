@@ -1,12 +1,13 @@
 -- What holds of what a run in progress holds, whatever its devices tell.
-use Rattle.std.specs.Prelude.{◌≡◌, ℕ, true, All, List, [], length, map, Option, None, Some, ⊤}
+use Rattle.std.specs.Prelude.{◌≡◌, ℕ, true, false, All, List, [], length, map, Option, None, Some, ⊤}
 use Rattle.std.specs.List.{list_all}
 use Rattle.pt_object.specs.Algorithm.{digest_of}
 use Rattle.pt_object.specs.Distinct.{content_of_row, distinct}
 use Rattle.pt_object.specs.FilePaths.{part_in_order, parts_before, row_paths}
 use Rattle.pt_tree.specs.Listing.{Item}
 use Rattle.pt_tree.specs.Path.{Path}
-use Rattle.pt_walk.specs.Trail.{current_entry, is_trail}
+use Rattle.pt_walk.specs.Trail.{current_entry, is_dir_entry, is_trail}
+use Rattle.pt_walk.specs.declared.frame.Frame.{Frame}
 use Rattle.pt_plan.specs.Job.{Job}
 use Rattle.pt_plan.specs.Past.{Past}
 use Rattle.pt_plan.specs.Run.{Held}
@@ -37,12 +38,36 @@ ScansInOrder (phase.Scan object) held = IsBehindRows object held
 ScansInOrder (phase.Read object bytes) held = IsBehindRows object held
 ScansInOrder _ held = ⊤
 
+-- before the pairtree's directory is listed there is no trail
+abbrev pub StartsWithNone : Phase → List Frame → Type 0
+StartsWithNone phase.Begin trail = trail ≡ []
+StartsWithNone (phase.Prefix here) trail = trail ≡ []
+StartsWithNone phase.Staging trail = trail ≡ []
+StartsWithNone phase.Root trail = trail ≡ []
+StartsWithNone (phase.RootMake number) trail = trail ≡ []
+StartsWithNone phase.RootRename trail = trail ≡ []
+StartsWithNone (phase.RootCheck number) trail = trail ≡ []
+StartsWithNone phase.OpenRoot trail = trail ≡ []
+StartsWithNone _ trail = ⊤
+
+-- an object that is encapsulated is entered from its directory's entry, and a file is read at its own
+abbrev pub StandsAtEntry : Phase → List Frame → Type 0
+StandsAtEntry (phase.OpenObject object) trail = object.gathered ≡ false → is_dir_entry (current_entry trail) ≡ true
+StandsAtEntry (phase.Read object bytes) trail = (item : Item) × (current_entry trail ≡ Some item)
+StandsAtEntry _ trail = ⊤
+
+-- the listings' names rise, and all but the innermost were left for a directory
+pub record TrailAt (here : Phase) (held : Held) : Type 0 where
+  pub is_one : is_trail held.trail ≡ true
+  pub none : StartsWithNone here held.trail
+  pub entry : StandsAtEntry here held.trail
+
 -- the rows of a run that has ended are said nothing of
 abbrev pub RowsAt : Job → (Path → List ℕ) → Phase → Held → Type 0
 RowsAt job bytes phase.Ended held = ⊤
 RowsAt job bytes here held = AreRows job bytes held
 
 pub record HeldAt (job : Job) (past : Past) (here : Phase) (held : Held) : Type 0 where
-  pub trail : is_trail held.trail ≡ true
+  pub trail : TrailAt here held
   pub rows : RowsAt job past.bytes here held
   pub behind : ScansInOrder here held

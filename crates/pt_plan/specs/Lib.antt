@@ -8,6 +8,7 @@ pub mod Bound
 pub mod Carried
 pub mod DestLaws
 pub mod FileLaws
+pub mod HeldLaws
 pub mod ItemLaws
 pub mod Items
 pub mod Job

@@ -3,6 +3,7 @@ ghost use Rattle.pt_plan.specs.ItemLaws.{AllItemsAreAll, BeginsWithTheBase, Carr
 ghost use Rattle.pt_plan.specs.FileLaws.{CarriedFilesComeInOrder, FilesComeInOrder};
 ghost use Rattle.pt_plan.specs.BegunLaws.{NewRunIsBegun};
 ghost use Rattle.pt_plan.specs.DestLaws.{ScanningKeepsDest, WalkingKeepsDest};
+ghost use Rattle.pt_plan.specs.HeldLaws.{MakingKeepsTrail, PlacingKeepsTrail, ScanningKeepsTrail, StartingKeepsTrail, WalkingKeepsTrail};
 ghost use Rattle.pt_plan.specs.SourceLaws.{PlacingKeepsSource, ScanningKeepsSource, StartingKeepsSource, WalkingKeepsSource};
 
 /// In the order of the walk the files of a directory have logical paths that come in order, none leading to another: what
@@ -79,4 +80,29 @@ pub fn walking_keeps_dest()
 /// So do the turns of the scan of an object.
 pub fn scanning_keeps_dest()
     ensures { ScanningKeepsDest }
+{}
+
+/// Whatever the devices tell, the turns of the start keep the trail one.
+pub fn starting_keeps_trail()
+    ensures { StartingKeepsTrail }
+{}
+
+/// So do the turns of the walk.
+pub fn walking_keeps_trail()
+    ensures { WalkingKeepsTrail }
+{}
+
+/// So do the turns of the scan of an object.
+pub fn scanning_keeps_trail()
+    ensures { ScanningKeepsTrail }
+{}
+
+/// So do the turns that make an object.
+pub fn making_keeps_trail()
+    ensures { MakingKeepsTrail }
+{}
+
+/// So do the turns that bring an object to its place, and those that tell of it and of the end.
+pub fn placing_keeps_trail()
+    ensures { PlacingKeepsTrail }
 {}

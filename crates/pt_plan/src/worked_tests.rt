@@ -93,5 +93,10 @@ fn each_law_can_be_called(_rt: HostRuntime) -> Result<(), Fail> {
     laws::placing_keeps_source();
     laws::walking_keeps_dest();
     laws::scanning_keeps_dest();
+    laws::starting_keeps_trail();
+    laws::walking_keeps_trail();
+    laws::scanning_keeps_trail();
+    laws::making_keeps_trail();
+    laws::placing_keeps_trail();
     Ok(())
 }
