@@ -1,14 +1,13 @@
 -- The turns of the walk and of the scan keep what holds where the destination tells.
-use Rattle.std.proofs.Common.{◌≡◌, ℕ, ◌+◌, true, false, List, [], ◌∷◌, ◌++◌, refl, ap, sym, ◌∙◌, subst, take}
+use Rattle.std.proofs.Common.{◌≡◌, ℕ, ◌+◌, List, [], ◌∷◌, refl, ap, sym, ◌∙◌, subst}
 use Rattle.std.specs.Prelude.{Option, None, Some, is_some}
 use Rattle.std.specs.Option.{option_map, option_or}
-use Rattle.pt_name.specs.Place.{place_of}
 use Rattle.pt_name.specs.Tuples.{Tuples}
 use Rattle.pt_object.specs.Root.{base, base_where}
 use Rattle.pt_tree.specs.Dest.{Writing, IsKindAt}
 use Rattle.pt_tree.specs.Path.{Path, rest_below}
 use Rattle.pt_tree.specs.Tree.{Entry, Folder, Tree, kind_of_entry}
-use Rattle.pt_plan.specs.BegunDest.{DestAt, IsBetweenObjects, IsMakingObject, root_in, root_now, root_on_way, with_root}
+use Rattle.pt_plan.specs.BegunDest.{IsBetweenObjects, IsMakingObject, root_in, root_now, root_on_way, with_root}
 use Rattle.pt_plan.specs.Carried.{Carried, entry_of_objects, folder_where, is_on_the_way}
 use Rattle.pt_plan.specs.DestLaws.{ScanningKeepsDest, WalkingKeepsDest}
 use Rattle.pt_plan.specs.Job.{Job}

@@ -1,9 +1,8 @@
 -- How an object under way stands as the trail moves in it.
-use Rattle.std.proofs.Common.{◌≡◌, ◌<◌, ◌≤◌, ◌-◌, ℕ, zero, suc, ◌+◌, ◌==◌, ◌&&◌, Bool, true, false, List, [], ◌∷◌, ◌++◌, refl, ap, sym, ◌∙◌, subst, cond, length, arith, drop, take, append_assoc, append-nil}
-use Rattle.std.specs.Prelude.{Option, None, Some, nat_lt, map}
-use Rattle.std.proofs.lemmas.Bool.{and_parts, eq-eqb, eqb-true}
+use Rattle.std.proofs.Common.{◌≡◌, ◌<◌, ◌≤◌, ◌-◌, ℕ, zero, suc, ◌+◌, ◌==◌, ◌&&◌, Bool, true, false, List, [], ◌∷◌, ◌++◌, refl, ap, sym, ◌∙◌, subst, cond, length, arith, drop, take, append_assoc}
+use Rattle.std.specs.Prelude.{None, Some}
+use Rattle.std.proofs.lemmas.Bool.{eq-eqb}
 use Rattle.std.proofs.lemmas.List.{length-append, length-map, map-append}
-use Rattle.pt_object.specs.FilePaths.{File}
 use Rattle.pt_object.specs.Object.{row_of_file, rows_of}
 use Rattle.pt_object.specs.declared.rows.Row.{Row}
 use Rattle.pt_tree.specs.Forest.{Forest}
@@ -13,12 +12,12 @@ use Rattle.pt_walk.proofs.BadEntries.{counts, grow}
 use Rattle.pt_walk.proofs.TrailSteps.{name_for_each, path_grows, path_splits}
 use Rattle.pt_walk.specs.Left as walk
 use Rattle.pt_walk.specs.Left.{Fits, inside_at}
-use Rattle.pt_walk.specs.Object.{Entry, empties, entries, entry_cause, files, first_bad, emptiness, without_shorties}
+use Rattle.pt_walk.specs.Object.{Entry, empties, entry_cause, files, emptiness, without_shorties}
 use Rattle.pt_walk.specs.Site.{is_shorty}
-use Rattle.pt_walk.specs.Trail.{advanced, current_entry, entered, entry_at, is_trail, names_to, parent, sought, trail_path}
+use Rattle.pt_walk.specs.Trail.{advanced, entered, entry_at, is_trail, names_to, parent, sought, trail_path}
 use Rattle.pt_walk.specs.declared.frame.Frame.{Frame}
 use Rattle.pt_plan.specs.BegunSource.{HasScanned, IsInObject, IsSiteOf, inside_object, object_at}
-use Rattle.pt_plan.specs.Items.{Named, PairtreeObject, verdict_of}
+use Rattle.pt_plan.specs.Items.{Named, PairtreeObject}
 use Rattle.pt_plan.specs.Job.{Job}
 use Rattle.pt_plan.specs.Store.{pairtree_of}
 use Rattle.pt_plan.specs.TurnMake.{path_of_source}
@@ -203,9 +202,9 @@ scans_more job object rows empty more entry left none counted it =
       all = it.all ∙ sym (append_assoc it.front (entry ∷ []) left);
       good = grow job.limits (length object.at) 0 it.front entry it.good (ap (λ (n : ℕ). entry_cause job.limits (length object.at) n entry) many ∙ none);
       rows_are =
-        ap (λ (l : List Row). l ++ rows_of job.algorithm (files (entry ∷ []))) it.rows_are
-        ∙ sym (map-append (row_of_file job.algorithm) (files it.front) (files (entry ∷ [])))
-        ∙ ap (rows_of job.algorithm) (sym both.0);
+          ap (λ (l : List Row). l ++ rows_of job.algorithm (files (entry ∷ []))) it.rows_are
+          ∙ sym (map-append (row_of_file job.algorithm) (files it.front) (files (entry ∷ [])))
+          ∙ ap (rows_of job.algorithm) (sym both.0);
       empty_is = omega (arith, was, gained, counted);
     }
 

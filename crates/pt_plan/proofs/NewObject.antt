@@ -1,6 +1,6 @@
 -- A site that was judged to have an object, with the object before it is entered.
-use Rattle.std.proofs.Common.{◌≡◌, ◌<◌, ◌-◌, ℕ, zero, suc, Bool, true, false, List, [], ◌∷◌, ◌++◌, refl, ap, sym, ◌∙◌, subst, cond, length, arith, drop}
-use Rattle.std.specs.Prelude.{Option, None, Some, Result, Ok, Err, is_none, slice_get, ◌+◌}
+use Rattle.std.proofs.Common.{◌≡◌, ◌-◌, ℕ, suc, Bool, true, false, List, [], ◌∷◌, ◌++◌, refl, ap, sym, ◌∙◌, subst, cond, length, arith, drop}
+use Rattle.std.specs.Prelude.{Option, None, Some, Result, Ok, Err, is_none, ◌+◌}
 use Rattle.std.specs.List.{concat}
 use Rattle.std.specs.Str.{is_utf8}
 use Rattle.pt_name.specs.Reading.{reading_of}
@@ -16,7 +16,7 @@ use Rattle.pt_walk.specs.Left.{Fits, entries_from, entries_left, inside_at}
 use Rattle.pt_walk.specs.Object.{Entry, emptiness, entries_in, without_shorties}
 use Rattle.pt_walk.specs.Site.{found, found_at_top, found_below, is_short, non_shorties, non_shorties_from}
 use Rattle.pt_walk.specs.Sites.{Listed, at_of}
-use Rattle.pt_walk.specs.Trail.{current_entry, entered, entry_at, is_dir_entry, is_trail, names_to, sought, trail_path}
+use Rattle.pt_walk.specs.Trail.{current_entry, entered, is_dir_entry, names_to, sought, trail_path}
 use Rattle.pt_walk.specs.declared.cause.Cause.{Cause}
 use Rattle.pt_walk.specs.declared.cause.Cause.TheVariants as cause
 use Rattle.pt_walk.specs.declared.frame.Frame.{Frame}
@@ -25,8 +25,8 @@ use Rattle.pt_walk.specs.declared.site.At.TheVariants as at
 use Rattle.pt_walk.specs.declared.site.Form.{Form}
 use Rattle.pt_walk.specs.declared.site.Finding.{Finding}
 use Rattle.pt_walk.specs.declared.site.Finding.TheVariants as finding
-use Rattle.pt_plan.specs.BegunSource.{IsAtSite, IsInObject, IsOnWay, IsSiteOf, IsToJudge, inside_object, object_at}
-use Rattle.pt_plan.specs.Items.{Named, PairtreeObject, Skip, Verdict, encapsulated, gathered_from, is_reserved, verdict_by_finding, verdict_by_reading, verdict_of, verdict_on_candidate}
+use Rattle.pt_plan.specs.BegunSource.{IsInObject, IsOnWay, IsSiteOf, IsToJudge, inside_object, object_at}
+use Rattle.pt_plan.specs.Items.{Named, PairtreeObject, Skip, encapsulated, gathered_from, is_reserved, verdict_by_finding, verdict_by_reading, verdict_of, verdict_on_candidate}
 use Rattle.pt_plan.specs.Job.{Job, form_of}
 use Rattle.pt_plan.specs.Store.{pairtree_of}
 use Rattle.pt_plan.specs.TurnScan.{to_site}

@@ -1,19 +1,19 @@
 -- A new run is in progress.
-use Rattle.std.proofs.Common.{◌≡◌, ℕ, true, List, [], ◌++◌, refl, sym, append-nil, arith}
+use Rattle.std.proofs.Common.{◌≡◌, ℕ, true, List, refl, sym, append-nil, arith}
 use Rattle.std.specs.Prelude.{Option, None, Some}
 use Rattle.std.specs.Option.{ForSome}
 use Rattle.pt_tree.specs.Dest.{Writing}
 use Rattle.pt_tree.specs.Forest.{Forest, is_proper}
 use Rattle.pt_tree.specs.Source.{Reading}
 use Rattle.pt_tree.specs.Tree.{IsTree, Tree}
-use Rattle.pt_plan.specs.Begun.{Begun, DestPart, HasTold, SourcePart, Start, TellsStill, start_of}
+use Rattle.pt_plan.specs.Begun.{Begun, DestPart, HasTold, SourcePart, TellsStill}
 use Rattle.pt_plan.specs.BegunDest.{root_in}
 use Rattle.pt_plan.specs.BegunHeld.{HeldAt}
 use Rattle.pt_plan.specs.BegunLaws.{NewRunIsBegun}
 use Rattle.pt_plan.specs.Job.{Job}
 use Rattle.pt_plan.specs.Past.{no_past}
 use Rattle.pt_plan.specs.Run.{new_run, nothing_held}
-use Rattle.pt_plan.specs.World.{World, dest_tree}
+use Rattle.pt_plan.specs.World.{dest_tree}
 use Rattle.pt_plan.specs.declared.phase.Phase.TheVariants as phase
 
 held_new : (job : Job) → HeldAt job no_past phase.Begin nothing_held
@@ -45,10 +45,13 @@ log_new job source root (Some bytes) = sym (append-nil bytes)
 
 pub new_run_is_begun : NewRunIsBegun
 unfolding Begun
-new_run_is_begun job world is = (no_past, record {
-  held = held_new job;
-  source = λ s e. source_new job s (is.source s e);
-  dest = dest_new job world.dest is.dest;
-  both = λ s e old f. record { placed = refl; next = tt };
-  log = λ s e old f. log_new job s.tree (root_in old) world.log;
-})
+new_run_is_begun job world is = (
+  no_past,
+  record {
+    held = held_new job;
+    source = λ s e. source_new job s (is.source s e);
+    dest = dest_new job world.dest is.dest;
+    both = λ s e old f. record { placed = refl; next = tt };
+    log = λ s e old f. log_new job s.tree (root_in old) world.log;
+  },
+)

@@ -1,5 +1,5 @@
 -- The turns that place an object, and that tell of it and of the end, keep what holds where the source tells.
-use Rattle.std.proofs.Common.{◌≡◌, ℕ, suc, ◌+◌, Bool, true, false, List, refl, ap, sym, ◌∙◌, subst, cond}
+use Rattle.std.proofs.Common.{◌≡◌, ℕ, suc, ◌+◌, Bool, true, false, List, refl, sym, subst, cond}
 use Rattle.std.specs.Prelude.{None, Some, nat_lt}
 use Rattle.pt_tree.specs.Source.{Reading}
 use Rattle.pt_walk.specs.Trail.{sought}

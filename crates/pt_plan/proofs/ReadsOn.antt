@@ -1,6 +1,6 @@
 -- A file that is read block by block.
-use Rattle.std.proofs.Common.{◌≡◌, ◌<◌, ◌≤◌, ℕ, zero, suc, ◌+◌, List, [], ◌∷◌, ◌++◌, refl, ap, sym, ◌∙◌, length, arith, drop, take, append_assoc, append-nil}
-use Rattle.std.specs.Prelude.{Option, None, Some}
+use Rattle.std.proofs.Common.{◌≡◌, ◌<◌, ℕ, zero, suc, ◌+◌, List, [], ◌∷◌, ◌++◌, refl, ap, sym, ◌∙◌, length, arith, drop, take, append_assoc, append-nil}
+use Rattle.std.specs.Prelude.{Option, Some}
 use Rattle.std.specs.Option.{option_map}
 use Rattle.std.proofs.lemmas.List.{length-append, length-take-le, take-append-drop}
 use Rattle.std.proofs.Math.Seq.{take-append_seam, drop-append_seam}
@@ -31,8 +31,8 @@ reads_block most bytes count fed block unread it read =
       within = omega (arith, many, long);
       fed_is = sym (take-append_seam (fed ++ block) behind) ∙ ap (λ (n : ℕ). take n ((fed ++ block) ++ behind)) many ∙ ap (take (count + length block)) (sym whole);
       left =
-        ap (option_map (drop most)) it.left
-        ∙ ap (λ (l : List ℕ). Some l) (sym (drop-append_seam (fed ++ block) behind) ∙ ap (λ (n : ℕ). drop n ((fed ++ block) ++ behind)) many ∙ ap (drop (count + length block)) (sym whole));
+          ap (option_map (drop most)) it.left
+          ∙ ap (λ (l : List ℕ). Some l) (sym (drop-append_seam (fed ++ block) behind) ∙ ap (λ (n : ℕ). drop n ((fed ++ block) ++ behind)) many ∙ ap (drop (count + length block)) (sym whole));
     }
 
 none_taken : (most : ℕ) (xs : List ℕ) → 0 < most → take most xs ≡ [] → xs ≡ []

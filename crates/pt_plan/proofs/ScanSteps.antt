@@ -1,28 +1,23 @@
 -- The trail in an object, step by step, and what of the object is left to scan.
-use Rattle.std.proofs.Common.{◌≡◌, ◌<◌, ◌≤◌, ◌-◌, ℕ, zero, suc, ◌+◌, ◌==◌, ◌&&◌, Bool, true, false, List, [], ◌∷◌, ◌++◌, refl, ap, sym, ◌∙◌, subst, cond, length, arith, take, append-nil}
-use Rattle.std.specs.Prelude.{Option, None, Some, nat_lt, not}
+use Rattle.std.proofs.Common.{◌≡◌, ◌<◌, ◌≤◌, ◌-◌, ℕ, suc, ◌+◌, ◌==◌, ◌&&◌, Bool, true, false, List, [], ◌∷◌, ◌++◌, refl, ap, sym, ◌∙◌, subst, cond, length, arith}
+use Rattle.std.specs.Prelude.{None, Some}
 use Rattle.std.proofs.lemmas.Bool.{and_parts, eqb-false, eqb-true}
 use Rattle.pt_tree.specs.Forest.{Forest, File, Dir, is_proper, listing_at, listing_of}
 use Rattle.pt_tree.specs.Listing.{Item}
 use Rattle.pt_tree.specs.Path.{Path}
-use Rattle.pt_tree.specs.declared.kind.Kind.{Kind}
 use Rattle.pt_tree.specs.declared.kind.Kind.TheVariants as kind
 use Rattle.pt_walk.proofs.ObjectSteps as step
-use Rattle.pt_walk.proofs.TrailSteps.{directory_there, fits_entered, fits_moved, path_grows}
+use Rattle.pt_walk.proofs.TrailSteps.{fits_entered, fits_moved, path_grows}
 use Rattle.pt_walk.specs.Left.{Fits, bytes_at, entries_left, inside_at}
-use Rattle.pt_walk.specs.Object.{Entry, emptiness}
 use Rattle.pt_walk.specs.Site.{is_shorty}
-use Rattle.pt_walk.specs.Trail.{advanced, current_entry, entered, entry_at, is_dir_entry, is_trail, names_to, parent, sought, trail_path}
+use Rattle.pt_walk.specs.Trail.{advanced, current_entry, entered, entry_at, names_to, parent, sought}
 use Rattle.pt_walk.specs.declared.frame.Frame.{Frame}
-use Rattle.pt_plan.specs.BegunSource.{IsInObject, IsSiteOf, inside_object, left_of, object_at}
-use Rattle.pt_plan.specs.Items.{PairtreeObject}
+use Rattle.pt_plan.specs.BegunSource.{IsInObject, IsSiteOf, left_of, object_at}
 use Rattle.pt_plan.specs.Job.{Job}
 use Rattle.pt_plan.specs.Store.{pairtree_of}
-use Rattle.pt_plan.specs.TurnMake.{path_of_source}
-use Rattle.pt_plan.specs.TurnScan.{is_in_site, is_own_directory, is_passed, logical_path, none_listed, own_listings, to_site}
+use Rattle.pt_plan.specs.TurnScan.{is_in_site, is_passed, logical_path, own_listings, to_site}
 use Rattle.pt_plan.specs.declared.object.Object.{Object}
 use Rattle.pt_plan.proofs.InObject.{is_gathered, logical_is, object_moved, own_at_site, own_entered, own_parent, passed_not, site_advanced, site_entered, site_itself, site_moved, site_parent, still_in}
-use Rattle.pt_plan.proofs.InPairtree.{some_same}
 
 -- ---- the object stays the same
 
@@ -83,6 +78,7 @@ advances job source prefix object frame frames count true is inside it =
 advances job source prefix object frame frames count false is inside it =
     let below : object.site < length (frame ∷ frames) = below_site (length (frame ∷ frames)) object.site is it.within in
     moved_by job source prefix object (frame ∷ frames) (advanced (frame ∷ frames)) count it.within (fits_moved (pairtree_of source) (frame ∷ frames) 0 it.fits).1 (site_advanced object (frame ∷ frames) below) it
+
 pub moved_on : (job : Job) (source : Forest) (prefix : List ℕ) (object : Object) (trail : List Frame) (count : ℕ) → 0 < own_listings object trail
     → IsInObject job source prefix object trail count → Moved job source prefix object trail (advanced trail) count
 moved_on job source prefix object [] count inside it = absurd (let some = it.some in let within = it.within in omega (arith, some, within))

@@ -1,14 +1,13 @@
 -- The turns of the scan keep what holds where the source tells.
-use Rattle.std.proofs.Common.{◌≡◌, ◌<◌, ◌≤◌, ◌-◌, ℕ, zero, suc, ◌+◌, ◌==◌, ◌&&◌, Bool, true, false, List, [], ◌∷◌, ◌++◌, refl, ap, sym, ◌∙◌, subst, cond, length, arith, append-nil, drop, take}
+use Rattle.std.proofs.Common.{◌≡◌, ◌<◌, ◌≤◌, ◌-◌, ℕ, suc, ◌+◌, ◌==◌, ◌&&◌, Bool, true, false, List, [], ◌∷◌, ◌++◌, refl, ap, sym, ◌∙◌, subst, cond, length, arith, append-nil}
 use Rattle.std.specs.Prelude.{Option, None, Some, nat_le, nat_lt, not, ◌||◌}
 use Rattle.std.specs.Option.{option_map}
-use Rattle.std.proofs.lemmas.Bool.{and_parts, eqb-false, eqb-true, le-ltb, ltb-false, or_from}
+use Rattle.std.proofs.lemmas.Bool.{and_parts, eqb-true, le-ltb, ltb-false, or_from}
 use Rattle.std.proofs.lemmas.List.{length-append}
 use Rattle.pt_object.specs.Algorithm.{digest_of}
-use Rattle.pt_object.specs.Object.{rows_of}
 use Rattle.pt_object.specs.Rows.{row_of}
 use Rattle.pt_object.specs.declared.rows.Row.{Row}
-use Rattle.pt_tree.specs.Forest.{Forest, none, file, other, dir, Dir, File, dir_at, file_at, is_proper, listing_at, listing_of}
+use Rattle.pt_tree.specs.Forest.{Forest, none, file, other, dir, Dir, File, file_at, is_proper, listing_at, listing_of}
 use Rattle.pt_tree.specs.Listing.{Item}
 use Rattle.pt_tree.specs.Path.{Path, joined}
 use Rattle.pt_tree.specs.Source.{Reading, IsListed, IsRead, after_next, after_open}
@@ -16,22 +15,21 @@ use Rattle.pt_tree.specs.declared.kind.Kind.TheVariants as kind
 use Rattle.pt_walk.proofs.ObjectSteps as step
 use Rattle.pt_walk.proofs.TrailSteps.{directory_there, file_there, path_grows}
 use Rattle.pt_walk.specs.Left.{Fits, bytes_at, entries_left, inside_at}
-use Rattle.pt_walk.specs.Object.{Entry, emptiness, entries, entry_cause, files, without_shorties}
+use Rattle.pt_walk.specs.Object.{emptiness, entries, entry_cause, without_shorties}
 use Rattle.pt_walk.specs.Trail.{advanced, current_entry, entered, entry_at, is_dir_entry, is_trail, names_to, parent, sought}
-use Rattle.pt_walk.specs.declared.cause.Cause.{Cause}
 use Rattle.pt_walk.specs.declared.cause.Cause.TheVariants as cause
 use Rattle.pt_walk.specs.declared.frame.Frame.{Frame}
-use Rattle.pt_plan.specs.BegunSource.{HasScanned, HasStarted, HoldsNoObject, IsInObject, IsOnWay, IsReading, IsReadingFile, IsScanned, IsScanning, IsSiteOf, inside_object, left_of, object_at}
+use Rattle.pt_plan.specs.BegunSource.{HasScanned, HasStarted, HoldsNoObject, IsInObject, IsOnWay, IsReadingFile, IsScanned, IsScanning, inside_object, left_of, object_at}
 use Rattle.pt_plan.specs.Items.{PairtreeObject}
 use Rattle.pt_plan.specs.Job.{Job}
 use Rattle.pt_plan.specs.Run.{Held, with_fed, with_trail}
 use Rattle.pt_plan.specs.SourceLaws.{ScanningKeepsSource}
 use Rattle.pt_plan.specs.Store.{is_store, pairtree_of, pairtree_root}
 use Rattle.pt_plan.specs.TurnMake.{path_of_source}
-use Rattle.pt_plan.specs.TurnScan.{StartsInSite, EntersObject, IsTooDeep, PassesShorty, EntersDirectory, MeetsDeep, OpensFile, MeetsLimit, MeetsOther, EndsSite, EndsObject, LeavesDirectory, ReadsOn, IsTooLong, EndsFile, back_at_site, is_beyond, is_in_site, is_own_directory, is_passed, logical_path, none_listed, own_listings, to_site, with_directory, with_file}
+use Rattle.pt_plan.specs.TurnScan.{StartsInSite, EntersObject, IsTooDeep, PassesShorty, EntersDirectory, MeetsDeep, OpensFile, MeetsLimit, MeetsOther, EndsSite, EndsObject, LeavesDirectory, ReadsOn, IsTooLong, EndsFile, back_at_site, is_in_site, is_own_directory, is_passed, logical_path, none_listed, own_listings, to_site, with_directory, with_file}
 use Rattle.pt_plan.specs.World.{Answers}
 use Rattle.pt_plan.specs.declared.object.Object.{Object}
-use Rattle.pt_plan.proofs.InObject.{is_gathered, own_advanced, own_at_site, own_entered, own_parent, path_in_object, path_length, scans_more, scans_same, site_itself, still_counted}
+use Rattle.pt_plan.proofs.InObject.{is_gathered, own_advanced, own_at_site, own_entered, path_in_object, path_length, scans_more, scans_same, site_itself, still_counted}
 use Rattle.pt_plan.proofs.InPairtree.{file_in_pairtree, listing_in, pairtree_proper, some_same}
 use Rattle.pt_plan.proofs.ReadsOn.{reads_block, reads_end, reads_first}
 use Rattle.pt_plan.proofs.ScanSteps.{left_behind, left_directory, left_file, left_none, left_shorty, moved_at_site, moved_behind, moved_in, moved_on, moved_out, below_site}
@@ -60,8 +58,8 @@ scans_on job source prefix object held trail count stands same inside left it = 
   stands = stands;
   inside = inside;
   scanned =
-    subst (λ (o : PairtreeObject). HasScanned job o held.rows object.empty (left_of source object trail)) same
-    (scans_same job (object_at source object (to_site object held.trail)) held.rows object.empty (left_of source object held.trail) (left_of source object trail) left it.scanned);
+      subst (λ (o : PairtreeObject). HasScanned job o held.rows object.empty (left_of source object trail)) same
+      (scans_same job (object_at source object (to_site object held.trail)) held.rows object.empty (left_of source object held.trail) (left_of source object trail) left it.scanned);
 }
 
 -- there is no cause against a directory that isn't too deep
@@ -99,8 +97,8 @@ enters_directory job source prefix object held (frame ∷ frames) name items cou
       stands = still_counted job source prefix object (object.empty + none_listed items) (entered items trail) count step_in.stands;
       inside = omega (arith, grown);
       scanned =
-        subst (λ (o : PairtreeObject). HasScanned job o held.rows (object.empty + none_listed items) (left_of source object (entered items trail))) step_in.same
-        (subst (λ (l : List Row). HasScanned job object_is l (object.empty + none_listed items) (left_of source object (entered items trail))) (append-nil held.rows) next);
+          subst (λ (o : PairtreeObject). HasScanned job o held.rows (object.empty + none_listed items) (left_of source object (entered items trail))) step_in.same
+          (subst (λ (l : List Row). HasScanned job object_is l (object.empty + none_listed items) (left_of source object (entered items trail))) (append-nil held.rows) next);
     }
 
 -- ---- the object is entered
@@ -242,8 +240,8 @@ ends_object job source prefix object held (frame ∷ frames) count is e apart ow
       stands = moved.stands;
       at_site = same;
       scanned =
-        subst (λ (o : PairtreeObject). HasScanned job o held.rows object.empty []) moved.same
-        (scans_same job (object_at source object (to_site object trail)) held.rows object.empty (left_of source object trail) [] (left_none source object trail stands.fits e one) scanned);
+          subst (λ (o : PairtreeObject). HasScanned job o held.rows object.empty []) moved.same
+          (scans_same job (object_at source object (to_site object trail)) held.rows object.empty (left_of source object trail) [] (left_none source object trail stands.fits e one) scanned);
     }
 
 passes_shorty : (job : Job) (source : Forest) (prefix : List ℕ) (object : Object) (held : Held) (item : Item) (count : ℕ) → is_proper (pairtree_of source) ≡ true → current_entry held.trail ≡ Some item → is_passed object held.trail item ≡ true
@@ -297,7 +295,7 @@ ends_file job source prefix object held (frame ∷ frames) name read count prope
       moved.stands,
       own_advanced object trail inside,
       subst (λ (o : PairtreeObject). HasScanned job o (held.rows ++ row_of (logical_path object trail) (digest_of job.algorithm held.fed) read ∷ []) object.empty (left_of source object (advanced trail))) moved.same
-      (subst (λ (r : Row). HasScanned job object_is (held.rows ++ r ∷ []) object.empty (left_of source object (advanced trail))) row_is next),
+          (subst (λ (r : Row). HasScanned job object_is (held.rows ++ r ∷ []) object.empty (left_of source object (advanced trail))) row_is next),
     )
 
 -- ---- each turn
@@ -334,14 +332,17 @@ scans_keep job s new prefix count here next held after calls proper is_one (Meet
 scans_keep job s new prefix count here next held after calls proper is_one (OpensFile was object name e room) at answers =
     let path = pairtree_root ∷ names_to was.trail in
     let top_proper = pairtree_proper s.tree at.0.store proper in
-    subst (λ (r : Reading). HasStarted r.tree prefix × IsScanning job r.tree prefix object (with_fed was []) count × IsReadingFile job r.tree object (with_fed was []) r.unread 0) (sym (some_same new (after_open path s) answers))
-    (at.0, same_scan job s.tree prefix object was [] count at.1, record {
-      name = name;
-      file = e;
-      room = room;
-      short = omega arith;
-      read = reads_first (bytes_at (pairtree_of s.tree) (names_to was.trail)) (file_at s.tree path) (opened s.tree was.trail name at.0.store top_proper at.1.stands.fits e);
-    })
+    subst (λ (r : Reading). HasStarted r.tree prefix × IsScanning job r.tree prefix object (with_fed was []) count × IsReadingFile job r.tree object (with_fed was []) r.unread 0) (sym (some_same new (after_open path s) answers)) (
+      at.0,
+      same_scan job s.tree prefix object was [] count at.1,
+      record {
+        name = name;
+        file = e;
+        room = room;
+        short = omega arith;
+        read = reads_first (bytes_at (pairtree_of s.tree) (names_to was.trail)) (file_at s.tree path) (opened s.tree was.trail name at.0.store top_proper at.1.stands.fits e);
+      },
+    )
 scans_keep job s new prefix count here next held after calls proper is_one (MeetsLimit was object name e room) at answers =
     given_up job s.tree new.tree prefix object was count (tree_same new s answers) at.0 at.1.stands
 scans_keep job s new prefix count here next held after calls proper is_one (MeetsOther was object name e) at answers =
@@ -357,14 +358,17 @@ scans_keep job s new prefix count here next held after calls proper is_one (Leav
 scans_keep job s new prefix count here next held after calls proper is_one (ReadsOn was object bytes byte block short) at answers =
     let whole = bytes_at (pairtree_of s.tree) (names_to was.trail) in
     subst (λ (r : Reading). HasStarted r.tree prefix × IsScanning job r.tree prefix object (with_fed was (was.fed ++ byte ∷ block)) count × IsReadingFile job r.tree object (with_fed was (was.fed ++ byte ∷ block)) r.unread (bytes + length (byte ∷ block)))
-    (sym (some_same new (after_next s) answers.1))
-    (at.0, same_scan job s.tree prefix object was (was.fed ++ byte ∷ block) count at.1, record {
-      name = at.2.name;
-      file = at.2.file;
-      room = at.2.room;
-      short = ltb-false job.limits.file_bytes (bytes + length (byte ∷ block)) short;
-      read = reads_block 8192 whole bytes was.fed (byte ∷ block) s.unread at.2.read (answers.0 s refl);
-    })
+    (sym (some_same new (after_next s) answers.1)) (
+      at.0,
+      same_scan job s.tree prefix object was (was.fed ++ byte ∷ block) count at.1,
+      record {
+        name = at.2.name;
+        file = at.2.file;
+        room = at.2.room;
+        short = ltb-false job.limits.file_bytes (bytes + length (byte ∷ block)) short;
+        read = reads_block 8192 whole bytes was.fed (byte ∷ block) s.unread at.2.read (answers.0 s refl);
+      },
+    )
 scans_keep job s new prefix count here next held after calls proper is_one (IsTooLong was object bytes byte block long) at answers =
     given_up job s.tree new.tree prefix object was count (ap (λ (r : Reading). r.tree) (some_same new (after_next s) answers.1)) at.0 at.1.stands
 scans_keep job s new prefix count here next held after calls proper is_one (EndsFile was object bytes) at answers =

@@ -1,14 +1,13 @@
 -- The turns of the start keep what holds where the source tells.
-use Rattle.std.proofs.Common.{inl, inr, ◌≡◌, ◌<◌, ◌≤◌, ℕ, ◌+◌, ◌==◌, ◌&&◌, Bool, true, false, List, [], ◌∷◌, refl, ap, sym, ◌∙◌, subst, cond, length, arith, take}
+use Rattle.std.proofs.Common.{inl, inr, ◌≡◌, ◌≤◌, ℕ, ◌+◌, ◌==◌, ◌&&◌, Bool, true, false, List, [], ◌∷◌, refl, ap, sym, ◌∙◌, subst, cond, length, arith, take}
 use Rattle.std.specs.Prelude.{Option, None, Some, is_none, is_some, nat_lt, min}
 use Rattle.std.specs.Option.{option_and_then, option_map}
 use Rattle.std.specs.Str.{bytes_eq, is_utf8}
 use Rattle.std.proofs.lemmas.Bool.{cases_Bool, ltb-false}
 use Rattle.std.proofs.lemmas.List.{length-take, take_all}
 use Rattle.pt_name.specs.Prefix.{prefix_refusal, without_line_ends}
-use Rattle.pt_name.specs.declared.prefix.PrefixFault.{PrefixFault}
 use Rattle.pt_name.specs.declared.prefix.PrefixFault.TheVariants as fault
-use Rattle.pt_tree.specs.Forest.{Forest, Node, File, Dir, Other, none, file, other, dir, as_dir, as_file, file_at, find, kind_of, listing_at, listing_of, node_at}
+use Rattle.pt_tree.specs.Forest.{Forest, Node, File, Dir, Other, none, file, other, dir, as_dir, as_file, find, kind_of, listing_of, node_at}
 use Rattle.pt_tree.specs.Source.{Reading, IsListed, IsRead, after_next, after_open}
 use Rattle.pt_tree.specs.declared.kind.Kind.{Kind}
 use Rattle.pt_tree.specs.declared.kind.Kind.TheVariants as kind
@@ -16,10 +15,9 @@ use Rattle.pt_plan.specs.BegunSource.{HasStarted, HoldsNothing, SourceAt, done_a
 use Rattle.pt_plan.specs.Job.{Job}
 use Rattle.pt_plan.specs.Run.{Held}
 use Rattle.pt_plan.specs.SourceLaws.{StartingKeepsSource}
-use Rattle.pt_plan.specs.Store.{has_prefix, is_prefix, is_store, pairtree_root, prefix_file, prefix_in, prefix_of, version_file}
-use Rattle.pt_plan.specs.TurnStart.{IsStore, HasNoPrefix, HasPrefix, HasNoStaging, HasNoRoot, HasRoot, MakesRoot, RenamesRoot, IsSame, after_file, after_item, is_dir_kind, is_file_kind, kind_in, lists_store}
+use Rattle.pt_plan.specs.Store.{is_prefix, is_store, pairtree_root, prefix_file, prefix_in, version_file}
+use Rattle.pt_plan.specs.TurnStart.{IsStore, HasNoPrefix, HasPrefix, HasNoStaging, HasNoRoot, HasRoot, MakesRoot, RenamesRoot, IsSame, is_dir_kind, is_file_kind, kind_in, lists_store}
 use Rattle.pt_plan.specs.World.{Answers}
-use Rattle.pt_plan.specs.declared.phase.Phase.{Phase}
 use Rattle.pt_plan.specs.declared.phase.Phase.TheVariants as phase
 use Rattle.pt_plan.proofs.InPairtree.{some_same}
 

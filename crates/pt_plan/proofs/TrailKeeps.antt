@@ -1,27 +1,25 @@
 -- Each turn that goes on keeps the trail one.
-use Rattle.std.proofs.Common.{◌≡◌, ◌<◌, ◌≤◌, ℕ, zero, suc, ◌+◌, ◌-◌, ◌==◌, ◌&&◌, Bool, true, false, List, [], ◌∷◌, refl, ap, sym, ◌∙◌, subst, cond, length, arith, drop}
-use Rattle.std.specs.Prelude.{Option, None, Some, is_none, nat_le, nat_lt, not, slice_get}
+use Rattle.std.proofs.Common.{◌≡◌, ◌≤◌, ℕ, zero, suc, ◌+◌, ◌-◌, ◌==◌, ◌&&◌, Bool, true, false, List, [], ◌∷◌, refl, ap, sym, ◌∙◌, subst, cond, length, arith, drop}
+use Rattle.std.specs.Prelude.{Option, None, Some, is_none, nat_le, nat_lt}
 use Rattle.std.proofs.lemmas.Bool.{and_from, and_parts, le-leb}
 use Rattle.std.proofs.lemmas.Option.{slice_get_within}
 use Rattle.pt_tree.specs.Listing.{Item, names_rise}
-use Rattle.pt_tree.specs.Source.{Reading}
 use Rattle.pt_tree.specs.declared.kind.Kind.TheVariants as kind
 use Rattle.pt_walk.proofs.Findings.{candidate}
 use Rattle.pt_walk.specs.Sites.{at_of}
 use Rattle.pt_walk.specs.Trail.{advanced, are_outer, current_entry, entered, entry_at, is_dir_entry, is_frame, is_trail, names_to, parent, sought}
 use Rattle.pt_walk.specs.declared.frame.Frame.{Frame}
-use Rattle.pt_plan.specs.BegunHeld.{StandsAtEntry, StartsWithNone, TrailAt}
+use Rattle.pt_plan.specs.BegunHeld.{TrailAt}
 use Rattle.pt_plan.specs.HeldLaws.{MakingKeepsTrail, PlacingKeepsTrail, ScanningKeepsTrail, StartingKeepsTrail, WalkingKeepsTrail}
 use Rattle.pt_plan.specs.Job.{Job, form_of}
 use Rattle.pt_plan.specs.Run.{Held}
-use Rattle.pt_plan.specs.TurnMake.{MakesStaging, MakesDeclaration, MakesVersion, PassesRow, MakesFolder, OpensCopy, CopiesOn, EndsCopy, MakesVersionInventory, MakesVersionSidecar, MakesInventory, MakesSidecar, after_last}
-use Rattle.pt_plan.specs.TurnPlace.{MakesTuple, FindsTuple, RenamesObject, TellsDone, TellsEnd, after_tuple}
+use Rattle.pt_plan.specs.TurnMake.{MakesStaging, MakesDeclaration, MakesVersion, PassesRow, MakesFolder, OpensCopy, CopiesOn, EndsCopy, MakesVersionInventory, MakesVersionSidecar, MakesInventory, MakesSidecar}
+use Rattle.pt_plan.specs.TurnPlace.{MakesTuple, FindsTuple, RenamesObject, TellsDone, TellsEnd}
 use Rattle.pt_plan.specs.TurnScan.{StartsInSite, EntersObject, IsTooDeep, PassesShorty, EntersDirectory, MeetsDeep, OpensFile, MeetsLimit, MeetsOther, EndsSite, EndsObject, LeavesDirectory, ReadsOn, IsTooLong, EndsFile, to_site}
-use Rattle.pt_plan.specs.TurnStart.{IsStore, HasNoPrefix, HasPrefix, HasNoStaging, HasNoRoot, HasRoot, MakesRoot, RenamesRoot, IsSame, after_file, after_item}
+use Rattle.pt_plan.specs.TurnStart.{IsStore, HasNoPrefix, HasPrefix, HasNoStaging, HasNoRoot, HasRoot, MakesRoot, RenamesRoot, IsSame}
 use Rattle.pt_plan.specs.TurnWalk.{OpensRoot, LeadsOn, IsSkipped, HasNoIdentifier, IsPresent, IsNew, IsPast, IsDeep, EntersSite, PassesEntry, LeavesSite, EndsWalk, at_object, found_at, has_object, new_object as new_object_of}
 use Rattle.pt_plan.specs.World.{Answers}
 use Rattle.pt_plan.specs.declared.object.Object.{Object}
-use Rattle.pt_plan.specs.declared.phase.Phase.{Phase}
 use Rattle.pt_plan.specs.declared.phase.Phase.TheVariants as phase
 
 -- ---- trails

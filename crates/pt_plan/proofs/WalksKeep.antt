@@ -1,5 +1,5 @@
 -- The turns of the walk keep what holds where the source tells.
-use Rattle.std.proofs.Common.{◌≡◌, ◌<◌, ℕ, zero, suc, ◌+◌, Bool, true, false, List, [], ◌∷◌, ◌++◌, refl, ap, sym, ◌∙◌, subst, cond, length, arith, drop}
+use Rattle.std.proofs.Common.{◌≡◌, ◌<◌, ℕ, suc, ◌+◌, Bool, true, false, List, [], ◌∷◌, ◌++◌, refl, ap, sym, ◌∙◌, subst, cond, length, arith, drop}
 use Rattle.std.specs.Prelude.{Option, None, Some, nat_lt, slice_get}
 use Rattle.std.proofs.lemmas.Bool.{ltb-false}
 use Rattle.pt_tree.specs.Forest.{Forest, is_proper, listing_at, listing_of}
@@ -9,12 +9,12 @@ use Rattle.pt_tree.specs.Source.{Reading, IsListed}
 use Rattle.pt_tree.specs.declared.kind.Kind.TheVariants as kind
 use Rattle.pt_walk.proofs.SiteSteps.{ends, enters, leaves, passes, passes_others, starts}
 use Rattle.pt_walk.proofs.TrailSteps.{directory_there, fits_entered, fits_moved, name_for_each, path_grows}
-use Rattle.pt_walk.specs.Left.{Fits, inside_at, sites_left}
+use Rattle.pt_walk.specs.Left.{inside_at, sites_left}
 use Rattle.pt_walk.specs.Site.{is_short, is_shorty}
-use Rattle.pt_walk.specs.Sites.{Site, Visit, Listed, Past, Deep, at_of, is_last, is_listed, sites, visit_of}
-use Rattle.pt_walk.specs.Trail.{advanced, current_entry, entered, entry_at, is_trail, names_to, parent, sought, trail_path}
+use Rattle.pt_walk.specs.Sites.{Site, Listed, Past, Deep, at_of, is_last, is_listed, visit_of}
+use Rattle.pt_walk.specs.Trail.{advanced, current_entry, entered, entry_at, is_trail, names_to, parent, trail_path}
 use Rattle.pt_walk.specs.declared.frame.Frame.{Frame}
-use Rattle.pt_plan.specs.BegunSource.{HasStarted, HoldsNoObject, IsAtSite, IsInObject, IsOnWay, IsToJudge}
+use Rattle.pt_plan.specs.BegunSource.{HasStarted, HoldsNoObject, IsInObject, IsOnWay, IsToJudge}
 use Rattle.pt_plan.specs.Job.{Job}
 use Rattle.pt_plan.specs.Store.{is_store, pairtree_of, sites_of}
 use Rattle.pt_plan.specs.Run.{Held, with_trail}

@@ -1,6 +1,6 @@
 -- A run in progress: what its start, what it holds and what stands outside have to do with each other. Each part is said where the devices tell that it speaks of, and of no others.
-use Rattle.std.specs.Prelude.{◌≡◌, ℕ, suc, true, false, List, [], ◌++◌, Option, None, Some, slice_get, ⊤}
-use Rattle.std.specs.Option.{ForSome, option_map}
+use Rattle.std.specs.Prelude.{◌≡◌, ℕ, suc, true, false, List, ◌++◌, Option, None, Some, slice_get, ⊤}
+use Rattle.std.specs.Option.{ForSome}
 use Rattle.pt_tree.specs.Dest.{Writing}
 use Rattle.pt_tree.specs.Forest.{Forest, is_proper}
 use Rattle.pt_tree.specs.Source.{Reading}
@@ -8,7 +8,7 @@ use Rattle.pt_tree.specs.Tree.{IsTree, Tree}
 use Rattle.pt_plan.specs.BegunDest.{DestAt, root_in}
 use Rattle.pt_plan.specs.BegunHeld.{HeldAt}
 use Rattle.pt_plan.specs.BegunSource.{IsWithinBound, SourceAt}
-use Rattle.pt_plan.specs.Carried.{Carried, Marked, carried_among, marked}
+use Rattle.pt_plan.specs.Carried.{carried_among, marked}
 use Rattle.pt_plan.specs.Items.{Item}
 use Rattle.pt_plan.specs.Job.{Job}
 use Rattle.pt_plan.specs.Lines.{text}

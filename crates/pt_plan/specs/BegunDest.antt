@@ -1,5 +1,5 @@
 -- What holds of a run in progress where the destination tells, whatever the source and the log do. It is said against the destination's tree at the start.
-use Rattle.std.specs.Prelude.{◌≡◌, ◌⊎◌, All, ℕ, ◌+◌, codes, List, [], ◌∷◌, ◌++◌, filter, is_some, length, map, not, Option, None, Some, slice_get, take, ⊤}
+use Rattle.std.specs.Prelude.{◌≡◌, ◌⊎◌, All, ℕ, ◌+◌, List, [], ◌∷◌, ◌++◌, filter, is_some, length, map, not, Option, None, Some, slice_get, take, ⊤}
 use Rattle.std.specs.Option.{option_or}
 use Rattle.pt_object.specs.Holding.{IsFree, leads_to, placed as with_tree}
 use Rattle.pt_object.specs.FilePaths.{File}
@@ -12,7 +12,7 @@ use Rattle.pt_object.specs.Scripts.{object_items, root_script, script_of_rows, s
 use Rattle.pt_object.specs.declared.rows.Row.{Row}
 use Rattle.pt_tree.specs.Dest.{Writing}
 use Rattle.pt_tree.specs.Path.{Path, rest_below}
-use Rattle.pt_tree.specs.Tree.{Bytes, Folder, Tree}
+use Rattle.pt_tree.specs.Tree.{Bytes, Tree}
 use Rattle.pt_plan.specs.Carried.{Carried, folder_where, with_objects}
 use Rattle.pt_plan.specs.Job.{Job}
 use Rattle.pt_plan.specs.Past.{Past}

@@ -2,12 +2,10 @@
 use Rattle.std.specs.Prelude.{◌≡◌, ◌<◌, ◌≤◌, ℕ, suc, ◌+◌, ◌-◌, Bool, true, false, cond, ◌&&◌, ◌||◌, not, List, [], ◌++◌, drop, length, take, Option, None, Some, is_some, slice_get, ⊤}
 use Rattle.std.specs.Option.{option_map}
 use Rattle.pt_name.specs.Place.{place_of}
-use Rattle.pt_object.specs.Object.{row_of_file, rows_of}
+use Rattle.pt_object.specs.Object.{rows_of}
 use Rattle.pt_object.specs.declared.rows.Row.{Row}
 use Rattle.pt_tree.specs.Forest.{Forest, kind_of, find}
-use Rattle.pt_tree.specs.Path.{Path}
 use Rattle.pt_tree.specs.Source.{Reading}
-use Rattle.pt_tree.specs.declared.kind.Kind.{Kind}
 use Rattle.pt_tree.specs.declared.kind.Kind.TheVariants as kind
 use Rattle.pt_walk.specs.Left.{Fits, bytes_at, entries_left, inside_at, sites_left}
 use Rattle.pt_walk.specs.Object.{Entry, emptiness, empties, entries, files, first_bad, without_shorties}

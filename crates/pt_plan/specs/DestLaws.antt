@@ -2,7 +2,7 @@
 use Rattle.std.specs.Prelude.{◌≡◌, ℕ, List, Some}
 use Rattle.pt_tree.specs.Dest.{Writing}
 use Rattle.pt_tree.specs.Tree.{Tree}
-use Rattle.pt_plan.specs.Answer.{Answer, Goes}
+use Rattle.pt_plan.specs.Answer.{Goes}
 use Rattle.pt_plan.specs.BegunDest.{DestAt}
 use Rattle.pt_plan.specs.Job.{Job}
 use Rattle.pt_plan.specs.Past.{Past}

@@ -1,7 +1,7 @@
 -- What holds of the trail of a run in progress, whatever its devices tell, is kept by each turn that goes on.
 use Rattle.std.specs.Prelude.{ℕ, List, Option}
 use Rattle.pt_tree.specs.Source.{Reading}
-use Rattle.pt_plan.specs.Answer.{Answer, Goes}
+use Rattle.pt_plan.specs.Answer.{Goes}
 use Rattle.pt_plan.specs.BegunHeld.{TrailAt}
 use Rattle.pt_plan.specs.Job.{Job}
 use Rattle.pt_plan.specs.Run.{Counts, Held}

@@ -3,7 +3,7 @@ use Rattle.std.specs.Prelude.{◌≡◌, ℕ, List, true, Some}
 use Rattle.pt_tree.specs.Forest.{is_proper}
 use Rattle.pt_tree.specs.Source.{Reading}
 use Rattle.pt_walk.specs.Trail.{is_trail}
-use Rattle.pt_plan.specs.Answer.{Answer, Goes}
+use Rattle.pt_plan.specs.Answer.{Goes}
 use Rattle.pt_plan.specs.BegunSource.{SourceAt, done_after}
 use Rattle.pt_plan.specs.Job.{Job}
 use Rattle.pt_plan.specs.Run.{Counts, Held}

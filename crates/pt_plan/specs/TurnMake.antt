@@ -1,5 +1,5 @@
 -- The turns that make an object in `staging`: one part of it each, and one block of a file that is copied.
-use Rattle.std.specs.Prelude.{◌≡◌, ℕ, zero, suc, ◌+◌, ◌-◌, ◌==◌, ◌&&◌, Bool, true, false, cond, codes, nat_lt, List, [], ◌∷◌, ◌++◌, length, take, Option, None, Some, slice_get}
+use Rattle.std.specs.Prelude.{◌≡◌, ℕ, suc, ◌+◌, ◌-◌, ◌==◌, ◌&&◌, Bool, true, false, cond, codes, nat_lt, List, [], ◌∷◌, ◌++◌, length, take, Option, None, Some, slice_get}
 use Rattle.std.specs.Option.{option_map_or}
 use Rattle.std.specs.Str.{bytes_eq}
 use Rattle.pt_object.specs.Algorithm.{digest_of}
@@ -19,7 +19,6 @@ use Rattle.pt_plan.specs.Job.{Job}
 use Rattle.pt_plan.specs.Run.{Held, with_fed}
 use Rattle.pt_plan.specs.TurnWalk.{in_pairtree}
 use Rattle.pt_plan.specs.World.{Adds, Calls, Creates, Finishes, Makes, Opens, Reads, asks, does, no_calls}
-use Rattle.pt_plan.specs.World as call
 use Rattle.pt_plan.specs.declared.object.Object.{Object}
 use Rattle.pt_plan.specs.declared.phase.Part.{Part}
 use Rattle.pt_plan.specs.declared.phase.Part.TheVariants as part

@@ -1,12 +1,11 @@
 -- The turns that bring an object to its place, and those that tell of it and of the end.
-use Rattle.std.specs.Prelude.{◌≡◌, ℕ, ◌+◌, Bool, false, cond, nat_lt, List, [], length, sum_by, take, None, Some}
+use Rattle.std.specs.Prelude.{◌≡◌, ℕ, ◌+◌, false, cond, nat_lt, List, [], length, sum_by, take, Some}
 use Rattle.pt_object.specs.Scripts.{staging}
 use Rattle.pt_object.specs.declared.rows.Row.{Row}
 use Rattle.pt_tree.specs.Path.{Path}
 use Rattle.pt_tree.specs.declared.kind.Kind.{Kind}
 use Rattle.pt_tree.specs.declared.kind.Kind.TheVariants as kind
 use Rattle.pt_walk.specs.Trail.{sought}
-use Rattle.pt_walk.specs.declared.frame.Frame.{Frame}
 use Rattle.pt_plan.specs.Answer.{Answer, Goes, Stops}
 use Rattle.pt_plan.specs.Answer as halt
 use Rattle.pt_plan.specs.Job.{Job}

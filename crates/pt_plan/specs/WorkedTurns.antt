@@ -1,5 +1,5 @@
 -- Turns of the worked stores, one by one.
-use Rattle.std.specs.Prelude.{ℕ, false, List, [], ◌∷◌, ◌++◌, codes, None, Some}
+use Rattle.std.specs.Prelude.{ℕ, false, List, [], ◌∷◌, ◌++◌, codes, None}
 use Rattle.pt_object.specs.Files.{root_declaration_bytes}
 use Rattle.pt_object.specs.RootFiles.{config_text, extension_name, layout_text}
 use Rattle.pt_object.specs.Script.{MakeFile, MakeFolder}
@@ -16,7 +16,6 @@ use Rattle.pt_plan.specs.TurnStart.{storage_root}
 use Rattle.pt_plan.specs.World.{Calls, Finds, Lists, Makes, Opens, Reads, Renames, asks, does, no_calls, tells}
 use Rattle.pt_plan.specs.WorkedStores.{empty_store, flat_job, worked_job}
 use Rattle.pt_plan.specs.declared.object.Object.{Object}
-use Rattle.pt_plan.specs.declared.phase.Part.TheVariants as part
 use Rattle.pt_plan.specs.declared.phase.Phase.{Phase}
 use Rattle.pt_plan.specs.declared.phase.Phase.TheVariants as phase
 
