@@ -1,5 +1,5 @@
 -- A run in progress: what its start, what it holds and what stands outside have to do with each other. Each part is said where the devices tell that it speaks of, and of no others.
-use Rattle.std.specs.Prelude.{◌≡◌, ℕ, suc, true, false, List, ◌++◌, Option, None, Some, slice_get, ⊤}
+use Rattle.std.specs.Prelude.{◌≡◌, ℕ, suc, true, false, List, ◌++◌, count_by, Option, None, Some, slice_get, ⊤}
 use Rattle.std.specs.Option.{ForSome}
 use Rattle.pt_tree.specs.Dest.{Writing}
 use Rattle.pt_tree.specs.Forest.{Forest, is_proper}
@@ -11,9 +11,9 @@ use Rattle.pt_plan.specs.BegunSource.{IsWithinBound, SourceAt}
 use Rattle.pt_plan.specs.Carried.{carried_among, marked}
 use Rattle.pt_plan.specs.Items.{Item}
 use Rattle.pt_plan.specs.Job.{Job}
-use Rattle.pt_plan.specs.Lines.{text}
+use Rattle.pt_plan.specs.Lines.{is_done, is_present, is_skipped, lines, text}
 use Rattle.pt_plan.specs.Past.{Past}
-use Rattle.pt_plan.specs.Run.{Run}
+use Rattle.pt_plan.specs.Run.{Counts, Run}
 use Rattle.pt_plan.specs.World.{World, dest_tree}
 use Rattle.pt_plan.specs.declared.phase.Phase.{Phase}
 use Rattle.pt_plan.specs.declared.phase.Phase.TheVariants as phase
@@ -71,6 +71,12 @@ abbrev pub HasTold : Job → Forest → Tree → Past → Phase → List ℕ →
 HasTold job source root past phase.Ended old now = ⊤
 HasTold job source root past here old now = now ≡ old ++ text job source root past.count
 
+-- the lines of each kind are those of the items done
+pub record CountsLines (job : Job) (source : Forest) (root : Tree) (count : ℕ) (counts : Counts) : Type 0 where
+  pub done : counts.done ≡ count_by is_done (lines job source root count)
+  pub present : counts.present ≡ count_by is_present (lines job source root count)
+  pub skipped : counts.skipped ≡ count_by is_skipped (lines job source root count)
+
 -- ---- the parts
 
 -- where the source tells: the names rise, where the run stands, and that no more is held than the bound allows
@@ -84,12 +90,13 @@ pub record DestPart (job : Job) (past : Past) (run : Run) (start : Tree) (now : 
   pub tree : IsTree now.tree
   pub at : DestAt job start past run.phase run.held now
 
--- this past is that of the run: of what it holds, of the source, of the destination, of both together, and of the log
+-- this past is that of the run: of what it holds, of the source, of the destination, of both together, of the counts, and of the log
 pub record IsPast (job : Job) (start : Start) (world : World) (run : Run) (past : Past) : Type 0 where
   pub held : HeldAt job past run.phase run.held
   pub source : ForSome world.source (SourcePart job past run)
   pub dest : TellsStill start.dest world.dest (DestPart job past run)
   pub both : ForSome world.source (λ s. ForSome start.dest (λ old. PlacesItems job s.tree (root_in old) past run.phase))
+  pub counts : ForSome world.source (λ s. ForSome start.dest (λ old. CountsLines job s.tree (root_in old) past.count run.counts))
   pub log : ForSome world.source (λ s. ForSome start.dest (λ old. TellsStill start.log world.log (HasTold job s.tree (root_in old) past run.phase)))
 
 -- a run of this job that began at this start is now in progress
