@@ -1,5 +1,6 @@
 // The worked stores, computed from the definitions by the prover.
 ghost use Rattle.pt_plan.specs.Worked.{BadNamesLog, BoundOfEmptyStore, BoundOfEqualContents, BoundOfGathering, DepthsAreLimited, DepthsOfChains, DividedLog, DividedSitesAreGathered, EmptyDirectoriesAreCounted, EmptyStoreLog, ExtensionsLog, FirstBadEntryCounts, LengthsAreLimited, LineFeedLog, LinesComeInOrder, OneIdentifierFlatLog, OneObjectFlatLog, OneObjectIsCarried, OneObjectIsNamed, OneObjectLog, PrefixIsRead, PresentComesFirst, SecondRunCarriesNothing, StoresAreKnown, StraysLog, UsableRootsAreTold, WaysAreTold, WorkOfFirstRuns, WorkOfGathering, WorkOfSecondRun, WorkOfSkips, WorkWithOtherTuples};
+ghost use Rattle.pt_plan.specs.WorkedTurns.{EmptyStoreTurns, OneObjectTurns};
 
 use crate::laws;
 use std::test::Fail;
@@ -51,6 +52,11 @@ fn turns()
     ensures gathering { WorkOfGathering }
 {}
 
+fn single_turns()
+    ensures empty { EmptyStoreTurns }
+    ensures object { OneObjectTurns }
+{}
+
 fn records()
     ensures equal { BoundOfEqualContents }
     ensures gathering { BoundOfGathering }
@@ -65,6 +71,7 @@ fn worked_stores_follow_from_the_definitions(_rt: HostRuntime) -> Result<(), Fai
     limits();
     objects();
     turns();
+    single_turns();
     records();
     Ok(())
 }
@@ -100,5 +107,17 @@ fn each_law_can_be_called(_rt: HostRuntime) -> Result<(), Fail> {
     laws::rows_make_whole_objects();
     laws::turns_have_no_part();
     laws::way_stays_free();
+    laws::new_run_is_begun();
+    laws::starting_keeps_source();
+    laws::walking_keeps_source();
+    laws::scanning_keeps_source();
+    laws::placing_keeps_source();
+    laws::walking_keeps_dest();
+    laws::scanning_keeps_dest();
+    laws::starting_keeps_trail();
+    laws::walking_keeps_trail();
+    laws::scanning_keeps_trail();
+    laws::making_keeps_trail();
+    laws::placing_keeps_trail();
     Ok(())
 }

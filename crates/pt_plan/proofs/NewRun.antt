@@ -1,0 +1,58 @@
+-- A new run is in progress.
+use Rattle.std.proofs.Common.{◌≡◌, ℕ, true, List, refl, sym, append-nil, arith}
+use Rattle.std.specs.Prelude.{Option, None, Some}
+use Rattle.std.specs.Option.{ForSome}
+use Rattle.pt_tree.specs.Dest.{Writing}
+use Rattle.pt_tree.specs.Forest.{Forest, is_proper}
+use Rattle.pt_tree.specs.Source.{Reading}
+use Rattle.pt_tree.specs.Tree.{IsTree, Tree}
+use Rattle.pt_plan.specs.Begun.{Begun, DestPart, HasTold, SourcePart, TellsStill}
+use Rattle.pt_plan.specs.BegunDest.{root_in}
+use Rattle.pt_plan.specs.BegunHeld.{HeldAt}
+use Rattle.pt_plan.specs.BegunLaws.{NewRunIsBegun}
+use Rattle.pt_plan.specs.Job.{Job}
+use Rattle.pt_plan.specs.Past.{no_past}
+use Rattle.pt_plan.specs.Run.{new_run, nothing_held}
+use Rattle.pt_plan.specs.World.{dest_tree}
+use Rattle.pt_plan.specs.declared.phase.Phase.TheVariants as phase
+
+held_new : (job : Job) → HeldAt job no_past phase.Begin nothing_held
+held_new job = record {
+  trail = record { is_one = refl; none = refl; entry = tt };
+  rows = record {
+    order = refl;
+    digests = λ k d h. absurd (omega (arith, h));
+    lengths = λ k d h. absurd (omega (arith, h));
+    contents = refl;
+  };
+  behind = tt;
+}
+
+source_new : (job : Job) (s : Reading) → is_proper s.tree ≡ true → SourcePart job no_past new_run s
+source_new job s proper = record {
+  proper = proper;
+  at = (record { trail = refl; rows = refl; contents = refl }, refl, refl);
+  few = omega arith;
+}
+
+dest_new : (job : Job) (dest : Option Writing) → ForSome dest (λ now. IsTree now.tree) → TellsStill (dest_tree dest) dest (DestPart job no_past new_run)
+dest_new job None tree = tt
+dest_new job (Some now) tree = record { tree = tree now refl; at = record { tree = refl } }
+
+log_new : (job : Job) (source : Forest) (root : Tree) (log : Option (List ℕ)) → TellsStill log log (HasTold job source root no_past phase.Begin)
+log_new job source root None = tt
+log_new job source root (Some bytes) = sym (append-nil bytes)
+
+pub new_run_is_begun : NewRunIsBegun
+unfolding Begun
+new_run_is_begun job world is = (
+  no_past,
+  record {
+    held = held_new job;
+    source = λ s e. source_new job s (is.source s e);
+    dest = dest_new job world.dest is.dest;
+    both = λ s e old f. record { placed = refl; next = tt };
+  counts = λ s e old f. record { done = refl; present = refl; skipped = refl };
+    log = λ s e old f. log_new job s.tree (root_in old) world.log;
+  },
+)

@@ -1,0 +1,91 @@
+-- The turns of the start: the source has to be a Pairtree store, and the destination to hold a root that can be gone on with, or none.
+use Rattle.std.specs.Prelude.{◌≡◌, ◌≢◌, ℕ, ◌+◌, ◌==◌, ◌&&◌, Bool, true, false, cond, codes, List, [], ◌∷◌, ◌++◌, Option, None, Some, slice_get}
+use Rattle.std.specs.Str.{bytes_eq}
+use Rattle.pt_name.specs.Prefix.{prefix_refusal, without_line_ends}
+use Rattle.pt_name.specs.declared.prefix.PrefixFault.{PrefixFault}
+use Rattle.pt_object.specs.RootFiles.{root_files_of}
+use Rattle.pt_object.specs.Script.{Item}
+use Rattle.pt_object.specs.Scripts.{root_script, staging}
+use Rattle.pt_tree.specs.Listing.{Item as Entry}
+use Rattle.pt_tree.specs.Path.{Path}
+use Rattle.pt_tree.specs.declared.kind.Kind.{Kind}
+use Rattle.pt_tree.specs.declared.kind.Kind.TheVariants as kind
+use Rattle.pt_plan.specs.Answer.{Answer, Goes, Stops}
+use Rattle.pt_plan.specs.Answer as halt
+use Rattle.pt_plan.specs.Job.{Job}
+use Rattle.pt_plan.specs.Roots.{storage_root}
+use Rattle.pt_plan.specs.Store.{pairtree_root, prefix_file, version_file}
+use Rattle.pt_plan.specs.World.{Calls, Finds, Lists, Makes, OpensAndReads, Peeks, Renames, asks, does, no_calls}
+use Rattle.pt_plan.specs.declared.phase.Phase.{Phase}
+use Rattle.pt_plan.specs.declared.phase.Phase.TheVariants as phase
+
+-- the kind of the entry of this name, if there is one
+abbrev pub kind_in : List Entry → List ℕ → Option Kind
+kind_in [] name = None
+kind_in (entry ∷ entries) name = cond (bytes_eq entry.0 name) (Some entry.1) (kind_in entries name)
+
+abbrev pub is_file_kind : Option Kind → Bool
+is_file_kind None = false
+is_file_kind (Some kind.File) = true
+is_file_kind (Some kind.Dir) = false
+is_file_kind (Some kind.Other) = false
+
+abbrev pub is_dir_kind : Option Kind → Bool
+is_dir_kind None = false
+is_dir_kind (Some kind.File) = false
+is_dir_kind (Some kind.Dir) = true
+is_dir_kind (Some kind.Other) = false
+
+-- the top lists the version file and the directory of the pairtree (Pairtree 0.1)
+abbrev pub lists_store : List Entry → Bool
+lists_store entries = is_file_kind (kind_in entries version_file) && is_dir_kind (kind_in entries pairtree_root)
+
+-- after an item of the root's script: the next one, or, after the last, the renaming
+abbrev pub after_item : ℕ → Phase
+after_item item = cond (item == 5) phase.RootRename (phase.RootMake (item + 1))
+
+-- after a file of the root: the next one, or, after the last, the walk
+abbrev pub after_file : ℕ → Phase
+after_file file = cond (file == 2) phase.OpenRoot (phase.RootCheck (file + 1))
+
+-- from the phase and the prefix to the prefix after, with the calls and the answer
+pub data Starts (job : Job) : Phase → List ℕ → List ℕ → Calls → Answer → Type 0 where
+  -- the top is listed
+  IsStore : (prefix : List ℕ) (entries : List Entry) → lists_store entries ≡ true
+      → Starts job phase.Begin prefix prefix (asks (Lists [] entries)) (Goes (phase.Prefix (kind_in entries prefix_file)))
+  IsNoStore : (prefix : List ℕ) (entries : List Entry) → lists_store entries ≡ false
+      → Starts job phase.Begin prefix prefix (asks (Lists [] entries)) (Stops halt.NotPairtree)
+  -- the prefix is read, if there is a file for it
+  HasNoPrefix : (prefix : List ℕ)
+      → Starts job (phase.Prefix None) prefix prefix no_calls (Goes phase.Staging)
+  IsNoPrefixFile : (prefix : List ℕ) (here : Option Kind) → here ≢ None → is_file_kind here ≡ false
+      → Starts job (phase.Prefix here) prefix prefix no_calls (Stops halt.Prefix)
+  HasPrefix : (prefix block : List ℕ) → prefix_refusal block ≡ None
+      → Starts job (phase.Prefix (Some kind.File)) prefix (without_line_ends block) (asks (OpensAndReads (prefix_file ∷ []) block)) (Goes phase.Staging)
+  IsNoPrefix : (prefix block : List ℕ) (why : PrefixFault) → prefix_refusal block ≡ Some why
+      → Starts job (phase.Prefix (Some kind.File)) prefix prefix (asks (OpensAndReads (prefix_file ∷ []) block)) (Stops halt.Prefix)
+  -- nothing may stand at `staging`
+  HasNoStaging : (prefix : List ℕ)
+      → Starts job phase.Staging prefix prefix (does (Finds staging None)) (Goes phase.Root)
+  HasStaging : (prefix : List ℕ) (here : Kind)
+      → Starts job phase.Staging prefix prefix (does (Finds staging (Some here))) (Stops halt.StagingLeft)
+  -- the root is made where nothing stands, and compared where a directory does
+  HasNoRoot : (prefix : List ℕ)
+      → Starts job phase.Root prefix prefix (does (Finds storage_root None)) (Goes (phase.RootMake 0))
+  HasRoot : (prefix : List ℕ)
+      → Starts job phase.Root prefix prefix (does (Finds storage_root (Some kind.Dir))) (Goes (phase.RootCheck 0))
+  IsNoRoot : (prefix : List ℕ) (here : Kind) → is_dir_kind (Some here) ≡ false
+      → Starts job phase.Root prefix prefix (does (Finds storage_root (Some here))) (Stops halt.Target)
+  -- one item of the root's script is made
+  MakesRoot : (prefix : List ℕ) (number : ℕ) (item : Item) → slice_get (root_script job.tuples) number ≡ Some item
+      → Starts job (phase.RootMake number) prefix prefix (does (Makes item)) (Goes (after_item number))
+  -- `staging` becomes the root
+  RenamesRoot : (prefix : List ℕ)
+      → Starts job phase.RootRename prefix prefix (does (Renames staging storage_root)) (Goes phase.OpenRoot)
+  -- one of the root's three files is compared
+  IsSame : (prefix : List ℕ) (number : ℕ) (path : Path) (bytes : List ℕ) → slice_get (root_files_of job.tuples) number ≡ Some (path, bytes)
+      → Starts job (phase.RootCheck number) prefix prefix (does (Peeks (storage_root ++ path) bytes)) (Goes (after_file number))
+  IsNoFile : (prefix : List ℕ) (number : ℕ) (path : Path) (bytes : List ℕ) (here : Option Kind) → slice_get (root_files_of job.tuples) number ≡ Some (path, bytes) → is_file_kind here ≡ false
+      → Starts job (phase.RootCheck number) prefix prefix (does (Finds (storage_root ++ path) here)) (Stops halt.Target)
+  Differs : (prefix : List ℕ) (number : ℕ) (path : Path) (bytes block : List ℕ) → slice_get (root_files_of job.tuples) number ≡ Some (path, bytes) → bytes_eq block bytes ≡ false
+      → Starts job (phase.RootCheck number) prefix prefix (does (Peeks (storage_root ++ path) block)) (Stops halt.Target)

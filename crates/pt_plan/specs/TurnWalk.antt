@@ -1,0 +1,118 @@
+-- The turns of the walk through the sites.
+use Rattle.std.specs.Prelude.{◌≡◌, ℕ, true, false, cond, nat_lt, List, [], ◌∷◌, ◌++◌, length, Option, None, Some, Result, Ok, Err, is_none}
+use Rattle.std.specs.List.{concat}
+use Rattle.std.specs.Str.{is_utf8}
+use Rattle.pt_name.specs.Place.{place_of}
+use Rattle.pt_name.specs.Reading.{reading_of}
+use Rattle.pt_tree.specs.Listing.{Item}
+use Rattle.pt_tree.specs.Path.{Path}
+use Rattle.pt_tree.specs.declared.kind.Kind.{Kind}
+use Rattle.pt_tree.specs.declared.kind.Kind.TheVariants as kind
+use Rattle.pt_walk.specs.Site.{found, is_short, is_shorty}
+use Rattle.pt_walk.specs.Sites.{at_of, is_last}
+use Rattle.pt_walk.specs.Trail.{advanced, current_entry, entered, names_to, parent, sought, trail_path}
+use Rattle.pt_walk.specs.declared.cause.Cause.{Cause}
+use Rattle.pt_walk.specs.declared.cause.Cause.TheVariants as cause
+use Rattle.pt_walk.specs.declared.frame.Frame.{Frame}
+use Rattle.pt_walk.specs.declared.site.Finding.{Finding}
+use Rattle.pt_walk.specs.declared.site.Finding.TheVariants as finding
+use Rattle.pt_walk.specs.declared.site.Form.{Form}
+use Rattle.pt_plan.specs.Answer.{Answer, Goes}
+use Rattle.pt_plan.specs.Items.{is_reserved}
+use Rattle.pt_plan.specs.Job.{Job, form_of}
+use Rattle.pt_plan.specs.Lines.{Present, Skipped}
+use Rattle.pt_plan.specs.Run.{Held, with_trail}
+use Rattle.pt_plan.specs.Store.{pairtree_root}
+use Rattle.pt_plan.specs.Roots.{storage_root}
+use Rattle.pt_plan.specs.World.{AsksNothing, Calls, Finds, Lists, asks, does, no_calls, tells}
+use Rattle.pt_plan.specs.declared.object.Object.{Object}
+use Rattle.pt_plan.specs.declared.phase.Phase.{Phase}
+use Rattle.pt_plan.specs.declared.phase.Phase.TheVariants as phase
+
+-- ---- what a site is found to be
+
+-- what the site is that the innermost listing is of
+abbrev pub found_at : Form → List Frame → Finding
+found_at form [] = finding.Interior
+found_at form (frame ∷ frames) = found frame.listing (at_of (names_to frames)) form
+
+-- a site has an object, which is encapsulated in the entry of this index, or gathered
+abbrev pub has_object : Option ℕ → Finding
+has_object (Some index) = finding.Candidate index
+has_object None = finding.Gathered
+
+-- the identifier, unless its place is reserved
+abbrev pub unless_reserved : Job → List ℕ → Result (List ℕ) Cause
+unless_reserved job id = cond (is_reserved job id) (Err cause.Reserved) (Ok id)
+
+abbrev pub identifier_by : Job → List ℕ → Option (List ℕ) → Result (List ℕ) Cause
+identifier_by job prefix None = Err cause.Name
+identifier_by job prefix (Some read) = cond (is_utf8 read) (unless_reserved job (prefix ++ read)) (Err cause.Utf8)
+
+-- the identifier that the names of a site's path read, behind the prefix, or why none is carried (Pairtree 0.1, "Identifier string cleaning")
+abbrev pub identifier_at : Job → List ℕ → Path → Result (List ℕ) Cause
+identifier_at job prefix site = identifier_by job prefix (reading_of (concat site))
+
+-- the trail at the site's object: its place at the entry of this index, if there is one
+abbrev pub at_object : Option ℕ → List Frame → List Frame
+at_object (Some index) trail = sought index trail
+at_object None trail = trail
+
+-- the path of the site's object: of the entry of this index, or of the site
+abbrev pub path_of_object : Option ℕ → List Frame → Path
+path_of_object (Some index) trail = names_to (sought index trail)
+path_of_object None trail = trail_path trail
+
+-- an object whose place is free, before it is entered
+abbrev pub new_object : Job → List ℕ → Option ℕ → List Frame → Object
+new_object job id index trail = record { id = id; place = place_of job.tuples id; gathered = is_none index; site = length trail; empty = 0 }
+
+-- ---- the turns
+
+-- where something may stand in the storage root
+abbrev pub in_root : Path → Path
+in_root path = storage_root ++ path
+
+-- the path in the source of what stands here in the pairtree
+abbrev pub in_pairtree : Path → Path
+in_pairtree path = pairtree_root ∷ path
+
+-- from the phase and what is held to what is held after, with the calls and the answer, where the store has this prefix
+pub data Walks (job : Job) (prefix : List ℕ) : Phase → Held → Held → Calls → Answer → Type 0 where
+  -- the pairtree's directory is listed and entered
+  OpensRoot : (held : Held) (items : List Item)
+      → Walks job prefix phase.OpenRoot held (with_trail held (entered items held.trail)) (asks (Lists (in_pairtree []) items)) (Goes phase.Judge)
+  -- the site only leads on
+  LeadsOn : (held : Held) → found_at (form_of job) held.trail ≡ finding.Interior
+      → Walks job prefix phase.Judge held held no_calls (Goes phase.Walk)
+  -- there is a cause against the site
+  IsSkipped : (held : Held) (why : Cause) → found_at (form_of job) held.trail ≡ finding.Skip why
+      → Walks job prefix phase.Judge held held (tells (Skipped (trail_path held.trail) why)) (Goes phase.Walk)
+  -- it has an object, but no identifier that can be carried
+  HasNoIdentifier : (held : Held) (index : Option ℕ) (why : Cause) → found_at (form_of job) held.trail ≡ has_object index → identifier_at job prefix (trail_path held.trail) ≡ Err why
+      → Walks job prefix phase.Judge held held (tells (Skipped (trail_path held.trail) why)) (Goes phase.Walk)
+  -- its place is taken
+  IsPresent : (held : Held) (index : Option ℕ) (id : List ℕ) (here : Kind) → found_at (form_of job) held.trail ≡ has_object index → identifier_at job prefix (trail_path held.trail) ≡ Ok id
+      → Walks job prefix phase.Judge held held
+      (record { asked = AsksNothing; change = Finds (in_root (place_of job.tuples id)) (Some here); line = Some (Present (path_of_object index held.trail) id (place_of job.tuples id)) }) (Goes phase.Walk)
+  -- its place is free
+  IsNew : (held : Held) (index : Option ℕ) (id : List ℕ) → found_at (form_of job) held.trail ≡ has_object index → identifier_at job prefix (trail_path held.trail) ≡ Ok id
+      → Walks job prefix phase.Judge held (with_trail held (at_object index held.trail)) (does (Finds (in_root (place_of job.tuples id)) None)) (Goes (phase.OpenObject (new_object job id index held.trail)))
+  -- a shorty below a name of one byte
+  IsPast : (held : Held) (name : List ℕ) → current_entry held.trail ≡ Some (name, kind.Dir) → is_short name ≡ true → is_last (at_of (trail_path held.trail)) ≡ true
+      → Walks job prefix phase.Walk held (with_trail held (advanced held.trail)) (tells (Skipped (names_to held.trail) cause.Past)) (Goes phase.Walk)
+  -- a shorty that is too deep
+  IsDeep : (held : Held) (name : List ℕ) → current_entry held.trail ≡ Some (name, kind.Dir) → is_short name ≡ true → is_last (at_of (trail_path held.trail)) ≡ false → nat_lt job.limits.depth (length held.trail) ≡ true
+      → Walks job prefix phase.Walk held (with_trail held (advanced held.trail)) (tells (Skipped (names_to held.trail) cause.Limit)) (Goes phase.Walk)
+  -- any other shorty is listed and entered
+  EntersSite : (held : Held) (name : List ℕ) (items : List Item) → current_entry held.trail ≡ Some (name, kind.Dir) → is_short name ≡ true → is_last (at_of (trail_path held.trail)) ≡ false → nat_lt job.limits.depth (length held.trail) ≡ false
+      → Walks job prefix phase.Walk held (with_trail held (entered items held.trail)) (asks (Lists (in_pairtree (names_to held.trail)) items)) (Goes phase.Judge)
+  -- any other entry is passed
+  PassesEntry : (held : Held) (item : Item) → current_entry held.trail ≡ Some item → is_shorty item ≡ false
+      → Walks job prefix phase.Walk held (with_trail held (advanced held.trail)) no_calls (Goes phase.Walk)
+  -- at its end the listing is left
+  LeavesSite : (held : Held) → current_entry held.trail ≡ None → nat_lt 1 (length held.trail) ≡ true
+      → Walks job prefix phase.Walk held (with_trail held (advanced (parent held.trail))) no_calls (Goes phase.Walk)
+  -- at the end of the outermost the walk is done
+  EndsWalk : (held : Held) → current_entry held.trail ≡ None → nat_lt 1 (length held.trail) ≡ false
+      → Walks job prefix phase.Walk held held no_calls (Goes phase.End)
