@@ -1,14 +1,13 @@
 -- The way to a place is as free after the first items as it was.
-use Rattle.std.proofs.Common.{◌≡◌, ℕ, List, [], ◌∷◌, Bool, true, false, refl, sym, ◌∙◌, ap, ◌&&◌}
+use Rattle.std.proofs.Common.{◌≡◌, List, [], ◌∷◌, Bool, true, false, refl, sym, ◌∙◌, ap}
 use Rattle.std.specs.Prelude.{Option, None, Some}
 use Rattle.std.specs.List.{list_all}
 use Rattle.std.specs.Option.{option_or}
 use Rattle.std.proofs.lemmas.Bool.{and_from}
 use Rattle.pt_object.specs.Root.{base, base_where}
-use Rattle.pt_tree.specs.Forest.{Forest}
 use Rattle.pt_tree.specs.Path.{Path}
 use Rattle.pt_tree.specs.Tree.{Entry, Tree}
-use Rattle.pt_plan.specs.Carried.{Carried, after, carried_among, entry_of_objects, folder_where, is_folder_or_free, is_on_the_way, is_way_free, place_of_carried, with_objects}
+use Rattle.pt_plan.specs.Carried.{Carried, carried_among, folder_where, is_folder_or_free, is_on_the_way, is_way_free, place_of_carried, with_objects}
 use Rattle.pt_plan.specs.Job.{Job}
 use Rattle.pt_plan.specs.PlaceLaws.{IsRooted, WayStaysFree}
 use Rattle.pt_plan.specs.Roots.{tuple_folders}
