@@ -7,4 +7,5 @@ pub mod HostReading
 pub mod HostWriting
 pub mod Names
 pub mod Options
+pub mod Statuses
 pub mod Words
