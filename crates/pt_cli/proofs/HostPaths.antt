@@ -1,5 +1,5 @@
 -- Paths at or below others, a name after another.
-use Rattle.std.proofs.Common.{◌≡◌, ℕ, Bool, List, [], ◌∷◌, ◌+◌, ◌<◌, ◌≤◌, length, drop, ap, ◌∙◌, cond, true, refl, inl, inr, arith}
+use Rattle.std.proofs.Common.{◌≡◌, ℕ, Bool, List, [], ◌∷◌, ◌+◌, ◌<◌, ◌≤◌, length, drop, ap, ◌∙◌, cond, true, inl, inr, arith}
 use Rattle.std.proofs.lemmas.List.{drop_more, drop_all}
 use Rattle.std.proofs.lemmas.Option.{slice_get_within, get_or_from_slice_get, slice_get-get_or, slice_get_cases}
 use Rattle.std.specs.Prelude.{Some, None, slice_get, get_or, is_some}
