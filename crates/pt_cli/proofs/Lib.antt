@@ -2,7 +2,9 @@ pub mod Building
 pub mod Complete
 pub mod Migrating
 pub mod Parsed
+mod HostLooks
 mod HostNames
+pub mod HostPaths
 mod HostReads
 mod HostTexts
 mod HostUntold

@@ -1,12 +1,13 @@
 //! Reading and writing the files of a folder by whole blocks.
-ghost use Rattle.std.specs.Prelude.{◌≡◌, [], IfOk, OnOk, OnErr, MatchResult, length};
+ghost use Rattle.std.specs.Prelude.{◌≡◌, [], IfOk, IfErr, OnOk, OnErr, MatchResult, length};
 ghost use Rattle.std.specs.Io.KnownBytes.{Appends};
 ghost use Rattle.pt_tree.specs.Log.{AppendsFront};
 ghost use Rattle.pt_cli.specs.HostBytes.{Fills, TakesBlock};
+ghost use Rattle.pt_cli.specs.HostRuns.{IsReadError, IsWriteError};
 
+use crate::host_system::{Handle, Input};
 use pt_tree::Block;
 use std::io;
-use std::io::{Read, Write};
 
 const BLOCK: usize = 8192;
 
@@ -14,9 +15,10 @@ static ZEROS: [u8; BLOCK] = [0; BLOCK];
 
 /// The block becomes the next bytes of a file: as many as it holds, unless the file ends first. A short read isn't
 /// taken for the end. On an error the block is empty.
-pub fn read_block<F: Read>(file: &mut F, block: &mut Block) -> io::Result<()>
+pub fn read_block<F: Input>(file: &mut F, block: &mut Block) -> io::Result<()>
     ensures block { OnOk result (TakesBlock (F.remaining file.old) (F.remaining file.new) block.new.items) }
     ensures empty { OnErr result (block.new.items ≡ []) }
+    ensures error { IfErr result (IsReadError F.reads) }
 {
     make_full(block);
     match fill(file, block.as_mut_slice()) {
@@ -40,12 +42,13 @@ fn make_full(block: &mut Block)
 }
 
 // Reads until the buffer is full or a read gives nothing, and says how many bytes were read.
-fn fill<F: Read>(file: &mut F, buffer: &mut [u8]) -> io::Result<usize>
-    ensures { IfOk result (λ count. Fills (F.remaining file.old) (F.remaining file.new) count buffer.new) }
+fn fill<F: Input>(file: &mut F, buffer: &mut [u8]) -> io::Result<usize>
+    ensures bytes { IfOk result (λ count. Fills (F.remaining file.old) (F.remaining file.new) count buffer.new) }
+    ensures error { IfErr result (IsReadError F.reads) }
 {
     let mut done = 0;
     while done < buffer.len() {
-        let count = file.read(&mut buffer[done..])?;
+        let count = file.read_piece(&mut buffer[done..])?;
         if count == 0 {
             break;
         }
@@ -55,13 +58,14 @@ fn fill<F: Read>(file: &mut F, buffer: &mut [u8]) -> io::Result<usize>
 }
 
 /// Writes all the bytes. An error, or zero for a piece that isn't empty, ends it; nothing is tried again.
-pub fn write_out<F: Write>(file: &mut F, bytes: &[u8]) -> io::Result<()>
-    ensures { MatchResult result (λ _. Appends (F.contents file.old) (F.contents file.new) bytes.now)
+pub fn write_out<F: Handle>(file: &mut F, bytes: &[u8]) -> io::Result<()>
+    ensures bytes { MatchResult result (λ _. Appends (F.contents file.old) (F.contents file.new) bytes.now)
         (λ _. AppendsFront (F.contents file.old) (F.contents file.new) bytes.now) }
+    ensures error { IfErr result (IsWriteError F.writes) }
 {
     let mut done = 0;
     while done < bytes.len() {
-        let taken = file.write(&bytes[done..])?;
+        let taken = file.write_piece(&bytes[done..])?;
         if taken == 0 {
             return Err(io::Error::from(io::ErrorKind::WriteZero));
         }

@@ -4,22 +4,22 @@ ghost use Rattle.std.specs.Fs.{file_type as type_of};
 ghost use Rattle.std.specs.IoError.{error_kind};
 ghost use Rattle.pt_tree.specs.Failures.{IsCounted};
 ghost use Rattle.pt_cli.specs.Host.{host_text, IsAbsent, IsKind, fault_of_kind};
+ghost use Rattle.pt_cli.specs.HostCalls.{AsksOnce, IsAnswer, LeadsToKind, for_reading};
 
+use crate::host_system::System;
 use pt_tree::{Kind, Name, NamePath, TreeFault};
 use std::alloc::{AllocError, Global};
-use std::fs::Metadata;
+use std::fs::{Metadata, OpenOptions};
 use std::io;
-use std::rt::Files;
 
 /// A folder of the system, by its path.
 #[derive(Drop)]
-pub struct Folder<'a, R: Files> {
-    pub rt: &'a R,
+pub struct Folder<'a> {
     pub alloc: Global,
     pub path: &'a str,
 }
 
-impl<'a, R: Files> Folder<'a, R> {
+impl<'a> Folder<'a> {
     /// The system's path of an entry: the folder's, `/`, the names with `/` between. `Device` where the folder's is
     /// empty, since the path would lead to the top of the file system; else `Memory` where a growth was refused.
     pub fn text(&self, path: &NamePath) -> Result<String, TreeFault>
@@ -111,4 +111,44 @@ pub fn counted<T>(failures: &mut u64, answer: Result<T, TreeFault>) -> Result<T,
         *failures = failures.saturating_add(1);
     }
     answer
+}
+
+/// The kind of an entry, links not followed; None where nothing is there, or a parent isn't a directory.
+pub fn kind_at<S: System>(
+    system: &mut S,
+    folder: &Folder<'_>,
+    path: &NamePath,
+) -> Result<Option<Kind>, TreeFault>
+    ensures { AsksOnce S.looks LeadsToKind folder.now.path.now path.now system.old system.new result }
+{
+    let text = folder.text(path)?;
+    match system.look(text.as_str()) {
+        Ok(metadata) => Ok(Some(kind_of(&metadata))),
+        Err(error) if is_absent(&error) => Ok(None),
+        Err(error) => Err(fault_of(error)),
+    }
+}
+
+/// How a file is opened for reading.
+pub fn reading() -> OpenOptions
+    ensures { result ≡ for_reading }
+{
+    let mut options = OpenOptions::new();
+    options.read(true);
+    options
+}
+
+/// Makes a directory at the path of an entry.
+pub fn make_dir<S: System>(
+    system: &mut S,
+    folder: &Folder<'_>,
+    path: &NamePath,
+) -> Result<(), TreeFault>
+    ensures { AsksOnce S.makes_dir IsAnswer folder.now.path.now path.now system.old system.new result }
+{
+    let text = folder.text(path)?;
+    match system.make_dir(text.as_str()) {
+        Ok(()) => Ok(()),
+        Err(error) => Err(fault_of(error)),
+    }
 }

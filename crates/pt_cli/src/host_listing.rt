@@ -1,13 +1,15 @@
 //! Listing a directory of a folder.
-ghost use Rattle.std.specs.Prelude.{◌≡◌, ◌==◌, ◌≤◌, ◌++◌, ◌∷◌, [], if◌then◌else◌, map, position, IfOk, IfSome, OnOk, vec_len};
+ghost use Rattle.std.specs.Prelude.{◌≡◌, ◌==◌, ◌≤◌, ◌++◌, ◌∷◌, [], if◌then◌else◌, map, position, IfOk, IfSome, OnOk, Err, MatchResult, length, string_bytes, vec_len};
+ghost use Rattle.std.specs.List.{FoldsTo};
+ghost use Rattle.pt_cli.specs.Host.{host_text};
+ghost use Rattle.pt_cli.specs.HostCalls.{fault_of as fault_for};
+ghost use Rattle.pt_cli.specs.HostListing.{IsListedBy, LeadsToOwnKind, LooksAt, dir_front, most_entries};
 ghost use Rattle.pt_cli.specs.HostNames.{GivesNames, AddsNames, is_entry};
 
 use crate::host_folder::{Folder, fault_of, kind_of, name_text};
+use crate::host_system::{Input, System};
 use pt_tree::{Kind, Listing, ListingFault, Name, NameFault, NamePath, TreeFault};
 use std::alloc::Global;
-use std::fs;
-use std::io::Read;
-use std::rt::Files;
 
 // The greatest number of a directory's entries.
 const MOST: usize = 16_777_216;
@@ -20,32 +22,50 @@ const PIECE: usize = 8192;
 ///
 /// `Device` for an error of the system, for more than 16,777,216 entries, and for a name that isn't UTF-8, is none
 /// that an entry may have, or comes twice. `Memory` where a growth was refused.
-pub fn list<R: Files>(folder: &Folder<'_, R>, path: &NamePath) -> Result<Listing, TreeFault> {
+pub fn list<S: System>(
+    system: &mut S,
+    folder: &Folder<'_>,
+    path: &NamePath,
+) -> Result<Listing, TreeFault>
+    ensures most { IfOk result (λ listing. length listing ≤ most_entries) }
+    ensures listed { IfOk result (λ listing. IsListedBy S.opens_dir S.looks S.Dir.Input.remaining (host_text folder.now.path.now path.now) (dir_front folder.now.path.now path.now) system.old system.new listing) }
+{
     let mut text = folder.text(path)?;
-    let mut names = names_in(folder, text.as_str())?;
+    let mut names = names_in(system, folder.alloc, text.as_str())?;
     names.sort_unstable();
     if !path.is_empty() {
         text.push('/')?;
     }
-    with_kinds(folder, text, names)
+    with_kinds(system, folder.alloc, text, names)
 }
 
-fn names_in<R: Files>(folder: &Folder<'_, R>, text: &str) -> Result<Vec<Name>, TreeFault> {
-    match folder.rt.open_dir(text) {
-        Ok(mut dir) => read_names(folder.alloc, &mut dir, MOST),
+fn names_in<S: System>(system: &mut S, alloc: Global, text: &str) -> Result<Vec<Name>, TreeFault>
+    ensures most { IfOk result (λ names. vec_len names ≤ most_entries) }
+    ensures asked { (reply : _) × S.opens_dir system.old text.now reply system.new
+        × MatchResult reply (λ dir. IfOk result (λ names. IfSome (S.Dir.Input.remaining dir) (λ bytes. GivesNames bytes names.items))) (λ e. result ≡ Err (fault_for e)) }
+{
+    match system.open_names(text) {
+        Ok(mut dir) => read_names(alloc, &mut dir, most()),
         Err(error) => Err(fault_of(error)),
     }
 }
 
+// The greatest number of a directory's entries.
+fn most() -> usize
+    ensures { result ≡ most_entries }
+{
+    MOST
+}
+
 /// All names that a directory gives, in its order, but for `.` and `..`; `Device` where there are more than `most`.
-pub fn read_names<D: Read>(alloc: Global, dir: &mut D, most: usize) -> Result<Vec<Name>, TreeFault>
+pub fn read_names<D: Input>(alloc: Global, dir: &mut D, most: usize) -> Result<Vec<Name>, TreeFault>
     ensures most { IfOk result (λ names. vec_len names ≤ most) }
     ensures names { IfOk result (λ names. IfSome (D.remaining dir.old) (λ bytes. GivesNames bytes names.items)) }
 {
     let mut names = Vec::new(alloc);
     let mut piece = [0u8; PIECE];
     for _ in 0..u64::MAX {
-        match dir.read(&mut piece) {
+        match dir.read_piece(&mut piece) {
             Ok(0) => return Ok(names),
             Ok(count) => add_names(alloc, &mut names, &piece[..count], most)?,
             Err(error) => return Err(fault_of(error)),
@@ -109,20 +129,22 @@ fn add_name(
 }
 
 // The entries of these names, in their order, with their kinds. The text is the directory's path, with `/` behind.
-fn with_kinds<R: Files>(
-    folder: &Folder<'_, R>,
+fn with_kinds<S: System>(
+    system: &mut S,
+    alloc: Global,
     text: String,
     names: Vec<Name>,
 ) -> Result<Listing, TreeFault>
-    ensures { IfOk result (λ listing. map (λ item. item.0) listing ≡ names.items) }
+    ensures names { IfOk result (λ listing. map (λ item. item.0) listing ≡ names.items) }
+    ensures looked { IfOk result (λ listing. FoldsTo (LooksAt S.looks (string_bytes text)) system.old listing system.new) }
 {
     let mut text = text;
     let end = text.len();
     text.reserve(LONGEST_NAME)?;
-    let mut listing = Listing::new(folder.alloc);
+    let mut listing = Listing::new(alloc);
     for name in names {
         text.push_str(name_text(&name))?;
-        let kind = own_kind(folder.rt, text.as_str())?;
+        let kind = own_kind(system, text.as_str())?;
         text.truncate(end);
         add_entry(&mut listing, name, kind)?;
     }
@@ -130,8 +152,10 @@ fn with_kinds<R: Files>(
 }
 
 // The kind of an entry itself, links not followed.
-fn own_kind<R: Files>(rt: &R, text: &str) -> Result<Kind, TreeFault> {
-    match fs::symlink_metadata(rt, text) {
+fn own_kind<S: System>(system: &mut S, text: &str) -> Result<Kind, TreeFault>
+    ensures { (reply : _) × S.looks system.old text.now reply system.new × LeadsToOwnKind reply result }
+{
+    match system.look(text) {
         Ok(metadata) => Ok(kind_of(&metadata)),
         Err(error) => Err(fault_of(error)),
     }

@@ -1,11 +1,12 @@
 //! The open file of a folder that is read.
-ghost use Rattle.std.specs.Prelude.{◌≡◌, [], false, OnOk, OnErr};
+ghost use Rattle.std.specs.Prelude.{◌≡◌, [], false, IfErr, OnOk, OnErr};
 ghost use Rattle.pt_cli.specs.HostReading.{ReadsNext};
+ghost use Rattle.pt_cli.specs.HostRuns.{GoesTo, IsReadError};
 
 use crate::host_bytes::read_block;
+use crate::host_system::{Handle, Input};
 use pt_tree::Block;
 use std::io;
-use std::io::{Read, Seek, SeekFrom};
 
 /// A file, the place where its next block begins, and whether its end was met.
 #[derive(Drop)]
@@ -30,11 +31,12 @@ impl<F> Reading<F> {
     /// The block becomes the next bytes; behind the end the system isn't asked again. On an error the block is empty.
     pub fn read(&mut self, block: &mut Block) -> io::Result<()>
     where
-        F: Read,
+        F: Input,
         ensures bytes { OnOk result (ReadsNext F.remaining self.old self.new block.new.items) }
         ensures empty { OnErr result (block.new.items ≡ []) }
         ensures place { OnErr result (self.new.place ≡ self.old.place) }
         ensures ended { OnErr result (self.new.ended ≡ self.old.ended) }
+        ensures error { IfErr result (IsReadError F.reads) }
     {
         if self.ended {
             block.clear();
@@ -49,11 +51,15 @@ impl<F> Reading<F> {
     /// Goes back to where the next block begins, after an error; false where the system can't.
     pub fn go_back(&mut self) -> bool
     where
-        F: Seek,
+        F: Handle,
         ensures place { self.new.place ≡ self.old.place }
         ensures ended { self.new.ended ≡ self.old.ended }
+        ensures gone { GoesTo F.goes self.old.file self.old.place self.new.file result }
     {
         let place = self.place;
-        self.file.seek(SeekFrom::Start(place)).is_ok()
+        match self.file.go_to(place) {
+            Ok(_) => true,
+            Err(_) => false,
+        }
     }
 }

@@ -1,35 +1,38 @@
-ghost use Rattle.std.specs.Prelude.{◌≡◌, [], Some, None, Err, IfOk, IfNone, OnOk, OnErr};
+ghost use Rattle.std.specs.Prelude.{◌≡◌, [], Some, None, Err, IfErr, IfOk, IfNone, OnOk, OnErr};
 ghost use Rattle.std.specs.Option.{option_map};
 ghost use Rattle.pt_tree.specs.declared.faults.TreeFault.TheVariants.{Device};
-ghost use Rattle.pt_cli.specs.HostReading.{IsAtStart, ReadsOn, StaysAtPlace};
+ghost use Rattle.pt_cli.specs.HostCalls.{AsksOnce, for_reading};
+ghost use Rattle.pt_cli.specs.HostReading.{FailsBack, IsAtStart, OpensAt, ReadsOn, StaysAtPlace};
 
-use crate::host_folder::{Folder, counted, fault_of};
+use crate::host_folder::{Folder, counted, fault_of, reading};
 use crate::host_listing;
 use crate::host_reading::Reading;
+use crate::host_system::{Handle, System};
 use pt_tree::{Block, Listing, NamePath, Source, TreeFault};
 use std::alloc::Global;
-use std::fs;
-use std::io::{Read, Seek};
-use std::rt::Files;
 
 /// A folder of the system as a source. It tells nothing.
 #[derive(Drop)]
-pub struct HostSource<'a, R: Files> {
-    folder: Folder<'a, R>,
-    reading: Option<Reading<R::File>>,
+pub struct HostSource<'a, S: System> {
+    system: S,
+    folder: Folder<'a>,
+    reading: Option<Reading<S::File>>,
     failures: u64,
     calls: u64,
 }
 
-impl<'a, R: Files> HostSource<'a, R> {
-    /// A source over the folder at a path. It keeps both references, calls nothing and takes no memory.
-    pub fn new(rt: &'a R, alloc: Global, path: &'a str) -> HostSource<'a, R>
+impl<'a, S: System> HostSource<'a, S> {
+    /// A source over the folder at a path of a system, as the runtime's. It calls nothing and takes no memory.
+    pub fn new(system: S, alloc: Global, path: &'a str) -> HostSource<'a, S>
         ensures failures { result.failures ≡ 0 }
         ensures calls { result.calls ≡ 0 }
         ensures path { result.folder.path.now ≡ path.now }
+        ensures system { result.system ≡ system }
+        ensures reading { result.reading ≡ None }
     {
         HostSource {
-            folder: Folder { rt, alloc, path },
+            system,
+            folder: Folder { alloc, path },
             reading: None,
             failures: 0,
             calls: 0,
@@ -37,7 +40,7 @@ impl<'a, R: Files> HostSource<'a, R> {
     }
 }
 
-impl<'a, R: Files> Source for HostSource<'a, R> {
+impl<'a, S: System> Source for HostSource<'a, S> {
     ghost use Rattle.std.specs.Prelude.{Option};
     ghost use Rattle.pt_tree.specs.Source.{Reading, CanList, IsListed, CanOpen, CanRead, IsRead, after_open, after_next};
     ghost use Rattle.pt_tree.specs.Failures.{IsCounted, IsOneMoreCall};
@@ -60,11 +63,12 @@ impl<'a, R: Files> Source for HostSource<'a, R> {
         ensures listing { IfOk result (λ listing. IsListed (no_source self.old) path.now listing) }
         ensures same { no_source self.new ≡ no_source self.old }
         ensures reading { self.new.reading ≡ self.old.reading }
+        ensures folder { self.new.folder ≡ self.old.folder }
         ensures failures { IsCounted self.old.failures self.new.failures result }
         ensures calls { IsOneMoreCall (was_called self.old.calls) (was_called self.new.calls) }
     {
         self.calls = self.calls.wrapping_add(1);
-        let listing = host_listing::list(&self.folder, path);
+        let listing = host_listing::list(&mut self.system, &self.folder, path);
         counted(&mut self.failures, listing)
     }
 
@@ -73,18 +77,14 @@ impl<'a, R: Files> Source for HostSource<'a, R> {
         ensures same { OnErr result (no_source self.new ≡ no_source self.old) }
         ensures started { OnOk result (IsAtStart self.new.reading) }
         ensures reading { OnErr result (self.new.reading ≡ self.old.reading) }
+        ensures asked { AsksOnce (λ s. S.opens s for_reading) (OpensAt self.old.reading self.new.reading) self.old.folder.path.now path.now self.old.system self.new.system result }
+        ensures folder { self.new.folder ≡ self.old.folder }
         ensures failures { IsCounted self.old.failures self.new.failures result }
         ensures calls { IsOneMoreCall (was_called self.old.calls) (was_called self.new.calls) }
     {
         self.calls = self.calls.wrapping_add(1);
-        let opened = open(&self.folder, path);
-        match counted(&mut self.failures, opened) {
-            Ok(file) => {
-                self.reading = Some(Reading::at_start(file));
-                Ok(())
-            }
-            Err(fault) => Err(fault),
-        }
+        let opened = open(&mut self.system, &self.folder, path, &mut self.reading);
+        counted(&mut self.failures, opened)
     }
 
     #[tactic(auto, unfolding(pt_tree::specs::Source::IsRead))]
@@ -93,9 +93,12 @@ impl<'a, R: Files> Source for HostSource<'a, R> {
         ensures moved { OnOk result (no_source self.new ≡ option_map after_next (no_source self.old)) }
         ensures empty { OnErr result (block.new.items ≡ []) }
         ensures same { OnErr result (no_source self.new ≡ no_source self.old) }
-        ensures bytes { OnOk result (ReadsOn R.File.Read.remaining self.old.reading self.new.reading block.new.items) }
+        ensures bytes { OnOk result (ReadsOn ⟦<S::File as Handle>⟧.remaining self.old.reading self.new.reading block.new.items) }
         ensures closed { IfNone self.old.reading (result ≡ Err Device) }
         ensures place { OnErr result (StaysAtPlace self.old.reading self.new.reading) }
+        ensures back { IfErr result (FailsBack ⟦<S::File as Handle>⟧.reads ⟦<S::File as Handle>⟧.goes self.old.reading self.new.reading) }
+        ensures system { self.new.system ≡ self.old.system }
+        ensures folder { self.new.folder ≡ self.old.folder }
         ensures failures { IsCounted self.old.failures self.new.failures result }
         ensures calls { IsOneMoreCall (was_called self.old.calls) (was_called self.new.calls) }
     {
@@ -105,16 +108,31 @@ impl<'a, R: Files> Source for HostSource<'a, R> {
     }
 }
 
-/// Opens a file of a folder for reading.
-pub fn open<R: Files>(folder: &Folder<'_, R>, path: &NamePath) -> Result<R::File, TreeFault> {
+// Opens an entry for reading, and makes it the open file.
+fn open<S: System>(
+    system: &mut S,
+    folder: &Folder<'_>,
+    path: &NamePath,
+    opened: &mut Option<Reading<S::File>>,
+) -> Result<(), TreeFault>
+    ensures started { OnOk result (IsAtStart opened.new) }
+    ensures same { OnErr result (opened.new ≡ opened.old) }
+    ensures asked { AsksOnce (λ s. S.opens s for_reading) (OpensAt opened.old opened.new) folder.now.path.now path.now system.old system.new result }
+{
     let text = folder.text(path)?;
-    fs::open(folder.rt, text.as_str()).map_err(fault_of)
+    match system.open_as(&reading(), text.as_str()) {
+        Ok(file) => {
+            *opened = Some(Reading::at_start(file));
+            Ok(())
+        }
+        Err(error) => Err(fault_of(error)),
+    }
 }
 
 // The block becomes the next bytes of the open file; behind its end the system isn't asked again. Where no file is
 // open, it is a failure. After an error of the system the file is read on from where it was, or is closed where the
 // system can't go back there. On a fault the block is empty.
-fn read_on<F: Read + Seek + Drop>(
+fn read_on<F: Handle + Drop>(
     reading: &mut Option<Reading<F>>,
     block: &mut Block,
 ) -> Result<(), TreeFault>
@@ -122,6 +140,7 @@ fn read_on<F: Read + Seek + Drop>(
     ensures closed { IfNone reading.old (result ≡ Err Device) }
     ensures empty { OnErr result (block.new.items ≡ []) }
     ensures place { OnErr result (StaysAtPlace reading.old reading.new) }
+    ensures back { IfErr result (FailsBack F.reads F.goes reading.old reading.new) }
 {
     let Some(mut open) = reading.take() else {
         block.clear();

@@ -1,8 +1,7 @@
 //! Calls of a destination and a source as data, for tests.
-use crate::{HostDest, HostSource};
+use crate::{HostDest, HostSource, System};
 use pt_tree::{Block, Dest, Kind, Listing, Name, NamePath, Source, TreeFault};
 use std::alloc::Global;
-use std::rt::Files;
 use std::test::Fail;
 
 /// A call of a destination.
@@ -18,8 +17,8 @@ pub enum Step<'a> {
 }
 
 /// Makes the call; an `Append` adds so many letters.
-pub fn take<R: Files>(
-    dest: &mut HostDest<'_, R>,
+pub fn take<S: System>(
+    dest: &mut HostDest<'_, S>,
     block: &mut Block,
     alloc: Global,
     step: Step<'_>,
@@ -37,8 +36,8 @@ pub fn take<R: Files>(
 }
 
 /// The kind of what is at a path.
-pub fn kind<R: Files>(
-    dest: &mut HostDest<'_, R>,
+pub fn kind<S: System>(
+    dest: &mut HostDest<'_, S>,
     alloc: Global,
     names: &[&str],
 ) -> Result<Result<Option<Kind>, TreeFault>, Fail> {
@@ -46,8 +45,8 @@ pub fn kind<R: Files>(
 }
 
 /// What `list` answers: the names and kinds, a line each, or the fault's number.
-pub fn listed<R: Files>(
-    source: &mut HostSource<'_, R>,
+pub fn listed<S: System>(
+    source: &mut HostSource<'_, S>,
     alloc: Global,
     names: &[&str],
 ) -> Result<String, Fail> {
@@ -61,8 +60,8 @@ pub fn listed<R: Files>(
 }
 
 /// What `open` answers.
-pub fn opened<R: Files>(
-    source: &mut HostSource<'_, R>,
+pub fn opened<S: System>(
+    source: &mut HostSource<'_, S>,
     alloc: Global,
     names: &[&str],
 ) -> Result<Result<(), TreeFault>, Fail> {

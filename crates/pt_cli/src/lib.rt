@@ -15,6 +15,7 @@ mod host_reading;
 mod host_source;
 #[cfg(test)]
 mod host_steps;
+mod host_system;
 #[cfg(test)]
 mod host_tests;
 mod migration;
@@ -27,6 +28,7 @@ mod words;
 pub use command::{Command, Migrate};
 pub use host_dest::HostDest;
 pub use host_source::HostSource;
+pub use host_system::{Handle, Input, System};
 pub use names::{NamesFault, names_to};
 pub use program::run;
 pub use text::Text;

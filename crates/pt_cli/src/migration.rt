@@ -1,4 +1,7 @@
 // The command `migrate`: a run from one folder to another, whose log is the standard output.
+ghost use Rattle.std.specs.Prelude.{◌≡◌};
+ghost use Rattle.pt_cli.specs.Statuses.{RunEnds, run_status};
+
 use crate::{HostDest, HostSource, Migrate};
 use pt_move::{Fault, Job, Report};
 use pt_tree::WriterLog;
@@ -14,7 +17,9 @@ const FAILED: u8 = 3;
 
 // Carries the store, and gives the exit status: 0 all was carried, 1 the log has lines that tell of what was not, 3 a
 // fault, of which standard error tells.
-pub(crate) fn migrate<R: Files + Print + Eprint + AllocGlobal>(rt: &R, words: Migrate) -> u8 {
+pub(crate) fn migrate<R: Files + Print + Eprint + AllocGlobal>(rt: &R, words: Migrate) -> u8
+    ensures { RunEnds result }
+{
     let Migrate {
         meta,
         algorithm,
@@ -30,10 +35,12 @@ pub(crate) fn migrate<R: Files + Print + Eprint + AllocGlobal>(rt: &R, words: Mi
         limits: Limits::greatest(),
         gather,
     };
-    match carry(rt, source.as_str(), dest.as_str(), job) {
-        Ok(report) => status_of(&report),
-        Err(fault) => failed(rt, fault),
+    let ran = carry(rt, source.as_str(), dest.as_str(), job);
+    if let Err(fault) = ran {
+        let number = fault.number();
+        let _ = eprintln!(rt; "pairtree2ocfl: fault {number}: {fault}");
     }
+    status_of(&ran)
 }
 
 // Carries a store from folder to folder.
@@ -50,16 +57,13 @@ fn carry<'a, R: Files + Print + AllocGlobal>(
     pt_move::migrate(alloc, &mut source, &mut dest, &mut log, job)
 }
 
-fn status_of(report: &Report) -> u8 {
-    if report.present > 0 || report.skipped > 0 {
-        TOLD
-    } else {
-        CARRIED
+// The exit status of a run.
+fn status_of(ran: &Result<Report, Fault>) -> u8
+    ensures { result ≡ run_status ran.now }
+{
+    match ran {
+        Ok(report) if report.present > 0 || report.skipped > 0 => TOLD,
+        Ok(_) => CARRIED,
+        Err(_) => FAILED,
     }
-}
-
-fn failed(rt: &impl Eprint, fault: Fault) -> u8 {
-    let number = fault.number();
-    let _ = eprintln!(rt; "pairtree2ocfl: fault {number}: {fault}");
-    FAILED
 }

@@ -1,3 +1,7 @@
+ghost use Rattle.std.specs.Prelude.{◌≡◌, map, string_bytes};
+ghost use Rattle.std.specs.Process.{exit_status};
+ghost use Rattle.pt_cli.specs.Statuses.{Ends, EndsWith, NamesEnd};
+
 use crate::migration::migrate;
 use crate::{Command, NamesFault, WordsFault, names_to, read_words};
 use std::env::Env;
@@ -14,7 +18,9 @@ const FAILED: u8 = 3;
 /// Runs the program on the words that it was started with, and gives its exit status: 0 the names were written, all was
 /// carried, or help was asked for; 1 a run ended whose log has present or skip lines; 2 the words were refused; 3 a fault
 /// of the run, an output that failed, or want of memory.
-pub fn run<R: Files + Print + Eprint + Env + AllocGlobal>(rt: &R) -> ExitCode {
+pub fn run<R: Files + Print + Eprint + Env + AllocGlobal>(rt: &R) -> ExitCode
+    ensures { Ends (exit_status result) }
+{
     let status = match words(rt) {
         Ok(words) => answer(rt, words.as_slice()),
         Err(error) if error.kind() == io::ErrorKind::OutOfMemory => failed(rt, NamesFault::Memory),
@@ -28,7 +34,9 @@ fn words<R: Env + AllocGlobal>(rt: &R) -> io::Result<Vec<String>> {
 }
 
 // Does what the words ask for, and says how it went.
-fn answer<R: Files + Print + Eprint + AllocGlobal>(rt: &R, words: &[String]) -> u8 {
+fn answer<R: Files + Print + Eprint + AllocGlobal>(rt: &R, words: &[String]) -> u8
+    ensures { EndsWith (map string_bytes words.now) result }
+{
     match read_words(rt.alloc(), words) {
         Ok(Command::Names(id)) => names(rt, id.as_str()),
         Ok(Command::Migrate(words)) => migrate(rt, words),
@@ -48,7 +56,9 @@ fn answer<R: Files + Print + Eprint + AllocGlobal>(rt: &R, words: &[String]) -> 
     }
 }
 
-fn names<R: Print + Eprint + AllocGlobal>(rt: &R, id: &str) -> u8 {
+fn names<R: Print + Eprint + AllocGlobal>(rt: &R, id: &str) -> u8
+    ensures { NamesEnd id.now result }
+{
     match names_to(rt.alloc(), id, &mut io::writer(rt)) {
         Ok(()) => DONE,
         Err(NamesFault::Empty) => refused(rt, "the identifier is empty"),
@@ -57,13 +67,17 @@ fn names<R: Print + Eprint + AllocGlobal>(rt: &R, id: &str) -> u8 {
 }
 
 // Says why the words were refused.
-fn refused(rt: &impl Eprint, reason: &str) -> u8 {
+fn refused(rt: &impl Eprint, reason: &str) -> u8
+    ensures { result ≡ 2 }
+{
     let _ = eprintln!(rt; "pairtree2ocfl: {reason}");
     REFUSED
 }
 
 // Says which fault ended the program: 3 an output that fails, 4 want of memory.
-fn failed(rt: &impl Eprint, fault: NamesFault) -> u8 {
+fn failed(rt: &impl Eprint, fault: NamesFault) -> u8
+    ensures { result ≡ 3 }
+{
     let number = if fault == NamesFault::Memory { 4 } else { 3 };
     let _ = eprintln!(rt; "pairtree2ocfl: fault {number}: {fault}");
     FAILED

@@ -1,4 +1,6 @@
 use Rattle.std.proofs.Common.{◌≡◌, map, string_bytes}
+use Rattle.std.specs.List.{FoldsTo}
+use Rattle.pt_cli.specs.HostListing.{LooksAt}
 use Rattle.pt_cli.proofs.host_listing.with_kinds.Given as goal
 
 -- the text is the directory's path again
@@ -8,4 +10,5 @@ invariant-loop-name g l = record {
   ends : (goal.iterator-loop-name g).is_finite l.name-iterator;
   names : map (λ item. item.0) l.listing ≡ l.yielded;
   text : string_bytes l.text ≡ string_bytes l.fn.text;
+  looked : FoldsTo (LooksAt g.S.System.looks (string_bytes l.fn.text)) l.fn.system l.listing l.system;
 }
