@@ -21,8 +21,8 @@ build: toolchain ## prove and build the program, at bin/pairtree2ocfl (the defau
 demo: build ## build the program and carry the store in demo/ into a temporary folder
 	@sh demo/run $(PROGRAM)
 
-test: build ## every test: the toolchain's gate, then the built program's tests
-	@$(PYTHON) tests/all.py $(RT) $(PROGRAM)
+test: toolchain ## every test: the toolchain's gate, then the tests of the program that it built
+	@$(PYTHON) tests/all.py $(RT) $(BUILT)
 
 bench: build ## hold a run against sha512sum and cp over the same store
 	@$(PYTHON) bench/bench.py $(PROGRAM)
