@@ -15,7 +15,8 @@ sys.dont_write_bytecode = True
 import migration
 import program
 
-FAILURE = re.compile(r"^rt: |NOT PROVED|NOT REFUSED|BAD EDIT|FAILED|Error|\berror\b")
+# What the gate says of itself, but for what went well.
+SAID = re.compile(r"^rt: (?!must-fail .*: refused, as it must be|.* proved$|.* passed$|.*: trying its )|: error: |^Traceback|^\w*Error: ")
 
 
 def run_gate(rt):
@@ -26,7 +27,7 @@ def run_gate(rt):
             line = line.rstrip("\n")
             counts = re.fullmatch(r"(\d+) passed, (\d+) failed", line)
             print(f"the gate: {line}" if counts else line, flush=True)
-            if FAILURE.search(line) and not line.endswith(" proved"):
+            if SAID.search(line):
                 last.append(line)
     last.append(f"the gate ended with status {gate.returncode}")
     if counts is None:
