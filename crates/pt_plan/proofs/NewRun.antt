@@ -52,7 +52,7 @@ new_run_is_begun job world is = (
     source = λ s e. source_new job s (is.source s e);
     dest = dest_new job world.dest is.dest;
     both = λ s e old f. record { placed = refl; next = tt };
-  counts = λ s e old f. record { done = refl; present = refl; skipped = refl };
+    counts = λ s e old f. record { done = refl; present = refl; skipped = refl };
     log = λ s e old f. log_new job s.tree (root_in old) world.log;
   },
 )
