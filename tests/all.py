@@ -20,18 +20,30 @@ SAID = re.compile(r"^rt: (?!must-fail .*: refused, as it must be|.* proved$|.* p
 
 
 def run_gate(rt):
-    """Runs the gate, shows what it says, and gives how many passed and failed, and what to say again."""
+    """Runs the gate, once more where it ended without a verdict, and gives how many passed and failed, and what to say again."""
+    verdict = run_once(rt)
+    if verdict[0] is None:
+        print("\n".join([*verdict[2], "the gate gave no counts at its end: once more"]), flush=True)
+        verdict = run_once(rt)
+    if verdict[0] is None:
+        return 0, 1, [*verdict[2], "the gate gave no counts at its end"]
+    return verdict
+
+
+def run_once(rt):
+    """Runs the gate and shows what it says. Where it gives no counts, those that are given are None."""
     counts, last = None, collections.deque(maxlen=30)
     with subprocess.Popen([rt, "ci"], stdout=subprocess.PIPE, stderr=subprocess.STDOUT, text=True, errors="replace") as gate:
         for line in gate.stdout:
             line = line.rstrip("\n")
-            counts = re.fullmatch(r"(\d+) passed, (\d+) failed", line)
-            print(f"the gate: {line}" if counts else line, flush=True)
+            told = re.fullmatch(r"(\d+) passed, (\d+) failed", line)
+            counts = told or counts
+            print(f"the gate: {line}" if told else line, flush=True)
             if SAID.search(line):
                 last.append(line)
     last.append(f"the gate ended with status {gate.returncode}")
     if counts is None:
-        return 0, 1, [*last, "the gate gave no counts at its end"]
+        return None, None, last
     passed, failed = int(counts[1]), int(counts[2])
     return passed, max(failed, int(gate.returncode != 0)), last
 
