@@ -17,6 +17,3 @@ pub use joining::concatenated;
 pub use layout::{Layout, LayoutFault};
 pub use prefix::{PrefixFault, read_prefix};
 pub use reading::{UncleanFault, unclean};
-
-#[cfg(test)]
-mod tests;

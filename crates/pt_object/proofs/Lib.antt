@@ -19,6 +19,5 @@ pub mod Stored
 pub mod Manifests
 pub mod Groups
 pub mod VersionStates
-mod Worked
 mod Moved
 mod RowFiles

@@ -21,4 +21,3 @@ pub mod Script
 pub mod Scripts
 pub mod VersionLaws
 pub mod VersionState
-pub mod Worked

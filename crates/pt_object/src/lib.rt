@@ -9,18 +9,12 @@ mod grouping;
 mod hasher;
 mod index;
 mod inventories;
-#[cfg(test)]
-mod inventory_tests;
 mod json_parts;
 pub mod laws;
 mod meta;
 mod moment;
-#[cfg(test)]
-mod object_tests;
 mod root;
 mod rows;
-#[cfg(test)]
-mod tests;
 
 pub use algorithm::Algorithm;
 pub use contents::{Content, Contents};

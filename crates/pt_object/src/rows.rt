@@ -82,7 +82,8 @@ impl Rows {
         self.rows.get(i)
     }
 
-    pub(crate) fn as_slice(&self) -> &[Row]
+    /// The rows in their order.
+    pub fn as_slice(&self) -> &[Row]
         ensures { result.now ≡ self.now }
     {
         &self.rows

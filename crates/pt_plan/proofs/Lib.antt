@@ -28,6 +28,3 @@ pub mod TakenPlaces
 pub mod TrailKeeps
 pub mod WalksKeep
 pub mod WithObjects
-pub mod Worked
-pub mod WorkedFaults
-pub mod WorkedTurns

@@ -32,8 +32,4 @@ pub mod TurnScan
 pub mod TurnStart
 pub mod TurnWalk
 pub mod Work
-pub mod Worked
-pub mod WorkedFaults
-pub mod WorkedStores
-pub mod WorkedTurns
 pub mod World

@@ -9,10 +9,3 @@ mod phase;
 pub use identifier::Identifier;
 pub use object::Object;
 pub use phase::{Part, Phase, Position};
-
-#[cfg(test)]
-mod fault_tests;
-#[cfg(test)]
-mod tests;
-#[cfg(test)]
-mod worked_tests;

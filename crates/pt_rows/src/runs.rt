@@ -3,7 +3,8 @@
 use pt_move::{Fault, Job, Mover, Report, Turn, migrate};
 use pt_name::Layout;
 use pt_object::{Algorithm, Meta};
-use pt_tree::{Block, Dest, Kind, LooseSource, MemLog, MemSource, Name, NamePath, TreeFault};
+use pt_memory::{LooseSource, MemLog, MemSource};
+use pt_tree::{Block, Dest, Kind, Name, NamePath, TreeFault};
 use pt_walk::Limits;
 use std::alloc::Global;
 use std::test::Fail;

@@ -1,22 +1,17 @@
 -- Taking away, editing and renaming at whole paths.
-use Rattle.std.proofs.Common.{◌≡◌, ℕ, List, [], ◌∷◌, ◌++◌, true, false, refl, sym, ◌∙◌, ap, subst, inl, inr}
+use Rattle.std.proofs.Common.{◌≡◌, ℕ, List, [], ◌∷◌, ◌++◌, true, false, refl, sym, ◌∙◌, ap, subst}
 use Rattle.std.specs.Prelude.{Bool, cond, Option, None, Some, IsSome, is_some}
 use Rattle.std.specs.Option.{option_map, option_and_then, option_copied}
-use Rattle.std.specs.Str.{bytes_eq}
-use Rattle.std.proofs.lemmas.Bool.{true≢false, false≢true, cases_Bool, cond-true, cond-false, and_from, and_parts}
-use Rattle.pt_tree.specs.Name.{is_name}
+use Rattle.std.proofs.lemmas.Bool.{false≢true, and_parts}
 use denote.Ref.{Bor}
-use Rattle.pt_tree.specs.Path.{Path, IsBelowTop, same_path, rest_below, parent, last_name, split_path}
+use Rattle.pt_tree.specs.Path.{Path, IsBelowTop, same_path, parent, last_name, split_path}
 use Rattle.pt_tree.proofs.Paths.{split_parts}
-use Rattle.pt_tree.specs.Forest.{Forest, none, file, other, dir, Node, File, Dir, Other, find, node_at, as_dir, as_file, dir_at, file_at, is_proper, first_name, first_node, first_alone, inserted, removed, rewritten, changed, picked, picked_at, named}
-use Rattle.pt_tree.specs.Tree.{Entry, Bytes, Folder, Special, Tree, entry_of, tree_of, bytes_of, edited_by, put, added, moved, moved_at, without, without_at, CanMake, CanMove}
-use Rattle.pt_tree.proofs.Names.{same_name, name_itself}
-use Rattle.pt_tree.proofs.Finding.{proper_file, proper_other, proper_dir}
-use Rattle.pt_tree.specs.TreeLaws.{entry_below, in_folder}
-use Rattle.pt_tree.proofs.Trees.{spliced, on_the_way, tree-inserted}
-use Rattle.pt_tree.proofs.Placing.{HasDir, is_here, same_path-rest, dir-folder, rest_below-parent, absent_last, below_dir, tree-changed_at, tree-removed_at, tree-edited_at}
-use Rattle.pt_tree.proofs.Proper.{proper-changed, proper-removed, proper-rewritten, proper-inserted, proper-picked}
-use Rattle.pt_tree.proofs.Calls.{proper_node, proper_at}
+use Rattle.pt_tree.specs.Forest.{Forest, Node, File, Dir, Other, node_at, as_dir, as_file, dir_at, file_at, is_proper, removed, rewritten, changed}
+use Rattle.pt_tree.specs.Tree.{Entry, Bytes, Folder, Special, Tree, entry_of, tree_of, bytes_of, edited_by, added, without}
+use Rattle.pt_tree.proofs.Names.{same_name}
+use Rattle.pt_tree.specs.TreeLaws.{in_folder}
+use Rattle.pt_tree.proofs.Placing.{HasDir, dir-folder, tree-removed_at, tree-edited_at}
+use Rattle.pt_tree.proofs.Proper.{proper-changed, proper-removed, proper-rewritten, proper_at}
 
 -- a path is its parent and its last name
 pub parent-last : (n : List ℕ) (p : Path) → parent (n ∷ p) ++ last_name (n ∷ p) ∷ [] ≡ n ∷ p

@@ -1,14 +1,14 @@
 -- Proper trees that show the same are the same.
-use Rattle.std.proofs.Common.{◌≡◌, ℕ, List, [], ◌∷◌, true, false, refl, sym, ◌∙◌, ap, subst, inl, inr}
-use Rattle.std.specs.Prelude.{Bool, ◌&&◌, cond, Option, None, Some, IsTrue}
+use Rattle.std.proofs.Common.{◌≡◌, ℕ, List, [], ◌∷◌, true, false, refl, sym, ◌∙◌, ap, inl, inr}
+use Rattle.std.specs.Prelude.{cond, Option, None, Some}
 use Rattle.std.specs.Option.{option_map, option_and_then}
 use Rattle.std.specs.Str.{bytes_eq}
-use Rattle.std.proofs.lemmas.Bool.{true≢false, false≢true, cases_Bool, cond-true, cond-false, and_from, and_parts}
+use Rattle.std.proofs.lemmas.Bool.{false≢true, cases_Bool, cond-true, cond-false, and_from, and_parts}
 use Rattle.pt_tree.specs.Listing.{is_before}
 use Rattle.pt_tree.specs.Path.{Path}
 use Rattle.pt_tree.specs.Forest.{Forest, none, file, other, dir, Node, File, Dir, Other, find, node_at, comes_before, is_proper, same_forest}
-use Rattle.pt_tree.specs.Tree.{Entry, Bytes, Folder, Special, Tree, entry_of, tree_of}
-use Rattle.pt_tree.proofs.Names.{same_name, name_itself, bytes_eq-sym, before_differs, before_other, before-trans}
+use Rattle.pt_tree.specs.Tree.{Entry, Bytes, Folder, Special, entry_of, tree_of}
+use Rattle.pt_tree.proofs.Names.{same_name, name_itself, bytes_eq-sym, before_differs, before_other}
 use Rattle.pt_tree.proofs.Finding.{proper_file, proper_other, proper_dir, find_absent, comes_before-trans}
 use Rattle.pt_tree.specs.TreeLaws.{entry_below}
 

@@ -1,5 +1,5 @@
 -- What is found at a name after a change of one directory.
-use Rattle.std.proofs.Common.{◌≡◌, ℕ, List, [], ◌∷◌, true, false, refl, sym, ◌∙◌, ap, subst, inl, inr}
+use Rattle.std.proofs.Common.{◌≡◌, ℕ, List, ◌∷◌, true, false, refl, sym, ◌∙◌, ap, inl, inr}
 use Rattle.std.specs.Prelude.{Bool, cond, Option, None, Some}
 use Rattle.std.specs.Option.{option_map}
 use Rattle.std.specs.Str.{bytes_eq}
@@ -8,7 +8,7 @@ use Rattle.pt_tree.specs.Listing.{is_before}
 use Rattle.pt_tree.specs.Name.{is_name}
 use Rattle.pt_tree.specs.Path.{Path}
 use Rattle.pt_tree.specs.Forest.{Forest, none, file, other, dir, Node, File, Dir, Other, find, comes_before, is_proper, first_name, first_node, in_front, inserted, removed, rewritten, changed}
-use Rattle.pt_tree.proofs.Names.{same_name, name_itself, bytes_eq-sym, differ, before-trans, before_differs, cond-swap, cond_same}
+use Rattle.pt_tree.proofs.Names.{same_name, bytes_eq-sym, differ, before-trans, before_differs, cond-swap, cond_same}
 
 pub comes_before-trans : (n m : List ℕ) (f : Forest) → is_before n m ≡ true → comes_before m f ≡ true → comes_before n f ≡ true
 comes_before-trans n m none a b = refl

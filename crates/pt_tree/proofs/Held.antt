@@ -1,10 +1,9 @@
 -- What a call leaves is what the next one needs.
-use Rattle.std.proofs.Common.{◌≡◌, ℕ, List, true, refl, sym, ◌∙◌, ap, subst}
-use Rattle.std.specs.Prelude.{Option, None, Some, IsSome, is_some, drop}
+use Rattle.std.proofs.Common.{◌≡◌, ℕ, List, refl, subst}
+use Rattle.std.specs.Prelude.{Option, None, Some, IsSome, drop}
 use Rattle.std.specs.Option.{option_map}
 use Rattle.pt_tree.specs.Path.{Path}
-use Rattle.pt_tree.specs.Forest.{file_at, dir_at}
-use Rattle.pt_tree.specs.Source.{Reading, CanList, CanOpen, CanRead, after_open, after_next}
+use Rattle.pt_tree.specs.Source.{Reading, CanOpen, CanRead, after_open, after_next}
 use Rattle.pt_tree.specs.Dest.{Writing, CanWrite, after_create, after_append}
 
 -- a file that was opened can be read

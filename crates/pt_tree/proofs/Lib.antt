@@ -1,22 +1,14 @@
 mod Joining
-mod Rising
-mod SourceCalls
-mod Swaps
 mod Texts
-pub mod Blocks
-mod Calls
-mod Canonical
-mod Conditions
-mod DestCalls
-mod Finding
+pub mod AtPaths
+pub mod Canonical
+pub mod Finding
 pub mod Held
-mod AtPaths
-mod Names
-mod Paths
-mod Trees
-mod Opened
-mod Placing
-mod Planted
-mod Proper
-mod Renamed
+pub mod Names
+pub mod Paths
+pub mod Placing
+pub mod Proper
+pub mod Renamed
+pub mod Rising
+pub mod Trees
 pub mod Written

@@ -1,15 +1,14 @@
 -- What stands at each path after a change at one path.
-use Rattle.std.proofs.Common.{◌≡◌, ℕ, List, [], ◌∷◌, ◌++◌, true, false, refl, sym, ◌∙◌, ap, subst, inl, inr}
-use Rattle.std.specs.Prelude.{Bool, cond, ◌&&◌, nat_eq, Option, None, Some, IsSome}
+use Rattle.std.proofs.Common.{◌≡◌, ℕ, List, [], ◌∷◌, ◌++◌, true, false, refl, sym, ◌∙◌, ap}
+use Rattle.std.specs.Prelude.{Bool, cond, ◌&&◌, Option, None, Some}
 use Rattle.std.specs.Option.{option_map, option_and_then}
 use Rattle.std.specs.Str.{bytes_eq}
-use Rattle.std.specs.Cmp.Lexicographic.{pointwise}
-use Rattle.std.proofs.lemmas.Bool.{true≢false, false≢true, cases_Bool, cond-true, cond-false}
+use Rattle.std.proofs.lemmas.Bool.{cond-true, cond-false}
 use Rattle.pt_tree.specs.Path.{Path, same_path, rest_below, parent, last_name}
-use Rattle.pt_tree.specs.Forest.{Forest, Node, File, Dir, Other, find, node_at, as_dir, dir_at, is_proper, first_name, first_node, inserted, removed, rewritten, changed, picked, picked_at}
-use Rattle.pt_tree.specs.Tree.{Entry, Bytes, Folder, Special, Tree, entry_of, tree_of, edited_by, put, added, moved, moved_at, without, without_at, IsTree, CanMake, CanMove}
+use Rattle.pt_tree.specs.Forest.{Forest, Node, File, Dir, Other, find, node_at, as_dir, dir_at, is_proper, first_name, first_node, inserted, removed, rewritten, changed}
+use Rattle.pt_tree.specs.Tree.{Entry, Folder, entry_of, tree_of, put, added, without, without_at, CanMake}
 use Rattle.pt_tree.proofs.Names.{same_name, name_itself, bytes_eq-sym}
-use Rattle.pt_tree.specs.TreeLaws.{entry_below, in_folder}
+use Rattle.pt_tree.specs.TreeLaws.{entry_below}
 use Rattle.pt_tree.proofs.Trees.{spliced, on_the_way, tree-changed, tree-inserted, tree-removed, tree-rewritten, edited_below}
 
 -- the rest of q below p is nothing: they are one path

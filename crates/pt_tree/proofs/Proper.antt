@@ -1,14 +1,14 @@
 -- Changes that keep a tree proper: names rise in each directory.
-use Rattle.std.proofs.Common.{◌≡◌, ℕ, List, [], ◌∷◌, true, false, refl, sym, ◌∙◌, ap, subst, inl, inr}
-use Rattle.std.specs.Prelude.{Bool, ◌&&◌, cond, Option, None, Some}
-use Rattle.std.specs.Option.{option_map, option_and_then}
+use Rattle.std.proofs.Common.{◌≡◌, ℕ, List, [], ◌∷◌, true, false, refl, sym, ◌∙◌, ap, inl, inr}
+use Rattle.std.specs.Prelude.{Bool, cond, Option, None, Some}
+use Rattle.std.specs.Option.{option_and_then}
 use Rattle.std.specs.Str.{bytes_eq}
-use Rattle.std.proofs.lemmas.Bool.{true≢false, false≢true, cases_Bool, and_parts, and_from, cond-true, cond-false}
+use Rattle.std.proofs.lemmas.Bool.{cases_Bool, and_from, cond-true, cond-false}
 use Rattle.pt_tree.specs.Listing.{is_before}
 use Rattle.pt_tree.specs.Name.{is_name}
 use Rattle.pt_tree.specs.Path.{Path}
-use Rattle.pt_tree.specs.Forest.{Forest, none, file, other, dir, Node, File, Dir, Other, find, node_at, as_dir, dir_at, comes_before, is_proper, first_name, first_node, first_alone, in_front, inserted, removed, rewritten, changed, picked, picked_at}
-use Rattle.pt_tree.proofs.Names.{same_name, bytes_eq-sym, before_other}
+use Rattle.pt_tree.specs.Forest.{Forest, none, file, other, dir, Node, File, Dir, Other, find, node_at, as_dir, dir_at, comes_before, is_proper, first_name, first_node, first_alone, in_front, inserted, removed, rewritten, changed, picked}
+use Rattle.pt_tree.proofs.Names.{same_name, before_other}
 use Rattle.pt_tree.proofs.Finding.{comes_before-trans, proper_file, proper_other, proper_dir, find_absent, not_first}
 
 file_from : (n b : List ℕ) (f : Forest) → is_name n ≡ true → comes_before n f ≡ true → is_proper f ≡ true → is_proper (file n b f) ≡ true
@@ -195,3 +195,29 @@ proper-rewritten g n (other m f) proper =
 proper-rewritten g n (dir m d f) proper =
     let p = proper_dir m d f proper in
     cond_proper (bytes_eq m n) (dir m d f) (dir m d (rewritten g n f)) proper (dir_from m d (rewritten g n f) p.0 (comes_before-rewritten m g n f p.1) (proper-rewritten g n f p.2) p.3)
+
+abbrev pub proper_node : Node → Bool
+proper_node (File b) = true
+proper_node Other = true
+proper_node (Dir f) = is_proper f
+
+by_name : (t : Bool) (x y : Node) (o : Option Node) → cond t (Some x) o ≡ Some y → proper_node x ≡ true → (o ≡ Some y → proper_node y ≡ true) → proper_node y ≡ true
+by_name true x y o is proper later = let same : x ≡ y = cc in ap proper_node (sym same) ∙ proper
+by_name false x y o is proper later = later is
+
+proper_found : (f : Forest) (n : List ℕ) (y : Node) → is_proper f ≡ true → find f n ≡ Some y → proper_node y ≡ true
+proper_found none n y proper is = absurd (cc)
+proper_found (file m b f) n y proper is = by_name (bytes_eq m n) (File b) y (find f n) is refl (proper_found f n y (proper_file m b f proper).2)
+proper_found (other m f) n y proper is = by_name (bytes_eq m n) Other y (find f n) is refl (proper_found f n y (proper_other m f proper).2)
+proper_found (dir m d f) n y proper is = let p = proper_dir m d f proper in by_name (bytes_eq m n) (Dir d) y (find f n) is p.3 (proper_found f n y p.2)
+
+-- what stands in a proper tree is proper
+pub proper_at : (x : Node) (path : Path) (y : Node) → proper_node x ≡ true → node_at x path ≡ Some y → proper_node y ≡ true
+proper_at x [] y proper is = let same : x ≡ y = cc in ap proper_node (sym same) ∙ proper
+proper_at (File b) (n ∷ path) y proper is = absurd (cc)
+proper_at Other (n ∷ path) y proper is = absurd (cc)
+proper_at (Dir f) (n ∷ path) y proper is = by (λ z p h. proper_at z path y p h) (find f n) refl is
+  where
+    by : ((z : Node) → proper_node z ≡ true → node_at z path ≡ Some y → proper_node y ≡ true) → (o : Option Node) → find f n ≡ o → option_and_then (λ node. node_at node path) o ≡ Some y → proper_node y ≡ true
+    by below None at is = absurd (cc)
+    by below (Some z) at is = below z (proper_found f n z proper at) is

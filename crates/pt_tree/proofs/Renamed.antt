@@ -1,20 +1,19 @@
 -- An entry taken out at one path and put in at another.
-use Rattle.std.proofs.Common.{◌≡◌, ℕ, List, [], ◌∷◌, ◌++◌, true, false, refl, sym, ◌∙◌, ap, subst, inl, inr}
-use Rattle.std.specs.Prelude.{Bool, cond, Option, None, Some, IsSome, is_some}
+use Rattle.std.proofs.Common.{◌≡◌, ℕ, List, [], ◌∷◌, ◌++◌, true, false, refl, sym, ◌∙◌, ap}
+use Rattle.std.specs.Prelude.{Bool, cond, Option, None, Some, IsSome}
 use Rattle.std.specs.Option.{option_map, option_and_then}
 use Rattle.std.specs.Str.{bytes_eq}
-use Rattle.std.proofs.lemmas.Bool.{true≢false, false≢true, cases_Bool, cond-true, cond-false, and_from}
+use Rattle.std.proofs.lemmas.Bool.{and_from}
 use Rattle.pt_tree.specs.Name.{is_name}
 use Rattle.pt_tree.specs.Path.{Path, rest_below, parent, last_name, split_path}
 use Rattle.pt_tree.proofs.Paths.{split_parts}
 use Rattle.pt_tree.specs.Forest.{Forest, none, file, other, dir, Node, File, Dir, Other, find, node_at, as_dir, dir_at, is_proper, first_name, first_node, first_alone, inserted, removed, changed, picked, picked_at, named}
-use Rattle.pt_tree.specs.Tree.{Entry, Folder, Tree, entry_of, tree_of, moved, moved_at, without, without_at, CanMake, CanMove}
-use Rattle.pt_tree.proofs.Names.{same_name, name_itself}
+use Rattle.pt_tree.specs.Tree.{Tree, entry_of, tree_of, moved, moved_at, without, without_at, CanMove}
 use Rattle.pt_tree.proofs.Finding.{proper_file, proper_other, proper_dir}
 use Rattle.pt_tree.specs.TreeLaws.{entry_below}
 use Rattle.pt_tree.proofs.Trees.{spliced, on_the_way, tree-inserted}
 use Rattle.pt_tree.proofs.Placing.{HasDir, dir-folder, absent_last, tree-changed_at}
-use Rattle.pt_tree.proofs.Proper.{behind, dir_node, proper-changed, proper-inserted, proper-picked}
+use Rattle.pt_tree.proofs.Proper.{proper-changed, proper-inserted, proper-picked}
 use Rattle.pt_tree.proofs.AtPaths.{proper_dir_at, proper_taken, stands_in, tree_taken}
 
 -- what is picked is what is found

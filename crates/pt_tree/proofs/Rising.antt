@@ -1,12 +1,11 @@
 -- A listing that gains an entry at its end.
-use Rattle.std.proofs.Common.{◌≡◌, ℕ, List, [], ◌∷◌, ◌++◌, ◌-◌, length, true, false, refl, arith, ◌∙◌, ap, add-one, suc, zero, sym, subst}
+use Rattle.std.proofs.Common.{◌≡◌, ℕ, List, [], ◌∷◌, ◌++◌, ◌-◌, length, true, false, refl, arith, ◌∙◌, ap, suc, sym, subst}
 use Rattle.std.specs.Prelude.{Bool, cond, None, Some, Err, slice_get}
 use Rattle.std.proofs.lemmas.Bool.{and_parts, and_from}
 use Rattle.pt_tree.specs.declared.kind.Kind.{Kind}
 use Rattle.pt_tree.specs.declared.kind.Kind.TheVariants as kind
 use Rattle.pt_tree.specs.declared.listing.ListingFault.{ListingFault}
 use Rattle.pt_tree.specs.declared.listing.ListingFault.TheVariants as fault
-use Rattle.pt_tree.specs.Entries.{first_item}
 use Rattle.pt_tree.specs.Refusal.{Answers}
 use Rattle.pt_tree.specs.Listing.{Item, is_before, names_rise, can_follow, listing_refusal}
 use Rattle.pt_tree.specs.Forest.{Forest, none, file, other, dir, listing_of, comes_before, is_proper}
@@ -48,17 +47,6 @@ names_rise-proper (other n f) proper =
 names_rise-proper (dir n e f) proper =
     let p = and_parts _ _ (and_parts _ _ proper).1 in
     follows_first n f p.0 kind.Dir (names_rise-proper f (and_parts _ _ p.1).1)
-
-first_listing : (f after : Forest) (name : List ℕ) (k : Kind) → Some (name, k, after) ≡ first_item f → listing_of f ≡ (name, k) ∷ listing_of after
-first_listing none after name k is = absurd (cc)
-first_listing (file n b f) after name k is = let same : (name, k, after) ≡ (n, kind.File, f) = cc in ap (λ (x : List ℕ × Kind × Forest). (x.0, x.1) ∷ listing_of x.2) (sym same)
-first_listing (other n f) after name k is = let same : (name, k, after) ≡ (n, kind.Other, f) = cc in ap (λ (x : List ℕ × Kind × Forest). (x.0, x.1) ∷ listing_of x.2) (sym same)
-first_listing (dir n e f) after name k is = let same : (name, k, after) ≡ (n, kind.Dir, f) = cc in ap (λ (x : List ℕ × Kind × Forest). (x.0, x.1) ∷ listing_of x.2) (sym same)
-
--- so a proper directory's listing takes each entry in turn
-pub can_follow-first : (all f after : Forest) (items : List Item) (name : List ℕ) (k : Kind) → is_proper all ≡ true → items ++ listing_of f ≡ listing_of all → Some (name, k, after) ≡ first_item f → can_follow items name ≡ true
-can_follow-first all f after items name k proper so_far is =
-    can_follow-rises items (name, k) (listing_of after) (ap names_rise (ap (λ (l : List Item). items ++ l) (sym (first_listing f after name k is)) ∙ so_far) ∙ names_rise-proper all proper)
 
 pub refused_late : (items : List Item) (name : List ℕ) (e : ListingFault) (P : Unit {0} → Type 0) → can_follow items name ≡ true → e ≡ fault.NotRising → Answers (listing_refusal items name) fault.Memory (Err e) P → ⊥
 refused_late items name e P follows is answer =

@@ -1,14 +1,14 @@
 -- What stands at each path after a change of one directory.
-use Rattle.std.proofs.Common.{◌≡◌, ℕ, List, [], ◌∷◌, ◌++◌, true, false, refl, sym, ◌∙◌, ap, subst, inl, inr}
-use Rattle.std.specs.Prelude.{Bool, cond, Option, None, Some, IsSome}
+use Rattle.std.proofs.Common.{◌≡◌, ℕ, List, [], ◌∷◌, true, false, refl, sym, ◌∙◌, ap}
+use Rattle.std.specs.Prelude.{Bool, cond, Option, None, Some}
 use Rattle.std.specs.Option.{option_map, option_and_then}
 use Rattle.std.specs.Str.{bytes_eq}
-use Rattle.std.proofs.lemmas.Bool.{true≢false, false≢true, cases_Bool, cond-true, cond-false}
-use Rattle.pt_tree.specs.Path.{Path, same_path, rest_below, parent, last_name}
-use Rattle.pt_tree.specs.Forest.{Forest, none, Node, File, Dir, Other, find, node_at, as_dir, as_file, dir_at, file_at, is_proper, first_name, first_node, inserted, removed, rewritten, changed}
-use Rattle.pt_tree.specs.Tree.{Entry, Bytes, Folder, Special, Tree, entry_of, tree_of, edited_by}
+use Rattle.std.proofs.lemmas.Bool.{cond-true, cond-false}
+use Rattle.pt_tree.specs.Path.{Path, rest_below}
+use Rattle.pt_tree.specs.Forest.{Forest, Node, File, Dir, Other, find, node_at, as_dir, dir_at, is_proper, first_name, first_node, inserted, removed, rewritten, changed}
+use Rattle.pt_tree.specs.Tree.{Entry, entry_of, tree_of, edited_by}
 use Rattle.pt_tree.specs.TreeLaws.{entry_below}
-use Rattle.pt_tree.proofs.Names.{same_name, name_itself}
+use Rattle.pt_tree.proofs.Names.{same_name}
 use Rattle.pt_tree.proofs.Finding.{find-inserted, find-removed, find-rewritten, find-changed, node_edited}
 
 -- with what `below` says of the rest, where there is one

@@ -1,5 +1,5 @@
 -- What a destination tells, and what its calls need and give.
-use Rattle.std.specs.Prelude.{◌≡◌, ℕ, ◌≤◌, take, length, List, [], Option, None, Some, IsSome}
+use Rattle.std.specs.Prelude.{◌≡◌, ℕ, take, List, [], Option, None, Some, IsSome}
 use Rattle.std.specs.Option.{option_map, ForSome}
 use Rattle.pt_tree.specs.declared.kind.Kind.{Kind}
 use Rattle.pt_tree.specs.Path.{Path, rest_below}

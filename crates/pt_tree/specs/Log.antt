@@ -1,6 +1,5 @@
 -- What a log tells.
-use Rattle.std.specs.Prelude.{◌≡◌, ℕ, Bool, ◌-◌, cond, nat_le, take, length, List, ◌++◌, Option, None, Some, Result, Ok, Err}
-use Rattle.std.specs.Option.{option_map, option_map_or}
+use Rattle.std.specs.Prelude.{ℕ, take, List, Option}
 use Rattle.std.specs.Io.KnownBytes.{Appends}
 
 -- known bytes grow by a front of these

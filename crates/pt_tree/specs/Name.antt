@@ -1,5 +1,5 @@
 -- The names that a directory's entries may have.
-use Rattle.std.specs.Prelude.{ℕ, Bool, ◌||◌, ◌==◌, cond, nat_lt, List, [], ◌∷◌, length, Option, None, Some, not, is_none}
+use Rattle.std.specs.Prelude.{ℕ, Bool, ◌||◌, ◌==◌, cond, nat_lt, List, [], ◌∷◌, length, Option, None, Some, is_none}
 use Rattle.std.specs.List.{list_any}
 use Rattle.std.specs.Str.{bytes_eq, is_utf8}
 use Rattle.pt_tree.specs.declared.name.NameFault.{NameFault}

@@ -1,5 +1,5 @@
 -- What a call answers that refuses some arguments.
-use Rattle.std.specs.Prelude.{◌≡◌, Option, None, Some, Result, Ok, Err, MatchResult}
+use Rattle.std.specs.Prelude.{◌≡◌, Option, None, Some, Result, Err, MatchResult}
 
 -- The refusal, if there is one; else what P says, unless memory ran out.
 abbrev pub Answers : {T E : Type 0} → Option E → E → Result T E → (T → Type 0) → Type 0

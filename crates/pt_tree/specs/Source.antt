@@ -1,6 +1,6 @@
 -- What a source tells, and what its calls need and give.
-use Rattle.std.specs.Prelude.{◌≡◌, ℕ, take, drop, List, Option, None, Some, IsSome}
-use Rattle.std.specs.Option.{option_map, option_and_then, ForSome}
+use Rattle.std.specs.Prelude.{◌≡◌, ℕ, take, drop, List, Option, Some, IsSome}
+use Rattle.std.specs.Option.{option_map, ForSome}
 use Rattle.pt_tree.specs.Forest.{Forest, dir_at, file_at, listing_at}
 use Rattle.pt_tree.specs.Listing.{Item}
 use Rattle.pt_tree.specs.Path.{Path}

@@ -1,7 +1,6 @@
 -- The tree of a destination: what stands at each path.
-use Rattle.std.specs.Prelude.{◌≡◌, ℕ, cond, take, List, [], ◌∷◌, ◌++◌, Option, None, Some, IsSome}
+use Rattle.std.specs.Prelude.{◌≡◌, ℕ, cond, List, [], ◌∷◌, ◌++◌, Option, None, Some, IsSome}
 use Rattle.std.specs.Option.{option_map}
-use Rattle.std.specs.Str.{bytes_eq}
 use Rattle.pt_tree.specs.declared.kind.Kind.{Kind}
 use Rattle.pt_tree.specs.declared.kind.Kind.TheVariants as kind
 use Rattle.pt_tree.specs.Forest.{Forest, Node, node_at}

@@ -64,23 +64,23 @@ impl NamePath {
         self.names.get(i)
     }
 
-    // The names.
-    pub(crate) fn names(&self) -> &[Name]
+    /// The names.
+    pub fn names(&self) -> &[Name]
         ensures { result.now ≡ self.now }
     {
         &self.names
     }
 
-    // The parent's names and the last name; None for the top.
-    pub(crate) fn split(&self) -> Option<(&[Name], &Name)>
+    /// The parent's names and the last name; None for the top.
+    pub fn split(&self) -> Option<(&[Name], &Name)>
         ensures { option_map split_lent result ≡ split_path self.now }
     {
         let (last, dir) = self.names.split_last()?;
         Some((dir, last))
     }
 
-    // Whether it is at or below another path.
-    pub(crate) fn is_within(&self, other: &NamePath) -> bool
+    /// Whether it is at or below another path.
+    pub fn is_within(&self, other: &NamePath) -> bool
         ensures { result ≡ is_some (rest_below other.now self.now) }
     {
         is_below(other.names(), self.names())

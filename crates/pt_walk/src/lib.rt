@@ -12,6 +12,3 @@ pub use cause::Cause;
 pub use limits::{Limits, LimitsFault};
 pub use site::{At, Finding, Form, is_shorty, judge};
 pub use trail::Trail;
-
-#[cfg(test)]
-mod tests;

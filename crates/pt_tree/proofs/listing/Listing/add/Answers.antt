@@ -1,6 +1,5 @@
-use Rattle.std.proofs.Common.{◌≡◌, true, ap, sym, ◌∙◌, rules}
-use Rattle.std.specs.Prelude.{cond}
-use Rattle.pt_tree.specs.Listing.{names_rise, can_follow}
+use Rattle.std.proofs.Common.{◌≡◌, true, rules}
+use Rattle.pt_tree.specs.Listing.{can_follow}
 use Rattle.pt_tree.proofs.Rising.{names_rise-push}
 use Rattle.pt_tree.proofs.listing.Listing.add.Goals as goal
 use Rattle.pt_tree.proofs.listing.Listing.add.Goals.{in-Ok, in-Err}

@@ -1,6 +1,5 @@
-use Rattle.std.proofs.Common.{◌≡◌, ◌<◌, ◌⊎◌, ◌∷◌, [], ◌++◌, inl, inr, true, ◌∙◌, sym, ap, arith, subst}
+use Rattle.std.proofs.Common.{◌≡◌, ◌<◌, ◌⊎◌, ◌∷◌, [], ◌++◌, inl, inr, true, ◌∙◌, ap, arith}
 use Rattle.std.specs.Str.{is_utf8}
-use Rattle.std.proofs.lemmas.Str.{chars-nil}
 use Rattle.pt_tree.proofs.Joining.{joined_more}
 use Rattle.pt_tree.proofs.Texts.{is_utf8-append, is_utf8-empty, is_utf8-slash, is_utf8-name}
 use Rattle.pt_tree.proofs.name_path.NamePath.join.Goals as goal

@@ -1,0 +1,9 @@
+mod Blocks
+mod Calls
+mod Conditions
+mod DestCalls
+mod Listed
+mod Opened
+mod Planted
+mod SourceCalls
+mod Swaps

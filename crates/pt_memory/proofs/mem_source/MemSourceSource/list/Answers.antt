@@ -1,0 +1,7 @@
+use Rattle.pt_memory.specs.MemSource.{source_state}
+use Rattle.pt_memory.proofs.SourceCalls.{listed}
+use Rattle.pt_memory.proofs.mem_source.MemSourceSource.list.Goals as goal
+
+pub returns-clause-listing : goal.returns-clause-listing
+returns-clause-listing c =
+    listed (source_state c.args.self.now) (source_state c.list_at.new.self) c.args.path.now c.list_at.result c.list_at.ensures

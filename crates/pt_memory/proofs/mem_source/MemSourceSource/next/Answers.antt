@@ -1,0 +1,11 @@
+use Rattle.pt_memory.specs.MemSource.{source_state}
+use Rattle.pt_memory.proofs.SourceCalls.{read, moved}
+use Rattle.pt_memory.proofs.mem_source.MemSourceSource.next.Goals as goal
+
+pub returns-clause-block : goal.returns-clause-block
+returns-clause-block c =
+    read (source_state c.args.self.now) (source_state c.next_of.new.self) c.next_of.new.block.items c.next_of.result c.next_of.ensures.gives
+
+pub returns-clause-moved : goal.returns-clause-moved
+returns-clause-moved c =
+    moved (source_state c.args.self.now) (source_state c.next_of.new.self) c.next_of.new.block.items c.next_of.result c.next_of.ensures.gives

@@ -1,0 +1,10 @@
+pub mod Entries
+pub mod Fuse
+pub mod LooseSource
+pub mod MemDest
+pub mod MemDestTells
+pub mod MemLog
+pub mod MemSource
+pub mod MemSourceTells
+pub mod Opening
+pub mod Planting

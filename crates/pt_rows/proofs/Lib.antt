@@ -1,0 +1,4 @@
+mod WorkedFaults
+mod WorkedObjects
+mod WorkedRuns
+mod WorkedTurns

@@ -1,0 +1,32 @@
+use Rattle.pt_rows.proofs.WorkedRuns as worked
+use Rattle.pt_rows.proofs.worked_stores.logs.Goals as goal
+
+pub returns-clause-empty : goal.returns-clause-empty
+returns-clause-empty c = worked.empty_store_log
+
+pub returns-clause-strays : goal.returns-clause-strays
+returns-clause-strays c = worked.strays_log
+
+pub returns-clause-names : goal.returns-clause-names
+returns-clause-names c = worked.bad_names_log
+
+pub returns-clause-divided : goal.returns-clause-divided
+returns-clause-divided c = worked.divided_log
+
+pub returns-clause-reserved : goal.returns-clause-reserved
+returns-clause-reserved c = worked.extensions_log
+
+pub returns-clause-object : goal.returns-clause-object
+returns-clause-object c = worked.one_object_log
+
+pub returns-clause-flat : goal.returns-clause-flat
+returns-clause-flat c = worked.one_object_flat_log
+
+pub returns-clause-order : goal.returns-clause-order
+returns-clause-order c = worked.lines_come_in_order
+
+pub returns-clause-escaped : goal.returns-clause-escaped
+returns-clause-escaped c = worked.line_feed_log
+
+pub returns-clause-present : goal.returns-clause-present
+returns-clause-present c = worked.one_identifier_flat_log

@@ -1,0 +1,398 @@
+//! The worked examples of names, listings and trees in memory.
+ghost use Rattle.pt_tree.specs.Dest.{MayMake};
+ghost use Rattle.pt_memory.specs.MemDest.{dest_told};
+ghost use Rattle.pt_tree.specs.Source.{CanList, CanOpen};
+
+use pt_memory::{LooseSource, MemDest, MemLog, MemSource, PlantFault, SwapFault, TakeFault};
+use pt_tree::{Block, Dest, Kind, Listing, ListingFault, Log, MemoryFault, Name, NameFault, NamePath, Source, TreeFault, WriterLog};
+use std::alloc::Global;
+use std::io;
+use std::io::Write;
+use std::test::Fail;
+
+fn name(alloc: Global, text: &str) -> Result<Name, Fail> {
+    Ok(Name::of(alloc, text.as_bytes())?)
+}
+
+fn path(alloc: Global, names: &[&str]) -> Result<NamePath, Fail> {
+    let mut path = NamePath::new(alloc);
+    for text in names {
+        path.push(name(alloc, text)?)?;
+    }
+    Ok(path)
+}
+
+#[test]
+fn names_are_refused_in_order(rt: HostRuntime) -> Result<(), Fail> {
+    let alloc = rt.alloc();
+    let long = [b'a'; 256];
+    let longest = [b'a'; 255];
+    let mut broken = [b'a'; 256];
+    broken[0] = 0xff;
+    let refused = [
+        (b"".as_slice(), NameFault::Empty, 1u8),
+        (long.as_slice(), NameFault::TooLong, 2),
+        (broken.as_slice(), NameFault::TooLong, 2),
+        (b"\xff".as_slice(), NameFault::NotUtf8, 3),
+        (b"a/b".as_slice(), NameFault::Forbidden, 4),
+        (b"a\0b".as_slice(), NameFault::Forbidden, 4),
+        (b".".as_slice(), NameFault::Forbidden, 4),
+        (b"..".as_slice(), NameFault::Forbidden, 4),
+    ];
+    for (bytes, fault, number) in refused {
+        assert_eq!(rt; Name::of(alloc, bytes).err(), Some(fault));
+        assert_eq!(rt; fault.number(), number);
+    }
+    assert_eq!(rt; NameFault::Memory.number(), 5);
+    for bytes in [b"obj".as_slice(), b"...".as_slice(), longest.as_slice()] {
+        let name = Name::of(alloc, bytes)?;
+        assert_eq!(rt; name.bytes(), bytes);
+        assert!(rt; name.copy()? == name);
+    }
+    Ok(())
+}
+
+#[test]
+fn names_come_in_the_order_of_their_bytes(rt: HostRuntime) -> Result<(), Fail> {
+    let alloc = rt.alloc();
+    assert!(rt; name(alloc, "a")? < name(alloc, "a.txt")?);
+    assert!(rt; name(alloc, "a.txt")? < name(alloc, "b")?);
+    assert!(rt; name(alloc, "Z")? < name(alloc, "a")?);
+    Ok(())
+}
+
+#[test]
+fn a_path_joins_its_names_with_slashes(rt: HostRuntime) -> Result<(), Fail> {
+    let alloc = rt.alloc();
+    let top = NamePath::new(alloc);
+    assert!(rt; top.is_empty());
+    assert_eq!(rt; top.join()?.as_slice(), b"".as_slice());
+    let below = path(alloc, &["x", "y"])?;
+    assert_eq!(rt; below.join()?.as_slice(), b"x/y".as_slice());
+    assert_eq!(rt; below.len(), 2);
+    assert_eq!(rt;
+        below.get(1).map(|name| name.bytes()),
+        Some(b"y".as_slice())
+    );
+    assert!(rt; below.get(2).is_none());
+    assert!(rt; below.copy()? == below);
+    assert!(rt; below != top);
+    Ok(())
+}
+
+#[test]
+fn a_listing_takes_rising_names_alone(rt: HostRuntime) -> Result<(), Fail> {
+    let alloc = rt.alloc();
+    let mut listing = Listing::new(alloc);
+    assert!(rt; listing.is_empty());
+    listing.add(name(alloc, "b")?, Kind::File)?;
+    for late in ["a", "b"] {
+        let fault = listing.add(name(alloc, late)?, Kind::Dir).err();
+        assert_eq!(rt; fault, Some(ListingFault::NotRising));
+    }
+    listing.add(name(alloc, "b.txt")?, Kind::Other)?;
+    assert_eq!(rt; listing.len(), 2);
+    let item = listing.get(1).map(|(name, kind)| (name.bytes(), kind));
+    assert_eq!(rt; item, Some((b"b.txt".as_slice(), Kind::Other)));
+    assert!(rt; listing.get(2).is_none());
+    assert_eq!(rt; ListingFault::NotRising.number(), 1);
+    assert_eq!(rt; ListingFault::Memory.number(), 2);
+    Ok(())
+}
+
+#[test]
+fn planting_is_refused_where_it_has_no_place(rt: HostRuntime) -> Result<(), Fail> {
+    let alloc = rt.alloc();
+    let mut source = MemSource::new(alloc);
+    let x = path(alloc, &["x"])?;
+    let below = path(alloc, &["x", "y"])?;
+    assert_eq!(rt;
+        source.plant_file(&below, b"abc").err(),
+        Some(PlantFault::NoParent)
+    );
+    source.plant_dir(&x)?;
+    assert_eq!(rt; source.plant_dir(&x).err(), Some(PlantFault::Taken));
+    assert_eq!(rt;
+        source.plant_dir(&NamePath::new(alloc)).err(),
+        Some(PlantFault::Taken)
+    );
+    source.plant_other(&path(alloc, &["x", "z"])?)?;
+    source.plant_file(&below, b"abc")?;
+    assert_eq!(rt; source.file(&below), Some(b"abc".as_slice()));
+    assert!(rt; source.file(&x).is_none());
+    assert_eq!(rt; PlantFault::NoParent.number(), 1);
+    assert_eq!(rt; PlantFault::Taken.number(), 2);
+    assert_eq!(rt; PlantFault::Memory.number(), 3);
+    Ok(())
+}
+
+// Reads the file at a path to its end, and answers its bytes and how many calls of `next` that took.
+#[tactic(auto, using(pt_tree::proofs::Held::reading))]
+fn read_file<S: Source>(
+    alloc: Global,
+    source: &mut S,
+    path: &NamePath,
+) -> Result<(Vec<u8>, usize), Fail>
+    requires { CanOpen (S.told source.old) path.now }
+{
+    let mut bytes = Vec::new(alloc);
+    let mut block = Block::new();
+    source.open(path)?;
+    for calls in 1..100usize {
+        source.next(&mut block)?;
+        if block.is_empty() {
+            return Ok((bytes, calls));
+        }
+        bytes.extend_from_slice(block.as_slice())?;
+    }
+    Ok((bytes, 100))
+}
+
+fn source_with(alloc: Global, path: &NamePath, bytes: &[u8]) -> Result<MemSource, Fail> {
+    let mut source = MemSource::new(alloc);
+    source.plant_file(path, bytes)?;
+    Ok(source)
+}
+
+#[test]
+fn a_file_is_read_block_by_block(rt: HostRuntime) -> Result<(), Fail> {
+    let alloc = rt.alloc();
+    let file = path(alloc, &["f"])?;
+    let letters = [b'a'; 8193];
+    for (length, calls) in [(0usize, 1usize), (8191, 2), (8192, 2), (8193, 3)] {
+        let mut source = source_with(alloc, &file, letters.get(..length).unwrap_or(&[]))?;
+        assert!(rt; source.has_file(&file));
+        let (bytes, made) = read_file(alloc, &mut source, &file)?;
+        assert_eq!(rt; bytes.len(), length);
+        assert_eq!(rt; made, calls, "{length} letters");
+        assert_eq!(rt; source.failures(), 0);
+    }
+    Ok(())
+}
+
+// Writes a file in pieces, and closes it.
+#[tactic(auto, using(pt_tree::proofs::Held::writing))]
+fn write_file<D: Dest>(dest: &mut D, path: &NamePath, pieces: &[&[u8]]) -> Result<(), Fail>
+    requires { MayMake (D.told dest.old) path.now }
+{
+    dest.create(path)?;
+    for piece in pieces {
+        dest.append(piece)?;
+    }
+    dest.finish()?;
+    Ok(())
+}
+
+#[test]
+fn a_failing_append_leaves_half_of_its_piece(rt: HostRuntime) -> Result<(), Fail> {
+    let alloc = rt.alloc();
+    let file = path(alloc, &["f"])?;
+    let mut dest = MemDest::new(alloc);
+    assert!(rt; dest.may_make(&file));
+    append_by_a_fuse(&mut dest, &file)?;
+    assert_eq!(rt; dest.file(&file), Some(b"ababc".as_slice()));
+    assert_eq!(rt; dest.failures(), 1);
+    Ok(())
+}
+
+// The open file takes `ab`, half of `abcde` and `c`.
+#[tactic(auto, using(pt_tree::proofs::Held::writing))]
+fn append_by_a_fuse(dest: &mut MemDest, file: &NamePath) -> Result<(), Fail>
+    requires { MayMake (dest_told dest.old) file.now }
+{
+    dest.create(file)?;
+    dest.fuse(Some(1));
+    dest.append(b"ab")?;
+    let Err(_) = dest.append(b"abcde") else {
+        return Ok(());
+    };
+    dest.fuse(None);
+    dest.append(b"c")?;
+    Ok(())
+}
+
+#[test]
+fn a_destination_moves_and_takes_away_whole_trees(rt: HostRuntime) -> Result<(), Fail> {
+    let alloc = rt.alloc();
+    let staging = path(alloc, &["staging"])?;
+    let inside = path(alloc, &["staging", "v1"])?;
+    let file = path(alloc, &["staging", "v1", "f"])?;
+    let target = path(alloc, &["ocfl"])?;
+    let moved = path(alloc, &["ocfl", "v1", "f"])?;
+    let mut dest = MemDest::new(alloc);
+    for dir in [&staging, &inside] {
+        assert!(rt; dest.may_make(dir));
+        dest.mkdir(dir)?;
+    }
+    assert!(rt; dest.may_make(&file));
+    write_file(&mut dest, &file, &[b"ab", b"c"])?;
+    assert_eq!(rt; dest.kind(&file)?, Some(Kind::File));
+    assert_eq!(rt;
+        dest.kind(&path(alloc, &["staging", "v1", "f", "g"])?)?,
+        None
+    );
+    assert_eq!(rt; dest.kind(&NamePath::new(alloc))?, Some(Kind::Dir));
+    assert!(rt; dest.may_move(&staging, &target));
+    dest.rename(&staging, &target)?;
+    assert_eq!(rt; dest.file(&moved), Some(b"abc".as_slice()));
+    assert_eq!(rt; dest.kind(&staging)?, None);
+    assert_eq!(rt; dest.kind(&inside)?, None);
+    let mut block = Block::new();
+    assert!(rt; dest.has_file(&moved));
+    dest.peek(&moved, &mut block)?;
+    assert_eq!(rt; block.as_slice(), b"abc".as_slice());
+
+    let mut planted = MemDest::new(alloc);
+    planted.plant_dir(&target)?;
+    planted.plant_dir(&path(alloc, &["ocfl", "v1"])?)?;
+    planted.plant_file(&moved, b"abc")?;
+    assert!(rt; dest.same(&planted));
+    assert_eq!(rt; dest.take_away(&staging).err(), Some(TakeFault::Absent));
+    assert_eq!(rt;
+        dest.take_away(&NamePath::new(alloc)).err(),
+        Some(TakeFault::Absent)
+    );
+    dest.take_away(&target)?;
+    assert!(rt; !dest.same(&planted));
+    assert!(rt; dest.same(&MemDest::new(alloc)));
+    assert_eq!(rt; TakeFault::Absent.number(), 1);
+    Ok(())
+}
+
+#[test]
+fn a_source_lists_and_fails_by_its_fuse(rt: HostRuntime) -> Result<(), Fail> {
+    let alloc = rt.alloc();
+    let top = NamePath::new(alloc);
+    let mut source = source_with(alloc, &path(alloc, &["b"])?, b"abc")?;
+    source.plant_dir(&path(alloc, &["a"])?)?;
+    source.plant_other(&path(alloc, &["c"])?)?;
+    assert!(rt; source.has_dir(&top));
+    let listing = list_top(&mut source, &top)?;
+    let expected = [(b"a", Kind::Dir), (b"b", Kind::File), (b"c", Kind::Other)];
+    assert_eq!(rt; listing.len(), expected.len());
+    for (i, (name, kind)) in expected.iter().enumerate() {
+        let item = listing.get(i).map(|(name, kind)| (name.bytes(), kind));
+        assert_eq!(rt; item, Some((name.as_slice(), *kind)));
+    }
+    source.fuse(Some(0));
+    assert!(rt; source.has_dir(&top));
+    assert_eq!(rt; list_top(&mut source, &top).err(), Some(TreeFault::Device));
+    assert_eq!(rt; source.failures(), 1);
+    assert_eq!(rt; TreeFault::Device.number(), 1);
+    assert_eq!(rt; TreeFault::Memory.number(), 2);
+    assert_eq!(rt; MemoryFault::Memory.number(), 1);
+    Ok(())
+}
+
+fn list_top<S: Source>(source: &mut S, top: &NamePath) -> Result<Listing, TreeFault>
+    requires { CanList (S.told source.old) top.now }
+{
+    source.list(top)
+}
+
+// Puts two pieces.
+fn put_both<L: Log>(log: &mut L, first: &[u8], second: &[u8]) -> Result<(), TreeFault> {
+    log.put(first)?;
+    log.put(second)
+}
+
+#[test]
+fn a_log_takes_what_fits_its_fuse(rt: HostRuntime) -> Result<(), Fail> {
+    let mut log = MemLog::new(rt.alloc());
+    put_both(&mut log, b"", b"abc")?;
+    log.fuse(Some(5));
+    assert_eq!(rt;
+        put_both(&mut log, b"def", b"ghi").err(),
+        Some(TreeFault::Device)
+    );
+    assert_eq!(rt; log.bytes(), b"abcdefgh".as_slice());
+    assert_eq!(rt; log.failures(), 1);
+    put_both(&mut log, b"", b"")?;
+    assert_eq!(rt; log.put(b"i").err(), Some(TreeFault::Device));
+    log.fuse(None);
+    log.put(b"i")?;
+    assert_eq!(rt; log.bytes(), b"abcdefghi".as_slice());
+    Ok(())
+}
+
+// A writer that takes so many bytes at a time, and may fail when it is flushed.
+#[derive(Drop)]
+struct Taker {
+    taken: Vec<u8>,
+    at_a_time: usize,
+    flushes: bool,
+}
+
+impl Write for Taker {
+    fn write(&mut self, buf: &[u8]) -> io::Result<usize> {
+        let count = buf.len().min(self.at_a_time);
+        self.taken.extend_from_slice(&buf[..count])?;
+        Ok(count)
+    }
+
+    fn flush(&mut self) -> io::Result<()> {
+        if self.flushes {
+            Ok(())
+        } else {
+            Err(io::Error::from(io::ErrorKind::Other))
+        }
+    }
+}
+
+#[test]
+fn a_writer_takes_a_piece_in_parts(rt: HostRuntime) -> Result<(), Fail> {
+    let alloc = rt.alloc();
+    for (at_a_time, flushes, failures) in [
+        (1usize, true, 0u64),
+        (3, true, 0),
+        (0, true, 1),
+        (3, false, 1),
+    ] {
+        let mut log = WriterLog::new(Taker {
+            taken: Vec::new(alloc),
+            at_a_time,
+            flushes,
+        });
+        assert_eq!(rt; put_both(&mut log, b"ab", b"cde").is_ok(), failures == 0);
+        assert_eq!(rt; log.failures(), failures);
+    }
+    Ok(())
+}
+
+#[test]
+fn a_file_changes_while_it_is_read(rt: HostRuntime) -> Result<(), Fail> {
+    let alloc = rt.alloc();
+    let file = path(alloc, &["f"])?;
+    let letters = [b'a'; 8192];
+    let mut source = LooseSource::of(source_with(alloc, &file, &letters)?);
+    let absent = path(alloc, &["g"])?;
+    assert_eq!(rt;
+        source.swap_after(0, &absent, b"").err(),
+        Some(SwapFault::Absent)
+    );
+    assert_eq!(rt; SwapFault::Absent.number(), 1);
+    assert_eq!(rt; SwapFault::Memory.number(), 2);
+    let mut longer = [b'b'; 8194].to_vec(alloc)?;
+    source.swap_after(2, &file, &longer)?;
+    assert_eq!(rt;
+        source.swap_after(0, &absent, b"").err(),
+        Some(SwapFault::Absent)
+    );
+    let mut block = Block::new();
+    source.open(&file)?;
+    source.next(&mut block)?;
+    assert_eq!(rt; block.as_slice(), letters.as_slice());
+    source.next(&mut block)?;
+    assert_eq!(rt; block.as_slice(), b"bb".as_slice());
+    longer.truncate(1);
+    source.swap_after(0, &file, &longer)?;
+    source.next(&mut block)?;
+    assert!(rt; block.is_empty());
+    assert_eq!(rt; source.failures(), 0);
+    assert_eq!(rt; source.open(&absent).err(), Some(TreeFault::Device));
+    assert_eq!(rt; source.failures(), 1);
+    source.open(&file)?;
+    source.next(&mut block)?;
+    assert_eq!(rt; block.as_slice(), b"b".as_slice());
+    Ok(())
+}
