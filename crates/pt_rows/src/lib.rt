@@ -2,4 +2,16 @@
 #![tactic(auto)]
 
 #[cfg(test)]
+mod folder_fakes;
+#[cfg(test)]
+mod folder_faults;
+#[cfg(test)]
+mod folder_steps;
+#[cfg(test)]
+mod folders;
+#[cfg(test)]
+mod names;
+#[cfg(test)]
 mod runs;
+#[cfg(test)]
+mod words;
