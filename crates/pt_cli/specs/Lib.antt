@@ -1,13 +1,4 @@
 pub mod Grammar
-pub mod Host
-pub mod HostBytes
-pub mod HostCalls
-pub mod HostDevices
-pub mod HostListing
-pub mod HostNames
-pub mod HostReading
-pub mod HostRuns
-pub mod HostWriting
 pub mod Names
 pub mod Options
 pub mod Statuses

@@ -2,7 +2,8 @@
 ghost use Rattle.std.specs.Prelude.{◌≡◌};
 ghost use Rattle.pt_cli.specs.Statuses.{RunEnds, run_status};
 
-use crate::{HostDest, HostSource, Migrate};
+use crate::Migrate;
+use pt_folder::{HostDest, HostSource};
 use pt_move::{Fault, Job, Report};
 use pt_tree::WriterLog;
 use pt_walk::Limits;

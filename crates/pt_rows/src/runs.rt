@@ -194,9 +194,10 @@ fn the_limit_of_turns_ends_a_run(rt: HostRuntime) -> Result<(), Fail> {
             Ok(Turn::More)
         );
     }
-    for fault in [Fault::Turns, Fault::Ended] {
-        assert_eq!(rt; mover.step(&mut source, &mut Void, &mut log), Err(fault));
-    }
+    let after = mover.step(&mut source, &mut Void, &mut log);
+    assert_eq!(rt; after, Err(Fault::Turns));
+    let after = mover.step(&mut source, &mut Void, &mut log);
+    assert_eq!(rt; after, Err(Fault::Ended));
     assert_eq!(rt; mover.report().turns, 42);
     assert_eq!(rt; str::from_utf8(log.bytes())?, DONE);
     Ok(())

@@ -1,7 +1,0 @@
-use Rattle.std.proofs.Common.{◌≡◌, ◌∷◌, ◌++◌, take, string_bytes}
-use Rattle.pt_tree.specs.Path.{joined}
-use Rattle.pt_cli.proofs.host_folder.path_text.Given as goal
-
--- the names so far follow the folder
-abbrev pub invariant-loop-i : goal.invariant-loop-i
-invariant-loop-i l = string_bytes l.text ≡ l.folder ++ 47 ∷ joined (take l.i l.path)

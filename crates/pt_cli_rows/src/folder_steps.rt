@@ -1,0 +1,114 @@
+//! Calls of a destination and a source as data, for tests.
+use pt_folder::{HostDest, HostSource, System};
+use pt_tree::{Block, Dest, Kind, Listing, Name, NamePath, Source, TreeFault};
+use std::alloc::Global;
+use std::test::Fail;
+
+/// A call of a destination.
+#[derive(Clone, Copy)]
+pub enum Step<'a> {
+    Kind(&'a [&'a str]),
+    Peek(&'a [&'a str]),
+    Mkdir(&'a [&'a str]),
+    Create(&'a [&'a str]),
+    Append(usize),
+    Finish,
+    Rename(&'a [&'a str], &'a [&'a str]),
+}
+
+/// Makes the call; an `Append` adds so many letters.
+pub fn take<S: System>(
+    dest: &mut HostDest<'_, S>,
+    block: &mut Block,
+    alloc: Global,
+    step: Step<'_>,
+) -> Result<Result<(), TreeFault>, Fail> {
+    let answer = match step {
+        Step::Kind(names) => dest.kind(&path(alloc, names)?).map(|_| ()),
+        Step::Peek(names) => dest.peek(&path(alloc, names)?, block),
+        Step::Mkdir(names) => dest.mkdir(&path(alloc, names)?),
+        Step::Create(names) => dest.create(&path(alloc, names)?),
+        Step::Append(len) => dest.append(&letters(alloc, len)?),
+        Step::Finish => dest.finish(),
+        Step::Rename(from, to) => dest.rename(&path(alloc, from)?, &path(alloc, to)?),
+    };
+    Ok(answer)
+}
+
+/// The kind of what is at a path.
+pub fn kind<S: System>(
+    dest: &mut HostDest<'_, S>,
+    alloc: Global,
+    names: &[&str],
+) -> Result<Result<Option<Kind>, TreeFault>, Fail> {
+    Ok(dest.kind(&path(alloc, names)?))
+}
+
+/// What `list` answers: the names and kinds, a line each, or the fault's number.
+pub fn listed<S: System>(
+    source: &mut HostSource<'_, S>,
+    alloc: Global,
+    names: &[&str],
+) -> Result<String, Fail> {
+    match source.list(&path(alloc, names)?) {
+        Ok(listing) => lines(alloc, &listing),
+        Err(fault) => {
+            let number = fault.number();
+            Ok(format!(in alloc; "{number}")?)
+        }
+    }
+}
+
+/// What `open` answers.
+pub fn opened<S: System>(
+    source: &mut HostSource<'_, S>,
+    alloc: Global,
+    names: &[&str],
+) -> Result<Result<(), TreeFault>, Fail> {
+    Ok(source.open(&path(alloc, names)?))
+}
+
+pub fn path(alloc: Global, names: &[&str]) -> Result<NamePath, Fail> {
+    let mut path = NamePath::new(alloc);
+    for name in names {
+        path.push(Name::of(alloc, name.as_bytes())?)?;
+    }
+    Ok(path)
+}
+
+fn lines(alloc: Global, listing: &Listing) -> Result<String, Fail> {
+    let mut text = String::new(alloc);
+    for i in 0..listing.len() {
+        if let Some((name, kind)) = listing.get(i) {
+            text.push_str(str::from_utf8(name.bytes())?)?;
+            text.push_str(match kind {
+                Kind::File => " file\n",
+                Kind::Dir => " dir\n",
+                Kind::Other => " other\n",
+            })?;
+        }
+    }
+    Ok(text)
+}
+
+/// The letters `a` to `z` over and over.
+pub fn letters(alloc: Global, len: usize) -> Result<Vec<u8>, Fail> {
+    let mut bytes = Vec::with_capacity(alloc, len)?;
+    for i in 0..len {
+        bytes.push(letter(i))?;
+    }
+    Ok(bytes)
+}
+
+/// Whether these are such letters, from a place on.
+pub fn are_letters(bytes: &[u8], start: usize) -> bool {
+    let mut all = true;
+    for (i, byte) in bytes.iter().enumerate() {
+        all = all && *byte == letter(start.wrapping_add(i));
+    }
+    all
+}
+
+fn letter(i: usize) -> u8 {
+    b'a' + (i % 26) as u8
+}

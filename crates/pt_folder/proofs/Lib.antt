@@ -1,0 +1,6 @@
+mod Blocks
+mod Looking
+mod Names
+pub mod Paths
+mod Texts
+mod Untold

@@ -1,0 +1,55 @@
+-- What folders ask of the system, and what becomes of the answers.
+use Rattle.std.specs.Prelude.{◌≡◌, ◌≢◌, ◌⊎◌, ⊤, ℕ, true, List, length, Option, None, Some, Result, Ok, Err}
+use Rattle.std.specs.Fs.{file_type, new_options, with_read, with_write, with_create_new}
+use Rattle.std.specs.IoError.{error_kind}
+use Rattle.std.specs.declared.fs.Metadata.{Metadata}
+use Rattle.std.specs.declared.fs.OpenOptions.{OpenOptions}
+use Rattle.std.specs.declared.io.Error.{Error}
+use Rattle.pt_tree.specs.declared.faults.TreeFault.{TreeFault}
+use Rattle.pt_tree.specs.declared.faults.TreeFault.TheVariants.{Device, Memory}
+use Rattle.pt_tree.specs.declared.kind.Kind.{Kind}
+use Rattle.pt_tree.specs.Path.{Path}
+use Rattle.pt_folder.specs.Folder.{entry_text, IsAbsent, IsKind, fault_of_kind}
+
+-- how a file is opened for reading
+abbrev pub for_reading : OpenOptions
+for_reading = with_read new_options true
+
+-- how a file is made: for writing, and only where nothing stands
+abbrev pub for_making : OpenOptions
+for_making = with_create_new (with_write new_options true) true
+
+-- an error of the system, as a folder answers it
+abbrev pub fault_of : Error → TreeFault
+fault_of e = fault_of_kind (error_kind e)
+
+-- the system's answer, as a folder gives it
+abbrev pub IsAnswer : {T : Type 0} → Result T Error → Result T TreeFault → Type 0
+IsAnswer (Ok x) result = result ≡ Ok x
+IsAnswer (Err e) result = result ≡ Err (fault_of e)
+
+-- why a path is not asked for: the folder's path is empty, or a growth was refused
+abbrev pub IsRefused : {T : Type 0} → List ℕ → Result T TreeFault → Type 0
+IsRefused folder (Ok x) = ⊥
+IsRefused folder (Err Device) = length folder ≡ 0
+IsRefused folder (Err Memory) = ⊤
+
+-- one call is made, for an entry's path, and its reply leads to this result
+pub record IsAsked {S A T : Type 0} (call : S → List ℕ → A → S → Type 0) (leads : A → Result T TreeFault → Type 0) (folder : List ℕ) (p : Path) (old new : S) (result : Result T TreeFault) : Type 0 where
+  pub reply : A
+  pub filled : length folder ≢ 0
+  pub made : call old (entry_text folder p) reply new
+  pub gives : leads reply result
+
+-- nothing is asked of the system, and the path was refused; or the one call is made
+abbrev pub AsksOnce : {S A T : Type 0} → (S → List ℕ → A → S → Type 0) → (A → Result T TreeFault → Type 0) → List ℕ → Path → S → S → Result T TreeFault → Type 0
+AsksOnce call leads folder p old new result = ((new ≡ old) × IsRefused folder result) ⊎ IsAsked call leads folder p old new result
+
+-- what is at a path, by the system's reply: its kind, nothing, or a fault
+abbrev pub LeadsToKind : Result Metadata Error → Result (Option Kind) TreeFault → Type 0
+LeadsToKind (Ok metadata) (Ok None) = ⊥
+LeadsToKind (Ok metadata) (Ok (Some kind)) = IsKind (file_type metadata) kind
+LeadsToKind (Ok metadata) (Err fault) = ⊥
+LeadsToKind (Err e) (Ok None) = IsAbsent (error_kind e)
+LeadsToKind (Err e) (Ok (Some kind)) = ⊥
+LeadsToKind (Err e) (Err fault) = (¬ (IsAbsent (error_kind e))) × (fault ≡ fault_of e)

@@ -1,0 +1,9 @@
+pub mod Bytes
+pub mod Calls
+pub mod Devices
+pub mod Folder
+pub mod Listing
+pub mod Names
+pub mod Reading
+pub mod Runs
+pub mod Writing

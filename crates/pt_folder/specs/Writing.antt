@@ -1,0 +1,38 @@
+-- The open file of a folder that is written.
+use Rattle.std.specs.Prelude.{◌≡◌, ℕ, cond, is_some, List, Option, Some, None, Result, Ok, Err, MatchResult}
+use Rattle.std.specs.Io.KnownBytes.{Appends}
+use Rattle.std.specs.declared.io.Error.{Error}
+use Rattle.pt_tree.specs.Log.{AppendsFront}
+use Rattle.pt_tree.specs.Path.{Path, rest_below}
+use Rattle.pt_tree.specs.declared.faults.TreeFault.{TreeFault}
+use Rattle.pt_tree.specs.declared.faults.TreeFault.TheVariants.{Device}
+use Rattle.pt_folder.specs.declared.dest.Writing.{Writing}
+use Rattle.pt_folder.specs.Calls.{fault_of}
+use Rattle.pt_folder.specs.Runs.{IsWriteError}
+
+-- the file at this path is the open one
+abbrev pub IsMadeAt : {F : Type 0} → Path → Option (Writing F) → Type 0
+IsMadeAt p None = ⊥
+IsMadeAt p (Some w) = w.path ≡ p
+
+-- the open file, by the system's reply: it is the new one, or after a fault the one that was
+abbrev pub MakesAt : {F : Type 0} → Path → Option (Writing F) → Option (Writing F) → Result F Error → Result (Unit {0}) TreeFault → Type 0
+MakesAt p old new (Ok file) result = (result ≡ Ok tt) × (new ≡ Some (record { file = file; path = p }))
+MakesAt p old new (Err e) result = (result ≡ Err (fault_of e)) × (new ≡ old)
+
+-- the open file, unless it is at or below a path
+abbrev pub open_unless_within : {F : Type 0} → Path → Option (Writing F) → Option (Writing F)
+open_unless_within p None = None
+open_unless_within p (Some w) = cond (is_some (rest_below p w.path)) None (Some w)
+
+-- a file stays open, and what it is known to hold grows by the piece; by a part of it, from its start, after a fault
+abbrev pub AddsTo : {F : Type 0} → (F → Option (List ℕ)) → Option (Writing F) → Option (Writing F) → List ℕ → Result (Unit {0}) TreeFault → Type 0
+AddsTo holds None None piece result = Unit {0}
+AddsTo holds None (Some new) piece result = ⊥
+AddsTo holds (Some old) None piece result = ⊥
+AddsTo holds (Some old) (Some new) piece result = (new.path ≡ old.path) × MatchResult result (λ _. Appends (holds old.file) (holds new.file) piece) (λ _. AppendsFront (holds old.file) (holds new.file) piece)
+
+-- why adding to the open file fails: a write did, or no file is open
+abbrev pub FailsToAdd : {F : Type 0} → (F → List ℕ → Result ℕ Error → F → Type 0) → Option (Writing F) → TreeFault → Type 0
+FailsToAdd writes None fault = fault ≡ Device
+FailsToAdd writes (Some old) fault = (e : Error) × IsWriteError writes e × (fault ≡ fault_of e)

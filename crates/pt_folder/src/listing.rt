@@ -1,0 +1,172 @@
+//! Listing a directory of a folder.
+ghost use Rattle.std.specs.Prelude.{◌≡◌, ◌==◌, ◌≤◌, ◌++◌, ◌∷◌, [], if◌then◌else◌, map, position, IfOk, IfSome, OnOk, Err, MatchResult, length, string_bytes, vec_len};
+ghost use Rattle.std.specs.List.{FoldsTo};
+ghost use Rattle.pt_folder.specs.Folder.{entry_text};
+ghost use Rattle.pt_folder.specs.Calls.{fault_of as fault_for};
+ghost use Rattle.pt_folder.specs.Listing.{IsListedBy, LeadsToOwnKind, LooksAt, dir_front, most_entries};
+ghost use Rattle.pt_folder.specs.Names.{GivesNames, AddsNames, is_entry};
+
+use crate::folder::{Folder, fault_of, kind_of, name_text};
+use crate::system::{Input, System};
+use pt_tree::{Kind, Listing, ListingFault, Name, NameFault, NamePath, TreeFault};
+use std::alloc::Global;
+
+// The greatest number of a directory's entries.
+const MOST: usize = 16_777_216;
+
+const LONGEST_NAME: usize = 255;
+
+const PIECE: usize = 8192;
+
+/// The names and kinds in a directory of a folder, in the order of the names' bytes; links aren't followed.
+///
+/// `Device` for an error of the system, for more than 16,777,216 entries, and for a name that isn't UTF-8, is none
+/// that an entry may have, or comes twice. `Memory` where a growth was refused.
+pub fn list<S: System>(
+    system: &mut S,
+    folder: &Folder<'_>,
+    path: &NamePath,
+) -> Result<Listing, TreeFault>
+    ensures most { IfOk result (λ listing. length listing ≤ most_entries) }
+    ensures listed { IfOk result (λ listing. IsListedBy S.opens_dir S.looks S.Dir.Input.remaining (entry_text folder.now.path.now path.now) (dir_front folder.now.path.now path.now) system.old system.new listing) }
+{
+    let mut text = folder.text(path)?;
+    let mut names = names_in(system, folder.alloc, text.as_str())?;
+    names.sort_unstable();
+    if !path.is_empty() {
+        text.push('/')?;
+    }
+    with_kinds(system, folder.alloc, text, names)
+}
+
+fn names_in<S: System>(system: &mut S, alloc: Global, text: &str) -> Result<Vec<Name>, TreeFault>
+    ensures most { IfOk result (λ names. vec_len names ≤ most_entries) }
+    ensures asked { (reply : _) × S.opens_dir system.old text.now reply system.new
+        × MatchResult reply (λ dir. IfOk result (λ names. IfSome (S.Dir.Input.remaining dir) (λ bytes. GivesNames bytes names.items))) (λ e. result ≡ Err (fault_for e)) }
+{
+    match system.open_names(text) {
+        Ok(mut dir) => read_names(alloc, &mut dir, most()),
+        Err(error) => Err(fault_of(error)),
+    }
+}
+
+// The greatest number of a directory's entries.
+fn most() -> usize
+    ensures { result ≡ most_entries }
+{
+    MOST
+}
+
+/// All names that a directory gives, in its order, but for `.` and `..`; `Device` where there are more than `most`.
+pub fn read_names<D: Input>(alloc: Global, dir: &mut D, most: usize) -> Result<Vec<Name>, TreeFault>
+    ensures most { IfOk result (λ names. vec_len names ≤ most) }
+    ensures names { IfOk result (λ names. IfSome (D.remaining dir.old) (λ bytes. GivesNames bytes names.items)) }
+{
+    let mut names = Vec::new(alloc);
+    let mut piece = [0u8; PIECE];
+    for _ in 0..u64::MAX {
+        match dir.read_piece(&mut piece) {
+            Ok(0) => return Ok(names),
+            Ok(count) => add_names(alloc, &mut names, &piece[..count], most)?,
+            Err(error) => return Err(fault_of(error)),
+        }
+    }
+    Err(TreeFault::Device)
+}
+
+// Adds the names of a piece of a directory, each ended by a NUL.
+fn add_names(
+    alloc: Global,
+    names: &mut Vec<Name>,
+    piece: &[u8],
+    most: usize,
+) -> Result<(), TreeFault>
+    requires { vec_len names.old ≤ most }
+    ensures most { vec_len names.new ≤ most }
+    ensures names { OnOk result (AddsNames piece.now names.old.items names.new.items) }
+{
+    let mut rest = piece;
+    while let Some(end) = nul_at(rest) {
+        add_name(alloc, names, &rest[..end], most)?;
+        rest = &rest[end + 1..];
+    }
+    if rest.is_empty() {
+        Ok(())
+    } else {
+        Err(TreeFault::Device)
+    }
+}
+
+// Where the first NUL stands.
+fn nul_at(bytes: &[u8]) -> Option<usize>
+    ensures { result ≡ position (λ byte. byte == 0) bytes.now }
+{
+    bytes.iter().position(|byte| *byte == 0)
+}
+
+// Adds a name, unless it is `.` or `..`.
+fn add_name(
+    alloc: Global,
+    names: &mut Vec<Name>,
+    bytes: &[u8],
+    most: usize,
+) -> Result<(), TreeFault>
+    requires { vec_len names.old ≤ most }
+    ensures most { vec_len names.new ≤ most }
+    ensures added { OnOk result (names.new.items ≡ (if is_entry bytes.now then names.old.items ++ bytes.now ∷ [] else names.old.items)) }
+{
+    if bytes == b".".as_slice() || bytes == b"..".as_slice() {
+        return Ok(());
+    }
+    if names.len() >= most {
+        return Err(TreeFault::Device);
+    }
+    match Name::of(alloc, bytes) {
+        Ok(name) => names.push(name).map_err(|_| TreeFault::Memory),
+        Err(NameFault::Memory) => Err(TreeFault::Memory),
+        Err(_) => Err(TreeFault::Device),
+    }
+}
+
+// The entries of these names, in their order, with their kinds. The text is the directory's path, with `/` behind.
+fn with_kinds<S: System>(
+    system: &mut S,
+    alloc: Global,
+    text: String,
+    names: Vec<Name>,
+) -> Result<Listing, TreeFault>
+    ensures names { IfOk result (λ listing. map (λ item. item.0) listing ≡ names.items) }
+    ensures looked { IfOk result (λ listing. FoldsTo (LooksAt S.looks (string_bytes text)) system.old listing system.new) }
+{
+    let mut text = text;
+    let end = text.len();
+    text.reserve(LONGEST_NAME)?;
+    let mut listing = Listing::new(alloc);
+    for name in names {
+        text.push_str(name_text(&name))?;
+        let kind = own_kind(system, text.as_str())?;
+        text.truncate(end);
+        add_entry(&mut listing, name, kind)?;
+    }
+    Ok(listing)
+}
+
+// The kind of an entry itself, links not followed.
+fn own_kind<S: System>(system: &mut S, text: &str) -> Result<Kind, TreeFault>
+    ensures { (reply : _) × S.looks system.old text.now reply system.new × LeadsToOwnKind reply result }
+{
+    match system.look(text) {
+        Ok(metadata) => Ok(kind_of(&metadata)),
+        Err(error) => Err(fault_of(error)),
+    }
+}
+
+fn add_entry(listing: &mut Listing, name: Name, kind: Kind) -> Result<(), TreeFault>
+    ensures { OnOk result (listing.new ≡ listing.old ++ (name, kind) ∷ []) }
+{
+    match listing.add(name, kind) {
+        Ok(()) => Ok(()),
+        Err(ListingFault::Memory) => Err(TreeFault::Memory),
+        Err(ListingFault::NotRising) => Err(TreeFault::Device),
+    }
+}
