@@ -1,8 +1,8 @@
+use pt_name::Layout;
 use pt_object::{
     Algorithm, Content, Contents, Digest, Hasher, Meta, MetaFault, Rows, object_declaration,
     root_declaration, root_files, sidecar,
 };
-use pt_name::Layout;
 use pt_tree::{Block, Name, NamePath};
 use std::alloc::Global;
 use std::process::Abort;

@@ -4,7 +4,10 @@ ghost use Rattle.pt_memory.specs.MemDest.{dest_told};
 ghost use Rattle.pt_tree.specs.Source.{CanList, CanOpen};
 
 use pt_memory::{LooseSource, MemDest, MemLog, MemSource, PlantFault, SwapFault, TakeFault};
-use pt_tree::{Block, Dest, Kind, Listing, ListingFault, Log, MemoryFault, Name, NameFault, NamePath, Source, TreeFault, WriterLog};
+use pt_tree::{
+    Block, Dest, Kind, Listing, ListingFault, Log, MemoryFault, Name, NameFault, NamePath, Source,
+    TreeFault, WriterLog,
+};
 use std::alloc::Global;
 use std::io;
 use std::io::Write;

@@ -2,8 +2,8 @@
 ghost use Rattle.std.specs.Prelude.{◌≡◌};
 ghost use Rattle.pt_walk.specs.Trail.{current_entry, is_dir_entry};
 
-use pt_walk::{At, Cause, Finding, Form, Limits, LimitsFault, Trail, is_shorty, judge, laws};
 use pt_tree::{Kind, Listing, Name};
+use pt_walk::{At, Cause, Finding, Form, Limits, LimitsFault, Trail, is_shorty, judge, laws};
 use std::test::Fail;
 
 const SITES: [(&[(&str, Kind)], Finding, Finding, Finding); 13] = [

@@ -1,9 +1,9 @@
 #![tactic(auto, using(pt_move::proofs::Untold::untold))]
 // Runs over a source in memory that tells nothing and a destination that holds nothing: the lines and the turns.
+use pt_memory::{LooseSource, MemLog, MemSource};
 use pt_move::{Fault, Job, Mover, Report, Turn, migrate};
 use pt_name::Layout;
 use pt_object::{Algorithm, Meta};
-use pt_memory::{LooseSource, MemLog, MemSource};
 use pt_tree::{Block, Dest, Kind, Name, NamePath, TreeFault};
 use pt_walk::Limits;
 use std::alloc::Global;
