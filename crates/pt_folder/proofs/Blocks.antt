@@ -23,13 +23,18 @@ slice_range-put_mid a k n xs ys within fits =
     let after = post_of a k xs in
     ap (take ((a + n) - a)) (drop_at (take a xs) (ys ++ after) a (length-take-le a xs within)) ∙ ap (λ m. take m (ys ++ after)) same ∙ take-append-le n ys after fits
 
+-- what is read behind what is done
+pub put_more : (done count room : ℕ) (buffer part : List ℕ) → done ≤ length buffer → count ≤ length part
+    → take (done + count) (put_mid done room buffer part) ≡ take done buffer ++ take count part
+put_more done count room buffer part within fits =
+    sym (take_split done (done + count) buffer (put_mid done room buffer part) (omega arith) (take-put_mid_below _ _ _ _ _ (le_refl _) within))
+    ∙ ap (λ l. take done buffer ++ l) (slice_range-put_mid done room count buffer part within fits)
+
 -- one more read
 pub read_more : (old mid new : Option (List ℕ)) (buffer part : List ℕ) (done room count : ℕ) → done ≤ length buffer → count ≤ length part
     → Consumes old mid (take done buffer) → Consumes mid new (take count part) → Consumes old new (take (done + count) (put_mid done room buffer part))
 read_more old mid new buffer part done room count within fits first next =
-    let part_is = slice_range-put_mid done room count buffer part within fits in
-    let joined = take_split done (done + count) buffer (put_mid done room buffer part) (omega arith) (take-put_mid_below _ _ _ _ _ (le_refl _) within) in
-    subst (Consumes old new) (ap (λ l. take done buffer ++ l) (sym part_is) ∙ joined) (Consumes-trans old mid new _ _ first next)
+    subst (Consumes old new) (sym (put_more done count room buffer part within fits)) (Consumes-trans old mid new _ _ first next)
 
 take-front : (xs ys : List ℕ) (n : ℕ) → length xs ≡ n → take n (xs ++ ys) ≡ xs
 take-front xs ys n long = rw (← long) (take-append_seam xs ys)

@@ -3,4 +3,5 @@ mod Looking
 mod Names
 pub mod Paths
 mod Texts
+mod Turns
 mod Untold

@@ -1,17 +1,16 @@
 -- Entries looked at one after another.
-use Rattle.std.proofs.Common.{◌≡◌, ℕ, List, [], ◌∷◌, ◌++◌, map, refl, sym, ap, ◌∙◌, subst}
+use Rattle.std.proofs.Common.{◌≡◌, ℕ, List, [], ◌∷◌, ◌++◌, map, refl, sym, ap, ◌∙◌, subst, inl, inr, false, ◌+◌, ◌<◌, length, take, drop, get_or}
+use Rattle.std.proofs.lemmas.List.{take-append-drop, drop_more}
 use Rattle.std.specs.List.{FoldsTo}
 use Rattle.std.specs.Prelude.{Result, Ok, Err}
 use Rattle.std.specs.declared.fs.Metadata.{Metadata}
 use Rattle.std.specs.declared.io.Error.{Error}
 use Rattle.pt_tree.specs.declared.kind.Kind.{Kind}
-use Rattle.pt_tree.specs.Listing.{Item}
-use Rattle.pt_folder.specs.Listing.{LeadsToOwnKind, LooksAt}
-
--- one more step
-pub folds_more : {S A : Type 0} (R : S → A → S → Type 0) (s t u : S) (xs : List A) (x : A) → FoldsTo R s xs t → R t x u → FoldsTo R s (xs ++ x ∷ []) u
-folds_more R s t u [] x same last = (u, subst (λ q. R q x u) (sym same) last, refl)
-folds_more R s t u (y ∷ xs) x (j, first, rest) last = (j, first, folds_more R j t u xs x rest last)
+use Rattle.pt_tree.specs.Listing.{Item, can_follow}
+use Rattle.pt_tree.specs.declared.faults.TreeFault.{TreeFault}
+use Rattle.pt_tree.specs.declared.faults.TreeFault.TheVariants.{Device, Memory}
+use Rattle.pt_folder.specs.Calls.{IsDueTo}
+use Rattle.pt_folder.specs.Listing.{FailsToLook, LeadsToOwnKind, LooksAt}
 
 -- a look that gave a kind
 pub looked_one : {S : Type 0} (looks : S → List ℕ → Result Metadata Error → S → Type 0) (front : List ℕ) (old new : S) (name text : List ℕ) (kind : Kind) → text ≡ front ++ name
@@ -27,3 +26,51 @@ names_more listing new yielded name kind same is = ap (map (λ (item : Item). it
     mapped : (items : List Item) → map (λ (item : Item). item.0) (items ++ (name, kind) ∷ []) ≡ map (λ (item : Item). item.0) items ++ name ∷ []
     mapped [] = refl
     mapped (x ∷ items) = ap (λ (l : List (List ℕ)). x.0 ∷ l) (mapped items)
+
+-- the entry that comes next
+pub item_here : (names yielded : List (List ℕ)) (name : List ℕ) → map (λ (x : List ℕ). x) yielded ≡ take (length yielded) names
+    → (length yielded < length names) × (name ≡ get_or names (length yielded) name) → names ≡ yielded ++ name ∷ drop (length yielded + 1) names
+item_here names yielded name so_far (within, is) =
+    let n = length yielded in
+    let rest = drop (n + 1) names in
+    sym (take-append-drop n names) ∙ ap (λ (l : List (List ℕ)). take n names ++ l) (drop_more names n name within ∙ ap (λ (x : List ℕ). x ∷ rest) (sym is))
+    ∙ ap (λ (l : List (List ℕ)). l ++ name ∷ rest) (sym so_far ∙ same yielded)
+  where
+    same : (xs : List (List ℕ)) → map (λ (x : List ℕ). x) xs ≡ xs
+    same [] = refl
+    same (x ∷ xs) = ap (λ (l : List (List ℕ)). x ∷ l) (same xs)
+
+module _ {S : Type 0} (looks : S → List ℕ → Result Metadata Error → S → Type 0) (front : List ℕ) (names : List (List ℕ)) (old mid new : S) (listing : List Item)
+    (yielded rest : List (List ℕ)) (name : List ℕ) (same : map (λ (item : Item). item.0) listing ≡ yielded) (here : names ≡ yielded ++ name ∷ rest)
+    (looked : FoldsTo (LooksAt looks front) old listing mid) where
+  next_is : names ≡ map (λ (item : Item). item.0) listing ++ name ∷ rest
+  next_is = here ∙ ap (λ (l : List (List ℕ)). l ++ name ∷ rest) (sym same)
+
+  -- looking at the next entry fails
+  pub looks_fail : (text : List ℕ) (fault : TreeFault) → text ≡ front ++ name → ((reply : Result Metadata Error) × looks mid text reply new × LeadsToOwnKind reply (Err fault))
+      → IsDueTo fault (FailsToLook looks front names old new)
+  looks_fail text Memory is asked = tt
+  looks_fail text Device is (Ok m, asked, leads) = absurd leads
+  looks_fail text Device is (Err e, asked, leads) = record {
+    listing = listing;
+    name = name;
+    rest = rest;
+    mid = mid;
+    here = next_is;
+    looked = looked;
+    failed = inl (e, subst (λ t. looks mid t (Err e) new) is asked, sym leads);
+  }
+
+  -- its name doesn't come after the last
+  pub rises_not : (kind : Kind) (fault : TreeFault) → LooksAt looks front mid (name, kind) new → IsDueTo fault (can_follow listing name ≡ false)
+      → IsDueTo fault (FailsToLook looks front names old new)
+  rises_not kind Memory one stuck = tt
+  rises_not kind Device one stuck = record {
+    listing = listing;
+    name = name;
+    rest = rest;
+    mid = mid;
+    here = next_is;
+    looked = looked;
+    failed = inr (kind, one, stuck);
+  }

@@ -1,14 +1,19 @@
 -- Names that a directory gives, one after another.
-use Rattle.std.proofs.Common.{◌≡◌, ℕ, true, false, List, [], ◌∷◌, ◌++◌, ◌+◌, ◌<◌, ◌==◌, take, drop, get_or, refl, arith, sym, ap, ◌∙◌, append_assoc, append-nil, zero, suc, cond, subst}
-use Rattle.std.specs.Prelude.{Option, Some}
-use Rattle.std.specs.List.{All, filter, position}
+use Rattle.std.proofs.Common.{◌≡◌, ℕ, true, false, List, [], ◌∷◌, ◌++◌, ◌+◌, ◌<◌, ◌≤◌, ◌==◌, length, take, drop, get_or, refl, arith, sym, ap, ◌∙◌, append_assoc, append-nil, zero, suc, cond, subst, inl, inr}
+use Rattle.std.specs.Prelude.{Option, Some, None, nat_lt, Result, Ok, Err, IfErr, IfOk, MatchResult}
+use Rattle.std.specs.Result.{IsErrAnd}
+use Rattle.std.specs.List.{All, filter, position, position_or_len}
 use Rattle.std.specs.Io.KnownBytes.{Consumes}
 use Rattle.std.proofs.KnownBytes.{Consumes-trans}
 use Rattle.std.proofs.lemmas.List.Elements.{All-append, filter-append}
 use Rattle.std.proofs.lemmas.List.Quantifiers.{position-Some}
 use Rattle.std.proofs.lemmas.List.{length-take, get_or-take, drop_more, take-append-drop}
 use Rattle.std.proofs.lemmas.Grind.{flat_map-append}
-use Rattle.pt_folder.specs.Names.{is_entry, LacksNul, ended, GivesNames, AddsNames}
+use Rattle.std.proofs.lemmas.List.Sums.{fails_before_first}
+use Rattle.pt_tree.specs.declared.faults.TreeFault.{TreeFault}
+use Rattle.pt_tree.specs.declared.faults.TreeFault.TheVariants.{Device, Memory}
+use Rattle.pt_folder.specs.Calls.{IsDueTo}
+use Rattle.pt_folder.specs.Names.{is_entry, LacksNul, ended, GivesNames, AddsNames, IsRefusedName, RefusesBytes}
 
 -- no bytes give no names
 pub gives_none : GivesNames [] []
@@ -88,3 +93,57 @@ reads_one old mid new now after piece part (read, taken, gives) next same adds =
   Consumes-trans old mid new read part taken next,
   subst (λ names. GivesNames (read ++ part) names) (sym adds.added) (gives_both read part now adds.more gives (subst (λ bytes. GivesNames bytes adds.more) same adds.given)),
 )
+
+-- what was read of a piece so far, and the names of it
+abbrev pub Done : List ℕ → List ℕ → List (List ℕ) → List (List ℕ) → Type 0
+Done piece rest old now = (front : List ℕ) × (piece ≡ front ++ rest) × AddsNames front old now
+
+-- the next name isn't added
+pub refuses_one : (most : ℕ) (piece rest name : List ℕ) (old now : List (List ℕ)) (end : ℕ) (fault : TreeFault) → Done piece rest old now
+    → position (λ b. b == 0) rest ≡ Some end → name ≡ take end rest → IsDueTo fault (IsRefusedName most now name) → IsDueTo fault (RefusesBytes most old piece)
+refuses_one most piece rest name old now end Memory done found name_is cause = tt
+refuses_one most piece rest name old now end Device (front, is, adds) found name_is cause = record {
+  front = front;
+  rest = rest;
+  names = now;
+  cut = is;
+  added = adds;
+  refused = inr (take end rest, drop (end + 1) rest, splits rest end found, lacks_nul rest end found, subst (IsRefusedName most now) name_is cause);
+}
+
+-- bytes are left, and no NUL behind them
+pub refuses_rest : (most : ℕ) (piece rest : List ℕ) (old now : List (List ℕ)) → Done piece rest old now → position (λ b. b == 0) rest ≡ None → (length rest == 0) ≡ false
+    → RefusesBytes most old piece
+refuses_rest most piece rest old now (front, is, adds) none some = record {
+  front = front;
+  rest = rest;
+  names = now;
+  cut = is;
+  added = adds;
+  refused = inl (positive (length rest) some, no_nul rest none);
+}
+  where
+    positive : (n : ℕ) → (n == 0) ≡ false → 0 < n
+    positive n some = grind (arith, some)
+
+    no_nul : (rest : List ℕ) → position (λ b. b == 0) rest ≡ None → LacksNul rest
+    no_nul rest none k d within =
+        let far : length rest ≤ position_or_len (λ b. b == 0) rest = past (position_or_len (λ b. b == 0) rest) (length rest) none in
+        let other : (get_or rest k d == 0) ≡ false = fails_before_first (λ b. b == 0) rest k d (omega (arith, far, within)) in
+        λ same. differs (get_or rest k d) other same
+      where
+        past : (i n : ℕ) → cond (nat_lt i n) (Some i) None ≡ None → n ≤ i
+        past i n same = grind (arith, same)
+
+        differs : (b : ℕ) → (b == 0) ≡ false → b ≡ 0 → ⊥
+        differs b other same = grind (arith, other, same)
+
+-- an error that is handed on has its cause
+pub err_due : {T : Type 0} (r : Result T TreeFault) (fault : TreeFault) (cause : Type 0) → IsErrAnd r (λ y. y ≡ fault) → IsDueTo fault cause → IfErr r (λ f. IsDueTo f cause)
+err_due (Ok x) fault cause is due = absurd is
+err_due (Err y) fault cause is due = subst (λ f. IsDueTo f cause) (sym is) due
+
+-- what holds of a value, and of an error
+pub each_way : {T E : Type 0} (r : Result T E) (P Q : T → Type 0) (R : E → Type 0) → IfOk r P → IfOk r Q → IfErr r R → MatchResult r (λ x. P x × Q x) R
+each_way (Ok x) P Q R p q e = (p, q)
+each_way (Err y) P Q R p q e = e

@@ -28,6 +28,11 @@ abbrev pub IsAnswer : {T : Type 0} → Result T Error → Result T TreeFault →
 IsAnswer (Ok x) result = result ≡ Ok x
 IsAnswer (Err e) result = result ≡ Err (fault_of e)
 
+-- a failure of the device has this cause; memory may be wanting at any growth
+abbrev pub IsDueTo : TreeFault → Type 0 → Type 0
+IsDueTo Device cause = cause
+IsDueTo Memory cause = ⊤
+
 -- why a path is not asked for: the folder's path is empty, or a growth was refused
 abbrev pub IsRefused : {T : Type 0} → List ℕ → Result T TreeFault → Type 0
 IsRefused folder (Ok x) = ⊥

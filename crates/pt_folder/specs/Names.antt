@@ -1,7 +1,8 @@
 -- The names that a directory of the system gives.
-use Rattle.std.specs.Prelude.{◌≡◌, ◌≢◌, ℕ, Bool, not, ◌||◌, List, [], ◌∷◌, ◌++◌}
+use Rattle.std.specs.Prelude.{◌≡◌, ◌≢◌, ◌⊎◌, ◌<◌, ◌≤◌, ℕ, Bool, true, false, not, ◌||◌, List, [], ◌∷◌, ◌++◌, length}
 use Rattle.std.specs.List.{All, filter, flat_map}
 use Rattle.std.specs.Str.{bytes_eq}
+use Rattle.pt_tree.specs.Name.{is_name}
 
 -- neither `.` nor `..`
 abbrev pub is_entry : List ℕ → Bool
@@ -27,3 +28,21 @@ pub record AddsNames (bytes : List ℕ) (old new : List (List ℕ)) : Type 0 whe
   pub more : List (List ℕ)
   pub added : new ≡ old ++ more
   pub given : GivesNames bytes more
+
+-- why a name isn't added to these: it would be one too many, or no entry may have it
+abbrev pub IsRefusedName : ℕ → List (List ℕ) → List ℕ → Type 0
+IsRefusedName most names name = (is_entry name ≡ true) × ((most ≤ length names) ⊎ (is_name name ≡ false))
+
+-- bytes without a NUL behind them, or a name that isn't added
+abbrev pub EndsNames : ℕ → List (List ℕ) → List ℕ → Type 0
+EndsNames most names rest = ((0 < length rest) × LacksNul rest)
+    ⊎ ((name : List ℕ) × (more : List ℕ) × (rest ≡ ended name ++ more) × LacksNul name × IsRefusedName most names name)
+
+-- the bytes give names that are added, and behind them comes what isn't
+pub record RefusesBytes (most : ℕ) (old : List (List ℕ)) (bytes : List ℕ) : Type 0 where
+  pub front : List ℕ
+  pub rest : List ℕ
+  pub names : List (List ℕ)
+  pub cut : bytes ≡ front ++ rest
+  pub added : AddsNames front old names
+  pub refused : EndsNames most names rest

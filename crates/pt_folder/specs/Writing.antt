@@ -8,7 +8,7 @@ use Rattle.pt_tree.specs.declared.faults.TreeFault.{TreeFault}
 use Rattle.pt_tree.specs.declared.faults.TreeFault.TheVariants.{Device}
 use Rattle.pt_folder.specs.declared.dest.Writing.{Writing}
 use Rattle.pt_folder.specs.Calls.{fault_of}
-use Rattle.pt_folder.specs.Runs.{IsWriteError}
+use Rattle.pt_folder.specs.Runs.{FailsToWrite, WritesAll}
 
 -- the file at this path is the open one
 abbrev pub IsMadeAt : {F : Type 0} → Path → Option (Writing F) → Type 0
@@ -32,7 +32,8 @@ AddsTo holds None (Some new) piece result = ⊥
 AddsTo holds (Some old) None piece result = ⊥
 AddsTo holds (Some old) (Some new) piece result = (new.path ≡ old.path) × MatchResult result (λ _. Appends (holds old.file) (holds new.file) piece) (λ _. AppendsFront (holds old.file) (holds new.file) piece)
 
--- why adding to the open file fails: a write did, or no file is open
-abbrev pub FailsToAdd : {F : Type 0} → (F → List ℕ → Result ℕ Error → F → Type 0) → Option (Writing F) → TreeFault → Type 0
-FailsToAdd writes None fault = fault ≡ Device
-FailsToAdd writes (Some old) fault = (e : Error) × IsWriteError writes e × (fault ≡ fault_of e)
+-- which writes the open file is asked for, and why adding to it fails: one of them did, or no file is open
+abbrev pub WritesTo : {F : Type 0} → (F → List ℕ → Result ℕ Error → F → Type 0) → Option (Writing F) → Option (Writing F) → List ℕ → Result (Unit {0}) TreeFault → Type 0
+WritesTo writes None new piece result = (result ≡ Err Device) × (new ≡ None)
+WritesTo writes (Some old) None piece result = ⊥
+WritesTo writes (Some old) (Some new) piece result = MatchResult result (λ _. WritesAll writes piece old.file new.file) (λ fault. (e : Error) × FailsToWrite writes piece old.file e new.file × (fault ≡ fault_of e))

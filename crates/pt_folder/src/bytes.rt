@@ -1,9 +1,9 @@
 //! Reading and writing the files of a folder by whole blocks.
-ghost use Rattle.std.specs.Prelude.{◌≡◌, [], IfOk, IfErr, OnOk, OnErr, MatchResult, length};
+ghost use Rattle.std.specs.Prelude.{◌≡◌, [], IfOk, IfErr, OnOk, OnErr, MatchResult, length, take};
 ghost use Rattle.std.specs.Io.KnownBytes.{Appends};
 ghost use Rattle.pt_tree.specs.Log.{AppendsFront};
 ghost use Rattle.pt_folder.specs.Bytes.{Fills, TakesBlock};
-ghost use Rattle.pt_folder.specs.Runs.{IsReadError, IsWriteError};
+ghost use Rattle.pt_folder.specs.Runs.{FailsToRead, FailsToWrite, ReadsBlock, WritesAll};
 
 use crate::system::{Handle, Input};
 use pt_tree::Block;
@@ -18,7 +18,8 @@ static ZEROS: [u8; BLOCK] = [0; BLOCK];
 pub fn read_block<F: Input>(file: &mut F, block: &mut Block) -> io::Result<()>
     ensures block { OnOk result (TakesBlock (F.remaining file.old) (F.remaining file.new) block.new.items) }
     ensures empty { OnErr result (block.new.items ≡ []) }
-    ensures error { IfErr result (IsReadError F.reads) }
+    ensures reads { OnOk result (ReadsBlock F.reads 8192 file.old block.new.items file.new) }
+    ensures error { IfErr result (λ e. FailsToRead F.reads 8192 file.old e file.new) }
 {
     make_full(block);
     match fill(file, block.as_mut_slice()) {
@@ -44,7 +45,8 @@ fn make_full(block: &mut Block)
 // Reads until the buffer is full or a read gives nothing, and says how many bytes were read.
 fn fill<F: Input>(file: &mut F, buffer: &mut [u8]) -> io::Result<usize>
     ensures bytes { IfOk result (λ count. Fills (F.remaining file.old) (F.remaining file.new) count buffer.new) }
-    ensures error { IfErr result (IsReadError F.reads) }
+    ensures reads { IfOk result (λ count. ReadsBlock F.reads (length buffer.old) file.old (take count buffer.new) file.new) }
+    ensures error { IfErr result (λ e. FailsToRead F.reads (length buffer.old) file.old e file.new) }
 {
     let mut done = 0;
     while done < buffer.len() {
@@ -61,7 +63,8 @@ fn fill<F: Input>(file: &mut F, buffer: &mut [u8]) -> io::Result<usize>
 pub fn write_out<F: Handle>(file: &mut F, bytes: &[u8]) -> io::Result<()>
     ensures bytes { MatchResult result (λ _. Appends (F.contents file.old) (F.contents file.new) bytes.now)
         (λ _. AppendsFront (F.contents file.old) (F.contents file.new) bytes.now) }
-    ensures error { IfErr result (IsWriteError F.writes) }
+    ensures writes { OnOk result (WritesAll F.writes bytes.now file.old file.new) }
+    ensures error { IfErr result (λ e. FailsToWrite F.writes bytes.now file.old e file.new) }
 {
     let mut done = 0;
     while done < bytes.len() {

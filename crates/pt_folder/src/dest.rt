@@ -5,7 +5,7 @@ ghost use Rattle.pt_tree.specs.declared.faults.TreeFault.TheVariants.{Device};
 ghost use Rattle.pt_folder.specs.Folder.{entry_text};
 ghost use Rattle.pt_folder.specs.Calls.{AsksOnce, IsAnswer, LeadsToKind, for_making, for_reading};
 ghost use Rattle.pt_folder.specs.Runs.{PeeksAt};
-ghost use Rattle.pt_folder.specs.Writing.{AddsTo, IsMadeAt, FailsToAdd, MakesAt, open_unless_within};
+ghost use Rattle.pt_folder.specs.Writing.{AddsTo, IsMadeAt, MakesAt, WritesTo, open_unless_within};
 
 use crate::bytes::{read_block, write_out};
 use crate::folder::{Folder, counted, fault_of, kind_at, make_dir, reading};
@@ -120,7 +120,7 @@ impl<'a, S: System> Dest for HostDest<'a, S> {
         ensures part { OnErr result (LeavesPart (no_dest self.old) (no_dest self.new) piece.now) }
         ensures closed { IfNone self.old.writing (result ≡ Err Device) }
         ensures written { AddsTo ⟦<S::File as Handle>⟧.contents self.old.writing self.new.writing piece.now result }
-        ensures fault { IfErr result (FailsToAdd ⟦<S::File as Handle>⟧.writes self.old.writing) }
+        ensures writes { WritesTo ⟦<S::File as Handle>⟧.writes self.old.writing self.new.writing piece.now result }
         ensures system { self.new.system ≡ self.old.system }
         ensures folder { self.new.folder ≡ self.old.folder }
         ensures failures { IsCounted self.old.failures self.new.failures result }
@@ -213,7 +213,7 @@ fn making() -> OpenOptions
 fn add<F: Handle>(writing: &mut Option<Writing<F>>, piece: &[u8]) -> Result<(), TreeFault>
     ensures closed { IfNone writing.old (result ≡ Err Device) }
     ensures written { AddsTo F.contents writing.old writing.new piece.now result }
-    ensures fault { IfErr result (FailsToAdd F.writes writing.old) }
+    ensures writes { WritesTo F.writes writing.old writing.new piece.now result }
 {
     match writing {
         Some(open) => match write_out(&mut open.file, piece) {

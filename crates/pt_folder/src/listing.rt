@@ -1,10 +1,11 @@
 //! Listing a directory of a folder.
-ghost use Rattle.std.specs.Prelude.{◌≡◌, ◌==◌, ◌≤◌, ◌++◌, ◌∷◌, [], if◌then◌else◌, map, position, IfOk, IfSome, OnOk, Err, MatchResult, length, string_bytes, vec_len};
+ghost use Rattle.std.specs.Prelude.{◌≡◌, ◌==◌, ◌≤◌, ◌++◌, ◌∷◌, [], false, if◌then◌else◌, map, position, IfErr, IfOk, IfSome, OnOk, Err, MatchResult, length, string_bytes, vec_len};
 ghost use Rattle.std.specs.List.{FoldsTo};
 ghost use Rattle.pt_folder.specs.Folder.{entry_text};
-ghost use Rattle.pt_folder.specs.Calls.{fault_of as fault_for};
-ghost use Rattle.pt_folder.specs.Listing.{IsListedBy, LeadsToOwnKind, LooksAt, dir_front, most_entries};
-ghost use Rattle.pt_folder.specs.Names.{GivesNames, AddsNames, is_entry};
+ghost use Rattle.pt_tree.specs.Listing.{can_follow};
+ghost use Rattle.pt_folder.specs.Calls.{IsDueTo, fault_of as fault_for};
+ghost use Rattle.pt_folder.specs.Listing.{FailsToGet, FailsToList, FailsToLook, GetsNames, IsListedBy, LeadsToOwnKind, LooksAt, dir_front, most_entries};
+ghost use Rattle.pt_folder.specs.Names.{AddsNames, GivesNames, IsRefusedName, RefusesBytes, is_entry};
 
 use crate::folder::{Folder, fault_of, kind_of, name_text};
 use crate::system::{Input, System};
@@ -20,15 +21,17 @@ const PIECE: usize = 8192;
 
 /// The names and kinds in a directory of a folder, in the order of the names' bytes; links aren't followed.
 ///
-/// `Device` for an error of the system, for more than 16,777,216 entries, and for a name that isn't UTF-8, is none
-/// that an entry may have, or comes twice. `Memory` where a growth was refused.
+/// `Device` where the folder's path is empty, opening, a read or a look at an entry failed, a name comes twice, is none
+/// that an entry may have or has no NUL behind it, there are more than 16,777,216 entries, or 2^64 - 1 reads found no end.
+/// `Memory` where a growth was refused.
 pub fn list<S: System>(
     system: &mut S,
     folder: &Folder<'_>,
     path: &NamePath,
 ) -> Result<Listing, TreeFault>
     ensures most { IfOk result (λ listing. length listing ≤ most_entries) }
-    ensures listed { IfOk result (λ listing. IsListedBy S.opens_dir S.looks S.Dir.Input.remaining (entry_text folder.now.path.now path.now) (dir_front folder.now.path.now path.now) system.old system.new listing) }
+    ensures listed { IfOk result (λ listing. IsListedBy S.opens_dir S.looks S.Dir.Input.reads S.Dir.Input.remaining (entry_text folder.now.path.now path.now) (dir_front folder.now.path.now path.now) system.old system.new listing) }
+    ensures fault { IfErr result (λ fault. IsDueTo fault (FailsToList S.opens_dir S.looks S.Dir.Input.reads folder.now.path.now path.now system.old system.new)) }
 {
     let mut text = folder.text(path)?;
     let mut names = names_in(system, folder.alloc, text.as_str())?;
@@ -42,7 +45,8 @@ pub fn list<S: System>(
 fn names_in<S: System>(system: &mut S, alloc: Global, text: &str) -> Result<Vec<Name>, TreeFault>
     ensures most { IfOk result (λ names. vec_len names ≤ most_entries) }
     ensures asked { (reply : _) × S.opens_dir system.old text.now reply system.new
-        × MatchResult reply (λ dir. IfOk result (λ names. IfSome (S.Dir.Input.remaining dir) (λ bytes. GivesNames bytes names.items))) (λ e. result ≡ Err (fault_for e)) }
+        × MatchResult reply (λ dir. (after : _) × MatchResult result (λ names. GetsNames S.Dir.Input.reads dir names.items after × IfSome (S.Dir.Input.remaining dir) (λ bytes. GivesNames bytes names.items))
+        (λ fault. IsDueTo fault (FailsToGet S.Dir.Input.reads most_entries dir after))) (λ e. result ≡ Err (fault_for e)) }
 {
     match system.open_names(text) {
         Ok(mut dir) => read_names(alloc, &mut dir, most()),
@@ -60,6 +64,8 @@ fn most() -> usize
 /// All names that a directory gives, in its order, but for `.` and `..`; `Device` where there are more than `most`.
 pub fn read_names<D: Input>(alloc: Global, dir: &mut D, most: usize) -> Result<Vec<Name>, TreeFault>
     ensures most { IfOk result (λ names. vec_len names ≤ most) }
+    ensures read { IfOk result (λ names. GetsNames D.reads dir.old names.items dir.new) }
+    ensures fault { IfErr result (λ fault. IsDueTo fault (FailsToGet D.reads most dir.old dir.new)) }
     ensures names { IfOk result (λ names. IfSome (D.remaining dir.old) (λ bytes. GivesNames bytes names.items)) }
 {
     let mut names = Vec::new(alloc);
@@ -84,6 +90,7 @@ fn add_names(
     requires { vec_len names.old ≤ most }
     ensures most { vec_len names.new ≤ most }
     ensures names { OnOk result (AddsNames piece.now names.old.items names.new.items) }
+    ensures fault { IfErr result (λ fault. IsDueTo fault (RefusesBytes most names.old.items piece.now)) }
 {
     let mut rest = piece;
     while let Some(end) = nul_at(rest) {
@@ -114,6 +121,7 @@ fn add_name(
     requires { vec_len names.old ≤ most }
     ensures most { vec_len names.new ≤ most }
     ensures added { OnOk result (names.new.items ≡ (if is_entry bytes.now then names.old.items ++ bytes.now ∷ [] else names.old.items)) }
+    ensures fault { IfErr result (λ fault. IsDueTo fault (IsRefusedName most names.old.items bytes.now)) }
 {
     if bytes == b".".as_slice() || bytes == b"..".as_slice() {
         return Ok(());
@@ -137,6 +145,7 @@ fn with_kinds<S: System>(
 ) -> Result<Listing, TreeFault>
     ensures names { IfOk result (λ listing. map (λ item. item.0) listing ≡ names.items) }
     ensures looked { IfOk result (λ listing. FoldsTo (LooksAt S.looks (string_bytes text)) system.old listing system.new) }
+    ensures fault { IfErr result (λ fault. IsDueTo fault (FailsToLook S.looks (string_bytes text) names.items system.old system.new)) }
 {
     let mut text = text;
     let end = text.len();
@@ -162,7 +171,8 @@ fn own_kind<S: System>(system: &mut S, text: &str) -> Result<Kind, TreeFault>
 }
 
 fn add_entry(listing: &mut Listing, name: Name, kind: Kind) -> Result<(), TreeFault>
-    ensures { OnOk result (listing.new ≡ listing.old ++ (name, kind) ∷ []) }
+    ensures added { OnOk result (listing.new ≡ listing.old ++ (name, kind) ∷ []) }
+    ensures fault { IfErr result (λ fault. IsDueTo fault (can_follow listing.old name ≡ false)) }
 {
     match listing.add(name, kind) {
         Ok(()) => Ok(()),

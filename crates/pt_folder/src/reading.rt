@@ -1,7 +1,7 @@
 //! The open file of a folder that is read.
 ghost use Rattle.std.specs.Prelude.{◌≡◌, [], false, IfErr, OnOk, OnErr};
-ghost use Rattle.pt_folder.specs.Reading.{ReadsNext};
-ghost use Rattle.pt_folder.specs.Runs.{GoesTo, IsReadError};
+ghost use Rattle.pt_folder.specs.Reading.{FailsToReadOn, ReadsNext};
+ghost use Rattle.pt_folder.specs.Runs.{GoesTo};
 
 use crate::bytes::read_block;
 use crate::system::{Handle, Input};
@@ -32,11 +32,11 @@ impl<F> Reading<F> {
     pub fn read(&mut self, block: &mut Block) -> io::Result<()>
     where
         F: Input,
-        ensures bytes { OnOk result (ReadsNext F.remaining self.old self.new block.new.items) }
+        ensures bytes { OnOk result (ReadsNext F.remaining F.reads self.old self.new block.new.items) }
         ensures empty { OnErr result (block.new.items ≡ []) }
         ensures place { OnErr result (self.new.place ≡ self.old.place) }
         ensures ended { OnErr result (self.new.ended ≡ self.old.ended) }
-        ensures error { IfErr result (IsReadError F.reads) }
+        ensures error { IfErr result (λ e. FailsToReadOn F.reads self.old e self.new.file) }
     {
         if self.ended {
             block.clear();

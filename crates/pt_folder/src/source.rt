@@ -1,13 +1,15 @@
-ghost use Rattle.std.specs.Prelude.{◌≡◌, [], Some, None, Err, IfErr, IfOk, IfNone, OnOk, OnErr};
+ghost use Rattle.std.specs.Prelude.{◌≡◌, ◌≤◌, [], Some, None, Err, IfErr, IfOk, IfNone, OnOk, OnErr, length};
 ghost use Rattle.std.specs.Option.{option_map};
 ghost use Rattle.pt_tree.specs.declared.faults.TreeFault.TheVariants.{Device};
-ghost use Rattle.pt_folder.specs.Calls.{AsksOnce, for_reading};
+ghost use Rattle.pt_folder.specs.Calls.{AsksOnce, IsDueTo, for_reading};
+ghost use Rattle.pt_folder.specs.Folder.{entry_text};
+ghost use Rattle.pt_folder.specs.Listing.{FailsToList, IsListedBy, dir_front, most_entries};
 ghost use Rattle.pt_folder.specs.Reading.{FailsBack, IsAtStart, OpensAt, ReadsOn, StaysAtPlace};
 
 use crate::folder::{Folder, counted, fault_of, reading};
 use crate::listing;
 use crate::reading::Reading;
-use crate::system::{Handle, System};
+use crate::system::{Handle, Input, System};
 use pt_tree::{Block, Listing, NamePath, Source, TreeFault};
 use std::alloc::Global;
 
@@ -61,6 +63,9 @@ impl<'a, S: System> Source for HostSource<'a, S> {
     #[tactic(auto, unfolding(pt_tree::specs::Source::IsListed))]
     fn list(&mut self, path: &NamePath) -> Result<Listing, TreeFault>
         ensures listing { IfOk result (λ listing. IsListed (no_source self.old) path.now listing) }
+        ensures most { IfOk result (λ listing. length listing ≤ most_entries) }
+        ensures listed { IfOk result (λ listing. IsListedBy S.opens_dir S.looks ⟦<S::Dir as Input>⟧.reads ⟦<S::Dir as Input>⟧.remaining (entry_text self.old.folder.path.now path.now) (dir_front self.old.folder.path.now path.now) self.old.system self.new.system listing) }
+        ensures fault { IfErr result (λ fault. IsDueTo fault (FailsToList S.opens_dir S.looks ⟦<S::Dir as Input>⟧.reads self.old.folder.path.now path.now self.old.system self.new.system)) }
         ensures same { no_source self.new ≡ no_source self.old }
         ensures reading { self.new.reading ≡ self.old.reading }
         ensures folder { self.new.folder ≡ self.old.folder }
@@ -93,7 +98,7 @@ impl<'a, S: System> Source for HostSource<'a, S> {
         ensures moved { OnOk result (no_source self.new ≡ option_map after_next (no_source self.old)) }
         ensures empty { OnErr result (block.new.items ≡ []) }
         ensures same { OnErr result (no_source self.new ≡ no_source self.old) }
-        ensures bytes { OnOk result (ReadsOn ⟦<S::File as Handle>⟧.remaining self.old.reading self.new.reading block.new.items) }
+        ensures bytes { OnOk result (ReadsOn ⟦<S::File as Handle>⟧.remaining ⟦<S::File as Handle>⟧.reads self.old.reading self.new.reading block.new.items) }
         ensures closed { IfNone self.old.reading (result ≡ Err Device) }
         ensures place { OnErr result (StaysAtPlace self.old.reading self.new.reading) }
         ensures back { IfErr result (FailsBack ⟦<S::File as Handle>⟧.reads ⟦<S::File as Handle>⟧.goes self.old.reading self.new.reading) }
@@ -136,7 +141,7 @@ fn read_on<F: Handle + Drop>(
     reading: &mut Option<Reading<F>>,
     block: &mut Block,
 ) -> Result<(), TreeFault>
-    ensures bytes { OnOk result (ReadsOn F.remaining reading.old reading.new block.new.items) }
+    ensures bytes { OnOk result (ReadsOn F.remaining F.reads reading.old reading.new block.new.items) }
     ensures closed { IfNone reading.old (result ≡ Err Device) }
     ensures empty { OnErr result (block.new.items ≡ []) }
     ensures place { OnErr result (StaysAtPlace reading.old reading.new) }

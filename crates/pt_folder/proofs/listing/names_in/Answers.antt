@@ -1,0 +1,22 @@
+use Rattle.std.proofs.Common.{subst, Ok}
+use Rattle.std.specs.Prelude.{IfErr, IfSome}
+use Rattle.pt_folder.specs.Calls.{IsDueTo}
+use Rattle.pt_folder.specs.Listing.{FailsToGet, GetsNames, most_entries}
+use Rattle.pt_folder.specs.Names.{GivesNames}
+use Rattle.pt_folder.proofs.Names.{each_way}
+use Rattle.pt_folder.proofs.listing.names_in.Goals as goal
+
+pub returns-in-Ok-clause-asked : goal.returns-in-Ok-clause-asked
+returns-in-Ok-clause-asked g c =
+    let reads = g.S.Dir.Input.reads in
+    let dir = c.in-Ok.dir in
+    let after = c.read_names.new.dir in
+    let fault = subst (λ m. IfErr c.read_names.result (λ f. IsDueTo f (FailsToGet reads m dir after))) c.most.ensures c.read_names.ensures.fault in (
+      Ok dir,
+      c.in-Ok.ensures,
+      (
+        after,
+        each_way c.read_names.result (λ names. GetsNames reads dir names.items after) (λ names. IfSome (g.S.Dir.Read.remaining dir) (λ bytes. GivesNames bytes names.items))
+            (λ f. IsDueTo f (FailsToGet reads most_entries dir after)) c.read_names.ensures.read c.read_names.ensures.names fault,
+      ),
+    )
