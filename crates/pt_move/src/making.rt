@@ -11,7 +11,7 @@ ghost use Rattle.pt_move.specs.Lines.{GoesOn};
 ghost use Rattle.pt_move.specs.Held.{IsHeld};
 
 use crate::files::put_file;
-use crate::paths::{PAIRTREE_ROOT, STAGING, extended, path_of};
+use crate::paths::{PAIRTREE_ROOT, STAGING, extended, path_of, with_names};
 use crate::scanning::first_name;
 use crate::state::State;
 use crate::{Fault, devices};
@@ -277,7 +277,6 @@ impl State {
     // A path in `staging`.
     fn staged(&self, names: &[&str]) -> Result<NamePath, MemoryFault> {
         let staging = path_of(self.alloc, &[STAGING])?;
-        let names = path_of(self.alloc, names)?;
-        extended(staging, &names, 0, names.len())
+        with_names(self.alloc, staging, names)
     }
 }
