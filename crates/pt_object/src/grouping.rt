@@ -36,9 +36,12 @@ fn grouped<'a>(
     for _ in contents.as_slice() {
         groups.push(Vec::new(alloc))?;
     }
+    // Where no digest comes twice, the rows have the contents one by one.
+    let mut next = 0;
     for row in rows {
-        if let Some(position) = contents.position(&row.digest) {
+        if let Some(position) = contents.position_near(next, &row.digest) {
             groups[position].push(&row.path)?;
+            next = next.max(position.saturating_add(1));
         }
     }
     Ok(groups)
