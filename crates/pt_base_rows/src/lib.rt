@@ -9,6 +9,8 @@ mod naming;
 #[cfg(test)]
 mod objects;
 #[cfg(test)]
+mod sidecars;
+#[cfg(test)]
 mod trees;
 #[cfg(test)]
 mod walking;

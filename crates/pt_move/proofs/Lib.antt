@@ -4,6 +4,7 @@ pub mod Held
 pub mod Leaving
 pub mod Limits
 pub mod Migrating
+pub mod Sidecars
 pub mod Stepping
 pub mod Tables
 pub mod Telling

@@ -1,7 +1,11 @@
 -- What a run holds, and what of it always holds between two turns.
 use Rattle.std.specs.Prelude.{◌≡◌, ◌⊎◌, ℕ, ◌+◌, ◌-◌, ◌*◌, ◌^◌, ◌<◌, ◌≤◌, true, false, List, [], ◌∷◌, ◌++◌, drop, length, map, IsSome, ⊤}
 use Rattle.pt_object.specs.Distinct.{content_of_row, distinct}
+use Rattle.pt_object.specs.Files.{sidecar_text}
+use Rattle.pt_object.specs.Hasher.{HasBeenFed}
+use Rattle.pt_object.specs.Inventory.{inventory_text}
 use Rattle.pt_object.specs.declared.contents.Content.{Content}
+use Rattle.pt_object.specs.declared.hasher.Hasher.{Hasher}
 use Rattle.pt_object.specs.declared.rows.Row.{Row}
 use Rattle.pt_plan.specs.declared.object.Object.{Object}
 use Rattle.pt_plan.specs.declared.phase.Part.{Part}
@@ -13,6 +17,7 @@ use Rattle.pt_walk.specs.Trail.{current_entry, is_dir_entry, sought}
 use Rattle.pt_walk.specs.declared.site.Finding.{Finding}
 use Rattle.pt_walk.specs.declared.site.Finding.TheVariants as finding
 use Rattle.pt_walk.specs.declared.frame.Frame.{Frame}
+use Rattle.pt_move.specs.declared.job.Job.{Job}
 use Rattle.pt_move.specs.declared.job.Report.{Report}
 use Rattle.pt_move.specs.declared.state.State.{State}
 
@@ -53,48 +58,56 @@ AreTables rows contents = (contents ≡ map content_of_row (distinct rows)) × (
 unfoldable pub HasRoom : List Row → Type 0
 HasRoom rows = length rows < 1000000
 
--- a part that is the content of a row is one of these rows
-abbrev pub IsOfRows : Part → List Row → Type 0
-IsOfRows part.Staging rows = ⊤
-IsOfRows part.Declaration rows = ⊤
-IsOfRows part.Version rows = ⊤
-IsOfRows (part.Content position) rows = position.row < length rows
-IsOfRows part.VersionInventory rows = ⊤
-IsOfRows part.VersionSidecar rows = ⊤
-IsOfRows part.Inventory rows = ⊤
-IsOfRows part.Sidecar rows = ⊤
+-- the hasher has been fed the text of the inventory of this object with these rows, and nothing else
+unfoldable pub HasFedInventory : Job → Object → List Row → Hasher → Type 0
+HasFedInventory job object rows hasher = HasBeenFed job.algorithm hasher (inventory_text object.id rows job.meta job.algorithm)
+
+-- these bytes are the sidecar of the inventory of this object with these rows
+abbrev pub IsSidecarOf : Job → Object → List Row → List ℕ → Type 0
+IsSidecarOf job object rows bytes = bytes ≡ sidecar_text job.algorithm (inventory_text object.id rows job.meta job.algorithm)
+
+-- a part that is the content of a row is of one of these rows, and before a sidecar the inventory was fed to the hasher
+abbrev pub IsReadyFor : Part → Job → Object → List Row → Hasher → Type 0
+IsReadyFor part.Staging job object rows hasher = ⊤
+IsReadyFor part.Declaration job object rows hasher = ⊤
+IsReadyFor part.Version job object rows hasher = ⊤
+IsReadyFor (part.Content position) job object rows hasher = position.row < length rows
+IsReadyFor part.VersionInventory job object rows hasher = ⊤
+IsReadyFor part.VersionSidecar job object rows hasher = HasFedInventory job object rows hasher
+IsReadyFor part.Inventory job object rows hasher = ⊤
+IsReadyFor part.Sidecar job object rows hasher = HasFedInventory job object rows hasher
 
 -- the tables are empty: no object is under way
 abbrev pub HoldsNone : List Row → List Content → Type 0
 HoldsNone rows contents = (rows ≡ []) × (contents ≡ [])
 
--- what a phase asks of the trail, of the tables and of the numbers that it holds, where a layout has so many tuples, after so
+-- what a phase asks of the trail, of the tables, of the hasher and of the numbers that it holds, in a run of this job, after so
 -- many turns
-abbrev pub StandsWith : Phase → List Frame → List Row → List Content → ℕ → ℕ → Type 0
-StandsWith phase.Begin trail rows contents count turns = (turns ≡ 0) × (trail ≡ []) × HoldsNone rows contents
-StandsWith (phase.Prefix kind) trail rows contents count turns = (turns ≡ 1) × (trail ≡ []) × HoldsNone rows contents
-StandsWith phase.Staging trail rows contents count turns = (trail ≡ []) × HoldsNone rows contents
-StandsWith phase.Root trail rows contents count turns = (trail ≡ []) × HoldsNone rows contents
-StandsWith (phase.RootMake item) trail rows contents count turns = (item < 6) × (trail ≡ []) × HoldsNone rows contents
-StandsWith phase.RootRename trail rows contents count turns = (trail ≡ []) × HoldsNone rows contents
-StandsWith (phase.RootCheck item) trail rows contents count turns = (item < 3) × (trail ≡ []) × HoldsNone rows contents
-StandsWith phase.OpenRoot trail rows contents count turns = (trail ≡ []) × HoldsNone rows contents
-StandsWith phase.Judge trail rows contents count turns = HoldsNone rows contents
-StandsWith (phase.OpenObject object) trail rows contents count turns = (IsUnderWay object trail turns × (object.gathered ≡ false → is_dir_entry (current_entry trail) ≡ true)) × HoldsNone rows contents
-StandsWith (phase.Scan object) trail rows contents count turns = IsUnderWay object trail turns
-StandsWith (phase.Read object bytes) trail rows contents count turns = IsUnderWay object trail turns × (IsSome (current_entry trail) × (HasRoom rows × (bytes ≤ 2 ^ 43)))
-StandsWith (phase.Make object part) trail rows contents count turns = IsUnderWay object trail turns × IsOfRows part rows
-StandsWith (phase.Copy object position left) trail rows contents count turns = IsUnderWay object trail turns × ((position.row < length rows) × (position.stored < length contents))
-StandsWith (phase.Tuples object index) trail rows contents count turns = IsUnderWay object trail turns × (index < count)
-StandsWith (phase.Rename object) trail rows contents count turns = IsUnderWay object trail turns
-StandsWith (phase.Line object) trail rows contents count turns = IsUnderWay object trail turns
-StandsWith phase.Walk trail rows contents count turns = HoldsNone rows contents
-StandsWith phase.End trail rows contents count turns = HoldsNone rows contents
-StandsWith phase.Ended trail rows contents count turns = ⊤
+abbrev pub StandsWith : Phase → Job → List Frame → List Row → List Content → Hasher → ℕ → Type 0
+StandsWith phase.Begin job trail rows contents hasher turns = (turns ≡ 0) × (trail ≡ []) × HoldsNone rows contents
+StandsWith (phase.Prefix kind) job trail rows contents hasher turns = (turns ≡ 1) × (trail ≡ []) × HoldsNone rows contents
+StandsWith phase.Staging job trail rows contents hasher turns = (trail ≡ []) × HoldsNone rows contents
+StandsWith phase.Root job trail rows contents hasher turns = (trail ≡ []) × HoldsNone rows contents
+StandsWith (phase.RootMake item) job trail rows contents hasher turns = (item < 6) × (trail ≡ []) × HoldsNone rows contents
+StandsWith phase.RootRename job trail rows contents hasher turns = (trail ≡ []) × HoldsNone rows contents
+StandsWith (phase.RootCheck item) job trail rows contents hasher turns = (item < 3) × (trail ≡ []) × HoldsNone rows contents
+StandsWith phase.OpenRoot job trail rows contents hasher turns = (trail ≡ []) × HoldsNone rows contents
+StandsWith phase.Judge job trail rows contents hasher turns = HoldsNone rows contents
+StandsWith (phase.OpenObject object) job trail rows contents hasher turns = (IsUnderWay object trail turns × (object.gathered ≡ false → is_dir_entry (current_entry trail) ≡ true)) × HoldsNone rows contents
+StandsWith (phase.Scan object) job trail rows contents hasher turns = IsUnderWay object trail turns
+StandsWith (phase.Read object bytes) job trail rows contents hasher turns = IsUnderWay object trail turns × (IsSome (current_entry trail) × (HasRoom rows × (bytes ≤ 2 ^ 43)))
+StandsWith (phase.Make object part) job trail rows contents hasher turns = IsUnderWay object trail turns × IsReadyFor part job object rows hasher
+StandsWith (phase.Copy object position left) job trail rows contents hasher turns = IsUnderWay object trail turns × ((position.row < length rows) × (position.stored < length contents))
+StandsWith (phase.Tuples object index) job trail rows contents hasher turns = IsUnderWay object trail turns × (index < job.layout.count)
+StandsWith (phase.Rename object) job trail rows contents hasher turns = IsUnderWay object trail turns
+StandsWith (phase.Line object) job trail rows contents hasher turns = IsUnderWay object trail turns
+StandsWith phase.Walk job trail rows contents hasher turns = HoldsNone rows contents
+StandsWith phase.End job trail rows contents hasher turns = HoldsNone rows contents
+StandsWith phase.Ended job trail rows contents hasher turns = ⊤
 
 -- what a phase asks of what a run holds, after so many turns
 abbrev pub StandsAt : Phase → State → ℕ → Type 0
-StandsAt p s turns = StandsWith p s.trail s.rows s.contents s.job.layout.count turns
+StandsAt p s turns = StandsWith p s.job s.trail s.rows s.contents s.hasher turns
 
 -- the tables of what a run holds
 abbrev pub HasTables : State → Type 0

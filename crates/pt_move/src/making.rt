@@ -1,20 +1,24 @@
-#![tactic(auto, using(crate::proofs::Calls::calls, crate::proofs::Held::held, crate::proofs::Tables::tables, crate::proofs::UnderWay::under_way))]
+#![tactic(auto, using(crate::proofs::Calls::calls, crate::proofs::Held::held, crate::proofs::Sidecars::inventory_fed, crate::proofs::Tables::tables, crate::proofs::UnderWay::under_way))]
 // Making an object in `staging`, one part a turn.
 ghost use Rattle.std.specs.Prelude.{◌≡◌, ◌<◌, ◌≤◌, ◌-◌, ◌^◌, [], None, IfOk, true, length};
+ghost use Rattle.std.specs.String.{string_bytes};
+ghost use Rattle.pt_object.specs.Inventory.{inventory_text};
+ghost use Rattle.pt_plan.specs.declared.object.Object.{Object};
 ghost use Rattle.pt_plan.specs.declared.phase.Phase.TheVariants as phase;
 ghost use Rattle.pt_move.specs.Counting.{AtMostCalls, Counts, IsOfTurn, Spares};
-ghost use Rattle.pt_move.specs.Fits.{HasTables, IsOfRows, IsUnderWay, StandsAt, lines_put};
+ghost use Rattle.pt_move.specs.Fits.{HasFedInventory, HasTables, IsReadyFor, IsSidecarOf, IsUnderWay, StandsAt, lines_put};
 ghost use Rattle.pt_move.specs.Lines.{GoesOn};
 ghost use Rattle.pt_move.specs.Held.{IsHeld};
 
 use crate::files::put_file;
-use crate::paths::{PAIRTREE_ROOT, STAGING, extended, path_of};
+use crate::paths::{PAIRTREE_ROOT, STAGING, extended, path_of, with_names};
 use crate::scanning::first_name;
 use crate::state::State;
 use crate::{Fault, devices};
-use pt_object::{Hasher, inventory, object_declaration, sidecar};
+use pt_object::{Hasher, inventory, object_declaration, sidecar_of};
 use pt_plan::{Object, Part, Phase, Position};
 use pt_tree::{Dest, MemoryFault, NamePath, Source};
+use std::mem;
 
 impl State {
     // Makes a part of the object.
@@ -52,19 +56,21 @@ impl State {
                 Part::Version
             }
             Part::VersionInventory => {
-                self.put_inventory(&object, &["v1", "inventory.json"], dest)?;
+                self.hasher = self.put_inventory(&object, &["v1", "inventory.json"], dest)?;
                 Part::VersionSidecar
             }
             Part::VersionSidecar => {
-                self.put_sidecar(&object, &["v1"], dest)?;
+                let hasher = mem::replace(&mut self.hasher, Hasher::start(self.job.algorithm));
+                self.put_sidecar(hasher, &["v1"], dest)?;
                 Part::Inventory
             }
             Part::Inventory => {
-                self.put_inventory(&object, &["inventory.json"], dest)?;
+                self.hasher = self.put_inventory(&object, &["inventory.json"], dest)?;
                 Part::Sidecar
             }
             Part::Sidecar => {
-                self.put_sidecar(&object, &[], dest)?;
+                let hasher = mem::replace(&mut self.hasher, Hasher::start(self.job.algorithm));
+                self.put_sidecar(hasher, &[], dest)?;
                 return Ok(if self.job.layout.count() == 0 {
                     Phase::Rename(object)
                 } else {
@@ -77,7 +83,7 @@ impl State {
 
     fn make_directory<D: Dest>(&self, part: Part, dest: &mut D) -> Result<Part, Fault>
         requires { D.told dest.old ≡ None }
-        ensures next { IfOk result (λ part. IsOfRows part self.now.rows) }
+        ensures next { IfOk result (λ part. (object : Object) → IsReadyFor part self.now.job object self.now.rows self.now.hasher) }
         ensures told { D.told dest.new ≡ None }
         ensures dest { Counts 2 (D.failed dest.old) (D.failed dest.new) result }
         ensures source { Spares 1 result }
@@ -100,7 +106,7 @@ impl State {
 
     // The part at a position: the content there, or what follows the contents.
     pub(crate) fn next_content(&self, position: Position) -> Part
-        ensures { IsOfRows result self.now.rows }
+        ensures { (object : Object) → IsReadyFor result self.now.job object self.now.rows self.now.hasher }
     {
         if position.row < self.rows.len() {
             Part::Content(position)
@@ -194,14 +200,16 @@ impl State {
         extended(directory, path, 0, path.len())
     }
 
+    // Makes an inventory, and gives a hasher that has been fed its text, for the sidecar.
     fn put_inventory<D: Dest>(
         &self,
         object: &Object,
         path: &[&str],
         dest: &mut D,
-    ) -> Result<(), Fault>
+    ) -> Result<Hasher, Fault>
         requires told { D.told dest.old ≡ None }
         requires tables { HasTables self.now }
+        ensures fed { IfOk result (λ hasher. HasFedInventory self.now.job object.now self.now.rows hasher) }
         ensures told { D.told dest.new ≡ None }
         ensures dest { Counts 2 (D.failed dest.old) (D.failed dest.new) result }
         ensures source { Spares 1 result }
@@ -210,17 +218,21 @@ impl State {
     {
         let path = self.staged(path)?;
         let text = self.inventory(object)?;
-        put_file(dest, &path, text.as_str().as_bytes())
+        let mut hasher = Hasher::start(self.job.algorithm);
+        hasher.feed_bytes(text.as_str().as_bytes());
+        put_file(dest, &path, text.as_str().as_bytes())?;
+        Ok(hasher)
     }
 
+    // Makes the sidecar of the inventory that the hasher has been fed.
     fn put_sidecar<D: Dest>(
         &self,
-        object: &Object,
+        hasher: Hasher,
         directory: &[&str],
         dest: &mut D,
     ) -> Result<(), Fault>
         requires told { D.told dest.old ≡ None }
-        requires tables { HasTables self.now }
+        requires fed { (object : Object) × HasFedInventory self.now.job object self.now.rows hasher }
         ensures told { D.told dest.new ≡ None }
         ensures dest { Counts 2 (D.failed dest.old) (D.failed dest.new) result }
         ensures source { Spares 1 result }
@@ -230,12 +242,16 @@ impl State {
         let mut path = self.staged(directory)?;
         let name = self.sidecar_name()?;
         path = extended(path, &name, 0, name.len())?;
-        let text = sidecar(
-            self.alloc,
-            self.inventory(object)?.as_str(),
-            self.job.algorithm,
-        )?;
+        let text = self.sidecar(hasher)?;
         put_file(dest, &path, text.as_str().as_bytes())
+    }
+
+    // The text of the sidecar of the inventory that the hasher has been fed.
+    fn sidecar(&self, hasher: Hasher) -> Result<String, MemoryFault>
+        requires { (object : Object) × HasFedInventory self.now.job object self.now.rows hasher }
+        ensures { (object : Object) → HasFedInventory self.now.job object self.now.rows hasher → IfOk result (λ text. IsSidecarOf self.now.job object self.now.rows (string_bytes text)) }
+    {
+        sidecar_of(self.alloc, &hasher.end())
     }
 
     fn sidecar_name(&self) -> Result<NamePath, MemoryFault> {
@@ -246,6 +262,7 @@ impl State {
 
     fn inventory(&self, object: &Object) -> Result<String, MemoryFault>
         requires { HasTables self.now }
+        ensures { IfOk result (λ text. string_bytes text ≡ inventory_text object.now.id self.now.rows self.now.job.meta self.now.job.algorithm) }
     {
         inventory(
             self.alloc,
@@ -260,7 +277,6 @@ impl State {
     // A path in `staging`.
     fn staged(&self, names: &[&str]) -> Result<NamePath, MemoryFault> {
         let staging = path_of(self.alloc, &[STAGING])?;
-        let names = path_of(self.alloc, names)?;
-        extended(staging, &names, 0, names.len())
+        with_names(self.alloc, staging, names)
     }
 }

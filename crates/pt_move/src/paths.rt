@@ -18,7 +18,15 @@ pub(crate) const STAGING: &str = "staging";
 
 // The path of these names.
 pub(crate) fn path_of(alloc: Global, names: &[&str]) -> Result<NamePath, MemoryFault> {
-    let mut path = NamePath::new(alloc);
+    with_names(alloc, NamePath::new(alloc), names)
+}
+
+// A path with these names at its end.
+pub(crate) fn with_names(
+    alloc: Global,
+    mut path: NamePath,
+    names: &[&str],
+) -> Result<NamePath, MemoryFault> {
     for name in names {
         match Name::of(alloc, name.as_bytes()) {
             Ok(name) => path.push(name)?,

@@ -153,11 +153,12 @@ impl State {
         if self.rows.len() as u64 >= limits.files() {
             return self.give_up(object, Cause::Limit, log);
         }
-        let text = self.logical_path(&object)?.join()?;
+        let entry = self.entry_path()?;
+        let text = self.logical_part(&object, &entry)?.join()?;
         if text.len() as u64 > limits.path_bytes() {
             return self.give_up(object, Cause::Limit, log);
         }
-        let path = below(self.alloc, PAIRTREE_ROOT, &self.entry_path()?)?;
+        let path = below(self.alloc, PAIRTREE_ROOT, &entry)?;
         devices::open(source, &path)?;
         self.hasher = Hasher::start(self.job.algorithm);
         Ok(Phase::Read(object, 0))
@@ -213,13 +214,19 @@ impl State {
     fn logical_path(&self, object: &Object) -> Result<NamePath, MemoryFault>
         requires { 0 < object.now.site }
     {
-        let mut path = NamePath::new(self.alloc);
-        let names = self.trail.path()?;
-        path = extended(path, &names, first_name(object), names.len())?;
+        let mut names = self.trail.path()?;
         if let Some((name, _)) = self.trail.current() {
-            path.push(name.copy()?)?;
+            names.push(name.copy()?)?;
         }
-        Ok(path)
+        self.logical_part(object, &names)
+    }
+
+    // Of a path from below `pairtree_root` on, what follows the object's directory.
+    fn logical_part(&self, object: &Object, names: &NamePath) -> Result<NamePath, MemoryFault>
+        requires { 0 < object.now.site }
+    {
+        let path = NamePath::new(self.alloc);
+        extended(path, names, first_name(object), names.len())
     }
 
     // Tells why an object isn't carried, and goes back to its site.

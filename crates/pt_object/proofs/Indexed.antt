@@ -10,11 +10,13 @@ use Rattle.std.proofs.lemmas.Bool.{cases_lt, false_from_ne_true}
 use Rattle.std.specs.Cmp.Lexicographic.{texts_ties, bytes_decides}
 use Rattle.std.proofs.lemmas.Cmp.{nat_list_cmp_total, tied_itself}
 use Rattle.std.proofs.lemmas.List.{get_or-map}
-use Rattle.std.proofs.lemmas.Option.{slice_get_cases}
+use Rattle.std.proofs.lemmas.Option.{slice_get_cases, slice_get_within, get_or_from_slice_get}
+use Rattle.std.specs.Str.{bytes_eq}
 use Rattle.pt_object.specs.Digest.{digest_cmp}
 use Rattle.pt_object.specs.Contents.{digest_at, has_digest, is_noted, first_path, DigestsDiffer}
 use Rattle.pt_object.specs.Index.{digest_in, IsAt, IsIndex, IsPlaceOf}
 use Rattle.pt_object.specs.declared.contents.Content.{Content}
+use Rattle.pt_object.proofs.Ways.{same_name}
 
 pub digest_at-item : (items : List Content) (p : ℕ) (x : Content) → p < length items → digest_at items p ≡ (get_or items p x).digest
 digest_at-item items p x within = get_or-map (λ (c : Content). c.digest) items p x [] within
@@ -46,6 +48,11 @@ DigestsDiffer-index items index ordered p q in_p in_q same =
         let tied : digest_cmp (digest_in items index j) (digest_in items index j) ≡ Equal = tied_itself nat_list_cmp_total (digest_in items index j) in
         let equal : digest_cmp (digest_in items index i) (digest_in items index j) ≡ Equal = ap (λ (d : List ℕ). digest_cmp d (digest_in items index j)) e ∙ tied in
         cc
+
+pub at_from_get : (items : List Content) (p : ℕ) (x : Content) (digest : List ℕ) → Some x ≡ slice_get items p → bytes_eq x.digest digest ≡ true → IsAt items digest p
+at_from_get items p x digest got same =
+    let within = slice_get_within items p x (sym got) in
+    record { within = within; same = digest_at-item items p x within ∙ ap (λ (c : Content). c.digest) (get_or_from_slice_get items p x x (sym got)) ∙ same_name x.digest digest same }
 
 -- no item has a digest that has its place between others
 pub none_at : (items : List Content) (index digest : List ℕ) (place p : ℕ) → IsIndex items index → IsPlaceOf items index digest place → p < length items → digest_at items p ≡ digest → ⊥

@@ -10,6 +10,10 @@ object_declaration_bytes = codes "ocfl_object_1.1\n"
 abbrev pub root_declaration_bytes : List ℕ
 root_declaration_bytes = codes "ocfl_1.1\n"
 
--- the digest of the inventory's text, a space, the inventory's name and LF
+-- the digest of an inventory in hex, a space, the inventory's name and LF
+abbrev pub sidecar_line : List ℕ → List ℕ
+sidecar_line digest = encode_lower digest ++ codes " inventory.json\n"
+
+-- the sidecar of the inventory with this text
 abbrev pub sidecar_text : Algorithm → List ℕ → List ℕ
-sidecar_text algorithm text = encode_lower (digest_of algorithm text) ++ codes " inventory.json\n"
+sidecar_text algorithm text = sidecar_line (digest_of algorithm text)

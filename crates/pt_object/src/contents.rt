@@ -131,6 +131,18 @@ impl Contents {
         &self.items
     }
 
+    // The position of the item with the digest, which may well be this one: it is looked at first.
+    pub(crate) fn position_near(&self, next: usize, digest: &Digest) -> Option<usize>
+        ensures { MatchOption result (is_noted self.now digest.now ≡ false) (IsAt self.now digest.now) }
+    {
+        if let Some(content) = self.get(next)
+            && content.digest == *digest
+        {
+            return Some(next);
+        }
+        self.position(digest)
+    }
+
     // The position of the item with the digest.
     pub(crate) fn position(&self, digest: &Digest) -> Option<usize>
         ensures { MatchOption result (is_noted self.now digest.now ≡ false) (IsAt self.now digest.now) }

@@ -1,7 +1,7 @@
 // The bytes of the files beside an object's contents and its inventory.
 ghost use Rattle.std.specs.Prelude.{◌≡◌, IfOk};
 ghost use Rattle.std.specs.String.{string_bytes};
-ghost use Rattle.pt_object.specs.Files.{object_declaration_bytes, root_declaration_bytes, sidecar_text};
+ghost use Rattle.pt_object.specs.Files.{object_declaration_bytes, root_declaration_bytes, sidecar_line, sidecar_text};
 ghost use Rattle.pt_object.specs.Algorithm.{digest_of};
 
 use crate::{Algorithm, Digest};
@@ -30,7 +30,15 @@ pub fn root_declaration() -> &'static [u8]
 pub fn sidecar(alloc: Global, text: &str, algorithm: Algorithm) -> Result<String, MemoryFault>
     ensures { IfOk result (λ line. string_bytes line ≡ sidecar_text algorithm text.now) }
 {
-    let mut line = digest_of_text(algorithm, text).hex(alloc)?;
+    sidecar_of(alloc, &digest_of_text(algorithm, text))
+}
+
+/// The sidecar of the inventory that has this digest: the digest in lower-case hex, a space, `inventory.json` and LF (OCFL
+/// 1.1, "Inventory Digest"). `Memory` where a growth was refused.
+pub fn sidecar_of(alloc: Global, digest: &Digest) -> Result<String, MemoryFault>
+    ensures { IfOk result (λ line. string_bytes line ≡ sidecar_line digest.now) }
+{
+    let mut line = digest.hex(alloc)?;
     line.push_str(" inventory.json\n")?;
     Ok(line)
 }

@@ -4,7 +4,7 @@ ghost use Rattle.serde_json.specs.Data.{object, no_members};
 ghost use Rattle.serde_json.specs.View.{view};
 ghost use Rattle.pt_object.specs.Inventory.{groups_lent, paths_with, put_paths};
 
-use crate::json_parts::path_list;
+use crate::json_parts::{path_list, put_at};
 use crate::{Contents, Row, Rows};
 use pt_tree::{MemoryFault, NamePath};
 use serde_json::{Map, Value};
@@ -19,7 +19,7 @@ pub(crate) fn state(alloc: Global, rows: &Rows, contents: &Contents) -> Result<V
     for (i, content) in contents.as_slice().iter().enumerate() {
         let key = content.digest.hex(alloc)?;
         let paths = path_list(alloc, &groups[i])?;
-        serde_json::put(&mut members, alloc, key.as_str(), paths)?;
+        put_at(&mut members, key, paths)?;
     }
     Ok(Value::from(members))
 }
@@ -36,9 +36,12 @@ fn grouped<'a>(
     for _ in contents.as_slice() {
         groups.push(Vec::new(alloc))?;
     }
+    // Where no digest comes twice, the rows have the contents one by one.
+    let mut next = 0;
     for row in rows {
-        if let Some(position) = contents.position(&row.digest) {
+        if let Some(position) = contents.position_near(next, &row.digest) {
             groups[position].push(&row.path)?;
+            next = next.max(position.saturating_add(1));
         }
     }
     Ok(groups)

@@ -14,7 +14,7 @@ enum Core {
     Sha256(Sha256),
 }
 
-/// The digest of what is fed to it, block by block. It takes no memory.
+/// The digest of what is fed to it, piece by piece. It takes no memory.
 #[derive(Drop)]
 pub struct Hasher {
     core: Core,
@@ -39,9 +39,17 @@ impl Hasher {
         ensures { (algorithm : Algorithm) (fed : List ℕ) →
             HasBeenFed algorithm self.old fed → HasBeenFed algorithm self.new (fed ++ block.now.items) }
     {
+        self.feed_bytes(block.as_slice());
+    }
+
+    /// Feeds bytes, of any number, to it.
+    pub fn feed_bytes(&mut self, bytes: &[u8])
+        ensures { (algorithm : Algorithm) (fed : List ℕ) →
+            HasBeenFed algorithm self.old fed → HasBeenFed algorithm self.new (fed ++ bytes.now) }
+    {
         match &mut self.core {
-            Core::Sha512(core) => core.update(block.as_slice()),
-            Core::Sha256(core) => core.update(block.as_slice()),
+            Core::Sha512(core) => core.update(bytes),
+            Core::Sha256(core) => core.update(bytes),
         }
     }
 

@@ -8,7 +8,7 @@ ghost use Rattle.pt_object.specs.Distinct.{content_of_row, distinct};
 ghost use Rattle.pt_object.specs.Inventory.{document_tree, inventory_text, inventory_tree, put_content, user_tree, version_tree};
 
 use crate::grouping::state;
-use crate::json_parts::{put_text, stored_path};
+use crate::json_parts::{put_at, put_text, stored_path};
 use crate::{Algorithm, Contents, Meta, Rows};
 use pt_tree::MemoryFault;
 use serde_json::{Map, Value};
@@ -97,7 +97,7 @@ fn manifest(alloc: Global, contents: &Contents) -> Result<Value, MemoryFault>
     for content in contents.as_slice() {
         let key = content.digest.hex(alloc)?;
         let paths = stored_path(alloc, &content.path)?;
-        serde_json::put(&mut members, alloc, key.as_str(), paths)?;
+        put_at(&mut members, key, paths)?;
     }
     Ok(Value::from(members))
 }

@@ -23,13 +23,27 @@ pub(crate) fn put_text(
     serde_json::put(members, alloc, key, Value::from(text))
 }
 
+// Puts a value at a key, which the members then hold.
+pub(crate) fn put_at(
+    members: &mut Map<String, Value>,
+    key: String,
+    value: Value,
+) -> Result<(), AllocError>
+    ensures { OnOk result (members_view members.new.entries ≡ put (string_bytes key) (view value) (members_view members.old.entries)) }
+{
+    drop(members.insert(key, value)?);
+    Ok(())
+}
+
 // The list of the path where the content of the file with this logical path is stored.
 pub(crate) fn stored_path(alloc: Global, path: &NamePath) -> Result<Value, MemoryFault>
     ensures { IfOk result (λ value. view value ≡ array (texts (content_path path.now ∷ []))) }
 {
-    let mut text = String::from_str(alloc, "v1/content/")?;
-    text.push_str(path_text(path)?.as_str())?;
-    let mut items = Vec::new(alloc);
+    let path = path_text(path)?;
+    let mut text = String::with_capacity(alloc, "v1/content/".len() + path.len())?;
+    text.push_str("v1/content/")?;
+    text.push_str(path.as_str())?;
+    let mut items = Vec::with_capacity(alloc, 1)?;
     items.push(Value::from(text))?;
     Ok(Value::from(items))
 }
@@ -38,7 +52,7 @@ pub(crate) fn stored_path(alloc: Global, path: &NamePath) -> Result<Value, Memor
 pub(crate) fn path_list(alloc: Global, paths: &[&NamePath]) -> Result<Value, MemoryFault>
     ensures { IfOk result (λ value. view value ≡ array (texts (map (λ path. joined path.now) paths.now))) }
 {
-    let mut items = Vec::new(alloc);
+    let mut items = Vec::with_capacity(alloc, paths.len())?;
     for path in paths {
         items.push(Value::from(path_text(path)?))?;
     }

@@ -19,7 +19,7 @@ mod rows;
 pub use algorithm::Algorithm;
 pub use contents::{Content, Contents};
 pub use digest::Digest;
-pub use files::{object_declaration, root_declaration, sidecar};
+pub use files::{object_declaration, root_declaration, sidecar, sidecar_of};
 pub use hasher::Hasher;
 pub use inventories::inventory;
 pub use meta::{Meta, MetaFault};

@@ -1,6 +1,7 @@
 pub mod CarriedFiles
 pub mod Counts
 pub mod DestKeeps
+pub mod Feeding
 pub mod FilesInOrder
 pub mod Folders
 pub mod FreeWays

@@ -26,6 +26,7 @@ held_new job = record {
     contents = refl;
   };
   behind = tt;
+  fed = tt;
 }
 
 source_new : (job : Job) (s : Reading) → is_proper s.tree ≡ true → SourcePart job no_past new_run s

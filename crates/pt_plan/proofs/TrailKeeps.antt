@@ -12,7 +12,7 @@ use Rattle.pt_walk.specs.declared.frame.Frame.{Frame}
 use Rattle.pt_plan.specs.BegunHeld.{TrailAt}
 use Rattle.pt_plan.specs.HeldLaws.{MakingKeepsTrail, PlacingKeepsTrail, ScanningKeepsTrail, StartingKeepsTrail, WalkingKeepsTrail}
 use Rattle.pt_plan.specs.Job.{Job, form_of}
-use Rattle.pt_plan.specs.Run.{Held}
+use Rattle.pt_plan.specs.Run.{Held, with_fed}
 use Rattle.pt_plan.specs.TurnMake.{MakesStaging, MakesDeclaration, MakesVersion, PassesRow, MakesFolder, OpensCopy, CopiesOn, EndsCopy, MakesVersionInventory, MakesVersionSidecar, MakesInventory, MakesSidecar}
 use Rattle.pt_plan.specs.TurnPlace.{MakesTuple, FindsTuple, RenamesObject, TellsDone, TellsEnd}
 use Rattle.pt_plan.specs.TurnScan.{StartsInSite, EntersObject, IsTooDeep, PassesShorty, EntersDirectory, MeetsDeep, OpensFile, MeetsLimit, MeetsOther, EndsSite, EndsObject, LeavesDirectory, ReadsOn, IsTooLong, EndsFile, to_site}
@@ -201,7 +201,7 @@ makes_keep job here held after calls next (EndsCopy was object position row left
 makes_keep job here held after calls next (MakesVersionInventory was object) at = record { is_one = at.is_one; none = tt; entry = tt }
 makes_keep job here held after calls next (MakesVersionSidecar was object) at = record { is_one = at.is_one; none = tt; entry = tt }
 makes_keep job here held after calls next (MakesInventory was object) at = record { is_one = at.is_one; none = tt; entry = tt }
-makes_keep job here held after calls next (MakesSidecar was object) at = after_sidecar was object (job.tuples.count == 0) at.is_one
+makes_keep job here held after calls next (MakesSidecar was object) at = after_sidecar (with_fed was []) object (job.tuples.count == 0) at.is_one
 
 after_a_tuple : (held : Held) (object : Object) (number : ℕ) (more : Bool) → is_trail held.trail ≡ true → TrailAt (cond more (phase.Tuples object (number + 1)) (phase.Rename object)) held
 after_a_tuple held object number true is_one = record { is_one = is_one; none = tt; entry = tt }

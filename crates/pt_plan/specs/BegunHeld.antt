@@ -11,8 +11,11 @@ use Rattle.pt_walk.specs.declared.frame.Frame.{Frame}
 use Rattle.pt_plan.specs.Job.{Job}
 use Rattle.pt_plan.specs.Past.{Past}
 use Rattle.pt_plan.specs.Run.{Held}
+use Rattle.pt_plan.specs.TurnMake.{text_of_inventory}
 use Rattle.pt_plan.specs.TurnScan.{logical_path}
 use Rattle.pt_plan.specs.declared.object.Object.{Object}
+use Rattle.pt_plan.specs.declared.phase.Part.{Part}
+use Rattle.pt_plan.specs.declared.phase.Part.TheVariants as part
 use Rattle.pt_plan.specs.declared.phase.Phase.{Phase}
 use Rattle.pt_plan.specs.declared.phase.Phase.TheVariants as phase
 
@@ -67,7 +70,18 @@ abbrev pub RowsAt : Job → (Path → List ℕ) → Phase → Held → Type 0
 RowsAt job bytes phase.Ended held = ⊤
 RowsAt job bytes here held = AreRows job bytes held
 
+-- where the sidecar of an inventory is to be made, the inventory's text was fed
+abbrev pub IsFedBefore : Job → Object → Part → Held → Type 0
+IsFedBefore job object part.VersionSidecar held = held.fed ≡ text_of_inventory job object held.rows
+IsFedBefore job object part.Sidecar held = held.fed ≡ text_of_inventory job object held.rows
+IsFedBefore job object _ held = ⊤
+
+abbrev pub FedAt : Job → Phase → Held → Type 0
+FedAt job (phase.Make object here) held = IsFedBefore job object here held
+FedAt job _ held = ⊤
+
 pub record HeldAt (job : Job) (past : Past) (here : Phase) (held : Held) : Type 0 where
   pub trail : TrailAt here held
   pub rows : RowsAt job past.bytes here held
   pub behind : ScansInOrder here held
+  pub fed : FedAt job here held

@@ -1,10 +1,11 @@
--- What holds of the trail of a run in progress, whatever its devices tell, is kept by each turn that goes on.
+-- What holds of the trail of a run in progress, and of what its hasher has been fed, whatever its devices tell, holds after each turn that goes on.
 use Rattle.std.specs.Prelude.{ℕ, List, Option}
 use Rattle.pt_tree.specs.Source.{Reading}
 use Rattle.pt_plan.specs.Answer.{Goes}
-use Rattle.pt_plan.specs.BegunHeld.{TrailAt}
+use Rattle.pt_plan.specs.BegunHeld.{FedAt, TrailAt}
 use Rattle.pt_plan.specs.Job.{Job}
 use Rattle.pt_plan.specs.Run.{Counts, Held}
+use Rattle.pt_plan.specs.Turn.{Follows}
 use Rattle.pt_plan.specs.TurnMake.{Makings}
 use Rattle.pt_plan.specs.TurnPlace.{Places}
 use Rattle.pt_plan.specs.TurnScan.{Scans}
@@ -39,3 +40,8 @@ MakingKeepsTrail =
 abbrev pub PlacingKeepsTrail : Type 0
 PlacingKeepsTrail =
     (job : Job) (counts : Counts) (here next : Phase) (held after : Held) (calls : Calls) → Places job counts here held after calls (Goes next) → TrailAt here held → TrailAt next after
+
+-- after any turn, what the next one takes a digest of was fed
+abbrev pub TurnsFeed : Type 0
+TurnsFeed =
+    (job : Job) (counts : Counts) (here next : Phase) (prefix read : List ℕ) (held after : Held) (calls : Calls) → Follows job counts here prefix held read after calls (Goes next) → FedAt job next after

@@ -6,7 +6,7 @@ use Rattle.pt_plan.specs.declared.phase.Phase.{Phase}
 use Rattle.pt_plan.specs.declared.phase.Phase.TheVariants as phase
 use Rattle.pt_walk.specs.declared.frame.Frame.{Frame}
 
--- what it holds of the source: the listings on the way, the files of the object that it is at, which of them are stored, and what it has read of the open file since it opened it
+-- what it holds of the source: the listings on the way, the files of the object that it is at, which of them are stored, and what its hasher has been fed: what it has read of the open file since it opened it, or an inventory's text until its sidecar is made
 pub record Held : Type 0 where
   pub trail : List Frame
   pub rows : List Row
@@ -43,6 +43,6 @@ new_run = record { phase = phase.Begin; prefix = []; held = nothing_held; counts
 abbrev pub with_trail : Held → List Frame → Held
 with_trail held trail = record held { trail = trail }
 
--- with other bytes read of the open file
+-- with other bytes fed to the hasher
 abbrev pub with_fed : Held → List ℕ → Held
 with_fed held fed = record held { fed = fed }

@@ -76,7 +76,7 @@ HasFailed halt.Changed old new = ⊥
 
 -- ---- one turn
 
--- the run after a turn that halts it: nothing else changes, but that a row more may be held, and that what was read of the open file doesn't matter any more
+-- the run after a turn that halts it: nothing else changes, but that a row more may be held, and that what the hasher has been fed doesn't matter any more
 abbrev pub halted : Run → List Row → List ℕ → Run
 halted run rows fed = run_at phase.Ended run.prefix (record run.held { rows = rows; fed = fed }) (with_turn run.counts)
 

@@ -76,13 +76,17 @@ path_of_source object trail = cond object.gathered (trail_path trail) (names_to 
 
 -- ---- texts
 
+-- the text of the inventory of an object with these rows
+abbrev pub text_of_inventory : Job → Object → List Row → List ℕ
+text_of_inventory job object rows = inventory_text object.id rows job.meta job.algorithm
+
 -- the inventory in a folder of `staging` (OCFL 1.1, "Inventory")
 abbrev pub inventory_file : Job → Object → List Row → Path → Item
-inventory_file job object rows folder = MakeFile (folder ++ inventory_name ∷ []) (inventory_text object.id rows job.meta job.algorithm)
+inventory_file job object rows folder = MakeFile (folder ++ inventory_name ∷ []) (text_of_inventory job object rows)
 
 -- its sidecar (OCFL 1.1, "Inventory Digest")
 abbrev pub sidecar_file : Job → Object → List Row → Path → Item
-sidecar_file job object rows folder = MakeFile (folder ++ sidecar_name job.algorithm ∷ []) (sidecar_text job.algorithm (inventory_text object.id rows job.meta job.algorithm))
+sidecar_file job object rows folder = MakeFile (folder ++ sidecar_name job.algorithm ∷ []) (sidecar_text job.algorithm (text_of_inventory job object rows))
 
 -- after the last sidecar: the tuple directories, if the layout has any, else the renaming
 abbrev pub after_last : Job → Object → Phase
@@ -126,11 +130,13 @@ pub data Makings (job : Job) : Phase → Held → Held → Calls → Answer → 
   -- unless the bytes are fewer, or others
   ReadsOther : (held : Held) (object : Object) (position : Position) (row : Row) (left : ℕ) → slice_get held.rows position.row ≡ Some row → is_as_read job row left held.fed ≡ false
       → Makings job (phase.Copy object position left) held held (asks (Reads [])) (Stops halt.Changed)
+  -- an inventory's text is fed to the hasher as well
   MakesVersionInventory : (held : Held) (object : Object)
-      → Makings job (phase.Make object part.VersionInventory) held held (does (Makes (inventory_file job object held.rows (in_version [])))) (Goes (phase.Make object part.VersionSidecar))
+      → Makings job (phase.Make object part.VersionInventory) held (with_fed held (text_of_inventory job object held.rows)) (does (Makes (inventory_file job object held.rows (in_version [])))) (Goes (phase.Make object part.VersionSidecar))
+  -- and the hasher's digest is taken for its sidecar
   MakesVersionSidecar : (held : Held) (object : Object)
-      → Makings job (phase.Make object part.VersionSidecar) held held (does (Makes (sidecar_file job object held.rows (in_version [])))) (Goes (phase.Make object part.Inventory))
+      → Makings job (phase.Make object part.VersionSidecar) held (with_fed held []) (does (Makes (sidecar_file job object held.rows (in_version [])))) (Goes (phase.Make object part.Inventory))
   MakesInventory : (held : Held) (object : Object)
-      → Makings job (phase.Make object part.Inventory) held held (does (Makes (inventory_file job object held.rows staging))) (Goes (phase.Make object part.Sidecar))
+      → Makings job (phase.Make object part.Inventory) held (with_fed held (text_of_inventory job object held.rows)) (does (Makes (inventory_file job object held.rows staging))) (Goes (phase.Make object part.Sidecar))
   MakesSidecar : (held : Held) (object : Object)
-      → Makings job (phase.Make object part.Sidecar) held held (does (Makes (sidecar_file job object held.rows staging))) (Goes (after_last job object))
+      → Makings job (phase.Make object part.Sidecar) held (with_fed held []) (does (Makes (sidecar_file job object held.rows staging))) (Goes (after_last job object))

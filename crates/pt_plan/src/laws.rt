@@ -8,7 +8,7 @@ ghost use Rattle.pt_plan.specs.GrowthLaws.{AfterGrows, AfterStays, FoldersGrow, 
 ghost use Rattle.pt_plan.specs.FixityLaws.{FaultsLeaveWhatIsKept, RowsMakeWholeObjects};
 ghost use Rattle.pt_plan.specs.BegunLaws.{NewRunIsBegun};
 ghost use Rattle.pt_plan.specs.DestLaws.{ScanningKeepsDest, WalkingKeepsDest};
-ghost use Rattle.pt_plan.specs.HeldLaws.{MakingKeepsTrail, PlacingKeepsTrail, ScanningKeepsTrail, StartingKeepsTrail, WalkingKeepsTrail};
+ghost use Rattle.pt_plan.specs.HeldLaws.{MakingKeepsTrail, PlacingKeepsTrail, ScanningKeepsTrail, StartingKeepsTrail, TurnsFeed, WalkingKeepsTrail};
 ghost use Rattle.pt_plan.specs.SourceLaws.{PlacingKeepsSource, ScanningKeepsSource, StartingKeepsSource, WalkingKeepsSource};
 
 /// In the order of the walk the files of a directory have logical paths that come in order, none leading to another: what
@@ -222,4 +222,9 @@ pub fn making_keeps_trail()
 /// So do the turns that bring an object to its place, and those that tell of it and of the end.
 pub fn placing_keeps_trail()
     ensures { PlacingKeepsTrail }
+{}
+
+/// After each turn that leads to the sidecar of an inventory, the hasher has been fed the inventory's text.
+pub fn turns_feed()
+    ensures { TurnsFeed }
 {}

@@ -15,7 +15,7 @@ pub index_mut-requires : goal.index_mut-requires
 index_mut-requires c = omega (arith, c.in-Some.ensures.within, length_groups _ _ _ c.loop-row.invariant, c.loop-row.groups.ok)
 
 pub loop-row-preserved : goal.loop-row-preserved
-loop-row-preserved c = elim c.match-position.branch [
+loop-row-preserved c = elim c.match-position_near.branch [
   | in-Some+in_ok-push-2 w ↦
       ap (λ (g : Vec (Vec (Bor Path) Global) Global). groups_lent g.items) w.groups-is
       ∙ grouped_more c.loop-row.groups.items c.args.contents.now c.args.rows.now c.loop-row.row-index w.in-Some.position c.row-item.result _ w.index_mut.result.now w.push-in-Some.new.self
