@@ -11,6 +11,7 @@ use pt_tree::{
 use std::alloc::Global;
 use std::io;
 use std::io::Write;
+use std::process::Abort;
 use std::test::Fail;
 
 fn name(alloc: Global, text: &str) -> Result<Name, Fail> {
@@ -214,14 +215,11 @@ fn append_by_a_fuse(dest: &mut MemDest, file: &NamePath) -> Result<(), Fail>
     Ok(())
 }
 
-#[test]
-fn a_destination_moves_and_takes_away_whole_trees(rt: HostRuntime) -> Result<(), Fail> {
-    let alloc = rt.alloc();
+// A destination with the file `ocfl/v1/f` of three letters, made in `staging` and moved.
+fn moved_tree(rt: &impl Abort, alloc: Global, target: &NamePath) -> Result<MemDest, Fail> {
     let staging = path(alloc, &["staging"])?;
     let inside = path(alloc, &["staging", "v1"])?;
     let file = path(alloc, &["staging", "v1", "f"])?;
-    let target = path(alloc, &["ocfl"])?;
-    let moved = path(alloc, &["ocfl", "v1", "f"])?;
     let mut dest = MemDest::new(alloc);
     for dir in [&staging, &inside] {
         assert!(rt; dest.may_make(dir));
@@ -229,32 +227,50 @@ fn a_destination_moves_and_takes_away_whole_trees(rt: HostRuntime) -> Result<(),
     }
     assert!(rt; dest.may_make(&file));
     write_file(&mut dest, &file, &[b"ab", b"c"])?;
-    assert_eq!(rt; dest.kind(&file)?, Some(Kind::File));
-    assert_eq!(rt;
-        dest.kind(&path(alloc, &["staging", "v1", "f", "g"])?)?,
-        None
-    );
-    assert_eq!(rt; dest.kind(&NamePath::new(alloc))?, Some(Kind::Dir));
-    assert!(rt; dest.may_move(&staging, &target));
-    dest.rename(&staging, &target)?;
+    assert!(rt; !dest.may_make(&file));
+    assert!(rt; !dest.may_move(&staging, &inside));
+    assert!(rt; dest.may_move(&staging, target));
+    dest.rename(&staging, target)?;
+    Ok(dest)
+}
+
+#[test]
+fn a_destination_moves_whole_trees(rt: HostRuntime) -> Result<(), Fail> {
+    let alloc = rt.alloc();
+    let mut dest = moved_tree(&rt, alloc, &path(alloc, &["ocfl"])?)?;
+    let moved = path(alloc, &["ocfl", "v1", "f"])?;
     assert_eq!(rt; dest.file(&moved), Some(b"abc".as_slice()));
-    assert_eq!(rt; dest.kind(&staging)?, None);
-    assert_eq!(rt; dest.kind(&inside)?, None);
+    let kinds = [
+        (&["staging"].as_slice(), None),
+        (&["staging", "v1"].as_slice(), None),
+        (&["ocfl", "v1"].as_slice(), Some(Kind::Dir)),
+        (&["ocfl", "v1", "f"].as_slice(), Some(Kind::File)),
+        (&["ocfl", "v1", "f", "g"].as_slice(), None),
+        (&[].as_slice(), Some(Kind::Dir)),
+    ];
+    for (names, kind) in kinds {
+        assert_eq!(rt; dest.kind(&path(alloc, names)?)?, kind);
+    }
     let mut block = Block::new();
     assert!(rt; dest.has_file(&moved));
     dest.peek(&moved, &mut block)?;
     assert_eq!(rt; block.as_slice(), b"abc".as_slice());
+    Ok(())
+}
 
+#[test]
+fn a_destination_takes_away_whole_trees(rt: HostRuntime) -> Result<(), Fail> {
+    let alloc = rt.alloc();
+    let target = path(alloc, &["ocfl"])?;
+    let mut dest = moved_tree(&rt, alloc, &target)?;
     let mut planted = MemDest::new(alloc);
     planted.plant_dir(&target)?;
     planted.plant_dir(&path(alloc, &["ocfl", "v1"])?)?;
-    planted.plant_file(&moved, b"abc")?;
+    planted.plant_file(&path(alloc, &["ocfl", "v1", "f"])?, b"abc")?;
     assert!(rt; dest.same(&planted));
-    assert_eq!(rt; dest.take_away(&staging).err(), Some(TakeFault::Absent));
-    assert_eq!(rt;
-        dest.take_away(&NamePath::new(alloc)).err(),
-        Some(TakeFault::Absent)
-    );
+    for absent in [path(alloc, &["staging"])?, NamePath::new(alloc)] {
+        assert_eq!(rt; dest.take_away(&absent).err(), Some(TakeFault::Absent));
+    }
     dest.take_away(&target)?;
     assert!(rt; !dest.same(&planted));
     assert!(rt; dest.same(&MemDest::new(alloc)));
@@ -363,39 +379,79 @@ fn a_writer_takes_a_piece_in_parts(rt: HostRuntime) -> Result<(), Fail> {
 }
 
 #[test]
-fn a_file_changes_while_it_is_read(rt: HostRuntime) -> Result<(), Fail> {
+fn a_swap_wants_a_file(rt: HostRuntime) -> Result<(), Fail> {
     let alloc = rt.alloc();
     let file = path(alloc, &["f"])?;
-    let letters = [b'a'; 8192];
-    let mut source = LooseSource::of(source_with(alloc, &file, &letters)?);
     let absent = path(alloc, &["g"])?;
-    assert_eq!(rt;
-        source.swap_after(0, &absent, b"").err(),
-        Some(SwapFault::Absent)
-    );
+    let mut source = LooseSource::of(source_with(alloc, &file, b"a")?);
+    let refused = source.swap_after(0, &absent, b"").err();
+    assert_eq!(rt; refused, Some(SwapFault::Absent));
+    source.swap_after(2, &file, b"b")?;
+    let refused = source.swap_after(0, &absent, b"").err();
+    assert_eq!(rt; refused, Some(SwapFault::Absent));
     assert_eq!(rt; SwapFault::Absent.number(), 1);
     assert_eq!(rt; SwapFault::Memory.number(), 2);
-    let mut longer = [b'b'; 8194].to_vec(alloc)?;
-    source.swap_after(2, &file, &longer)?;
-    assert_eq!(rt;
-        source.swap_after(0, &absent, b"").err(),
-        Some(SwapFault::Absent)
-    );
+    Ok(())
+}
+
+// A file of this many letters `a` that becomes one of so many `b` after two calls.
+fn changing(
+    alloc: Global,
+    file: &NamePath,
+    first: usize,
+    then: usize,
+) -> Result<LooseSource, Fail> {
+    let mut source = LooseSource::of(source_with(alloc, file, &letters(alloc, b'a', first)?)?);
+    source.swap_after(2, file, &letters(alloc, b'b', then)?)?;
+    Ok(source)
+}
+
+fn letters(alloc: Global, letter: u8, count: usize) -> Result<Vec<u8>, Fail> {
+    let mut bytes = Vec::new(alloc);
+    for _ in 0..count {
+        bytes.push(letter)?;
+    }
+    Ok(bytes)
+}
+
+#[test]
+fn a_file_grows_while_it_is_read(rt: HostRuntime) -> Result<(), Fail> {
+    let alloc = rt.alloc();
+    let file = path(alloc, &["f"])?;
+    let mut source = changing(alloc, &file, 8192, 8194)?;
     let mut block = Block::new();
     source.open(&file)?;
     source.next(&mut block)?;
-    assert_eq!(rt; block.as_slice(), letters.as_slice());
+    assert_eq!(rt; block.as_slice(), [b'a'; 8192].as_slice());
     source.next(&mut block)?;
     assert_eq!(rt; block.as_slice(), b"bb".as_slice());
-    longer.truncate(1);
-    source.swap_after(0, &file, &longer)?;
+    Ok(())
+}
+
+#[test]
+fn a_file_shrinks_while_it_is_read(rt: HostRuntime) -> Result<(), Fail> {
+    let alloc = rt.alloc();
+    let file = path(alloc, &["f"])?;
+    let mut source = changing(alloc, &file, 8194, 1)?;
+    let mut block = Block::new();
+    source.open(&file)?;
+    source.next(&mut block)?;
     source.next(&mut block)?;
     assert!(rt; block.is_empty());
-    assert_eq!(rt; source.failures(), 0);
-    assert_eq!(rt; source.open(&absent).err(), Some(TreeFault::Device));
-    assert_eq!(rt; source.failures(), 1);
     source.open(&file)?;
     source.next(&mut block)?;
     assert_eq!(rt; block.as_slice(), b"b".as_slice());
+    Ok(())
+}
+
+#[test]
+fn a_loose_source_counts_its_failures(rt: HostRuntime) -> Result<(), Fail> {
+    let alloc = rt.alloc();
+    let file = path(alloc, &["f"])?;
+    let mut source = LooseSource::of(source_with(alloc, &file, b"a")?);
+    assert_eq!(rt; source.failures(), 0);
+    let answer = source.open(&path(alloc, &["g"])?);
+    assert_eq!(rt; answer.err(), Some(TreeFault::Device));
+    assert_eq!(rt; source.failures(), 1);
     Ok(())
 }
