@@ -7,6 +7,7 @@ pub mod Migrating
 pub mod Stepping
 pub mod Tables
 pub mod Telling
+pub mod Turned
 pub mod UnderWay
 pub mod Untold
 pub mod WholeLog

@@ -1,0 +1,120 @@
+-- What a turn leaves, from what its calls left.
+use Rattle.std.proofs.Common.{◌≡◌, ℕ, ◌+◌, ◌≤◌, List, refl, ap, sym, ◌∙◌, subst, arith, true, false}
+use Rattle.std.specs.Prelude.{Option, None, Result, Ok, Err, nat_lt, ◌==◌}
+use Rattle.pt_plan.specs.declared.phase.Phase.{Phase}
+use Rattle.pt_tree.specs.Dest.{Writing}
+use Rattle.pt_tree.specs.Failures.{IsOneMoreCall}
+use Rattle.pt_tree.specs.Source.{Reading}
+use Rattle.pt_move.proofs.Calls.{no_call, one_call}
+use Rattle.pt_move.proofs.Held.{gains_same, moves_same}
+use Rattle.pt_move.proofs.Telling.{fails_silent, tells_nothing}
+use Rattle.pt_move.specs.Counting.{AtMostCalls, Counts, IsOfTurn, Rose, Spares}
+use Rattle.pt_move.specs.Fault.{fault_number}
+use Rattle.pt_move.specs.Fits.{HasTables, StandsAt, lines_put}
+use Rattle.pt_move.specs.Held.{Gains, IsHeld, Moves}
+use Rattle.pt_move.specs.Lines.{GoesOn, Tells, TellsFront, TellsLine}
+use Rattle.pt_move.specs.Turns.{LeavesDest, LeavesLog, LeavesSource, Turns, TurnsOn}
+use Rattle.pt_move.specs.declared.fault.Fault.{Fault}
+use Rattle.pt_move.specs.declared.job.Report.{Report}
+use Rattle.pt_move.specs.declared.state.State.{State}
+
+-- the trail moved, and the tables gained
+pub held_gained : (old new : State) → new.phase ≡ old.phase → new.job ≡ old.job → new.counts ≡ old.counts → Moves old.trail new.trail → Gains old.rows new.rows → Gains old.contents new.contents → IsHeld old new
+held_gained old new phase job counts trail rows contents = record {
+  phase = phase;
+  job = job;
+  turns = ap (λ (c : Report). c.turns) counts;
+  lines = subst (λ (c : Report). lines_put c ≤ lines_put old.counts + 1) (sym counts) (omega (arith));
+  trail = trail;
+  rows = rows;
+  contents = contents;
+}
+
+pub held_same : (old new : State) → new.phase ≡ old.phase → new.job ≡ old.job → new.counts ≡ old.counts → new.trail ≡ old.trail → new.rows ≡ old.rows → new.contents ≡ old.contents → IsHeld old new
+held_same old new phase job counts trail rows contents = held_gained old new phase job counts (moves_same _ _ trail) (gains_same _ _ rows) (gains_same _ _ contents)
+
+-- a fault that left what the run holds as it was
+pub turned_fault : (old new : State) (f : Fault) → nat_lt (fault_number f) 10 ≡ true → new.phase ≡ old.phase → new.job ≡ old.job → new.counts ≡ old.counts → new.trail ≡ old.trail → new.rows ≡ old.rows → new.contents ≡ old.contents → TurnsOn old new (Err f)
+turned_fault old new f turn phase job counts trail rows contents = record {
+  next = tt;
+  goes_on = tt;
+  held = held_same old new phase job counts trail rows contents;
+  turn = turn;
+}
+
+-- a fault after a change
+pub turned_held_fault : (old new : State) (f : Fault) → nat_lt (fault_number f) 10 ≡ true → IsHeld old new → TurnsOn old new (Err f)
+turned_held_fault old new f turn held = record { next = tt; goes_on = tt; held = held; turn = turn }
+
+pub turned_to : (old new : State) (p : Phase) → StandsAt p new new.counts.turns → HasTables new → GoesOn p → IsHeld old new → TurnsOn old new (Ok p)
+turned_to old new p stands tables on held = record { next = (stands, tables); goes_on = on; held = held; turn = tt }
+
+-- the trail alone moved
+pub turned_moved : (old new : State) (p : Phase) → StandsAt p new new.counts.turns → HasTables new → GoesOn p → new.phase ≡ old.phase → new.job ≡ old.job → new.counts ≡ old.counts → Moves old.trail new.trail → new.rows ≡ old.rows → new.contents ≡ old.contents → TurnsOn old new (Ok p)
+turned_moved old new p stands tables on phase job counts trail rows contents = turned_to old new p stands tables on (held_gained old new phase job counts trail (gains_same _ _ rows) (gains_same _ _ contents))
+
+-- nothing that is held changed
+pub turned_same : (old new : State) (p : Phase) → StandsAt p new new.counts.turns → HasTables new → GoesOn p → new.phase ≡ old.phase → new.job ≡ old.job → new.counts ≡ old.counts → new.trail ≡ old.trail → new.rows ≡ old.rows → new.contents ≡ old.contents → TurnsOn old new (Ok p)
+turned_same old new p stands tables on phase job counts trail rows contents = turned_moved old new p stands tables on phase job counts (moves_same _ _ trail) rows contents
+
+pub turned_on : (old new : State) (answer : Result Phase Fault) → TurnsOn old new answer → Turns old new answer
+turned_on old new answer t = record { next = t.next; held = t.held; turn = t.turn }
+
+-- the source was not called
+pub source_unused : {T : Type 0} (most : ℕ) (told : Option Reading) (n n' : ℕ) (a : ℕ → Type 0) (x : T) → told ≡ None → n' ≡ n → LeavesSource most told n n' a a (Ok x)
+source_unused most told n n' a x none same = record { told = none; counts = same; calls = no_call most a }
+
+spared_count : (d n n' : ℕ) (f : Fault) → n' ≡ n → (fault_number f == d) ≡ false → Rose (fault_number f == d) n n'
+spared_count d n n' f same spares = subst (λ b. Rose b n n') (sym spares) same
+
+pub source_unused_fault : {T : Type 0} (most : ℕ) (told : Option Reading) (n n' : ℕ) (a : ℕ → Type 0) (f : Fault) → told ≡ None → n' ≡ n → (fault_number f == 1) ≡ false → LeavesSource {T = T} most told n n' a a (Err f)
+source_unused_fault most told n n' a f none same spares = record { told = none; counts = spared_count 1 n n' f same spares; calls = no_call most a }
+
+-- the source was called once, and the answer is the call's
+pub source_one : {T : Type 0} (most : ℕ) (told : Option Reading) (n n' : ℕ) (a b : ℕ → Type 0) (answer : Result T Fault) → IsOneMoreCall a b → told ≡ None → Counts 1 n n' answer → 1 ≤ most → LeavesSource most told n n' a b answer
+source_one most told n n' a b answer call none counts within = record { told = none; counts = counts; calls = one_call most a b within call }
+
+-- the source was called once, and a fault that isn't its own followed
+pub source_one_fault : {T : Type 0} (most : ℕ) (told : Option Reading) (n n' : ℕ) (a b : ℕ → Type 0) (f : Fault) → IsOneMoreCall a b → told ≡ None → n' ≡ n → (fault_number f == 1) ≡ false → 1 ≤ most → LeavesSource {T = T} most told n n' a b (Err f)
+source_one_fault most told n n' a b f call none same spares within = record { told = none; counts = spared_count 1 n n' f same spares; calls = one_call most a b within call }
+
+-- a call that left the source, and then one answer or another that isn't its fault
+pub source_on : {T U : Type 0} (most : ℕ) (told : Option Reading) (n n' : ℕ) (a b : ℕ → Type 0) (x : T) (y : U) → LeavesSource most told n n' a b (Ok x) → LeavesSource most told n n' a b (Ok y)
+source_on most told n n' a b x y left = record { told = left.told; counts = left.counts; calls = left.calls }
+
+pub source_fault_on : {T U : Type 0} (most : ℕ) (told : Option Reading) (n n' : ℕ) (a b : ℕ → Type 0) (f : Fault) → LeavesSource {T = T} most told n n' a b (Err f) → LeavesSource {T = U} most told n n' a b (Err f)
+source_fault_on most told n n' a b f left = record { told = left.told; counts = left.counts; calls = left.calls }
+
+pub source_then_fault : {T U : Type 0} (most : ℕ) (told : Option Reading) (n n' : ℕ) (a b : ℕ → Type 0) (x : T) (f : Fault) → LeavesSource most told n n' a b (Ok x) → (fault_number f == 1) ≡ false → LeavesSource {T = U} most told n n' a b (Err f)
+source_then_fault most told n n' a b x f left spares = record { told = left.told; counts = spared_count 1 n n' f left.counts spares; calls = left.calls }
+
+-- the source is not what the answer is about
+pub source_spared : {T : Type 0} (most : ℕ) (told : Option Reading) (n n' : ℕ) (a : ℕ → Type 0) (answer : Result T Fault) → Spares 1 answer → told ≡ None → n' ≡ n → LeavesSource most told n n' a a answer
+source_spared most told n n' a (Ok x) spares none same = source_unused most told n n' a x none same
+source_spared most told n n' a (Err f) spares none same = source_unused_fault most told n n' a f none same spares
+
+pub dest_spared : {T : Type 0} (told : Option Writing) (n n' : ℕ) (answer : Result T Fault) → Spares 2 answer → told ≡ None → n' ≡ n → LeavesDest told n n' answer
+dest_spared told n n' (Ok x) spares none same = record { told = none; counts = same }
+dest_spared told n n' (Err f) spares none same = record { told = none; counts = spared_count 2 n n' f same spares }
+
+-- nothing was put
+pub log_quiet : {T : Type 0} (b a : Option (List ℕ)) (n n' : ℕ) (old new : Report) (x : T) → a ≡ b → n' ≡ n → new ≡ old → LeavesLog b a n n' old new (Ok x)
+log_quiet b a n n' old new x same count counts = record { counts = count; told = tells_nothing b a old new same counts }
+
+pub log_fault : {T : Type 0} (b a : Option (List ℕ)) (n n' : ℕ) (old new : Report) (f : Fault) → (fault_number f == 3) ≡ false → a ≡ b → n' ≡ n → new ≡ old → LeavesLog {T = T} b a n n' old new (Err f)
+log_fault b a n n' old new f spares same count counts = record { counts = spared_count 3 n n' f count spares; told = fails_silent b a old new same counts }
+
+pub log_spared : {T : Type 0} (b a : Option (List ℕ)) (n n' : ℕ) (old new : Report) (answer : Result T Fault) → Spares 3 answer → a ≡ b → n' ≡ n → new ≡ old → LeavesLog b a n n' old new answer
+log_spared b a n n' old new (Ok x) spares same count counts = log_quiet b a n n' old new x same count counts
+log_spared b a n n' old new (Err f) spares same count counts = log_fault b a n n' old new f spares same count counts
+
+-- what the line that was put left
+pub log_line : {T : Type 0} (b a : Option (List ℕ)) (n n' : ℕ) (old new : Report) (x : T) → TellsLine b a old new → n' ≡ n → LeavesLog b a n n' old new (Ok x)
+log_line b a n n' old new x told count = record { counts = count; told = told }
+
+pub log_line_fault : {T : Type 0} (b a : Option (List ℕ)) (n n' : ℕ) (old new : Report) (f : Fault) → TellsFront b a old new → Rose (fault_number f == 3) n n' → LeavesLog {T = T} b a n n' old new (Err f)
+log_line_fault b a n n' old new f told count = record { counts = count; told = told }
+
+pub ruleset turning = (turned_fault, turned_held_fault, turned_same, turned_moved, turned_to, source_unused, source_unused_fault, source_one, source_one_fault, source_on, source_fault_on, source_then_fault, log_quiet, log_fault, log_line, log_line_fault)
+
+pub ruleset sparing = (turned_on, source_spared, dest_spared, log_spared)
