@@ -1,6 +1,9 @@
 -- What a turn leaves, from what its calls left.
 use Rattle.std.proofs.Common.{◌≡◌, ℕ, ◌+◌, ◌≤◌, List, refl, ap, sym, ◌∙◌, subst, arith, true, false}
-use Rattle.std.specs.Prelude.{Option, None, Result, Ok, Err, nat_lt, ◌==◌}
+use Rattle.std.specs.Prelude.{IsErrAnd, Option, None, Result, Ok, Err, nat_lt, ◌==◌}
+use Rattle.pt_object.specs.declared.contents.Content.{Content}
+use Rattle.pt_object.specs.declared.rows.Row.{Row}
+use Rattle.pt_walk.specs.declared.frame.Frame.{Frame}
 use Rattle.pt_plan.specs.declared.phase.Phase.{Phase}
 use Rattle.pt_tree.specs.Dest.{Writing}
 use Rattle.pt_tree.specs.Failures.{IsOneMoreCall}
@@ -15,6 +18,8 @@ use Rattle.pt_move.specs.Held.{Gains, IsHeld, Moves}
 use Rattle.pt_move.specs.Lines.{GoesOn, Tells, TellsFront, TellsLine}
 use Rattle.pt_move.specs.Turns.{LeavesDest, LeavesLog, LeavesSource, Turns, TurnsOn}
 use Rattle.pt_move.specs.declared.fault.Fault.{Fault}
+use Rattle.pt_move.specs.declared.fault.Fault.TheVariants.{Memory}
+use Rattle.pt_move.specs.declared.job.Job.{Job}
 use Rattle.pt_move.specs.declared.job.Report.{Report}
 use Rattle.pt_move.specs.declared.state.State.{State}
 
@@ -114,6 +119,35 @@ log_line b a n n' old new x told count = record { counts = count; told = told }
 
 pub log_line_fault : {T : Type 0} (b a : Option (List ℕ)) (n n' : ℕ) (old new : Report) (f : Fault) → TellsFront b a old new → Rose (fault_number f == 3) n n' → LeavesLog {T = T} b a n n' old new (Err f)
 log_line_fault b a n n' old new f told count = record { counts = count; told = told }
+
+-- what of a state a turn may change
+abbrev pub held_of : State → Phase × (Job × (Report × (List Frame × (List Row × List Content))))
+held_of s = (s.phase, (s.job, (s.counts, (s.trail, (s.rows, s.contents)))))
+
+-- a fault that no device is blamed for
+pub record IsSpared (f : Fault) : Type 0 where
+  pub source : (fault_number f == 1) ≡ false
+  pub dest : (fault_number f == 2) ≡ false
+  pub log : (fault_number f == 3) ≡ false
+  pub turn : nat_lt (fault_number f) 10 ≡ true
+
+pub memory_spares : IsSpared Memory
+memory_spares = record { source = refl; dest = refl; log = refl; turn = refl }
+
+held_unchanged : (old new : State) → held_of new ≡ held_of old → IsHeld old new
+held_unchanged old new same = held_same old new (ap (λ h. h.0) same) (ap (λ h. h.1.0) same) (ap (λ h. h.1.1.0) same) (ap (λ h. h.1.1.1.0) same) (ap (λ h. h.1.1.1.1.0) same) (ap (λ h. h.1.1.1.1.1) same)
+
+-- memory was short, or what was found is at fault, before a source and a log were called
+pub raised : {old new : State} {r : Result Phase Fault} {f : Fault} {told : Option Reading} {n : ℕ} {a : ℕ → Type 0} {b : Option (List ℕ)} {m : ℕ} {most : ℕ}
+    → IsErrAnd r (λ e. e ≡ f) → IsSpared f → told ≡ None → held_of new ≡ held_of old
+    → record { turns : TurnsOn old new r; source : LeavesSource most told n n a a r; dest : Spares 2 r; log : LeavesLog b b m m old.counts new.counts r }
+raised {old = old} {new = new} {r = Ok x} is spared none same = absurd is
+raised {old = old} {new = new} {r = Err e} {f = f} {told = told} {n = n} {a = a} {b = b} {m = m} {most = most} is spared none same = rw is (record {
+  turns = turned_held_fault old new f spared.turn (held_unchanged old new same);
+  source = source_unused_fault most told n n a f none refl spared.source;
+  dest = spared.dest;
+  log = log_fault b b m m old.counts new.counts f spared.log refl refl (ap (λ h. h.1.1.0) same);
+})
 
 pub ruleset turning = (turned_fault, turned_held_fault, turned_same, turned_moved, turned_to, source_unused, source_unused_fault, source_one, source_one_fault, source_on, source_fault_on, source_then_fault, log_quiet, log_fault, log_line, log_line_fault)
 
