@@ -149,6 +149,51 @@ raised {old = old} {new = new} {r = Err e} {f = f} {told = told} {n = n} {a = a}
   log = log_fault b b m m old.counts new.counts f spared.log refl refl (ap (λ h. h.1.1.0) same);
 })
 
+-- the source's own fault
+pub raised_by_source : {old new : State} {r : Result Phase Fault} {told : Option Reading} {n n' : ℕ} {a a' : ℕ → Type 0} {b : Option (List ℕ)} {m : ℕ} {most : ℕ}
+    → (f : Fault) → IsErrAnd r (λ e. e ≡ f) → (fault_number f == 2) ≡ false → (fault_number f == 3) ≡ false → nat_lt (fault_number f) 10 ≡ true → told ≡ None → Rose (fault_number f == 1) n n' → AtMostCalls most a a' → held_of new ≡ held_of old
+    → record { turns : TurnsOn old new r; source : LeavesSource most told n n' a a' r; dest : Spares 2 r; log : LeavesLog b b m m old.counts new.counts r }
+raised_by_source {old = old} {new = new} {r = Ok x} f is dest log turn none count calls same = absurd is
+raised_by_source {old = old} {new = new} {r = Err e} {b = b} {m = m} f is dest log turn none count calls same = rw is (record {
+  turns = turned_held_fault old new f turn (held_unchanged old new same);
+  source = record { told = none; counts = count; calls = calls };
+  dest = dest;
+  log = log_fault b b m m old.counts new.counts f log refl refl (ap (λ h. h.1.1.0) same);
+})
+
+-- memory was short, or what was found is at fault, before a destination and a log were called
+pub raised_for_dest : {old new : State} {r : Result Phase Fault} {f : Fault} {told : Option Writing} {n : ℕ} {b : Option (List ℕ)} {m : ℕ}
+    → IsErrAnd r (λ e. e ≡ f) → IsSpared f → told ≡ None → held_of new ≡ held_of old
+    → record { turns : TurnsOn old new r; source : Spares 1 r; dest : LeavesDest told n n r; log : LeavesLog b b m m old.counts new.counts r }
+raised_for_dest {old = old} {new = new} {r = Ok x} is spared none same = absurd is
+raised_for_dest {old = old} {new = new} {r = Err e} {f = f} {n = n} {b = b} {m = m} is spared none same = rw is (record {
+  turns = turned_held_fault old new f spared.turn (held_unchanged old new same);
+  source = spared.source;
+  dest = record { told = none; counts = spared_count 2 n n f refl spared.dest };
+  log = log_fault b b m m old.counts new.counts f spared.log refl refl (ap (λ h. h.1.1.0) same);
+})
+
+-- the destination's own fault
+pub raised_by_dest : {old new : State} {r : Result Phase Fault} {told : Option Writing} {n n' : ℕ} {b : Option (List ℕ)} {m : ℕ}
+    → (f : Fault) → IsErrAnd r (λ e. e ≡ f) → (fault_number f == 1) ≡ false → (fault_number f == 3) ≡ false → nat_lt (fault_number f) 10 ≡ true → told ≡ None → Rose (fault_number f == 2) n n' → held_of new ≡ held_of old
+    → record { turns : TurnsOn old new r; source : Spares 1 r; dest : LeavesDest told n n' r; log : LeavesLog b b m m old.counts new.counts r }
+raised_by_dest {old = old} {new = new} {r = Ok x} f is source log turn none count same = absurd is
+raised_by_dest {old = old} {new = new} {r = Err e} {b = b} {m = m} f is source log turn none count same = rw is (record {
+  turns = turned_held_fault old new f turn (held_unchanged old new same);
+  source = source;
+  dest = record { told = none; counts = count };
+  log = log_fault b b m m old.counts new.counts f log refl refl (ap (λ h. h.1.1.0) same);
+})
+
+-- the destination was not called, or did what was asked
+pub dest_kept : {T : Type 0} (told : Option Writing) (n n' : ℕ) (x : T) → told ≡ None → n' ≡ n → LeavesDest told n n' (Ok x)
+dest_kept told n n' x none same = record { told = none; counts = same }
+
+pub dest_kept_fault : {T : Type 0} (told : Option Writing) (n n' : ℕ) (f : Fault) → told ≡ None → n' ≡ n → (fault_number f == 2) ≡ false → LeavesDest {T = T} told n n' (Err f)
+dest_kept_fault told n n' f none same spares = record { told = none; counts = spared_count 2 n n' f same spares }
+
+pub ruleset judging = (dest_kept, dest_kept_fault, dest_spared)
+
 pub ruleset turning = (turned_fault, turned_held_fault, turned_same, turned_moved, turned_to, source_unused, source_unused_fault, source_one, source_one_fault, source_on, source_fault_on, source_then_fault, log_quiet, log_fault, log_line, log_line_fault)
 
 pub ruleset sparing = (turned_on, source_spared, dest_spared, log_spared)
