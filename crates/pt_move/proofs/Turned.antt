@@ -185,6 +185,31 @@ raised_by_dest {old = old} {new = new} {r = Err e} {b = b} {m = m} f is source l
   log = log_fault b b m m old.counts new.counts f log refl refl (ap (λ h. h.1.1.0) same);
 })
 
+-- the same where no log is given
+pub raised_unlogged : {old new : State} {r : Result Phase Fault} {f : Fault} {told : Option Writing} {n : ℕ}
+    → IsErrAnd r (λ e. e ≡ f) → IsSpared f → told ≡ None → held_of new ≡ held_of old
+    → record { turns : TurnsOn old new r; source : Spares 1 r; dest : LeavesDest told n n r; log : Spares 3 r; counts : new.counts ≡ old.counts }
+raised_unlogged {old = old} {new = new} {r = Ok x} is spared none same = absurd is
+raised_unlogged {old = old} {new = new} {r = Err e} {f = f} {n = n} is spared none same = rw is (record {
+  turns = turned_held_fault old new f spared.turn (held_unchanged old new same);
+  source = spared.source;
+  dest = record { told = none; counts = spared_count 2 n n f refl spared.dest };
+  log = spared.log;
+  counts = ap (λ h. h.1.1.0) same;
+})
+
+pub raised_by_dest_unlogged : {old new : State} {r : Result Phase Fault} {told : Option Writing} {n n' : ℕ}
+    → (f : Fault) → IsErrAnd r (λ e. e ≡ f) → (fault_number f == 1) ≡ false → (fault_number f == 3) ≡ false → nat_lt (fault_number f) 10 ≡ true → told ≡ None → Rose (fault_number f == 2) n n' → held_of new ≡ held_of old
+    → record { turns : TurnsOn old new r; source : Spares 1 r; dest : LeavesDest told n n' r; log : Spares 3 r; counts : new.counts ≡ old.counts }
+raised_by_dest_unlogged {old = old} {new = new} {r = Ok x} f is source log turn none count same = absurd is
+raised_by_dest_unlogged {old = old} {new = new} {r = Err e} f is source log turn none count same = rw is (record {
+  turns = turned_held_fault old new f turn (held_unchanged old new same);
+  source = source;
+  dest = record { told = none; counts = count };
+  log = log;
+  counts = ap (λ h. h.1.1.0) same;
+})
+
 -- the destination was not called, or did what was asked
 pub dest_kept : {T : Type 0} (told : Option Writing) (n n' : ℕ) (x : T) → told ≡ None → n' ≡ n → LeavesDest told n n' (Ok x)
 dest_kept told n n' x none same = record { told = none; counts = same }
