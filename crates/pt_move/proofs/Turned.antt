@@ -69,7 +69,7 @@ turned_on old new answer t = record { next = t.next; held = t.held; turn = t.tur
 pub source_unused : {T : Type 0} (most : ℕ) (told : Option Reading) (n n' : ℕ) (a : ℕ → Type 0) (x : T) → told ≡ None → n' ≡ n → LeavesSource most told n n' a a (Ok x)
 source_unused most told n n' a x none same = record { told = none; counts = same; calls = no_call most a }
 
-spared_count : (d n n' : ℕ) (f : Fault) → n' ≡ n → (fault_number f == d) ≡ false → Rose (fault_number f == d) n n'
+pub spared_count : (d n n' : ℕ) (f : Fault) → n' ≡ n → (fault_number f == d) ≡ false → Rose (fault_number f == d) n n'
 spared_count d n n' f same spares = subst (λ b. Rose b n n') (sym spares) same
 
 pub source_unused_fault : {T : Type 0} (most : ℕ) (told : Option Reading) (n n' : ℕ) (a : ℕ → Type 0) (f : Fault) → told ≡ None → n' ≡ n → (fault_number f == 1) ≡ false → LeavesSource {T = T} most told n n' a a (Err f)
@@ -206,6 +206,19 @@ raised_by_dest_unlogged {old = old} {new = new} {r = Err e} f is source log turn
   turns = turned_held_fault old new f turn (held_unchanged old new same);
   source = source;
   dest = record { told = none; counts = count };
+  log = log;
+  counts = ap (λ h. h.1.1.0) same;
+})
+
+-- a fault of a source or a destination, or neither's, where no log is given
+pub raised_copying : {old new : State} {r : Result Phase Fault} {read : Option Reading} {written : Option Writing} {n n' m m' : ℕ} {a a' : ℕ → Type 0} {most : ℕ}
+    → (f : Fault) → IsErrAnd r (λ e. e ≡ f) → nat_lt (fault_number f) 10 ≡ true → (fault_number f == 3) ≡ false → read ≡ None → Rose (fault_number f == 1) n n' → AtMostCalls most a a' → written ≡ None → Rose (fault_number f == 2) m m' → held_of new ≡ held_of old
+    → record { turns : TurnsOn old new r; source : LeavesSource most read n n' a a' r; dest : LeavesDest written m m' r; log : Spares 3 r; counts : new.counts ≡ old.counts }
+raised_copying {old = old} {new = new} {r = Ok x} f is turn log none count calls none' count' same = absurd is
+raised_copying {old = old} {new = new} {r = Err e} f is turn log none count calls none' count' same = rw is (record {
+  turns = turned_held_fault old new f turn (held_unchanged old new same);
+  source = record { told = none; counts = count; calls = calls };
+  dest = record { told = none'; counts = count' };
   log = log;
   counts = ap (λ h. h.1.1.0) same;
 })

@@ -1,6 +1,7 @@
 use Rattle.std.proofs.Common.{◌≡◌, ◌<◌, ◌-◌, ◌≤◌, refl, arith}
 use Rattle.pt_move.proofs.Tables.{room_for}
-use Rattle.pt_move.proofs.Turned.{memory_spares, raised, turned_same}
+use Rattle.pt_move.proofs.Calls.{one_call}
+use Rattle.pt_move.proofs.Turned.{memory_spares, raised, raised_by_source, turned_same}
 use Rattle.pt_move.proofs.UnderWay.{under_way_same}
 use Rattle.pt_move.proofs.state.State.open_file.Goals as goal
 
@@ -24,3 +25,8 @@ returns-in_err-path g c = raised c.from_residual-in_err-path.ensures.1 memory_sp
 
 pub returns-in_err-entry_path : goal.returns-in_err-entry_path
 returns-in_err-entry_path g c = raised c.from_residual-in_err-entry_path.ensures.1 (record { source = c.in_err-entry_path.ensures.source; dest = c.in_err-entry_path.ensures.dest; log = c.in_err-entry_path.ensures.log; turn = c.in_err-entry_path.ensures.turn }) c.requires.source refl
+
+pub returns-in_err-open : goal.returns-in_err-open
+returns-in_err-open g c =
+    let of = c.in_err-open.ensures in
+    raised_by_source _ c.from_residual-in_err-open.ensures.1 of.dest of.log of.turn of.told of.source (one_call _ _ _ (omega (arith)) of.calls) refl
