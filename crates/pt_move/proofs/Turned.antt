@@ -16,7 +16,7 @@ use Rattle.pt_move.specs.Fault.{fault_number}
 use Rattle.pt_move.specs.Fits.{HasTables, StandsAt, lines_put}
 use Rattle.pt_move.specs.Held.{Gains, IsHeld, Moves}
 use Rattle.pt_move.specs.Lines.{GoesOn, Tells, TellsFront, TellsLine}
-use Rattle.pt_move.specs.Turns.{LeavesDest, LeavesLog, LeavesSource, Turns, TurnsOn}
+use Rattle.pt_move.specs.Turns.{LeavesDest, LeavesLog, LeavesSource, TurnsOn}
 use Rattle.pt_move.specs.declared.fault.Fault.{Fault}
 use Rattle.pt_move.specs.declared.fault.Fault.TheVariants.{Memory}
 use Rattle.pt_move.specs.declared.job.Job.{Job}
@@ -62,9 +62,6 @@ turned_moved old new p stands tables on phase job counts trail rows contents = t
 pub turned_same : (old new : State) (p : Phase) → StandsAt p new new.counts.turns → HasTables new → GoesOn p → new.phase ≡ old.phase → new.job ≡ old.job → new.counts ≡ old.counts → new.trail ≡ old.trail → new.rows ≡ old.rows → new.contents ≡ old.contents → TurnsOn old new (Ok p)
 turned_same old new p stands tables on phase job counts trail rows contents = turned_moved old new p stands tables on phase job counts (moves_same _ _ trail) rows contents
 
-pub turned_on : (old new : State) (answer : Result Phase Fault) → TurnsOn old new answer → Turns old new answer
-turned_on old new answer t = record { next = t.next; held = t.held; turn = t.turn }
-
 -- the source was not called
 pub source_unused : {T : Type 0} (most : ℕ) (told : Option Reading) (n n' : ℕ) (a : ℕ → Type 0) (x : T) → told ≡ None → n' ≡ n → LeavesSource most told n n' a a (Ok x)
 source_unused most told n n' a x none same = record { told = none; counts = same; calls = no_call most a }
@@ -93,11 +90,6 @@ source_fault_on most told n n' a b f left = record { told = left.told; counts = 
 pub source_then_fault : {T U : Type 0} (most : ℕ) (told : Option Reading) (n n' : ℕ) (a b : ℕ → Type 0) (x : T) (f : Fault) → LeavesSource most told n n' a b (Ok x) → (fault_number f == 1) ≡ false → LeavesSource {T = U} most told n n' a b (Err f)
 source_then_fault most told n n' a b x f left spares = record { told = left.told; counts = spared_count 1 n n' f left.counts spares; calls = left.calls }
 
--- the source is not what the answer is about
-pub source_spared : {T : Type 0} (most : ℕ) (told : Option Reading) (n n' : ℕ) (a : ℕ → Type 0) (answer : Result T Fault) → Spares 1 answer → told ≡ None → n' ≡ n → LeavesSource most told n n' a a answer
-source_spared most told n n' a (Ok x) spares none same = source_unused most told n n' a x none same
-source_spared most told n n' a (Err f) spares none same = source_unused_fault most told n n' a f none same spares
-
 pub dest_spared : {T : Type 0} (told : Option Writing) (n n' : ℕ) (answer : Result T Fault) → Spares 2 answer → told ≡ None → n' ≡ n → LeavesDest told n n' answer
 dest_spared told n n' (Ok x) spares none same = record { told = none; counts = same }
 dest_spared told n n' (Err f) spares none same = record { told = none; counts = spared_count 2 n n' f same spares }
@@ -108,10 +100,6 @@ log_quiet b a n n' old new x same count counts = record { counts = count; told =
 
 pub log_fault : {T : Type 0} (b a : Option (List ℕ)) (n n' : ℕ) (old new : Report) (f : Fault) → (fault_number f == 3) ≡ false → a ≡ b → n' ≡ n → new ≡ old → LeavesLog {T = T} b a n n' old new (Err f)
 log_fault b a n n' old new f spares same count counts = record { counts = spared_count 3 n n' f count spares; told = fails_silent b a old new same counts }
-
-pub log_spared : {T : Type 0} (b a : Option (List ℕ)) (n n' : ℕ) (old new : Report) (answer : Result T Fault) → Spares 3 answer → a ≡ b → n' ≡ n → new ≡ old → LeavesLog b a n n' old new answer
-log_spared b a n n' old new (Ok x) spares same count counts = log_quiet b a n n' old new x same count counts
-log_spared b a n n' old new (Err f) spares same count counts = log_fault b a n n' old new f spares same count counts
 
 -- what the line that was put left
 pub log_line : {T : Type 0} (b a : Option (List ℕ)) (n n' : ℕ) (old new : Report) (x : T) → TellsLine b a old new → n' ≡ n → LeavesLog b a n n' old new (Ok x)
@@ -230,8 +218,6 @@ dest_kept told n n' x none same = record { told = none; counts = same }
 pub dest_kept_fault : {T : Type 0} (told : Option Writing) (n n' : ℕ) (f : Fault) → told ≡ None → n' ≡ n → (fault_number f == 2) ≡ false → LeavesDest {T = T} told n n' (Err f)
 dest_kept_fault told n n' f none same spares = record { told = none; counts = spared_count 2 n n' f same spares }
 
-pub ruleset judging = (dest_kept, dest_kept_fault, dest_spared)
+pub ruleset turning_dest = (dest_kept, dest_kept_fault, dest_spared)
 
 pub ruleset turning = (turned_fault, turned_held_fault, turned_same, turned_moved, turned_to, source_unused, source_unused_fault, source_one, source_one_fault, source_on, source_fault_on, source_then_fault, log_quiet, log_fault, log_line, log_line_fault)
-
-pub ruleset sparing = (turned_on, source_spared, dest_spared, log_spared)

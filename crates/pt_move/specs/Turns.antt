@@ -11,13 +11,7 @@ use Rattle.pt_move.specs.declared.fault.Fault.{Fault}
 use Rattle.pt_move.specs.declared.job.Report.{Report}
 use Rattle.pt_move.specs.declared.state.State.{State}
 
--- of what a run holds: the next phase stands there, and no more changed than one turn may change
-pub record Turns (old new : State) (answer : Result Phase Fault) : Type 0 where
-  pub next : IfOk answer (λ p. StandsAt p new new.counts.turns × HasTables new)
-  pub held : IsHeld old new
-  pub turn : IsOfTurn answer
-
--- the same, and the run goes on
+-- of what a run holds: the run goes on with a phase that stands there, and no more changed than one turn may change
 pub record TurnsOn (old new : State) (answer : Result Phase Fault) : Type 0 where
   pub next : IfOk answer (λ p. StandsAt p new new.counts.turns × HasTables new)
   pub goes_on : IfOk answer GoesOn

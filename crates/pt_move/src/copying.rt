@@ -1,4 +1,4 @@
-#![tactic(auto, using(crate::proofs::Calls::calls, crate::proofs::Held::held, crate::proofs::Tables::tables, crate::proofs::Turned::judging, crate::proofs::Turned::turning, crate::proofs::UnderWay::under_way))]
+#![tactic(auto, using(crate::proofs::Calls::calls, crate::proofs::Held::held, crate::proofs::Tables::tables, crate::proofs::Turned::turning_dest, crate::proofs::Turned::turning, crate::proofs::UnderWay::under_way))]
 // Copying a file into `staging`: the second reading, which has to give what the first one gave.
 ghost use Rattle.std.specs.Prelude.{◌≡◌, ◌<◌, ◌≤◌, ◌-◌, ◌^◌, [], false, None, IfOk, IfErr, OnOk, OnErr, IsSome, length};
 ghost use Rattle.pt_plan.specs.declared.phase.Phase.TheVariants as phase;

@@ -1,4 +1,4 @@
-#![tactic(auto, using(crate::proofs::Calls::calls, crate::proofs::Candidates::candidates, crate::proofs::Held::held, crate::proofs::Tables::tables, crate::proofs::Telling::telling, crate::proofs::Turned::judging, crate::proofs::Turned::turning, crate::proofs::UnderWay::under_way))]
+#![tactic(auto, using(crate::proofs::Calls::calls, crate::proofs::Candidates::candidates, crate::proofs::Held::held, crate::proofs::Tables::tables, crate::proofs::Telling::telling, crate::proofs::Turned::turning_dest, crate::proofs::Turned::turning, crate::proofs::UnderWay::under_way))]
 // Judging a site: what it is, and whether its object may be carried.
 ghost use Rattle.std.specs.Prelude.{◌≡◌, ◌<◌, ◌≤◌, ◌-◌, ◌^◌, [], false, None, IfOk, IfErr, IfSome, length};
 ghost use Rattle.pt_plan.specs.declared.phase.Phase.TheVariants as phase;

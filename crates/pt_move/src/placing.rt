@@ -1,4 +1,4 @@
-#![tactic(auto, using(crate::proofs::Calls::calls, crate::proofs::Held::held, crate::proofs::Tables::tables, crate::proofs::Tables::totals, crate::proofs::Telling::telling, crate::proofs::Turned::judging, crate::proofs::Turned::turning, crate::proofs::UnderWay::under_way))]
+#![tactic(auto, using(crate::proofs::Calls::calls, crate::proofs::Held::held, crate::proofs::Tables::tables, crate::proofs::Tables::totals, crate::proofs::Telling::telling, crate::proofs::Turned::turning_dest, crate::proofs::Turned::turning, crate::proofs::UnderWay::under_way))]
 // Bringing an object from `staging` to its place in the storage root.
 ghost use Rattle.std.specs.Prelude.{◌≡◌, ◌<◌, ◌≤◌, ◌+◌, ◌-◌, ◌^◌, None, IfOk, length, take};
 ghost use Rattle.pt_plan.specs.declared.phase.Phase.TheVariants as phase;

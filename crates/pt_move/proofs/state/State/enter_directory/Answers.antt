@@ -8,8 +8,8 @@ pub returns-clause-turns : goal.returns-clause-turns
 returns-clause-turns g c =
     let less = c.requires.turning.lines in
     turned_moved _ _ _
-      (under_way_entered _ _ _ _ _ _ _ c.requires.object c.with_directory.ensures.site c.with_directory.ensures.empty c.in_ok-enter.ensures.ok (omega (arith, less)))
-      c.requires.turning.tables tt refl refl refl (moves_entered _ _ _ c.in_ok-enter.ensures.ok) refl refl
+    (under_way_entered _ _ _ _ _ _ _ c.requires.object c.with_directory.ensures.site c.with_directory.ensures.empty c.in_ok-enter.ensures.ok (omega (arith, less)))
+    c.requires.turning.tables tt refl refl refl (moves_entered _ _ _ c.in_ok-enter.ensures.ok) refl refl
 
 pub returns-in_err-listing : goal.returns-in_err-listing
 returns-in_err-listing g c =

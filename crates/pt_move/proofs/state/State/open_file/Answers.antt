@@ -11,8 +11,8 @@ returns-clause-turns g c =
     let held = c.len.ensures in
     let most = c.files.ensures.value in
     turned_same _ _ _
-      (under_way_same _ _ _ _ _ c.requires.object refl (omega (arith)), (c.requires.current, (room_for c.args.self.now.job.limits _ c.files.ensures.limits (omega (arith, fewer, held, most)), omega (arith))))
-      c.requires.turning.tables tt refl refl refl refl refl refl
+    (under_way_same _ _ _ _ _ c.requires.object refl (omega (arith)), (c.requires.current, (room_for c.args.self.now.job.limits _ c.files.ensures.limits (omega (arith, fewer, held, most)), omega (arith))))
+    c.requires.turning.tables tt refl refl refl refl refl refl
 
 pub returns-in_err-logical_path : goal.returns-in_err-logical_path
 returns-in_err-logical_path g c = raised c.from_residual.ensures.1 memory_spares c.requires.source refl

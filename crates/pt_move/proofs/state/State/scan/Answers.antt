@@ -11,8 +11,8 @@ returns-then-len-object-clause-turns g c =
     let long = c.len.ensures.len in
     let on = under_way_trail _ _ _ c.requires.stands in
     turned_moved _ _ _
-      (under_way_left _ _ _ _ _ c.requires.stands c.leave.ensures (omega (arith, apart, long, on)) (omega (arith)), tt)
-      c.requires.turning.tables tt refl refl refl (moves_parent _ _ c.leave.ensures) refl refl
+    (under_way_left _ _ _ _ _ c.requires.stands c.leave.ensures (omega (arith, apart, long, on)) (omega (arith)), tt)
+    c.requires.turning.tables tt refl refl refl (moves_parent _ _ c.leave.ensures) refl refl
 
 pub returns-else-not-object-clause-turns : goal.returns-else-not-object-clause-turns
 returns-else-not-object-clause-turns g c =
@@ -21,5 +21,5 @@ returns-else-not-object-clause-turns g c =
     let on = under_way_trail _ _ _ c.requires.stands in
     let left = under_way_left _ _ _ _ (c.args.self.now.counts.turns) c.requires.stands c.leave.ensures (omega (arith, apart, long, on)) (omega (arith)) in
     turned_moved _ _ _
-      (under_way_advanced _ _ _ c.args.self.now.counts.turns _ left c.advance-in-None-2.ensures (omega (arith)))
-      c.requires.turning.tables tt refl refl refl (moves_past _ _ (c.advance-in-None-2.ensures ∙ ap advanced c.leave.ensures)) refl refl
+    (under_way_advanced _ _ _ c.args.self.now.counts.turns _ left c.advance-in-None-2.ensures (omega (arith)))
+    c.requires.turning.tables tt refl refl refl (moves_past _ _ (c.advance-in-None-2.ensures ∙ ap advanced c.leave.ensures)) refl refl
