@@ -1,5 +1,5 @@
 -- What a turn leaves, from what its calls left.
-use Rattle.std.proofs.Common.{◌≡◌, ℕ, ◌+◌, ◌≤◌, List, refl, ap, sym, ◌∙◌, subst, arith, true, false}
+use Rattle.std.proofs.Common.{◌≡◌, ℕ, ◌+◌, ◌≤◌, List, refl, ap, sym, subst, arith, true, false}
 use Rattle.std.specs.Prelude.{IsErrAnd, Option, None, Result, Ok, Err, nat_lt, ◌==◌}
 use Rattle.pt_object.specs.declared.contents.Content.{Content}
 use Rattle.pt_object.specs.declared.rows.Row.{Row}
@@ -11,11 +11,11 @@ use Rattle.pt_tree.specs.Source.{Reading}
 use Rattle.pt_move.proofs.Calls.{no_call, one_call}
 use Rattle.pt_move.proofs.Held.{gains_same, moves_same}
 use Rattle.pt_move.proofs.Telling.{fails_silent, tells_nothing}
-use Rattle.pt_move.specs.Counting.{AtMostCalls, Counts, IsOfTurn, Rose, Spares}
+use Rattle.pt_move.specs.Counting.{AtMostCalls, Counts, Rose, Spares}
 use Rattle.pt_move.specs.Fault.{fault_number}
 use Rattle.pt_move.specs.Fits.{HasTables, StandsAt, lines_put}
 use Rattle.pt_move.specs.Held.{Gains, IsHeld, Moves}
-use Rattle.pt_move.specs.Lines.{GoesOn, Tells, TellsFront, TellsLine}
+use Rattle.pt_move.specs.Lines.{GoesOn, TellsFront, TellsLine}
 use Rattle.pt_move.specs.Turns.{LeavesDest, LeavesLog, LeavesSource, TurnsOn}
 use Rattle.pt_move.specs.declared.fault.Fault.{Fault}
 use Rattle.pt_move.specs.declared.fault.Fault.TheVariants.{Memory}

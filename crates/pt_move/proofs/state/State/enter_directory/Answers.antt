@@ -1,4 +1,4 @@
-use Rattle.std.proofs.Common.{◌≡◌, ◌+◌, ◌-◌, ◌≤◌, refl, arith}
+use Rattle.std.proofs.Common.{refl, arith}
 use Rattle.pt_move.proofs.Held.{moves_entered}
 use Rattle.pt_move.proofs.Turned.{raised_by_source, turned_moved}
 use Rattle.pt_move.proofs.UnderWay.{under_way_entered}

@@ -1,4 +1,4 @@
-use Rattle.std.proofs.Common.{◌≡◌, ◌<◌, ◌-◌, ◌≤◌, refl, arith}
+use Rattle.std.proofs.Common.{refl, arith}
 use Rattle.pt_move.proofs.Tables.{room_for}
 use Rattle.pt_move.proofs.Calls.{one_call}
 use Rattle.pt_move.proofs.Turned.{memory_spares, raised, raised_by_source, turned_same}

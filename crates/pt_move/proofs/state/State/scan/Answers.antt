@@ -1,4 +1,4 @@
-use Rattle.std.proofs.Common.{◌≡◌, ◌<◌, ◌-◌, ◌≤◌, ◌∙◌, ap, refl, arith}
+use Rattle.std.proofs.Common.{◌∙◌, ap, refl, arith}
 use Rattle.pt_move.proofs.Held.{moves_parent, moves_past}
 use Rattle.pt_move.proofs.Turned.{turned_moved}
 use Rattle.pt_move.proofs.UnderWay.{under_way_advanced, under_way_left, under_way_trail}
