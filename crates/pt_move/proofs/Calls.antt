@@ -1,5 +1,5 @@
 -- How often a source was called, from the calls made.
-use Rattle.std.proofs.Common.{◌≡◌, ℕ, ◌+◌, ◌≤◌, arith, refl, subst}
+use Rattle.std.proofs.Common.{◌≡◌, ℕ, ◌+◌, ◌≤◌, arith, subst}
 use Rattle.pt_tree.specs.Failures.{IsOneMoreCall}
 use Rattle.pt_move.specs.Counting.{AtMostCalls}
 

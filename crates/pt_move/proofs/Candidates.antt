@@ -1,5 +1,5 @@
 -- What a site was found to be, as its trail shows it.
-use Rattle.std.proofs.Common.{◌≡◌, ℕ, ◌+◌, ◌<◌, ◌≤◌, List, [], ◌∷◌, length, refl, ap, sym, ◌∙◌, subst, arith, true, false}
+use Rattle.std.proofs.Common.{◌≡◌, ℕ, ◌<◌, List, [], ◌∷◌, length, refl, ap, sym, ◌∙◌, arith, true, false}
 use Rattle.std.specs.Prelude.{Option, None, Some, slice_get, nat_le}
 use Rattle.std.proofs.lemmas.Option.{slice_get_within}
 use Rattle.std.proofs.lemmas.Bool.{le-leb}
@@ -8,7 +8,7 @@ use Rattle.pt_plan.specs.declared.object.Object.{Object}
 use Rattle.pt_walk.specs.Site.{found, is_short}
 use Rattle.pt_walk.specs.SiteLaws.{OthersAreShorties}
 use Rattle.pt_tree.specs.declared.kind.Kind.TheVariants as kind
-use Rattle.pt_walk.specs.Trail.{current_entry, entry_at, has_place, innermost_listing, is_dir_entry, sought}
+use Rattle.pt_walk.specs.Trail.{current_entry, has_place, innermost_listing, is_dir_entry, sought}
 use Rattle.pt_walk.specs.declared.frame.Frame.{Frame}
 use Rattle.pt_walk.specs.declared.site.At.{At}
 use Rattle.pt_walk.specs.declared.site.Form.{Form}

@@ -1,6 +1,6 @@
 -- What each change of a trail and of a table is, as one turn may make it.
-use Rattle.std.proofs.Common.{◌≡◌, ℕ, ◌+◌, List, [], ◌∷◌, ◌++◌, length, drop, refl, inl, inr, ap, zero, suc, ◌∙◌, sym}
-use Rattle.std.specs.Prelude.{map, cond}
+use Rattle.std.proofs.Common.{◌≡◌, ℕ, List, [], ◌∷◌, ◌++◌, drop, refl, inl, inr, ap, zero, suc, ◌∙◌}
+use Rattle.std.specs.Prelude.{cond}
 use Rattle.std.proofs.lemmas.Bool.{cases_Bool}
 use Rattle.pt_tree.specs.Listing.{Item}
 use Rattle.pt_tree.specs.Path.{Path}

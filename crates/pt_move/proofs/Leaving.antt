@@ -1,5 +1,5 @@
 -- Leaving listings one by one.
-use Rattle.std.proofs.Common.{◌≡◌, ℕ, ◌+◌, ◌-◌, ◌<◌, ◌≤◌, List, [], ◌∷◌, length, drop, refl, ap, sym, ◌∙◌, subst, arith, zero, suc}
+use Rattle.std.proofs.Common.{◌≡◌, ℕ, ◌+◌, ◌-◌, ◌<◌, ◌≤◌, List, [], ◌∷◌, length, drop, refl, ap, ◌∙◌, arith, zero, suc}
 use Rattle.std.proofs.lemmas.List.{length-drop}
 use Rattle.pt_walk.specs.Trail.{parent}
 use Rattle.pt_walk.specs.declared.frame.Frame.{Frame}

@@ -8,6 +8,7 @@ pub mod Sidecars
 pub mod Stepping
 pub mod Tables
 pub mod Telling
+pub mod Turned
 pub mod UnderWay
 pub mod Untold
 pub mod WholeLog

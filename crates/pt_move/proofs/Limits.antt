@@ -1,5 +1,5 @@
 -- The greatest limits.
-use Rattle.std.proofs.Common.{◌≡◌, ℕ, ◌^◌, ◌≤◌, true, rules, arith}
+use Rattle.std.proofs.Common.{◌^◌, ◌≤◌, rules}
 use Rattle.std.specs.Prelude.{IsTrue}
 use Rattle.pt_walk.specs.Limits.{Bounds, are_limits}
 

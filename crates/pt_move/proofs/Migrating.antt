@@ -1,8 +1,8 @@
 -- What the steps of a run say of the whole.
-use Rattle.std.proofs.Common.{◌≡◌, ℕ, ◌+◌, ◌-◌, ◌<◌, ◌≤◌, refl, ap, sym, ◌∙◌, subst, arith}
-use Rattle.std.specs.Prelude.{Result, Ok, Err, ◌≢◌}
+use Rattle.std.proofs.Common.{◌≡◌, sym, ◌∙◌, subst}
+use Rattle.std.specs.Prelude.{Err, ◌≢◌}
 use Rattle.pt_plan.specs.declared.phase.Phase.TheVariants as phase
-use Rattle.pt_move.specs.Stepping.{EndsAs, IsCounted, IsNew, IsTurn}
+use Rattle.pt_move.specs.Stepping.{EndsAs, IsNew}
 use Rattle.pt_move.specs.declared.fault.Fault.{Fault}
 use Rattle.pt_move.specs.declared.fault.Fault.TheVariants as fault
 use Rattle.pt_move.specs.declared.job.Job.{Job}

@@ -1,18 +1,16 @@
 -- How a turn's answer becomes the step's.
-use Rattle.std.proofs.Common.{◌≡◌, ℕ, ◌+◌, ◌-◌, ◌<◌, ◌≤◌, List, [], ◌∷◌, refl, ap, sym, ◌∙◌, subst, arith, true, false}
-use Rattle.std.specs.Prelude.{Result, Ok, Err, ◌≢◌, nat_lt, ⊤}
+use Rattle.std.proofs.Common.{◌≡◌, ℕ, ◌+◌, ◌≤◌, refl, ap, sym, subst, arith, true}
+use Rattle.std.specs.Prelude.{Err, ◌≢◌, nat_lt}
 use Rattle.pt_plan.specs.declared.phase.Phase.{Phase}
 use Rattle.pt_plan.specs.declared.phase.Phase.TheVariants as phase
 use Rattle.pt_move.specs.Fault.{fault_number}
 use Rattle.pt_move.proofs.Tables.{tables_empty}
 use Rattle.pt_move.specs.declared.job.Job.{Job}
 use Rattle.pt_move.specs.declared.job.Report.{Report}
-use Rattle.pt_move.specs.Fits.{Fits, IsWell, HasTables, StandsAt, StandsWith, lines_put}
+use Rattle.pt_move.specs.Fits.{Fits, IsWell, HasTables, StandsAt, lines_put}
 use Rattle.pt_move.specs.Stepping.{EndsAs, IsCounted, IsNew, IsTurn, Stays}
 use Rattle.pt_move.specs.declared.fault.Fault.{Fault}
 use Rattle.pt_move.specs.declared.fault.Fault.TheVariants as fault
-use Rattle.pt_move.specs.declared.job.Turn.{Turn}
-use Rattle.pt_move.specs.declared.job.Turn.TheVariants as turn
 use Rattle.pt_move.specs.declared.state.State.{State}
 
 -- what fits while the run goes on

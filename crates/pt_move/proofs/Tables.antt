@@ -1,16 +1,16 @@
 -- The tables of an object, as they grow.
 use Rattle.std.proofs.Common.{◌≡◌, ℕ, ◌+◌, ◌*◌, ◌^◌, ◌<◌, ◌≤◌, List, [], ◌∷◌, ◌++◌, length, take, drop, get_or, refl, ap, sym, ◌∙◌, subst, arith, zero, suc}
-use Rattle.std.specs.Prelude.{map, fold}
+use Rattle.std.specs.Prelude.{map}
 use Rattle.std.proofs.lemmas.List.{length-append, take-append-drop, take_more}
 use Rattle.std.proofs.lemmas.List.Sums.{fold-append}
 use Rattle.pt_tree.specs.Path.{Path}
 use Rattle.pt_object.specs.Contents.{noted}
-use Rattle.pt_object.specs.Distinct.{content_of_row, distinct, noted_all}
+use Rattle.pt_object.specs.Distinct.{content_of_row, distinct}
 use Rattle.pt_object.specs.Rows.{row_of}
 use Rattle.pt_object.specs.declared.contents.Content.{Content}
 use Rattle.pt_object.specs.declared.rows.Row.{Row}
 use Rattle.pt_object.proofs.Noting.{noting_gives_distinct}
-use Rattle.std.specs.Prelude.{Option, None, Some, IsTrue, slice_get}
+use Rattle.std.specs.Prelude.{None, Some, IsTrue, slice_get}
 use Rattle.std.proofs.Common.{Fits, w64}
 use Rattle.std.proofs.lemmas.Option.{slice_get_within, get_or_from_slice_get}
 use Rattle.pt_walk.specs.Limits.{Bounds, are_limits}

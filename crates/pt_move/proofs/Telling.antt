@@ -1,6 +1,6 @@
 -- What a turn tells, from what was put.
-use Rattle.std.proofs.Common.{◌≡◌, ℕ, ◌+◌, List, [], ◌∷◌, ◌++◌, false, refl, sym, ap, inl, inr, subst, ◌∙◌, zero, suc}
-use Rattle.std.specs.Prelude.{Option, None, Some, ◌≢◌, take}
+use Rattle.std.proofs.Common.{◌≡◌, ℕ, ◌+◌, List, [], ◌∷◌, ◌++◌, false, refl, sym, ap, inl, inr, subst, ◌∙◌}
+use Rattle.std.specs.Prelude.{Option, None, Some, ◌≢◌}
 use Rattle.std.specs.Io.KnownBytes.{Appends}
 use Rattle.std.proofs.lemmas.List.{append-nil}
 use Rattle.pt_plan.specs.Lines.{Line, Done, Present, Skipped, End, line_tree}

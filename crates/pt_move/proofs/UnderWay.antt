@@ -1,5 +1,5 @@
 -- An object under way stays so as the trail moves above its site.
-use Rattle.std.proofs.Common.{◌≡◌, ℕ, ◌+◌, ◌-◌, ◌<◌, ◌≤◌, List, [], ◌∷◌, length, drop, refl, ap, sym, ◌∙◌, subst, arith}
+use Rattle.std.proofs.Common.{◌≡◌, ℕ, ◌+◌, ◌-◌, ◌<◌, ◌≤◌, List, [], ◌∷◌, length, refl, ap, sym, ◌∙◌, subst, arith}
 use Rattle.pt_tree.specs.Listing.{Item}
 use Rattle.pt_plan.specs.declared.object.Object.{Object}
 use Rattle.pt_walk.specs.Trail.{advanced, entered, parent, sought}

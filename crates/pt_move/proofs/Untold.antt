@@ -1,6 +1,6 @@
 -- A device that tells nothing sets no condition, and its fault says whose count rose.
-use Rattle.std.proofs.Common.{◌≡◌, ℕ, List, refl, true, false}
-use Rattle.std.specs.Prelude.{Option, None, Some, Result, Ok, Err}
+use Rattle.std.proofs.Common.{◌≡◌, ℕ, List}
+use Rattle.std.specs.Prelude.{Option, None}
 use Rattle.pt_tree.specs.Path.{Path}
 use Rattle.pt_tree.specs.Source.{Reading, CanList, CanOpen, CanRead}
 use Rattle.pt_tree.specs.declared.kind.Kind.{Kind}

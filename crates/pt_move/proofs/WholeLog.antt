@@ -1,5 +1,5 @@
 -- The log of a whole run, from what its turns tell.
-use Rattle.std.proofs.Common.{arith, ◌≡◌, ℕ, ◌+◌, List, [], ◌∷◌, ◌++◌, length, refl, sym, ap, inl, inr, subst, ◌∙◌, zero, suc}
+use Rattle.std.proofs.Common.{arith, ◌≡◌, ℕ, ◌+◌, List, [], ◌∷◌, ◌++◌, length, refl, sym, ap, inl, inr, subst, ◌∙◌}
 use Rattle.std.specs.Prelude.{Bool, true, false, cond, Option, None, Some, count_by, flat_map, take}
 use Rattle.std.specs.Io.KnownBytes.{Appends}
 use Rattle.std.proofs.Math.Seq.{take-append_seam, take-append-add}

@@ -1,5 +1,5 @@
 -- What a run holds, and what of it always holds between two turns.
-use Rattle.std.specs.Prelude.{◌≡◌, ◌⊎◌, ℕ, ◌+◌, ◌-◌, ◌*◌, ◌^◌, ◌<◌, ◌≤◌, true, false, List, [], ◌∷◌, ◌++◌, drop, length, map, IsSome, ⊤}
+use Rattle.std.specs.Prelude.{◌≡◌, ℕ, ◌+◌, ◌*◌, ◌^◌, ◌<◌, ◌≤◌, true, false, List, [], ◌∷◌, length, map, IsSome, ⊤}
 use Rattle.pt_object.specs.Distinct.{content_of_row, distinct}
 use Rattle.pt_object.specs.Files.{sidecar_text}
 use Rattle.pt_object.specs.Hasher.{HasBeenFed}
@@ -12,7 +12,6 @@ use Rattle.pt_plan.specs.declared.phase.Part.{Part}
 use Rattle.pt_plan.specs.declared.phase.Part.TheVariants as part
 use Rattle.pt_plan.specs.declared.phase.Phase.{Phase}
 use Rattle.pt_plan.specs.declared.phase.Phase.TheVariants as phase
-use Rattle.pt_tree.specs.Listing.{Item}
 use Rattle.pt_walk.specs.Trail.{current_entry, is_dir_entry, sought}
 use Rattle.pt_walk.specs.declared.site.Finding.{Finding}
 use Rattle.pt_walk.specs.declared.site.Finding.TheVariants as finding

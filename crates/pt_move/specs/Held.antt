@@ -1,7 +1,5 @@
 -- What one turn may change of what a run holds.
 use Rattle.std.specs.Prelude.{◌≡◌, ◌⊎◌, ℕ, ◌+◌, ◌≤◌, List, [], ◌∷◌, ◌++◌, drop, map}
-use Rattle.pt_object.specs.declared.contents.Content.{Content}
-use Rattle.pt_object.specs.declared.rows.Row.{Row}
 use Rattle.pt_tree.specs.Listing.{Item}
 use Rattle.pt_walk.specs.declared.frame.Frame.{Frame}
 use Rattle.pt_move.specs.Fits.{lines_put}

@@ -4,3 +4,4 @@ pub mod Fits
 pub mod Held
 pub mod Lines
 pub mod Stepping
+pub mod Turns

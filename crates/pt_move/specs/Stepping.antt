@@ -1,5 +1,5 @@
 -- What one step answers, and what it leaves.
-use Rattle.std.specs.Prelude.{◌≡◌, ◌≢◌, ◌⊎◌, ℕ, ◌+◌, ◌<◌, ◌≤◌, List, [], Result, Ok, Err, ⊤}
+use Rattle.std.specs.Prelude.{◌≡◌, ◌≢◌, ◌+◌, ◌<◌, ◌≤◌, [], Result, Ok, Err, ⊤}
 use Rattle.pt_plan.specs.declared.phase.Phase.TheVariants as phase
 use Rattle.pt_move.specs.Fits.{lines_put}
 use Rattle.pt_move.specs.declared.fault.Fault.{Fault}

@@ -1,11 +1,10 @@
-#![tactic(auto, using(crate::proofs::Calls::calls, crate::proofs::Held::held, crate::proofs::Tables::tables, crate::proofs::UnderWay::under_way))]
+#![tactic(auto, using(crate::proofs::Calls::calls, crate::proofs::Held::held, crate::proofs::Tables::tables, crate::proofs::Turned::turning_dest, crate::proofs::Turned::turning, crate::proofs::UnderWay::under_way))]
 // Copying a file into `staging`: the second reading, which has to give what the first one gave.
 ghost use Rattle.std.specs.Prelude.{◌≡◌, ◌<◌, ◌≤◌, ◌-◌, ◌^◌, [], false, None, IfOk, IfErr, OnOk, OnErr, IsSome, length};
 ghost use Rattle.pt_plan.specs.declared.phase.Phase.TheVariants as phase;
-ghost use Rattle.pt_move.specs.Counting.{AtMostCalls, Counts, IsOfTurn, Spares};
-ghost use Rattle.pt_move.specs.Fits.{HasTables, IsUnderWay, StandsAt, lines_put};
-ghost use Rattle.pt_move.specs.Lines.{GoesOn};
-ghost use Rattle.pt_move.specs.Held.{IsHeld};
+ghost use Rattle.pt_move.specs.Counting.{Spares};
+ghost use Rattle.pt_move.specs.Fits.{IsTurning, IsUnderWay, StandsAt};
+ghost use Rattle.pt_move.specs.Turns.{LeavesDest, LeavesSource, TurnsOn};
 
 use crate::state::State;
 use crate::{Fault, devices};
@@ -26,21 +25,13 @@ impl State {
     ) -> Result<Phase, Fault>
         requires source { S.told source.old ≡ None }
         requires dest { D.told dest.old ≡ None }
-        requires lines { lines_put self.old.counts < self.old.counts.turns }
-        requires few { self.old.counts.turns ≤ 2 ^ 40 }
-        requires tables { HasTables self.old }
+        requires turning { IsTurning self.old }
         requires stands { StandsAt (phase.Copy object position left) self.old (self.old.counts.turns - 1) }
-        ensures next { IfOk result (λ p. StandsAt p self.new self.new.counts.turns × HasTables self.new) }
-        ensures goes_on { IfOk result GoesOn }
-        ensures held { IsHeld self.old self.new }
-        ensures source_told { S.told source.new ≡ None }
-        ensures source { Counts 1 (S.failed source.old) (S.failed source.new) result }
-        ensures dest_told { D.told dest.new ≡ None }
-        ensures dest { Counts 2 (D.failed dest.old) (D.failed dest.new) result }
+        ensures turns { TurnsOn self.old self.new result }
+        ensures source { LeavesSource 1 (S.told source.new) (S.failed source.old) (S.failed source.new) (S.called source.old) (S.called source.new) result }
+        ensures dest { LeavesDest (D.told dest.new) (D.failed dest.old) (D.failed dest.new) result }
         ensures log { Spares 3 result }
         ensures counts { self.new.counts ≡ self.old.counts }
-        ensures turn { IsOfTurn result }
-        ensures calls { AtMostCalls 1 (S.called source.old) (S.called source.new) }
     {
         devices::next(source, &mut self.block)?;
         if self.block.is_empty() {
@@ -66,18 +57,12 @@ impl State {
         requires position { (position.row < length self.old.rows) × (position.stored < length self.old.contents) }
         requires object { IsUnderWay object self.old.trail (self.old.counts.turns - 1) }
         requires dest { D.told dest.old ≡ None }
-        requires lines { lines_put self.old.counts < self.old.counts.turns }
-        requires few { self.old.counts.turns ≤ 2 ^ 40 }
-        requires tables { HasTables self.old }
-        ensures next { IfOk result (λ p. StandsAt p self.new self.new.counts.turns × HasTables self.new) }
-        ensures goes_on { IfOk result GoesOn }
-        ensures held { IsHeld self.old self.new }
+        requires turning { IsTurning self.old }
+        ensures turns { TurnsOn self.old self.new result }
         ensures source { Spares 1 result }
-        ensures dest_told { D.told dest.new ≡ None }
-        ensures dest { Counts 2 (D.failed dest.old) (D.failed dest.new) result }
+        ensures dest { LeavesDest (D.told dest.new) (D.failed dest.old) (D.failed dest.new) result }
         ensures log { Spares 3 result }
         ensures counts { self.new.counts ≡ self.old.counts }
-        ensures turn { IsOfTurn result }
     {
         let hasher = mem::replace(&mut self.hasher, Hasher::start(self.job.algorithm));
         let digest = hasher.end();

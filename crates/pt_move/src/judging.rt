@@ -1,11 +1,10 @@
-#![tactic(auto, using(crate::proofs::Calls::calls, crate::proofs::Candidates::candidates, crate::proofs::Held::held, crate::proofs::Tables::tables, crate::proofs::Telling::telling, crate::proofs::UnderWay::under_way))]
+#![tactic(auto, using(crate::proofs::Calls::calls, crate::proofs::Candidates::candidates, crate::proofs::Held::held, crate::proofs::Tables::tables, crate::proofs::Telling::telling, crate::proofs::Turned::turning_dest, crate::proofs::Turned::turning, crate::proofs::UnderWay::under_way))]
 // Judging a site: what it is, and whether its object may be carried.
 ghost use Rattle.std.specs.Prelude.{◌≡◌, ◌<◌, ◌≤◌, ◌-◌, ◌^◌, [], false, None, IfOk, IfErr, IfSome, length};
 ghost use Rattle.pt_plan.specs.declared.phase.Phase.TheVariants as phase;
-ghost use Rattle.pt_move.specs.Counting.{AtMostCalls, Counts, IsOfTurn, Spares};
-ghost use Rattle.pt_move.specs.Fits.{HasTables, HoldsNone, IsCandidate, IsOfSite, StandsAt, lines_put};
-ghost use Rattle.pt_move.specs.Lines.{GoesOn, Tells};
-ghost use Rattle.pt_move.specs.Held.{IsHeld};
+ghost use Rattle.pt_move.specs.Counting.{Spares};
+ghost use Rattle.pt_move.specs.Fits.{HoldsNone, IsCandidate, IsOfSite, IsTurning, StandsAt};
+ghost use Rattle.pt_move.specs.Turns.{LeavesDest, LeavesLog, TurnsOn};
 
 use crate::paths::{STORAGE_ROOT, below, entry_of};
 use crate::state::State;
@@ -24,19 +23,12 @@ impl State {
         log: &mut L,
     ) -> Result<Phase, Fault>
         requires dest { D.told dest.old ≡ None }
-        requires lines { lines_put self.old.counts < self.old.counts.turns }
-        requires few { self.old.counts.turns ≤ 2 ^ 40 }
-        requires tables { HasTables self.old }
+        requires turning { IsTurning self.old }
         requires stands { StandsAt phase.Judge self.old (self.old.counts.turns - 1) }
-        ensures next { IfOk result (λ p. StandsAt p self.new self.new.counts.turns × HasTables self.new) }
-        ensures goes_on { IfOk result GoesOn }
-        ensures held { IsHeld self.old self.new }
+        ensures turns { TurnsOn self.old self.new result }
         ensures source { Spares 1 result }
-        ensures dest_told { D.told dest.new ≡ None }
-        ensures dest { Counts 2 (D.failed dest.old) (D.failed dest.new) result }
-        ensures log { Counts 3 (L.failed log.old) (L.failed log.new) result }
-        ensures told { Tells (L.told log.old) (L.told log.new) self.old.counts self.new.counts result }
-        ensures turn { IsOfTurn result }
+        ensures dest { LeavesDest (D.told dest.new) (D.failed dest.old) (D.failed dest.new) result }
+        ensures log { LeavesLog (L.told log.old) (L.told log.new) (L.failed log.old) (L.failed log.new) self.old.counts self.new.counts result }
     {
         let site = self.trail.path()?;
         match self.finding(&site) {
@@ -72,19 +64,12 @@ impl State {
         requires candidate { IfSome index (IsCandidate self.old.trail) }
         requires site { 0 < length self.old.trail }
         requires dest { D.told dest.old ≡ None }
-        requires lines { lines_put self.old.counts < self.old.counts.turns }
-        requires few { self.old.counts.turns ≤ 2 ^ 40 }
-        requires tables { HasTables self.old }
+        requires turning { IsTurning self.old }
         requires none { HoldsNone self.old.rows self.old.contents }
-        ensures next { IfOk result (λ p. StandsAt p self.new self.new.counts.turns × HasTables self.new) }
-        ensures goes_on { IfOk result GoesOn }
-        ensures held { IsHeld self.old self.new }
+        ensures turns { TurnsOn self.old self.new result }
         ensures source { Spares 1 result }
-        ensures dest_told { D.told dest.new ≡ None }
-        ensures dest { Counts 2 (D.failed dest.old) (D.failed dest.new) result }
-        ensures log { Counts 3 (L.failed log.old) (L.failed log.new) result }
-        ensures told { Tells (L.told log.old) (L.told log.new) self.old.counts self.new.counts result }
-        ensures turn { IsOfTurn result }
+        ensures dest { LeavesDest (D.told dest.new) (D.failed dest.old) (D.failed dest.new) result }
+        ensures log { LeavesLog (L.told log.old) (L.told log.new) (L.failed log.old) (L.failed log.new) self.old.counts self.new.counts result }
     {
         let text = concatenated(self.alloc, &site)?;
         let cause = match unclean(self.alloc, &text) {
@@ -116,19 +101,12 @@ impl State {
         requires site { 0 < length self.old.trail }
         requires id { 0 < length id }
         requires dest { D.told dest.old ≡ None }
-        requires lines { lines_put self.old.counts < self.old.counts.turns }
-        requires few { self.old.counts.turns ≤ 2 ^ 40 }
-        requires tables { HasTables self.old }
+        requires turning { IsTurning self.old }
         requires none { HoldsNone self.old.rows self.old.contents }
-        ensures next { IfOk result (λ p. StandsAt p self.new self.new.counts.turns × HasTables self.new) }
-        ensures goes_on { IfOk result GoesOn }
-        ensures held { IsHeld self.old self.new }
+        ensures turns { TurnsOn self.old self.new result }
         ensures source { Spares 1 result }
-        ensures dest_told { D.told dest.new ≡ None }
-        ensures dest { Counts 2 (D.failed dest.old) (D.failed dest.new) result }
-        ensures log { Counts 3 (L.failed log.old) (L.failed log.new) result }
-        ensures told { Tells (L.told log.old) (L.told log.new) self.old.counts self.new.counts result }
-        ensures turn { IsOfTurn result }
+        ensures dest { LeavesDest (D.told dest.new) (D.failed dest.old) (D.failed dest.new) result }
+        ensures log { LeavesLog (L.told log.old) (L.told log.new) (L.failed log.old) (L.failed log.new) self.old.counts self.new.counts result }
     {
         let layout = self.job.layout;
         let place = layout.place(self.alloc, id.as_str().as_bytes())?;
@@ -155,18 +133,12 @@ impl State {
         place: &NamePath,
         log: &mut L,
     ) -> Result<Phase, Fault>
-        requires lines { lines_put self.old.counts < self.old.counts.turns }
-        requires few { self.old.counts.turns ≤ 2 ^ 40 }
-        requires tables { HasTables self.old }
+        requires turning { IsTurning self.old }
         requires none { HoldsNone self.old.rows self.old.contents }
-        ensures next { IfOk result (λ p. StandsAt p self.new self.new.counts.turns × HasTables self.new) }
-        ensures goes_on { IfOk result GoesOn }
-        ensures held { IsHeld self.old self.new }
+        ensures turns { TurnsOn self.old self.new result }
         ensures source { Spares 1 result }
         ensures dest { Spares 2 result }
-        ensures log { Counts 3 (L.failed log.old) (L.failed log.new) result }
-        ensures told { Tells (L.told log.old) (L.told log.new) self.old.counts self.new.counts result }
-        ensures turn { IsOfTurn result }
+        ensures log { LeavesLog (L.told log.old) (L.told log.new) (L.failed log.old) (L.failed log.new) self.old.counts self.new.counts result }
     {
         let at = match self.directory(index) {
             Some(name) => entry_of(site, name)?,
@@ -189,18 +161,12 @@ impl State {
         cause: Cause,
         log: &mut L,
     ) -> Result<Phase, Fault>
-        requires lines { lines_put self.old.counts < self.old.counts.turns }
-        requires few { self.old.counts.turns ≤ 2 ^ 40 }
-        requires tables { HasTables self.old }
+        requires turning { IsTurning self.old }
         requires none { HoldsNone self.old.rows self.old.contents }
-        ensures next { IfOk result (λ p. StandsAt p self.new self.new.counts.turns × HasTables self.new) }
-        ensures goes_on { IfOk result GoesOn }
-        ensures held { IsHeld self.old self.new }
+        ensures turns { TurnsOn self.old self.new result }
         ensures source { Spares 1 result }
         ensures dest { Spares 2 result }
-        ensures log { Counts 3 (L.failed log.old) (L.failed log.new) result }
-        ensures told { Tells (L.told log.old) (L.told log.new) self.old.counts self.new.counts result }
-        ensures turn { IsOfTurn result }
+        ensures log { LeavesLog (L.told log.old) (L.told log.new) (L.failed log.old) (L.failed log.new) self.old.counts self.new.counts result }
     {
         lines::put_skip(self.alloc, log, site, cause, &mut self.counts)?;
         Ok(Phase::Walk)

@@ -1,11 +1,10 @@
-#![tactic(auto, using(crate::proofs::Calls::calls, crate::proofs::Held::held, crate::proofs::Tables::tables, crate::proofs::Tables::totals, crate::proofs::Telling::telling, crate::proofs::UnderWay::under_way))]
+#![tactic(auto, using(crate::proofs::Calls::calls, crate::proofs::Held::held, crate::proofs::Tables::tables, crate::proofs::Tables::totals, crate::proofs::Telling::telling, crate::proofs::Turned::turning_dest, crate::proofs::Turned::turning, crate::proofs::UnderWay::under_way))]
 // Bringing an object from `staging` to its place in the storage root.
 ghost use Rattle.std.specs.Prelude.{◌≡◌, ◌<◌, ◌≤◌, ◌+◌, ◌-◌, ◌^◌, None, IfOk, length, take};
 ghost use Rattle.pt_plan.specs.declared.phase.Phase.TheVariants as phase;
-ghost use Rattle.pt_move.specs.Counting.{AtMostCalls, Counts, IsOfTurn, Spares};
-ghost use Rattle.pt_move.specs.Fits.{HasTables, StandsAt, lines_put, total_length as total_length_of};
-ghost use Rattle.pt_move.specs.Lines.{GoesOn, Tells};
-ghost use Rattle.pt_move.specs.Held.{IsHeld};
+ghost use Rattle.pt_move.specs.Counting.{IsOfTurn, Spares};
+ghost use Rattle.pt_move.specs.Fits.{IsTurning, StandsAt, total_length as total_length_of};
+ghost use Rattle.pt_move.specs.Turns.{LeavesDest, LeavesLog, TurnsOn};
 
 use crate::lines::Done;
 use crate::paths::{STAGING, STORAGE_ROOT, below, extended, path_of};
@@ -25,19 +24,13 @@ impl State {
         dest: &mut D,
     ) -> Result<Phase, Fault>
         requires dest { D.told dest.old ≡ None }
-        requires lines { lines_put self.old.counts < self.old.counts.turns }
-        requires few { self.old.counts.turns ≤ 2 ^ 40 }
-        requires tables { HasTables self.old }
+        requires turning { IsTurning self.old }
         requires stands { StandsAt (phase.Tuples object index) self.old (self.old.counts.turns - 1) }
-        ensures next { IfOk result (λ p. StandsAt p self.new self.new.counts.turns × HasTables self.new) }
-        ensures goes_on { IfOk result GoesOn }
-        ensures held { IsHeld self.old self.new }
+        ensures turns { TurnsOn self.old self.new result }
         ensures source { Spares 1 result }
-        ensures dest_told { D.told dest.new ≡ None }
-        ensures dest { Counts 2 (D.failed dest.old) (D.failed dest.new) result }
+        ensures dest { LeavesDest (D.told dest.new) (D.failed dest.old) (D.failed dest.new) result }
         ensures log { Spares 3 result }
         ensures counts { self.new.counts ≡ self.old.counts }
-        ensures turn { IsOfTurn result }
     {
         let count = self.job.layout.count() as usize;
         let root = path_of(self.alloc, &[STORAGE_ROOT])?;
@@ -57,19 +50,13 @@ impl State {
     // Renames `staging` to an object's place.
     pub(crate) fn rename<D: Dest>(&mut self, object: Object, dest: &mut D) -> Result<Phase, Fault>
         requires dest { D.told dest.old ≡ None }
-        requires lines { lines_put self.old.counts < self.old.counts.turns }
-        requires few { self.old.counts.turns ≤ 2 ^ 40 }
-        requires tables { HasTables self.old }
+        requires turning { IsTurning self.old }
         requires stands { StandsAt (phase.Rename object) self.old (self.old.counts.turns - 1) }
-        ensures next { IfOk result (λ p. StandsAt p self.new self.new.counts.turns × HasTables self.new) }
-        ensures goes_on { IfOk result GoesOn }
-        ensures held { IsHeld self.old self.new }
+        ensures turns { TurnsOn self.old self.new result }
         ensures source { Spares 1 result }
-        ensures dest_told { D.told dest.new ≡ None }
-        ensures dest { Counts 2 (D.failed dest.old) (D.failed dest.new) result }
+        ensures dest { LeavesDest (D.told dest.new) (D.failed dest.old) (D.failed dest.new) result }
         ensures log { Spares 3 result }
         ensures counts { self.new.counts ≡ self.old.counts }
-        ensures turn { IsOfTurn result }
     {
         let from = path_of(self.alloc, &[STAGING])?;
         let to = below(self.alloc, STORAGE_ROOT, &object.place)?;
@@ -79,18 +66,12 @@ impl State {
 
     // Tells that an object is done, and walks on from its site.
     pub(crate) fn tell_done<L: Log>(&mut self, object: Object, log: &mut L) -> Result<Phase, Fault>
-        requires lines { lines_put self.old.counts < self.old.counts.turns }
-        requires few { self.old.counts.turns ≤ 2 ^ 40 }
-        requires tables { HasTables self.old }
+        requires turning { IsTurning self.old }
         requires stands { StandsAt (phase.Line object) self.old (self.old.counts.turns - 1) }
-        ensures next { IfOk result (λ p. StandsAt p self.new self.new.counts.turns × HasTables self.new) }
-        ensures goes_on { IfOk result GoesOn }
-        ensures held { IsHeld self.old self.new }
+        ensures turns { TurnsOn self.old self.new result }
         ensures source { Spares 1 result }
         ensures dest { Spares 2 result }
-        ensures log { Counts 3 (L.failed log.old) (L.failed log.new) result }
-        ensures told { Tells (L.told log.old) (L.told log.new) self.old.counts self.new.counts result }
-        ensures turn { IsOfTurn result }
+        ensures log { LeavesLog (L.told log.old) (L.told log.new) (L.failed log.old) (L.failed log.new) self.old.counts self.new.counts result }
     {
         let at = self.object_path(&object)?;
         let line = Done {

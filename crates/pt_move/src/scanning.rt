@@ -1,11 +1,11 @@
-#![tactic(auto, using(crate::proofs::Calls::calls, crate::proofs::Held::held, crate::proofs::Leaving::leaving, crate::proofs::Limits::limits, crate::proofs::Tables::tables, crate::proofs::Telling::telling, crate::proofs::UnderWay::under_way))]
+#![tactic(auto, using(crate::proofs::Calls::calls, crate::proofs::Held::held, crate::proofs::Leaving::leaving, crate::proofs::Limits::limits, crate::proofs::Tables::tables, crate::proofs::Telling::telling, crate::proofs::Turned::turning, crate::proofs::UnderWay::under_way))]
 // Scanning an object: each of its files is read once, for its digest and its length.
 ghost use Rattle.std.specs.Prelude.{◌≡◌, ◌<◌, ◌≤◌, ◌-◌, ◌+◌, ◌^◌, [], None, IfOk, IsSome, IsTrue, OnOk, drop, length};
 ghost use Rattle.pt_plan.specs.declared.phase.Phase.TheVariants as phase;
-ghost use Rattle.pt_move.specs.Counting.{AtMostCalls, Counts, IsOfTurn, Spares};
-ghost use Rattle.pt_move.specs.Fits.{AreTables, HasRoom, HasTables, IsUnderWay, StandsAt, lines_put};
-ghost use Rattle.pt_move.specs.Lines.{GoesOn, Tells};
-ghost use Rattle.pt_move.specs.Held.{Gains, IsHeld};
+ghost use Rattle.pt_move.specs.Counting.{Spares};
+ghost use Rattle.pt_move.specs.Fits.{AreTables, HasRoom, IsTurning, IsUnderWay, StandsAt};
+ghost use Rattle.pt_move.specs.Held.{Gains};
+ghost use Rattle.pt_move.specs.Turns.{LeavesLog, LeavesSource, TurnsOn};
 ghost use Rattle.pt_walk.specs.Trail.{current_entry, is_dir_entry, sought};
 
 use crate::paths::{PAIRTREE_ROOT, below, extended};
@@ -26,20 +26,12 @@ impl State {
         log: &mut L,
     ) -> Result<Phase, Fault>
         requires source { S.told source.old ≡ None }
-        requires lines { lines_put self.old.counts < self.old.counts.turns }
-        requires few { self.old.counts.turns ≤ 2 ^ 40 }
-        requires tables { HasTables self.old }
+        requires turning { IsTurning self.old }
         requires stands { StandsAt (phase.OpenObject object) self.old (self.old.counts.turns - 1) }
-        ensures next { IfOk result (λ p. StandsAt p self.new self.new.counts.turns × HasTables self.new) }
-        ensures goes_on { IfOk result GoesOn }
-        ensures held { IsHeld self.old self.new }
-        ensures source_told { S.told source.new ≡ None }
-        ensures source { Counts 1 (S.failed source.old) (S.failed source.new) result }
+        ensures turns { TurnsOn self.old self.new result }
+        ensures source { LeavesSource 1 (S.told source.new) (S.failed source.old) (S.failed source.new) (S.called source.old) (S.called source.new) result }
         ensures dest { Spares 2 result }
-        ensures log { Counts 3 (L.failed log.old) (L.failed log.new) result }
-        ensures told { Tells (L.told log.old) (L.told log.new) self.old.counts self.new.counts result }
-        ensures turn { IsOfTurn result }
-        ensures calls { AtMostCalls 1 (S.called source.old) (S.called source.new) }
+        ensures log { LeavesLog (L.told log.old) (L.told log.new) (L.failed log.old) (L.failed log.new) self.old.counts self.new.counts result }
     {
         if object.gathered {
             self.trail.seek(0);
@@ -56,20 +48,12 @@ impl State {
         log: &mut L,
     ) -> Result<Phase, Fault>
         requires source { S.told source.old ≡ None }
-        requires lines { lines_put self.old.counts < self.old.counts.turns }
-        requires few { self.old.counts.turns ≤ 2 ^ 40 }
-        requires tables { HasTables self.old }
+        requires turning { IsTurning self.old }
         requires stands { StandsAt (phase.Scan object) self.old (self.old.counts.turns - 1) }
-        ensures next { IfOk result (λ p. StandsAt p self.new self.new.counts.turns × HasTables self.new) }
-        ensures goes_on { IfOk result GoesOn }
-        ensures held { IsHeld self.old self.new }
-        ensures source_told { S.told source.new ≡ None }
-        ensures source { Counts 1 (S.failed source.old) (S.failed source.new) result }
+        ensures turns { TurnsOn self.old self.new result }
+        ensures source { LeavesSource 1 (S.told source.new) (S.failed source.old) (S.failed source.new) (S.called source.old) (S.called source.new) result }
         ensures dest { Spares 2 result }
-        ensures log { Counts 3 (L.failed log.old) (L.failed log.new) result }
-        ensures told { Tells (L.told log.old) (L.told log.new) self.old.counts self.new.counts result }
-        ensures turn { IsOfTurn result }
-        ensures calls { AtMostCalls 1 (S.called source.old) (S.called source.new) }
+        ensures log { LeavesLog (L.told log.old) (L.told log.new) (L.failed log.old) (L.failed log.new) self.old.counts self.new.counts result }
     {
         let in_site = self.trail.len() == object.site;
         match self.trail.current() {
@@ -102,19 +86,11 @@ impl State {
         requires current { IsTrue (is_dir_entry (current_entry self.old.trail)) }
         requires object { IsUnderWay object self.old.trail (self.old.counts.turns - 1) }
         requires source { S.told source.old ≡ None }
-        requires lines { lines_put self.old.counts < self.old.counts.turns }
-        requires few { self.old.counts.turns ≤ 2 ^ 40 }
-        requires tables { HasTables self.old }
-        ensures next { IfOk result (λ p. StandsAt p self.new self.new.counts.turns × HasTables self.new) }
-        ensures goes_on { IfOk result GoesOn }
-        ensures held { IsHeld self.old self.new }
-        ensures source_told { S.told source.new ≡ None }
-        ensures source { Counts 1 (S.failed source.old) (S.failed source.new) result }
+        requires turning { IsTurning self.old }
+        ensures turns { TurnsOn self.old self.new result }
+        ensures source { LeavesSource 1 (S.told source.new) (S.failed source.old) (S.failed source.new) (S.called source.old) (S.called source.new) result }
         ensures dest { Spares 2 result }
-        ensures log { Counts 3 (L.failed log.old) (L.failed log.new) result }
-        ensures told { Tells (L.told log.old) (L.told log.new) self.old.counts self.new.counts result }
-        ensures turn { IsOfTurn result }
-        ensures calls { AtMostCalls 1 (S.called source.old) (S.called source.new) }
+        ensures log { LeavesLog (L.told log.old) (L.told log.new) (L.failed log.old) (L.failed log.new) self.old.counts self.new.counts result }
     {
         if self.trail.len() as u64 > self.job.limits.depth() {
             return self.give_up(object, Cause::Limit, log);
@@ -135,19 +111,11 @@ impl State {
         requires current { IsSome (current_entry self.old.trail) }
         requires object { IsUnderWay object self.old.trail (self.old.counts.turns - 1) }
         requires source { S.told source.old ≡ None }
-        requires lines { lines_put self.old.counts < self.old.counts.turns }
-        requires few { self.old.counts.turns ≤ 2 ^ 40 }
-        requires tables { HasTables self.old }
-        ensures next { IfOk result (λ p. StandsAt p self.new self.new.counts.turns × HasTables self.new) }
-        ensures goes_on { IfOk result GoesOn }
-        ensures held { IsHeld self.old self.new }
-        ensures source_told { S.told source.new ≡ None }
-        ensures source { Counts 1 (S.failed source.old) (S.failed source.new) result }
+        requires turning { IsTurning self.old }
+        ensures turns { TurnsOn self.old self.new result }
+        ensures source { LeavesSource 1 (S.told source.new) (S.failed source.old) (S.failed source.new) (S.called source.old) (S.called source.new) result }
         ensures dest { Spares 2 result }
-        ensures log { Counts 3 (L.failed log.old) (L.failed log.new) result }
-        ensures told { Tells (L.told log.old) (L.told log.new) self.old.counts self.new.counts result }
-        ensures turn { IsOfTurn result }
-        ensures calls { AtMostCalls 1 (S.called source.old) (S.called source.new) }
+        ensures log { LeavesLog (L.told log.old) (L.told log.new) (L.failed log.old) (L.failed log.new) self.old.counts self.new.counts result }
     {
         let limits = self.job.limits;
         if self.rows.len() as u64 >= limits.files() {
@@ -173,20 +141,12 @@ impl State {
         log: &mut L,
     ) -> Result<Phase, Fault>
         requires source { S.told source.old ≡ None }
-        requires lines { lines_put self.old.counts < self.old.counts.turns }
-        requires few { self.old.counts.turns ≤ 2 ^ 40 }
-        requires tables { HasTables self.old }
+        requires turning { IsTurning self.old }
         requires stands { StandsAt (phase.Read object bytes) self.old (self.old.counts.turns - 1) }
-        ensures next { IfOk result (λ p. StandsAt p self.new self.new.counts.turns × HasTables self.new) }
-        ensures goes_on { IfOk result GoesOn }
-        ensures held { IsHeld self.old self.new }
-        ensures source_told { S.told source.new ≡ None }
-        ensures source { Counts 1 (S.failed source.old) (S.failed source.new) result }
+        ensures turns { TurnsOn self.old self.new result }
+        ensures source { LeavesSource 1 (S.told source.new) (S.failed source.old) (S.failed source.new) (S.called source.old) (S.called source.new) result }
         ensures dest { Spares 2 result }
-        ensures log { Counts 3 (L.failed log.old) (L.failed log.new) result }
-        ensures told { Tells (L.told log.old) (L.told log.new) self.old.counts self.new.counts result }
-        ensures turn { IsOfTurn result }
-        ensures calls { AtMostCalls 1 (S.called source.old) (S.called source.new) }
+        ensures log { LeavesLog (L.told log.old) (L.told log.new) (L.failed log.old) (L.failed log.new) self.old.counts self.new.counts result }
     {
         devices::next(source, &mut self.block)?;
         if self.block.is_empty() {
@@ -232,17 +192,11 @@ impl State {
     // Tells why an object isn't carried, and goes back to its site.
     fn give_up<L: Log>(&mut self, object: Object, cause: Cause, log: &mut L) -> Result<Phase, Fault>
         requires object { IsUnderWay object self.old.trail (self.old.counts.turns - 1) }
-        requires lines { lines_put self.old.counts < self.old.counts.turns }
-        requires few { self.old.counts.turns ≤ 2 ^ 40 }
-        requires tables { HasTables self.old }
-        ensures next { IfOk result (λ p. StandsAt p self.new self.new.counts.turns × HasTables self.new) }
-        ensures goes_on { IfOk result GoesOn }
-        ensures held { IsHeld self.old self.new }
+        requires turning { IsTurning self.old }
+        ensures turns { TurnsOn self.old self.new result }
         ensures source { Spares 1 result }
         ensures dest { Spares 2 result }
-        ensures log { Counts 3 (L.failed log.old) (L.failed log.new) result }
-        ensures told { Tells (L.told log.old) (L.told log.new) self.old.counts self.new.counts result }
-        ensures turn { IsOfTurn result }
+        ensures log { LeavesLog (L.told log.old) (L.told log.new) (L.failed log.old) (L.failed log.new) self.old.counts self.new.counts result }
     {
         let path = self.site_path(&object)?;
         lines::put_skip(self.alloc, log, &path, cause, &mut self.counts)?;

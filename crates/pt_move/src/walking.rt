@@ -1,11 +1,12 @@
-#![tactic(auto, using(crate::proofs::Calls::calls, crate::proofs::Held::held, crate::proofs::Tables::tables, crate::proofs::Telling::telling, crate::proofs::UnderWay::under_way))]
+#![tactic(auto, using(crate::proofs::Calls::calls, crate::proofs::Held::held, crate::proofs::Tables::tables, crate::proofs::Telling::telling, crate::proofs::Turned::turning, crate::proofs::UnderWay::under_way))]
 // Walking the sites of a Pairtree.
 ghost use Rattle.std.specs.Prelude.{◌≡◌, ◌<◌, ◌≤◌, ◌-◌, ◌^◌, None, IfOk, IsTrue};
 ghost use Rattle.pt_plan.specs.declared.phase.Phase.TheVariants as phase;
 ghost use Rattle.pt_move.specs.Counting.{AtMostCalls, Counts, IsOfTurn, Spares};
-ghost use Rattle.pt_move.specs.Fits.{HasTables, HoldsNone, StandsAt, lines_put};
+ghost use Rattle.pt_move.specs.Fits.{HasTables, HoldsNone, IsTurning, StandsAt};
 ghost use Rattle.pt_move.specs.Lines.{EndsTold, GoesOn, Tells};
 ghost use Rattle.pt_move.specs.Held.{IsHeld};
+ghost use Rattle.pt_move.specs.Turns.{LeavesLog, LeavesSource, TurnsOn};
 ghost use Rattle.pt_walk.specs.Trail.{current_entry, is_dir_entry};
 
 use crate::paths::{PAIRTREE_ROOT, below, entry_of, path_of};
@@ -19,9 +20,7 @@ impl State {
     // Lists `pairtree_root` and enters it.
     pub(crate) fn open_root<S: Source>(&mut self, source: &mut S) -> Result<Phase, Fault>
         requires source { S.told source.old ≡ None }
-        requires lines { lines_put self.old.counts < self.old.counts.turns }
-        requires few { self.old.counts.turns ≤ 2 ^ 40 }
-        requires tables { HasTables self.old }
+        requires turning { IsTurning self.old }
         requires stands { StandsAt phase.OpenRoot self.old (self.old.counts.turns - 1) }
         ensures next { IfOk result (λ p. StandsAt p self.new self.new.counts.turns × HasTables self.new) }
         ensures goes_on { IfOk result GoesOn }
@@ -47,20 +46,12 @@ impl State {
         log: &mut L,
     ) -> Result<Phase, Fault>
         requires source { S.told source.old ≡ None }
-        requires lines { lines_put self.old.counts < self.old.counts.turns }
-        requires few { self.old.counts.turns ≤ 2 ^ 40 }
-        requires tables { HasTables self.old }
+        requires turning { IsTurning self.old }
         requires stands { StandsAt phase.Walk self.old (self.old.counts.turns - 1) }
-        ensures next { IfOk result (λ p. StandsAt p self.new self.new.counts.turns × HasTables self.new) }
-        ensures goes_on { IfOk result GoesOn }
-        ensures held { IsHeld self.old self.new }
-        ensures source_told { S.told source.new ≡ None }
-        ensures source { Counts 1 (S.failed source.old) (S.failed source.new) result }
+        ensures turns { TurnsOn self.old self.new result }
+        ensures source { LeavesSource 1 (S.told source.new) (S.failed source.old) (S.failed source.new) (S.called source.old) (S.called source.new) result }
         ensures dest { Spares 2 result }
-        ensures log { Counts 3 (L.failed log.old) (L.failed log.new) result }
-        ensures told { Tells (L.told log.old) (L.told log.new) self.old.counts self.new.counts result }
-        ensures turn { IsOfTurn result }
-        ensures calls { AtMostCalls 1 (S.called source.old) (S.called source.new) }
+        ensures log { LeavesLog (L.told log.old) (L.told log.new) (L.failed log.old) (L.failed log.new) self.old.counts self.new.counts result }
     {
         match self.trail.current() {
             Some((name, kind)) if is_shorty(name, kind) => return self.shorty(source, log),
@@ -78,20 +69,12 @@ impl State {
     fn shorty<S: Source, L: Log>(&mut self, source: &mut S, log: &mut L) -> Result<Phase, Fault>
         requires current { IsTrue (is_dir_entry (current_entry self.old.trail)) }
         requires source { S.told source.old ≡ None }
-        requires lines { lines_put self.old.counts < self.old.counts.turns }
-        requires few { self.old.counts.turns ≤ 2 ^ 40 }
-        requires tables { HasTables self.old }
+        requires turning { IsTurning self.old }
         requires none { HoldsNone self.old.rows self.old.contents }
-        ensures next { IfOk result (λ p. StandsAt p self.new self.new.counts.turns × HasTables self.new) }
-        ensures goes_on { IfOk result GoesOn }
-        ensures held { IsHeld self.old self.new }
-        ensures source_told { S.told source.new ≡ None }
-        ensures source { Counts 1 (S.failed source.old) (S.failed source.new) result }
+        ensures turns { TurnsOn self.old self.new result }
+        ensures source { LeavesSource 1 (S.told source.new) (S.failed source.old) (S.failed source.new) (S.called source.old) (S.called source.new) result }
         ensures dest { Spares 2 result }
-        ensures log { Counts 3 (L.failed log.old) (L.failed log.new) result }
-        ensures told { Tells (L.told log.old) (L.told log.new) self.old.counts self.new.counts result }
-        ensures turn { IsOfTurn result }
-        ensures calls { AtMostCalls 1 (S.called source.old) (S.called source.new) }
+        ensures log { LeavesLog (L.told log.old) (L.told log.new) (L.failed log.old) (L.failed log.new) self.old.counts self.new.counts result }
     {
         let site = self.trail.path()?;
         let cause = if at(&site) == At::Last {
@@ -139,9 +122,7 @@ impl State {
 
     // Tells that the run is done.
     pub(crate) fn end<L: Log>(&mut self, log: &mut L) -> Result<Phase, Fault>
-        requires lines { lines_put self.old.counts < self.old.counts.turns }
-        requires few { self.old.counts.turns ≤ 2 ^ 40 }
-        requires tables { HasTables self.old }
+        requires turning { IsTurning self.old }
         requires stands { StandsAt phase.End self.old (self.old.counts.turns - 1) }
         ensures next { IfOk result (λ p. StandsAt p self.new self.new.counts.turns × HasTables self.new) }
         ensures ends { IfOk result (λ p. EndsTold p (L.told log.old) (L.told log.new) self.old.counts self.new.counts) }
