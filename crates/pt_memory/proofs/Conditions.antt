@@ -20,22 +20,25 @@ lent_is_some (Some b) o is = ap is_some is
 pub can_open : (s : Reading) (p : Path) (r : Option (Bor (List ℕ))) (answer : Bool) → answer ≡ is_some r → option_copied r ≡ file_at s.tree p → IsTrue answer ↔ CanOpen (Some s) p
 unfolding CanOpen
 can_open s p r answer says is =
-    let same : answer ≡ is_some (file_at s.tree p) = says ∙ lent_is_some r _ is in
-    (λ so. λ x e. let here : s ≡ x = cc in subst (λ (x : Reading). IsSome (file_at x.tree p)) here (sym same ∙ so),
-     λ can. same ∙ can s refl)
+    let same : answer ≡ is_some (file_at s.tree p) = says ∙ lent_is_some r _ is in (
+      λ so. λ x e. let here : s ≡ x = cc in subst (λ (x : Reading). IsSome (file_at x.tree p)) here (sym same ∙ so),
+      λ can. same ∙ can s refl,
+    )
 
 pub can_list : (s : Reading) (p : Path) (answer : Bool) → answer ≡ is_some (dir_at s.tree p) → IsTrue answer ↔ CanList (Some s) p
 unfolding CanList
-can_list s p answer same =
-    (λ so. λ x e. let here : s ≡ x = cc in subst (λ (x : Reading). IsSome (dir_at x.tree p)) here (sym same ∙ so),
-     λ can. same ∙ can s refl)
+can_list s p answer same = (
+  λ so. λ x e. let here : s ≡ x = cc in subst (λ (x : Reading). IsSome (dir_at x.tree p)) here (sym same ∙ so),
+  λ can. same ∙ can s refl,
+)
 
 pub can_peek : (s : Writing) (p : Path) (r : Option (Bor (List ℕ))) (answer : Bool) → answer ≡ is_some r → option_copied r ≡ bytes_of (s.tree p) → IsTrue answer ↔ CanPeek (Some s) p
 unfolding CanPeek
 can_peek s p r answer says is =
-    let same : answer ≡ is_some (bytes_of (s.tree p)) = says ∙ lent_is_some r _ is in
-    (λ so. λ x e. let here : s ≡ x = cc in subst (λ (x : Writing). IsSome (bytes_of (x.tree p))) here (sym same ∙ so),
-     λ can. same ∙ can s refl)
+    let same : answer ≡ is_some (bytes_of (s.tree p)) = says ∙ lent_is_some r _ is in (
+      λ so. λ x e. let here : s ≡ x = cc in subst (λ (x : Writing). IsSome (bytes_of (x.tree p))) here (sym same ∙ so),
+      λ can. same ∙ can s refl,
+    )
 
 pub none_there : {A : Type 0} (r : Option A) → is_some r ≡ false → r ≡ None
 none_there None is = refl
@@ -46,9 +49,10 @@ not_true a b is so = is ∙ ap not so
 
 pub may_make : (s : Writing) (p : Path) (why : Option PlantFault) (answer : Bool) → is_some why ≡ not answer → why ≡ plant_refusal s.tree p → IsTrue answer ↔ MayMake (Some s) p
 unfolding MayMake
-may_make s p why answer says is =
-    (λ so. λ x e. let here : s ≡ x = cc in subst (λ (x : Writing). CanMake x.tree p) here (can_plant s.tree p (sym is ∙ none_there why (not_true _ answer says so))),
-     λ can. back answer (sym says ∙ ap is_some (is ∙ not_refused s.tree p (can s refl))))
+may_make s p why answer says is = (
+  λ so. λ x e. let here : s ≡ x = cc in subst (λ (x : Writing). CanMake x.tree p) here (can_plant s.tree p (sym is ∙ none_there why (not_true _ answer says so))),
+  λ can. back answer (sym says ∙ ap is_some (is ∙ not_refused s.tree p (can s refl))),
+)
   where
     back : (answer : Bool) → not answer ≡ false → answer ≡ true
     back true is = refl
@@ -76,11 +80,12 @@ pub may_move : (s : Writing) (from to : Path) (kind : Option Kind) (why : Option
     → IsTrue answer ↔ MayMove (Some s) from to
 unfolding MayMake MayMove
 may_move s from to kind why answer says is kind_is some apart =
-    let make = may_make s to why answer says is in
-    (λ so. λ x e.
-      let here : s ≡ x = cc in
-      subst (λ (x : Writing). CanMove x.tree from to) here (record { stands = some_from (s.tree from) kind_of_entry (sym (ap is_some kind_is) ∙ some); target = can_plant s.tree to (sym is ∙ none_there why (not_true _ answer says so)); apart = apart }),
-     λ can. make.1 (makes s to (can s refl).target))
+    let make = may_make s to why answer says is in (
+      λ so. λ x e.
+          let here : s ≡ x = cc in
+          subst (λ (x : Writing). CanMove x.tree from to) here (record { stands = some_from (s.tree from) kind_of_entry (sym (ap is_some kind_is) ∙ some); target = can_plant s.tree to (sym is ∙ none_there why (not_true _ answer says so)); apart = apart }),
+      λ can. make.1 (makes s to (can s refl).target),
+    )
   where
     makes : (s : Writing) (to : Path) → CanMake s.tree to → MayMake (Some s) to
     makes s to can = λ x e. let here : s ≡ x = cc in subst (λ (x : Writing). CanMake x.tree to) here can
