@@ -1,6 +1,6 @@
 -- What a hasher that was fed an inventory gives for its sidecar.
-use Rattle.std.proofs.Common.{◌≡◌, ℕ, List, [], ◌++◌, subst, sym, ap, ◌∙◌}
-use Rattle.std.specs.Prelude.{Result, Ok, Err, IfOk, ⊤}
+use Rattle.std.proofs.Common.{◌≡◌, ℕ, List, [], ◌++◌, subst, ap, ◌∙◌}
+use Rattle.std.specs.Prelude.{Result, Ok, Err, IfOk}
 use Rattle.pt_object.specs.Algorithm.{digest_of}
 use Rattle.pt_object.specs.Files.{sidecar_line}
 use Rattle.pt_object.specs.Hasher.{HasBeenFed}

@@ -14,17 +14,11 @@ returns-clause-turns g c =
     (under_way_same _ _ _ _ _ c.requires.object refl (omega (arith)), (c.requires.current, (room_for c.args.self.now.job.limits _ c.files.ensures.limits (omega (arith, fewer, held, most)), omega (arith))))
     c.requires.turning.tables tt refl refl refl refl refl refl
 
-pub returns-in_err-logical_path : goal.returns-in_err-logical_path
-returns-in_err-logical_path g c = raised c.from_residual.ensures.1 memory_spares c.requires.source refl
-
 pub returns-in_err-text : goal.returns-in_err-text
 returns-in_err-text g c = raised c.from_residual-in_err-text.ensures.1 memory_spares c.requires.source refl
 
 pub returns-in_err-path : goal.returns-in_err-path
 returns-in_err-path g c = raised c.from_residual-in_err-path.ensures.1 memory_spares c.requires.source refl
-
-pub returns-in_err-entry_path : goal.returns-in_err-entry_path
-returns-in_err-entry_path g c = raised c.from_residual-in_err-entry_path.ensures.1 (record { source = c.in_err-entry_path.ensures.source; dest = c.in_err-entry_path.ensures.dest; log = c.in_err-entry_path.ensures.log; turn = c.in_err-entry_path.ensures.turn }) c.requires.source refl
 
 pub returns-in_err-open : goal.returns-in_err-open
 returns-in_err-open g c =
