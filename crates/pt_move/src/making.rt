@@ -1,14 +1,13 @@
-#![tactic(auto, using(crate::proofs::Calls::calls, crate::proofs::Held::held, crate::proofs::Sidecars::inventory_fed, crate::proofs::Tables::tables, crate::proofs::UnderWay::under_way))]
+#![tactic(auto, using(crate::proofs::Calls::calls, crate::proofs::Held::held, crate::proofs::Sidecars::inventory_fed, crate::proofs::Tables::tables, crate::proofs::Turned::turning_dest, crate::proofs::Turned::turning, crate::proofs::UnderWay::under_way))]
 // Making an object in `staging`, one part a turn.
 ghost use Rattle.std.specs.Prelude.{◌≡◌, ◌<◌, ◌≤◌, ◌-◌, ◌^◌, [], None, IfOk, true, length};
 ghost use Rattle.std.specs.String.{string_bytes};
 ghost use Rattle.pt_object.specs.Inventory.{inventory_text};
 ghost use Rattle.pt_plan.specs.declared.object.Object.{Object};
 ghost use Rattle.pt_plan.specs.declared.phase.Phase.TheVariants as phase;
-ghost use Rattle.pt_move.specs.Counting.{AtMostCalls, Counts, IsOfTurn, Spares};
-ghost use Rattle.pt_move.specs.Fits.{HasFedInventory, HasTables, IsReadyFor, IsSidecarOf, IsUnderWay, StandsAt, lines_put};
-ghost use Rattle.pt_move.specs.Lines.{GoesOn};
-ghost use Rattle.pt_move.specs.Held.{IsHeld};
+ghost use Rattle.pt_move.specs.Counting.{Counts, IsOfTurn, Spares};
+ghost use Rattle.pt_move.specs.Fits.{HasFedInventory, HasTables, IsReadyFor, IsSidecarOf, IsTurning, IsUnderWay, StandsAt};
+ghost use Rattle.pt_move.specs.Turns.{LeavesDest, LeavesSource, TurnsOn};
 
 use crate::files::put_file;
 use crate::paths::{PAIRTREE_ROOT, STAGING, extended, path_of, with_names};
@@ -31,54 +30,48 @@ impl State {
     ) -> Result<Phase, Fault>
         requires source { S.told source.old ≡ None }
         requires dest { D.told dest.old ≡ None }
-        requires lines { lines_put self.old.counts < self.old.counts.turns }
-        requires few { self.old.counts.turns ≤ 2 ^ 40 }
-        requires tables { HasTables self.old }
+        requires turning { IsTurning self.old }
         requires stands { StandsAt (phase.Make object part) self.old (self.old.counts.turns - 1) }
-        ensures next { IfOk result (λ p. StandsAt p self.new self.new.counts.turns × HasTables self.new) }
-        ensures goes_on { IfOk result GoesOn }
-        ensures held { IsHeld self.old self.new }
-        ensures source_told { S.told source.new ≡ None }
-        ensures source { Counts 1 (S.failed source.old) (S.failed source.new) result }
-        ensures dest_told { D.told dest.new ≡ None }
-        ensures dest { Counts 2 (D.failed dest.old) (D.failed dest.new) result }
+        ensures turns { TurnsOn self.old self.new result }
+        ensures source { LeavesSource 1 (S.told source.new) (S.failed source.old) (S.failed source.new) (S.called source.old) (S.called source.new) result }
+        ensures dest { LeavesDest (D.told dest.new) (D.failed dest.old) (D.failed dest.new) result }
         ensures log { Spares 3 result }
         ensures counts { self.new.counts ≡ self.old.counts }
-        ensures turn { IsOfTurn result }
-        ensures calls { AtMostCalls 1 (S.called source.old) (S.called source.new) }
     {
-        let next = match part {
-            Part::Content(position) => return self.make_content(object, position, source, dest),
-            Part::Staging | Part::Version => self.make_directory(part, dest)?,
+        match part {
+            Part::Content(position) => self.make_content(object, position, source, dest),
+            Part::Staging | Part::Version => {
+                let next = self.make_directory(part, dest)?;
+                Ok(Phase::Make(object, next))
+            }
             Part::Declaration => {
                 let path = self.staged(&["0=ocfl_object_1.1"])?;
                 put_file(dest, &path, object_declaration())?;
-                Part::Version
+                Ok(Phase::Make(object, Part::Version))
             }
             Part::VersionInventory => {
                 self.hasher = self.put_inventory(&object, &["v1", "inventory.json"], dest)?;
-                Part::VersionSidecar
+                Ok(Phase::Make(object, Part::VersionSidecar))
             }
             Part::VersionSidecar => {
                 let hasher = mem::replace(&mut self.hasher, Hasher::start(self.job.algorithm));
                 self.put_sidecar(hasher, &["v1"], dest)?;
-                Part::Inventory
+                Ok(Phase::Make(object, Part::Inventory))
             }
             Part::Inventory => {
                 self.hasher = self.put_inventory(&object, &["inventory.json"], dest)?;
-                Part::Sidecar
+                Ok(Phase::Make(object, Part::Sidecar))
             }
             Part::Sidecar => {
                 let hasher = mem::replace(&mut self.hasher, Hasher::start(self.job.algorithm));
                 self.put_sidecar(hasher, &[], dest)?;
-                return Ok(if self.job.layout.count() == 0 {
+                Ok(if self.job.layout.count() == 0 {
                     Phase::Rename(object)
                 } else {
                     Phase::Tuples(object, 0)
-                });
+                })
             }
-        };
-        Ok(Phase::Make(object, next))
+        }
     }
 
     fn make_directory<D: Dest>(&self, part: Part, dest: &mut D) -> Result<Part, Fault>
@@ -127,20 +120,12 @@ impl State {
         requires object { IsUnderWay object self.old.trail (self.old.counts.turns - 1) }
         requires source { S.told source.old ≡ None }
         requires dest { D.told dest.old ≡ None }
-        requires lines { lines_put self.old.counts < self.old.counts.turns }
-        requires few { self.old.counts.turns ≤ 2 ^ 40 }
-        requires tables { HasTables self.old }
-        ensures next { IfOk result (λ p. StandsAt p self.new self.new.counts.turns × HasTables self.new) }
-        ensures goes_on { IfOk result GoesOn }
-        ensures held { IsHeld self.old self.new }
-        ensures source_told { S.told source.new ≡ None }
-        ensures source { Counts 1 (S.failed source.old) (S.failed source.new) result }
-        ensures dest_told { D.told dest.new ≡ None }
-        ensures dest { Counts 2 (D.failed dest.old) (D.failed dest.new) result }
+        requires turning { IsTurning self.old }
+        ensures turns { TurnsOn self.old self.new result }
+        ensures source { LeavesSource 1 (S.told source.new) (S.failed source.old) (S.failed source.new) (S.called source.old) (S.called source.new) result }
+        ensures dest { LeavesDest (D.told dest.new) (D.failed dest.old) (D.failed dest.new) result }
         ensures log { Spares 3 result }
         ensures counts { self.new.counts ≡ self.old.counts }
-        ensures turn { IsOfTurn result }
-        ensures calls { AtMostCalls 1 (S.called source.old) (S.called source.new) }
     {
         let rows = self.rows.len();
         let Some(row) = self.rows.get(position.row) else {
