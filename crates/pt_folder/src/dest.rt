@@ -1,6 +1,5 @@
-ghost use Rattle.std.specs.Prelude.{◌≡◌, ◌+◌, ◌<◌, [], None, Err, IfErr, IfOk, IfNone, IfSome, OnOk, OnErr, cond, drop, is_some, length};
+ghost use Rattle.std.specs.Prelude.{◌≡◌, [], None, Err, IfErr, IfOk, IfNone, IfSome, OnOk, OnErr};
 ghost use Rattle.std.specs.Option.{option_map};
-ghost use Rattle.pt_tree.specs.Path.{rest_below};
 ghost use Rattle.pt_tree.specs.declared.faults.TreeFault.TheVariants.{Device};
 ghost use Rattle.pt_folder.specs.Folder.{entry_text};
 ghost use Rattle.pt_folder.specs.Calls.{AsksOnce, IsAnswer, LeadsToKind, for_making, for_reading};
@@ -237,7 +236,6 @@ fn close<F: Drop>(writing: &mut Option<Writing<F>>) -> Result<(), TreeFault>
 }
 
 // Moves what stands at a path, and closes the file that is open there or below.
-// Moves an entry, and closes the open file if it was at or below it.
 fn rename<S: System>(
     system: &mut S,
     folder: &Folder<'_>,
@@ -265,35 +263,8 @@ fn close_within<F: Drop>(writing: &mut Option<Writing<F>>, path: &NamePath)
     ensures { writing.new ≡ open_unless_within path.now writing.old }
 {
     if let Some(open) = writing {
-        if is_within(&open.path, path) {
+        if open.path.is_within(path) {
             *writing = None;
         }
-    }
-}
-
-// Whether a path is at or below another.
-#[tactic(auto, using(crate::proofs::Paths::all_agree))]
-fn is_within(path: &NamePath, above: &NamePath) -> bool
-    ensures { result ≡ is_some (rest_below above.now path.now) }
-{
-    for i in 0..above.len() {
-        if !agrees(path, above, i) {
-            return false;
-        }
-    }
-    true
-}
-
-// Whether a path has the name of another at a place that the other has.
-fn agrees(path: &NamePath, above: &NamePath, i: usize) -> bool
-    requires { i < length above.now }
-    ensures { rest_below (drop i above.now) (drop i path.now) ≡ cond result (rest_below (drop (i + 1) above.now) (drop (i + 1) path.now)) None }
-{
-    let Some(other) = path.get(i) else {
-        return false;
-    };
-    match above.get(i) {
-        Some(name) => name.bytes() == other.bytes(),
-        None => false,
     }
 }
