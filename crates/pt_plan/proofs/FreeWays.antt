@@ -16,7 +16,7 @@ use Rattle.pt_plan.proofs.PlaceShapes.{new_root_ways}
 use Rattle.pt_plan.proofs.WithObjects.{none_of_objects, short_as}
 
 -- objects leave the way to a place as it was
-way_with_objects : (job : Job) (objects : List Carried) (t : Tree) (object : Carried) → is_way_free job (with_objects job objects t) object ≡ is_way_free job t object
+pub way_with_objects : (job : Job) (objects : List Carried) (t : Tree) (object : Carried) → is_way_free job (with_objects job objects t) object ≡ is_way_free job t object
 way_with_objects job objects t object = each_same (λ folder. is_folder_or_free (with_objects job objects t folder)) (λ folder. is_folder_or_free (t folder)) (tuple_folders job object) at
   where
     at : (q : Path) → is_one q (tuple_folders job object) ≡ true → is_folder_or_free (with_objects job objects t q) ≡ is_folder_or_free (t q)
@@ -36,7 +36,7 @@ none_in_the_way root [] none = refl
 none_in_the_way root (folder ∷ folders) none =
     and_from (is_folder_or_free (root folder)) (list_all (λ folder. is_folder_or_free (root folder)) folders) (ap is_folder_or_free (none folder)) (none_in_the_way root folders none)
 
-way_in_base : (job : Job) (root : Tree) (object : Carried) → IsRooted root → is_way_free job (base job.tuples root) object ≡ is_way_free job root object
+pub way_in_base : (job : Job) (root : Tree) (object : Carried) → IsRooted root → is_way_free job (base job.tuples root) object ≡ is_way_free job root object
 way_in_base job root object rooted = by (root []) refl
   where
     by : (o : Option Entry) → root [] ≡ o → is_way_free job (base_where job.tuples root o) object ≡ is_way_free job root object

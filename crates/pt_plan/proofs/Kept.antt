@@ -29,7 +29,7 @@ use Rattle.pt_plan.proofs.NextObject.{place_is_free}
 use Rattle.pt_plan.proofs.WithObjects.{in_two_lots}
 
 -- one object more, which is whole and comes to a free place
-one_comes : (job : Job) (objects : List Carried) (object : Carried) (t : Tree) → come_to_free_places job t objects ≡ true → is_whole object ≡ true → is_place_free job (with_objects job objects t) object ≡ true
+pub one_comes : (job : Job) (objects : List Carried) (object : Carried) (t : Tree) → come_to_free_places job t objects ≡ true → is_whole object ≡ true → is_place_free job (with_objects job objects t) object ≡ true
     → come_to_free_places job t (objects ++ object ∷ []) ≡ true
 one_comes job [] object t come whole free =
     and_from (is_whole object) (is_place_free job t object && true) whole

@@ -19,7 +19,7 @@ use Rattle.pt_plan.proofs.Levels.{whole_of}
 
 -- ---- a root of a destination
 
-gap_below : (t : Tree) → IsTree t → (path : Path) (q : Path) → t path ≡ None → t (path ++ q) ≡ None
+pub gap_below : (t : Tree) → IsTree t → (path : Path) (q : Path) → t path ≡ None → t (path ++ q) ≡ None
 gap_below t tree path [] none = ap t (append_nil path) ∙ none
 gap_below t tree path (name ∷ q) none = ap t (sym (append_assoc path (name ∷ []) q)) ∙ gap_below t tree (path ++ name ∷ []) q (by (t (path ++ name ∷ [])) refl)
   where

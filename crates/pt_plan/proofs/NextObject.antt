@@ -175,7 +175,7 @@ elsewhere job objects object t top q off =
     by None None true tells = refl
     by None None false tells = ap folder_where (or_false (leads q (place_of_carried job object)) ∙ tells refl)
 
-grown_at : (job : Job) (objects : List Carried) (object : Carried) (t : Tree) → is_some (t []) ≡ true → with_objects job objects t (place_of_carried job object) ≡ None
+pub grown_at : (job : Job) (objects : List Carried) (object : Carried) (t : Tree) → is_some (t []) ≡ true → with_objects job objects t (place_of_carried job object) ≡ None
     → ((rest : Path) → t (place_of_carried job object ++ rest) ≡ None) → (q : Path)
     → with_objects job (objects ++ object ∷ []) t q ≡ placed (with_folders (tuple_folders job object) (with_objects job objects t)) (place_of_carried job object) (object_of object.id object.files job.meta job.algorithm) q
 grown_at job objects object t top free gaps q = by (rest_below (place_of_carried job object) q) refl

@@ -1,18 +1,14 @@
 -- How a turn ends: the run goes on at a phase, or halts before its end.
+use Rattle.std.specs.Prelude.{Result, Ok, Err}
+use Rattle.pt_plan.specs.declared.halt.Halt.{Halt}
 use Rattle.pt_plan.specs.declared.phase.Phase.{Phase}
+use Rattle.pt_plan.specs.declared.phase.Phase.TheVariants as phase
 
--- why a run halts: a device failed; a growth was refused; the source is no store, or its prefix no prefix; something stands at `staging`; what stands in the root can't be used; a file read otherwise the second time
-pub data Halt : Type 0 where
-  Source : Halt
-  Dest : Halt
-  Log : Halt
-  Memory : Halt
-  NotPairtree : Halt
-  Prefix : Halt
-  StagingLeft : Halt
-  Target : Halt
-  Changed : Halt
+-- the next phase, or why the run halts
+abbrev pub Answer : Type 0
+Answer = Result Phase Halt
 
-pub data Answer : Type 0 where
-  Goes : (next : Phase) → Answer
-  Stops : (why : Halt) → Answer
+-- the phase at which the run stands after it
+abbrev pub phase_after : Answer → Phase
+phase_after (Ok next) = next
+phase_after (Err why) = phase.Ended

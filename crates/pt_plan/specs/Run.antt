@@ -1,5 +1,5 @@
 -- What a run holds between two turns, as plain data.
-use Rattle.std.specs.Prelude.{ℕ, List, []}
+use Rattle.std.specs.Prelude.{ℕ, ◌+◌, List, []}
 use Rattle.pt_object.specs.declared.contents.Content.{Content}
 use Rattle.pt_object.specs.declared.rows.Row.{Row}
 use Rattle.pt_plan.specs.declared.phase.Phase.{Phase}
@@ -20,12 +20,16 @@ pub record Counts : Type 0 where
   pub skipped : ℕ
   pub turns : ℕ
 
--- all of it: where it stands, the prefix that it read, what it holds, and its counts
-pub record Run : Type 0 where
-  pub phase : Phase
+-- what a run keeps beside its phase: the prefix that it read, what it holds, and its counts
+pub record Kept : Type 0 where
   pub prefix : List ℕ
   pub held : Held
   pub counts : Counts
+
+-- all of it: where it stands, and what it keeps
+pub record Run : Type 0 where
+  pub phase : Phase
+  pub kept : Kept
 
 -- nothing is held
 abbrev pub nothing_held : Held
@@ -37,7 +41,7 @@ no_counts = record { done = 0; present = 0; skipped = 0; turns = 0 }
 
 -- a run that is to begin
 abbrev pub new_run : Run
-new_run = record { phase = phase.Begin; prefix = []; held = nothing_held; counts = no_counts }
+new_run = record { phase = phase.Begin; kept = record { prefix = []; held = nothing_held; counts = no_counts } }
 
 -- with another trail
 abbrev pub with_trail : Held → List Frame → Held
@@ -46,3 +50,7 @@ with_trail held trail = record held { trail = trail }
 -- with other bytes fed to the hasher
 abbrev pub with_fed : Held → List ℕ → Held
 with_fed held fed = record held { fed = fed }
+
+-- the turn is counted as it begins, a faulty one too
+abbrev pub turning : Kept → Kept
+turning kept = record kept { counts = record kept.counts { turns = kept.counts.turns + 1 } }

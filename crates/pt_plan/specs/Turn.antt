@@ -1,12 +1,13 @@
 -- One turn of a run: what it does where all calls succeed, and what it leaves where it breaks off. Faults of devices and want of memory apart, what is held and what the devices tell leave it no choice.
-use Rattle.std.specs.Prelude.{◌≡◌, ◌⊎◌, ℕ, ◌+◌, List, Option, None, Some}
+use Rattle.std.specs.Prelude.{◌≡◌, ◌⊎◌, ℕ, ◌+◌, List, Option, None, Some, Ok, Err}
 use Rattle.pt_object.specs.declared.rows.Row.{Row}
 use Rattle.pt_tree.specs.Failures.{HasRisen}
-use Rattle.pt_plan.specs.Answer.{Answer, Goes, Halt, Stops}
-use Rattle.pt_plan.specs.Answer as halt
+use Rattle.pt_plan.specs.Answer.{Answer}
+use Rattle.pt_plan.specs.declared.halt.Halt.{Halt}
+use Rattle.pt_plan.specs.declared.halt.Halt.TheVariants as halt
 use Rattle.pt_plan.specs.Job.{Job}
 use Rattle.pt_plan.specs.Lines.{Line, Done, Present, Skipped, End}
-use Rattle.pt_plan.specs.Run.{Counts, Held, Run}
+use Rattle.pt_plan.specs.Run.{Counts, Held, Kept}
 use Rattle.pt_plan.specs.TurnMake.{Makings}
 use Rattle.pt_plan.specs.TurnPlace.{Places}
 use Rattle.pt_plan.specs.TurnScan.{Scans}
@@ -14,13 +15,8 @@ use Rattle.pt_plan.specs.TurnStart.{Starts}
 use Rattle.pt_plan.specs.TurnWalk.{Walks}
 use Rattle.pt_plan.specs.World.{Answers, Calls, Changes, Failures, LeavesFront, LeavesPart, Puts, World, source_tree}
 use Rattle.pt_plan.specs.declared.phase.Phase.{Phase}
-use Rattle.pt_plan.specs.declared.phase.Phase.TheVariants as phase
 
 -- ---- what a turn does with what is held
-
--- the run with its data after a turn, at this phase and with these counts
-abbrev pub run_at : Phase → List ℕ → Held → Counts → Run
-run_at here prefix held counts = record { phase = here; prefix = prefix; held = held; counts = counts }
 
 -- from the phase, the prefix and what is held to those after, with the calls and the answer: one of the lines of the groups
 pub data Follows (job : Job) (counts : Counts) : Phase → List ℕ → Held → List ℕ → Held → Calls → Answer → Type 0 where
@@ -39,10 +35,6 @@ counted (Some (Done at bytes empty files id to)) counts = record counts { done =
 counted (Some (Present at id to)) counts = record counts { present = counts.present + 1 }
 counted (Some (Skipped at why)) counts = record counts { skipped = counts.skipped + 1 }
 counted (Some (End done present skipped)) counts = counts
-
--- the turn itself is counted, a faulty one too
-abbrev pub with_turn : Counts → Counts
-with_turn counts = record counts { turns = counts.turns + 1 }
 
 -- ---- what a turn does outside
 
@@ -76,22 +68,38 @@ HasFailed halt.Changed old new = ⊥
 
 -- ---- one turn
 
--- the run after a turn that halts it: nothing else changes, but that a row more may be held, and that what the hasher has been fed doesn't matter any more
-abbrev pub halted : Run → List Row → List ℕ → Run
-halted run rows fed = run_at phase.Ended run.prefix (record run.held { rows = rows; fed = fed }) (with_turn run.counts)
+-- all calls succeeded
+unfoldable pub Did : Calls → World → World → Type 0
+Did calls old new = Happens calls old new × NoneFailed old.failures new.failures
 
--- from a run and the world to those after, with the answer
-pub data Turn (job : Job) (run : Run) (old : World) (new : World) : Run → Answer → Type 0 where
+-- nothing was changed, and the run halts for this
+unfoldable pub Stays : Halt → World → World → Type 0
+Stays why old new = (source_tree new.source ≡ source_tree old.source) × (new.dest ≡ old.dest) × (new.log ≡ old.log) × HasFailed why old.failures new.failures
+
+-- a part of what the calls change is left, and the run halts for this
+unfoldable pub LeavesSome : Calls → Halt → World → World → Type 0
+LeavesSome calls why old new = BreaksOff calls old new × HasFailed why old.failures new.failures
+
+-- what a run keeps that was halted: all as it was, but that a row more may be held, and that what the hasher was fed doesn't matter any more
+pub record IsHalted (rows : List Row) (before after : Kept) : Type 0 where
+  pub prefix : after.prefix ≡ before.prefix
+  pub trail : after.held.trail ≡ before.held.trail
+  pub rows_are : after.held.rows ≡ rows
+  pub contents : after.held.contents ≡ before.held.contents
+  pub counts : after.counts ≡ before.counts
+
+-- from a phase, what is kept and the world to what is kept and the world after, with the answer. Its own count isn't spoken of: it is made as the turn begins
+pub data Turn (job : Job) (here : Phase) (before after : Kept) (old new : World) : Answer → Type 0 where
   -- all calls succeed, and the run goes on at the next phase
-  GoesOn : (prefix : List ℕ) (held : Held) (calls : Calls) (next : Phase) → Follows job run.counts run.phase run.prefix run.held prefix held calls (Goes next) → Happens calls old new → NoneFailed old.failures new.failures
-      → Turn job run old new (run_at next prefix held (counted calls.line (with_turn run.counts))) (Goes next)
+  GoesOn : (calls : Calls) (next : Phase) → Follows job before.counts here before.prefix before.held after.prefix after.held calls (Ok next) → Did calls old new → after.counts ≡ counted calls.line before.counts
+      → Turn job here before after old new (Ok next)
   -- all calls succeed, and what they answer halts the run
-  IsRefused : (prefix : List ℕ) (held : Held) (calls : Calls) (why : Halt) (fed : List ℕ) → Follows job run.counts run.phase run.prefix run.held prefix held calls (Stops why) → Happens calls old new → NoneFailed old.failures new.failures
-      → Turn job run old new (halted run run.held.rows fed) (Stops why)
+  IsRefused : (prefix : List ℕ) (held : Held) (calls : Calls) (why : Halt) → Follows job before.counts here before.prefix before.held prefix held calls (Err why) → Did calls old new → IsHalted before.held.rows before after
+      → Turn job here before after old new (Err why)
   -- a call fails, or a growth is refused, before anything is changed
-  FailsAtFirst : (why : Halt) (fed : List ℕ) → source_tree new.source ≡ source_tree old.source → new.dest ≡ old.dest → new.log ≡ old.log → HasFailed why old.failures new.failures
-      → Turn job run old new (halted run run.held.rows fed) (Stops why)
+  FailsAtFirst : (why : Halt) → Stays why old new → IsHalted before.held.rows before after
+      → Turn job here before after old new (Err why)
   -- or later: a part of what the turn was to change is left
-  FailsLater : (prefix : List ℕ) (held : Held) (calls : Calls) (answer : Answer) (rows : List Row) (fed : List ℕ) (why : Halt) → Follows job run.counts run.phase run.prefix run.held prefix held calls answer → BreaksOff calls old new
-      → (rows ≡ run.held.rows) ⊎ (rows ≡ held.rows) → HasFailed why old.failures new.failures
-      → Turn job run old new (halted run rows fed) (Stops why)
+  FailsLater : (prefix : List ℕ) (held : Held) (calls : Calls) (answer : Answer) (rows : List Row) (why : Halt) → Follows job before.counts here before.prefix before.held prefix held calls answer → LeavesSome calls why old new
+      → (rows ≡ before.held.rows) ⊎ (rows ≡ held.rows) → IsHalted rows before after
+      → Turn job here before after old new (Err why)

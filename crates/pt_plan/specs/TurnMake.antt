@@ -1,5 +1,5 @@
 -- The turns that make an object in `staging`: one part of it each, and one block of a file that is copied.
-use Rattle.std.specs.Prelude.{◌≡◌, ℕ, suc, ◌+◌, ◌-◌, ◌==◌, ◌&&◌, Bool, true, false, cond, codes, nat_lt, List, [], ◌∷◌, ◌++◌, length, take, Option, None, Some, slice_get}
+use Rattle.std.specs.Prelude.{◌≡◌, ℕ, suc, ◌+◌, ◌-◌, ◌==◌, ◌&&◌, Bool, true, false, cond, codes, nat_lt, List, [], ◌∷◌, ◌++◌, length, take, Option, None, Some, slice_get, Ok, Err}
 use Rattle.std.specs.Option.{option_map_or}
 use Rattle.std.specs.Str.{bytes_eq}
 use Rattle.pt_object.specs.Algorithm.{digest_of}
@@ -13,8 +13,8 @@ use Rattle.pt_object.specs.declared.rows.Row.{Row}
 use Rattle.pt_tree.specs.Path.{Path, parent as folder_of, same_path}
 use Rattle.pt_walk.specs.Trail.{names_to, trail_path}
 use Rattle.pt_walk.specs.declared.frame.Frame.{Frame}
-use Rattle.pt_plan.specs.Answer.{Answer, Goes, Stops}
-use Rattle.pt_plan.specs.Answer as halt
+use Rattle.pt_plan.specs.Answer.{Answer}
+use Rattle.pt_plan.specs.declared.halt.Halt.TheVariants as halt
 use Rattle.pt_plan.specs.Job.{Job}
 use Rattle.pt_plan.specs.Run.{Held, with_fed}
 use Rattle.pt_plan.specs.TurnWalk.{in_pairtree}
@@ -101,42 +101,42 @@ is_as_read job row left fed = (left == 0) && bytes_eq (digest_of job.algorithm f
 -- from the phase and what is held to what is held after, with the calls and the answer
 pub data Makings (job : Job) : Phase → Held → Held → Calls → Answer → Type 0 where
   MakesStaging : (held : Held) (object : Object)
-      → Makings job (phase.Make object part.Staging) held held (does (Makes (MakeFolder staging))) (Goes (phase.Make object part.Declaration))
+      → Makings job (phase.Make object part.Staging) held held (does (Makes (MakeFolder staging))) (Ok (phase.Make object part.Declaration))
   MakesDeclaration : (held : Held) (object : Object)
-      → Makings job (phase.Make object part.Declaration) held held (does (Makes (MakeFile (staging ++ object_declaration_name ∷ []) object_declaration_bytes))) (Goes (phase.Make object part.Version))
+      → Makings job (phase.Make object part.Declaration) held held (does (Makes (MakeFile (staging ++ object_declaration_name ∷ []) object_declaration_bytes))) (Ok (phase.Make object part.Version))
   MakesVersion : (held : Held) (object : Object)
-      → Makings job (phase.Make object part.Version) held held (does (Makes (MakeFolder (in_version [])))) (Goes (phase.Make object (content_at held.rows (record { row = 0; stored = 0; directories = 0 }))))
+      → Makings job (phase.Make object part.Version) held held (does (Makes (MakeFolder (in_version [])))) (Ok (phase.Make object (content_at held.rows (record { row = 0; stored = 0; directories = 0 }))))
   -- a row whose content is stored already is passed
   PassesRow : (held : Held) (object : Object) (position : Position) (row : Row) → slice_get held.rows position.row ≡ Some row → is_stored held.contents position.stored row.path ≡ false
-      → Makings job (phase.Make object (part.Content position)) held held no_calls (Goes (phase.Make object (content_at held.rows (behind position))))
+      → Makings job (phase.Make object (part.Content position)) held held no_calls (Ok (phase.Make object (content_at held.rows (behind position))))
   -- of any other the folders on the way are made
   MakesFolder : (held : Held) (object : Object) (position : Position) (row : Row) → slice_get held.rows position.row ≡ Some row → is_stored held.contents position.stored row.path ≡ true → nat_lt position.directories (length row.path) ≡ true
-      → Makings job (phase.Make object (part.Content position)) held held (does (Makes (MakeFolder (in_content (take position.directories row.path))))) (Goes (phase.Make object (part.Content (with_folder position))))
+      → Makings job (phase.Make object (part.Content position)) held held (does (Makes (MakeFolder (in_content (take position.directories row.path))))) (Ok (phase.Make object (part.Content (with_folder position))))
   -- then its file is made, and the source's is opened
   OpensCopy : (held : Held) (object : Object) (position : Position) (row : Row) → slice_get held.rows position.row ≡ Some row → is_stored held.contents position.stored row.path ≡ true → nat_lt position.directories (length row.path) ≡ false
       → Makings job (phase.Make object (part.Content position)) held (with_fed held [])
-      (record { asked = Opens (in_pairtree (path_of_source object held.trail ++ row.path)); change = Creates (in_content row.path); line = None }) (Goes (phase.Copy object position row.length))
+      (record { asked = Opens (in_pairtree (path_of_source object held.trail ++ row.path)); change = Creates (in_content row.path); line = None }) (Ok (phase.Copy object position row.length))
   -- a block is copied
   CopiesOn : (held : Held) (object : Object) (position : Position) (left byte : ℕ) (block : List ℕ) → nat_lt left (length (byte ∷ block)) ≡ false
       → Makings job (phase.Copy object position left) held (with_fed held (held.fed ++ byte ∷ block))
-      (record { asked = Reads (byte ∷ block); change = Adds (byte ∷ block); line = None }) (Goes (phase.Copy object position (left - length (byte ∷ block))))
+      (record { asked = Reads (byte ∷ block); change = Adds (byte ∷ block); line = None }) (Ok (phase.Copy object position (left - length (byte ∷ block))))
   -- unless there are more bytes than the row says
   ReadsMore : (held : Held) (object : Object) (position : Position) (left byte : ℕ) (block : List ℕ) → nat_lt left (length (byte ∷ block)) ≡ true
-      → Makings job (phase.Copy object position left) held held (asks (Reads (byte ∷ block))) (Stops halt.Changed)
+      → Makings job (phase.Copy object position left) held held (asks (Reads (byte ∷ block))) (Err halt.Changed)
   -- at the end the file is closed
   EndsCopy : (held : Held) (object : Object) (position : Position) (row : Row) (left : ℕ) → slice_get held.rows position.row ≡ Some row → is_as_read job row left held.fed ≡ true
       → Makings job (phase.Copy object position left) held (with_fed held [])
-      (record { asked = Reads []; change = Finishes; line = None }) (Goes (phase.Make object (content_at held.rows (behind_stored held.contents position row.path))))
+      (record { asked = Reads []; change = Finishes; line = None }) (Ok (phase.Make object (content_at held.rows (behind_stored held.contents position row.path))))
   -- unless the bytes are fewer, or others
   ReadsOther : (held : Held) (object : Object) (position : Position) (row : Row) (left : ℕ) → slice_get held.rows position.row ≡ Some row → is_as_read job row left held.fed ≡ false
-      → Makings job (phase.Copy object position left) held held (asks (Reads [])) (Stops halt.Changed)
+      → Makings job (phase.Copy object position left) held held (asks (Reads [])) (Err halt.Changed)
   -- an inventory's text is fed to the hasher as well
   MakesVersionInventory : (held : Held) (object : Object)
-      → Makings job (phase.Make object part.VersionInventory) held (with_fed held (text_of_inventory job object held.rows)) (does (Makes (inventory_file job object held.rows (in_version [])))) (Goes (phase.Make object part.VersionSidecar))
+      → Makings job (phase.Make object part.VersionInventory) held (with_fed held (text_of_inventory job object held.rows)) (does (Makes (inventory_file job object held.rows (in_version [])))) (Ok (phase.Make object part.VersionSidecar))
   -- and the hasher's digest is taken for its sidecar
   MakesVersionSidecar : (held : Held) (object : Object)
-      → Makings job (phase.Make object part.VersionSidecar) held (with_fed held []) (does (Makes (sidecar_file job object held.rows (in_version [])))) (Goes (phase.Make object part.Inventory))
+      → Makings job (phase.Make object part.VersionSidecar) held (with_fed held []) (does (Makes (sidecar_file job object held.rows (in_version [])))) (Ok (phase.Make object part.Inventory))
   MakesInventory : (held : Held) (object : Object)
-      → Makings job (phase.Make object part.Inventory) held (with_fed held (text_of_inventory job object held.rows)) (does (Makes (inventory_file job object held.rows staging))) (Goes (phase.Make object part.Sidecar))
+      → Makings job (phase.Make object part.Inventory) held (with_fed held (text_of_inventory job object held.rows)) (does (Makes (inventory_file job object held.rows staging))) (Ok (phase.Make object part.Sidecar))
   MakesSidecar : (held : Held) (object : Object)
-      → Makings job (phase.Make object part.Sidecar) held (with_fed held []) (does (Makes (sidecar_file job object held.rows staging))) (Goes (after_last job object))
+      → Makings job (phase.Make object part.Sidecar) held (with_fed held []) (does (Makes (sidecar_file job object held.rows staging))) (Ok (after_last job object))

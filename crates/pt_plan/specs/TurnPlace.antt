@@ -1,13 +1,13 @@
 -- The turns that bring an object to its place, and those that tell of it and of the end.
-use Rattle.std.specs.Prelude.{◌≡◌, ℕ, ◌+◌, false, cond, nat_lt, List, [], length, sum_by, take, Some}
+use Rattle.std.specs.Prelude.{◌≡◌, ℕ, ◌+◌, false, cond, nat_lt, List, [], length, sum_by, take, Some, Ok, Err}
 use Rattle.pt_object.specs.Scripts.{staging}
 use Rattle.pt_object.specs.declared.rows.Row.{Row}
 use Rattle.pt_tree.specs.Path.{Path}
 use Rattle.pt_tree.specs.declared.kind.Kind.{Kind}
 use Rattle.pt_tree.specs.declared.kind.Kind.TheVariants as kind
 use Rattle.pt_walk.specs.Trail.{sought}
-use Rattle.pt_plan.specs.Answer.{Answer, Goes, Stops}
-use Rattle.pt_plan.specs.Answer as halt
+use Rattle.pt_plan.specs.Answer.{Answer}
+use Rattle.pt_plan.specs.declared.halt.Halt.TheVariants as halt
 use Rattle.pt_plan.specs.Job.{Job}
 use Rattle.pt_plan.specs.Lines.{Line, Done, End}
 use Rattle.pt_plan.specs.Run.{Counts, Held}
@@ -47,18 +47,18 @@ last_line counts = End counts.done counts.present counts.skipped
 pub data Places (job : Job) (counts : Counts) : Phase → Held → Held → Calls → Answer → Type 0 where
   -- a tuple directory is made, or stands already
   MakesTuple : (held : Held) (object : Object) (number : ℕ)
-      → Places job counts (phase.Tuples object number) held held (does (FindsNoneAndMakes (tuple_folder object number))) (Goes (after_tuple job object number))
+      → Places job counts (phase.Tuples object number) held held (does (FindsNoneAndMakes (tuple_folder object number))) (Ok (after_tuple job object number))
   FindsTuple : (held : Held) (object : Object) (number : ℕ)
-      → Places job counts (phase.Tuples object number) held held (does (Finds (tuple_folder object number) (Some kind.Dir))) (Goes (after_tuple job object number))
+      → Places job counts (phase.Tuples object number) held held (does (Finds (tuple_folder object number) (Some kind.Dir))) (Ok (after_tuple job object number))
   -- unless its name is taken by something else
   IsInTheWay : (held : Held) (object : Object) (number : ℕ) (here : Kind) → is_dir_kind (Some here) ≡ false
-      → Places job counts (phase.Tuples object number) held held (does (Finds (tuple_folder object number) (Some here))) (Stops halt.Target)
+      → Places job counts (phase.Tuples object number) held held (does (Finds (tuple_folder object number) (Some here))) (Err halt.Target)
   -- `staging` becomes the object at its place
   RenamesObject : (held : Held) (object : Object)
-      → Places job counts (phase.Rename object) held held (does (Renames staging (in_root object.place))) (Goes (phase.Line object))
+      → Places job counts (phase.Rename object) held held (does (Renames staging (in_root object.place))) (Ok (phase.Line object))
   -- the object is told, and the walk goes on at its site
   TellsDone : (held : Held) (object : Object)
-      → Places job counts (phase.Line object) held (restarted held) (tells (done_line object held)) (Goes phase.Walk)
+      → Places job counts (phase.Line object) held (restarted held) (tells (done_line object held)) (Ok phase.Walk)
   -- the end is told
   TellsEnd : (held : Held)
-      → Places job counts phase.End held held (tells (last_line counts)) (Goes phase.Ended)
+      → Places job counts phase.End held held (tells (last_line counts)) (Ok phase.Ended)

@@ -1,5 +1,5 @@
 -- The turns of the scan of an object: each of its files is read once, for its digest and its length.
-use Rattle.std.specs.Prelude.{◌≡◌, ℕ, ◌+◌, ◌-◌, ◌==◌, ◌&&◌, ◌||◌, Bool, true, false, cond, nat_le, nat_lt, not, List, [], ◌∷◌, ◌++◌, drop, length, take, None, Some}
+use Rattle.std.specs.Prelude.{◌≡◌, ℕ, ◌+◌, ◌-◌, ◌==◌, ◌&&◌, ◌||◌, Bool, true, false, cond, nat_le, nat_lt, not, List, [], ◌∷◌, ◌++◌, drop, length, take, None, Some, Ok}
 use Rattle.pt_object.specs.Algorithm.{digest_of}
 use Rattle.pt_object.specs.Contents.{noted}
 use Rattle.pt_object.specs.Rows.{row_of}
@@ -11,7 +11,7 @@ use Rattle.pt_walk.specs.Trail.{advanced, current_entry, entered, names_to, pare
 use Rattle.pt_walk.specs.declared.cause.Cause.{Cause}
 use Rattle.pt_walk.specs.declared.cause.Cause.TheVariants as cause
 use Rattle.pt_walk.specs.declared.frame.Frame.{Frame}
-use Rattle.pt_plan.specs.Answer.{Answer, Goes}
+use Rattle.pt_plan.specs.Answer.{Answer}
 use Rattle.pt_plan.specs.Job.{Job}
 use Rattle.pt_plan.specs.Lines.{Line, Skipped}
 use Rattle.pt_plan.specs.Run.{Held, with_fed, with_trail}
@@ -85,48 +85,48 @@ with_file job object held bytes = record {
 pub data Scans (job : Job) : Phase → Held → Held → Calls → Answer → Type 0 where
   -- a gathered object starts in its site
   StartsInSite : (held : Held) (object : Object) → object.gathered ≡ true
-      → Scans job (phase.OpenObject object) held (with_trail held (sought 0 held.trail)) no_calls (Goes (phase.Scan object))
+      → Scans job (phase.OpenObject object) held (with_trail held (sought 0 held.trail)) no_calls (Ok (phase.Scan object))
   -- any other in its directory, which is listed and entered
   EntersObject : (held : Held) (object : Object) (items : List Item) → object.gathered ≡ false → nat_lt job.limits.depth (length held.trail) ≡ false
-      → Scans job (phase.OpenObject object) held (with_trail held (entered items held.trail)) (asks (Lists (in_pairtree (names_to held.trail)) items)) (Goes (phase.Scan (with_directory object items)))
+      → Scans job (phase.OpenObject object) held (with_trail held (entered items held.trail)) (asks (Lists (in_pairtree (names_to held.trail)) items)) (Ok (phase.Scan (with_directory object items)))
   -- unless that is too deep
   IsTooDeep : (held : Held) (object : Object) → object.gathered ≡ false → nat_lt job.limits.depth (length held.trail) ≡ true
-      → Scans job (phase.OpenObject object) held (back_at_site object held) (tells (skipped object held cause.Limit)) (Goes phase.Walk)
+      → Scans job (phase.OpenObject object) held (back_at_site object held) (tells (skipped object held cause.Limit)) (Ok phase.Walk)
   -- a shorty of the site is passed
   PassesShorty : (held : Held) (object : Object) (item : Item) → current_entry held.trail ≡ Some item → is_passed object held.trail item ≡ true
-      → Scans job (phase.Scan object) held (with_trail held (advanced held.trail)) no_calls (Goes (phase.Scan object))
+      → Scans job (phase.Scan object) held (with_trail held (advanced held.trail)) no_calls (Ok (phase.Scan object))
   -- a directory is listed and entered
   EntersDirectory : (held : Held) (object : Object) (name : List ℕ) (items : List Item) → current_entry held.trail ≡ Some (name, kind.Dir) → is_passed object held.trail (name, kind.Dir) ≡ false
       → nat_lt job.limits.depth (length held.trail) ≡ false
-      → Scans job (phase.Scan object) held (with_trail held (entered items held.trail)) (asks (Lists (in_pairtree (names_to held.trail)) items)) (Goes (phase.Scan (with_directory object items)))
+      → Scans job (phase.Scan object) held (with_trail held (entered items held.trail)) (asks (Lists (in_pairtree (names_to held.trail)) items)) (Ok (phase.Scan (with_directory object items)))
   -- unless it is too deep
   MeetsDeep : (held : Held) (object : Object) (name : List ℕ) → current_entry held.trail ≡ Some (name, kind.Dir) → is_passed object held.trail (name, kind.Dir) ≡ false
       → nat_lt job.limits.depth (length held.trail) ≡ true
-      → Scans job (phase.Scan object) held (back_at_site object held) (tells (skipped object held cause.Limit)) (Goes phase.Walk)
+      → Scans job (phase.Scan object) held (back_at_site object held) (tells (skipped object held cause.Limit)) (Ok phase.Walk)
   -- a file is opened
   OpensFile : (held : Held) (object : Object) (name : List ℕ) → current_entry held.trail ≡ Some (name, kind.File) → is_beyond job held (logical_path object held.trail) ≡ false
-      → Scans job (phase.Scan object) held (with_fed held []) (asks (Opens (in_pairtree (names_to held.trail)))) (Goes (phase.Read object 0))
+      → Scans job (phase.Scan object) held (with_fed held []) (asks (Opens (in_pairtree (names_to held.trail)))) (Ok (phase.Read object 0))
   -- unless there are too many, or its path is too long
   MeetsLimit : (held : Held) (object : Object) (name : List ℕ) → current_entry held.trail ≡ Some (name, kind.File) → is_beyond job held (logical_path object held.trail) ≡ true
-      → Scans job (phase.Scan object) held (back_at_site object held) (tells (skipped object held cause.Limit)) (Goes phase.Walk)
+      → Scans job (phase.Scan object) held (back_at_site object held) (tells (skipped object held cause.Limit)) (Ok phase.Walk)
   -- what is neither file nor directory is a cause against the object
   MeetsOther : (held : Held) (object : Object) (name : List ℕ) → current_entry held.trail ≡ Some (name, kind.Other)
-      → Scans job (phase.Scan object) held (back_at_site object held) (tells (skipped object held cause.Other)) (Goes phase.Walk)
+      → Scans job (phase.Scan object) held (back_at_site object held) (tells (skipped object held cause.Other)) (Ok phase.Walk)
   -- at the end of its site a gathered object is made
   EndsSite : (held : Held) (object : Object) → current_entry held.trail ≡ None → is_in_site object held.trail ≡ true
-      → Scans job (phase.Scan object) held held no_calls (Goes (phase.Make object part.Staging))
+      → Scans job (phase.Scan object) held held no_calls (Ok (phase.Make object part.Staging))
   -- and any other at the end of its directory, which is left
   EndsObject : (held : Held) (object : Object) → current_entry held.trail ≡ None → is_in_site object held.trail ≡ false → is_own_directory object held.trail ≡ true
-      → Scans job (phase.Scan object) held (with_trail held (parent held.trail)) no_calls (Goes (phase.Make object part.Staging))
+      → Scans job (phase.Scan object) held (with_trail held (parent held.trail)) no_calls (Ok (phase.Make object part.Staging))
   -- at the end of any other directory the scan goes on behind it
   LeavesDirectory : (held : Held) (object : Object) → current_entry held.trail ≡ None → is_in_site object held.trail ≡ false → is_own_directory object held.trail ≡ false
-      → Scans job (phase.Scan object) held (with_trail held (advanced (parent held.trail))) no_calls (Goes (phase.Scan object))
+      → Scans job (phase.Scan object) held (with_trail held (advanced (parent held.trail))) no_calls (Ok (phase.Scan object))
   -- a block of the file is read
   ReadsOn : (held : Held) (object : Object) (bytes byte : ℕ) (block : List ℕ) → nat_lt job.limits.file_bytes (bytes + length (byte ∷ block)) ≡ false
-      → Scans job (phase.Read object bytes) held (with_fed held (held.fed ++ byte ∷ block)) (asks (Reads (byte ∷ block))) (Goes (phase.Read object (bytes + length (byte ∷ block))))
+      → Scans job (phase.Read object bytes) held (with_fed held (held.fed ++ byte ∷ block)) (asks (Reads (byte ∷ block))) (Ok (phase.Read object (bytes + length (byte ∷ block))))
   -- unless the file is too long
   IsTooLong : (held : Held) (object : Object) (bytes byte : ℕ) (block : List ℕ) → nat_lt job.limits.file_bytes (bytes + length (byte ∷ block)) ≡ true
-      → Scans job (phase.Read object bytes) held (back_at_site object held) (record { asked = Reads (byte ∷ block); change = call.ChangesNothing; line = Some (skipped object held cause.Limit) }) (Goes phase.Walk)
+      → Scans job (phase.Read object bytes) held (back_at_site object held) (record { asked = Reads (byte ∷ block); change = call.ChangesNothing; line = Some (skipped object held cause.Limit) }) (Ok phase.Walk)
   -- at its end its row is noted
   EndsFile : (held : Held) (object : Object) (bytes : ℕ)
-      → Scans job (phase.Read object bytes) held (with_file job object held bytes) (asks (Reads [])) (Goes (phase.Scan object))
+      → Scans job (phase.Read object bytes) held (with_file job object held bytes) (asks (Reads [])) (Ok (phase.Scan object))

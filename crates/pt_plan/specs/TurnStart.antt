@@ -1,5 +1,5 @@
 -- The turns of the start: the source has to be a Pairtree store, and the destination to hold a root that can be gone on with, or none.
-use Rattle.std.specs.Prelude.{◌≡◌, ◌≢◌, ℕ, ◌+◌, ◌==◌, ◌&&◌, Bool, true, false, cond, List, [], ◌∷◌, ◌++◌, Option, None, Some, slice_get}
+use Rattle.std.specs.Prelude.{◌≡◌, ◌≢◌, ℕ, ◌+◌, ◌==◌, ◌&&◌, Bool, true, false, cond, List, [], ◌∷◌, ◌++◌, Option, None, Some, slice_get, Ok, Err}
 use Rattle.std.specs.Str.{bytes_eq}
 use Rattle.pt_name.specs.Prefix.{prefix_refusal, without_line_ends}
 use Rattle.pt_name.specs.declared.prefix.PrefixFault.{PrefixFault}
@@ -10,8 +10,8 @@ use Rattle.pt_tree.specs.Listing.{Item as Entry}
 use Rattle.pt_tree.specs.Path.{Path}
 use Rattle.pt_tree.specs.declared.kind.Kind.{Kind}
 use Rattle.pt_tree.specs.declared.kind.Kind.TheVariants as kind
-use Rattle.pt_plan.specs.Answer.{Answer, Goes, Stops}
-use Rattle.pt_plan.specs.Answer as halt
+use Rattle.pt_plan.specs.Answer.{Answer}
+use Rattle.pt_plan.specs.declared.halt.Halt.TheVariants as halt
 use Rattle.pt_plan.specs.Job.{Job}
 use Rattle.pt_plan.specs.Roots.{storage_root}
 use Rattle.pt_plan.specs.Store.{pairtree_root, prefix_file, version_file}
@@ -52,40 +52,40 @@ after_file file = cond (file == 2) phase.OpenRoot (phase.RootCheck (file + 1))
 pub data Starts (job : Job) : Phase → List ℕ → List ℕ → Calls → Answer → Type 0 where
   -- the top is listed
   IsStore : (prefix : List ℕ) (entries : List Entry) → lists_store entries ≡ true
-      → Starts job phase.Begin prefix prefix (asks (Lists [] entries)) (Goes (phase.Prefix (kind_in entries prefix_file)))
+      → Starts job phase.Begin prefix prefix (asks (Lists [] entries)) (Ok (phase.Prefix (kind_in entries prefix_file)))
   IsNoStore : (prefix : List ℕ) (entries : List Entry) → lists_store entries ≡ false
-      → Starts job phase.Begin prefix prefix (asks (Lists [] entries)) (Stops halt.NotPairtree)
+      → Starts job phase.Begin prefix prefix (asks (Lists [] entries)) (Err halt.NotPairtree)
   -- the prefix is read, if there is a file for it
   HasNoPrefix : (prefix : List ℕ)
-      → Starts job (phase.Prefix None) prefix prefix no_calls (Goes phase.Staging)
+      → Starts job (phase.Prefix None) prefix prefix no_calls (Ok phase.Staging)
   IsNoPrefixFile : (prefix : List ℕ) (here : Option Kind) → here ≢ None → is_file_kind here ≡ false
-      → Starts job (phase.Prefix here) prefix prefix no_calls (Stops halt.Prefix)
+      → Starts job (phase.Prefix here) prefix prefix no_calls (Err halt.Prefix)
   HasPrefix : (prefix block : List ℕ) → prefix_refusal block ≡ None
-      → Starts job (phase.Prefix (Some kind.File)) prefix (without_line_ends block) (asks (OpensAndReads (prefix_file ∷ []) block)) (Goes phase.Staging)
+      → Starts job (phase.Prefix (Some kind.File)) prefix (without_line_ends block) (asks (OpensAndReads (prefix_file ∷ []) block)) (Ok phase.Staging)
   IsNoPrefix : (prefix block : List ℕ) (why : PrefixFault) → prefix_refusal block ≡ Some why
-      → Starts job (phase.Prefix (Some kind.File)) prefix prefix (asks (OpensAndReads (prefix_file ∷ []) block)) (Stops halt.Prefix)
+      → Starts job (phase.Prefix (Some kind.File)) prefix prefix (asks (OpensAndReads (prefix_file ∷ []) block)) (Err halt.Prefix)
   -- nothing may stand at `staging`
   HasNoStaging : (prefix : List ℕ)
-      → Starts job phase.Staging prefix prefix (does (Finds staging None)) (Goes phase.Root)
+      → Starts job phase.Staging prefix prefix (does (Finds staging None)) (Ok phase.Root)
   HasStaging : (prefix : List ℕ) (here : Kind)
-      → Starts job phase.Staging prefix prefix (does (Finds staging (Some here))) (Stops halt.StagingLeft)
+      → Starts job phase.Staging prefix prefix (does (Finds staging (Some here))) (Err halt.StagingLeft)
   -- the root is made where nothing stands, and compared where a directory does
   HasNoRoot : (prefix : List ℕ)
-      → Starts job phase.Root prefix prefix (does (Finds storage_root None)) (Goes (phase.RootMake 0))
+      → Starts job phase.Root prefix prefix (does (Finds storage_root None)) (Ok (phase.RootMake 0))
   HasRoot : (prefix : List ℕ)
-      → Starts job phase.Root prefix prefix (does (Finds storage_root (Some kind.Dir))) (Goes (phase.RootCheck 0))
+      → Starts job phase.Root prefix prefix (does (Finds storage_root (Some kind.Dir))) (Ok (phase.RootCheck 0))
   IsNoRoot : (prefix : List ℕ) (here : Kind) → is_dir_kind (Some here) ≡ false
-      → Starts job phase.Root prefix prefix (does (Finds storage_root (Some here))) (Stops halt.Target)
+      → Starts job phase.Root prefix prefix (does (Finds storage_root (Some here))) (Err halt.Target)
   -- one item of the root's script is made
   MakesRoot : (prefix : List ℕ) (number : ℕ) (item : Item) → slice_get (root_script job.tuples) number ≡ Some item
-      → Starts job (phase.RootMake number) prefix prefix (does (Makes item)) (Goes (after_item number))
+      → Starts job (phase.RootMake number) prefix prefix (does (Makes item)) (Ok (after_item number))
   -- `staging` becomes the root
   RenamesRoot : (prefix : List ℕ)
-      → Starts job phase.RootRename prefix prefix (does (Renames staging storage_root)) (Goes phase.OpenRoot)
+      → Starts job phase.RootRename prefix prefix (does (Renames staging storage_root)) (Ok phase.OpenRoot)
   -- one of the root's three files is compared
   IsSame : (prefix : List ℕ) (number : ℕ) (path : Path) (bytes : List ℕ) → slice_get (root_files_of job.tuples) number ≡ Some (path, bytes)
-      → Starts job (phase.RootCheck number) prefix prefix (does (Peeks (storage_root ++ path) bytes)) (Goes (after_file number))
+      → Starts job (phase.RootCheck number) prefix prefix (does (Peeks (storage_root ++ path) bytes)) (Ok (after_file number))
   IsNoFile : (prefix : List ℕ) (number : ℕ) (path : Path) (bytes : List ℕ) (here : Option Kind) → slice_get (root_files_of job.tuples) number ≡ Some (path, bytes) → is_file_kind here ≡ false
-      → Starts job (phase.RootCheck number) prefix prefix (does (Finds (storage_root ++ path) here)) (Stops halt.Target)
+      → Starts job (phase.RootCheck number) prefix prefix (does (Finds (storage_root ++ path) here)) (Err halt.Target)
   Differs : (prefix : List ℕ) (number : ℕ) (path : Path) (bytes block : List ℕ) → slice_get (root_files_of job.tuples) number ≡ Some (path, bytes) → bytes_eq block bytes ≡ false
-      → Starts job (phase.RootCheck number) prefix prefix (does (Peeks (storage_root ++ path) block)) (Stops halt.Target)
+      → Starts job (phase.RootCheck number) prefix prefix (does (Peeks (storage_root ++ path) block)) (Err halt.Target)

@@ -17,7 +17,7 @@ use Rattle.pt_walk.specs.declared.frame.Frame.{Frame}
 use Rattle.pt_walk.specs.declared.site.Finding.{Finding}
 use Rattle.pt_walk.specs.declared.site.Finding.TheVariants as finding
 use Rattle.pt_walk.specs.declared.site.Form.{Form}
-use Rattle.pt_plan.specs.Answer.{Answer, Goes}
+use Rattle.pt_plan.specs.Answer.{Answer}
 use Rattle.pt_plan.specs.Items.{is_reserved}
 use Rattle.pt_plan.specs.Job.{Job, form_of}
 use Rattle.pt_plan.specs.Lines.{Present, Skipped}
@@ -81,38 +81,38 @@ in_pairtree path = pairtree_root ∷ path
 pub data Walks (job : Job) (prefix : List ℕ) : Phase → Held → Held → Calls → Answer → Type 0 where
   -- the pairtree's directory is listed and entered
   OpensRoot : (held : Held) (items : List Item)
-      → Walks job prefix phase.OpenRoot held (with_trail held (entered items held.trail)) (asks (Lists (in_pairtree []) items)) (Goes phase.Judge)
+      → Walks job prefix phase.OpenRoot held (with_trail held (entered items held.trail)) (asks (Lists (in_pairtree []) items)) (Ok phase.Judge)
   -- the site only leads on
   LeadsOn : (held : Held) → found_at (form_of job) held.trail ≡ finding.Interior
-      → Walks job prefix phase.Judge held held no_calls (Goes phase.Walk)
+      → Walks job prefix phase.Judge held held no_calls (Ok phase.Walk)
   -- there is a cause against the site
   IsSkipped : (held : Held) (why : Cause) → found_at (form_of job) held.trail ≡ finding.Skip why
-      → Walks job prefix phase.Judge held held (tells (Skipped (trail_path held.trail) why)) (Goes phase.Walk)
+      → Walks job prefix phase.Judge held held (tells (Skipped (trail_path held.trail) why)) (Ok phase.Walk)
   -- it has an object, but no identifier that can be carried
   HasNoIdentifier : (held : Held) (index : Option ℕ) (why : Cause) → found_at (form_of job) held.trail ≡ has_object index → identifier_at job prefix (trail_path held.trail) ≡ Err why
-      → Walks job prefix phase.Judge held held (tells (Skipped (trail_path held.trail) why)) (Goes phase.Walk)
+      → Walks job prefix phase.Judge held held (tells (Skipped (trail_path held.trail) why)) (Ok phase.Walk)
   -- its place is taken
   IsPresent : (held : Held) (index : Option ℕ) (id : List ℕ) (here : Kind) → found_at (form_of job) held.trail ≡ has_object index → identifier_at job prefix (trail_path held.trail) ≡ Ok id
       → Walks job prefix phase.Judge held held
-      (record { asked = AsksNothing; change = Finds (in_root (place_of job.tuples id)) (Some here); line = Some (Present (path_of_object index held.trail) id (place_of job.tuples id)) }) (Goes phase.Walk)
+      (record { asked = AsksNothing; change = Finds (in_root (place_of job.tuples id)) (Some here); line = Some (Present (path_of_object index held.trail) id (place_of job.tuples id)) }) (Ok phase.Walk)
   -- its place is free
   IsNew : (held : Held) (index : Option ℕ) (id : List ℕ) → found_at (form_of job) held.trail ≡ has_object index → identifier_at job prefix (trail_path held.trail) ≡ Ok id
-      → Walks job prefix phase.Judge held (with_trail held (at_object index held.trail)) (does (Finds (in_root (place_of job.tuples id)) None)) (Goes (phase.OpenObject (new_object job id index held.trail)))
+      → Walks job prefix phase.Judge held (with_trail held (at_object index held.trail)) (does (Finds (in_root (place_of job.tuples id)) None)) (Ok (phase.OpenObject (new_object job id index held.trail)))
   -- a shorty below a name of one byte
   IsPast : (held : Held) (name : List ℕ) → current_entry held.trail ≡ Some (name, kind.Dir) → is_short name ≡ true → is_last (at_of (trail_path held.trail)) ≡ true
-      → Walks job prefix phase.Walk held (with_trail held (advanced held.trail)) (tells (Skipped (names_to held.trail) cause.Past)) (Goes phase.Walk)
+      → Walks job prefix phase.Walk held (with_trail held (advanced held.trail)) (tells (Skipped (names_to held.trail) cause.Past)) (Ok phase.Walk)
   -- a shorty that is too deep
   IsDeep : (held : Held) (name : List ℕ) → current_entry held.trail ≡ Some (name, kind.Dir) → is_short name ≡ true → is_last (at_of (trail_path held.trail)) ≡ false → nat_lt job.limits.depth (length held.trail) ≡ true
-      → Walks job prefix phase.Walk held (with_trail held (advanced held.trail)) (tells (Skipped (names_to held.trail) cause.Limit)) (Goes phase.Walk)
+      → Walks job prefix phase.Walk held (with_trail held (advanced held.trail)) (tells (Skipped (names_to held.trail) cause.Limit)) (Ok phase.Walk)
   -- any other shorty is listed and entered
   EntersSite : (held : Held) (name : List ℕ) (items : List Item) → current_entry held.trail ≡ Some (name, kind.Dir) → is_short name ≡ true → is_last (at_of (trail_path held.trail)) ≡ false → nat_lt job.limits.depth (length held.trail) ≡ false
-      → Walks job prefix phase.Walk held (with_trail held (entered items held.trail)) (asks (Lists (in_pairtree (names_to held.trail)) items)) (Goes phase.Judge)
+      → Walks job prefix phase.Walk held (with_trail held (entered items held.trail)) (asks (Lists (in_pairtree (names_to held.trail)) items)) (Ok phase.Judge)
   -- any other entry is passed
   PassesEntry : (held : Held) (item : Item) → current_entry held.trail ≡ Some item → is_shorty item ≡ false
-      → Walks job prefix phase.Walk held (with_trail held (advanced held.trail)) no_calls (Goes phase.Walk)
+      → Walks job prefix phase.Walk held (with_trail held (advanced held.trail)) no_calls (Ok phase.Walk)
   -- at its end the listing is left
   LeavesSite : (held : Held) → current_entry held.trail ≡ None → nat_lt 1 (length held.trail) ≡ true
-      → Walks job prefix phase.Walk held (with_trail held (advanced (parent held.trail))) no_calls (Goes phase.Walk)
+      → Walks job prefix phase.Walk held (with_trail held (advanced (parent held.trail))) no_calls (Ok phase.Walk)
   -- at the end of the outermost the walk is done
   EndsWalk : (held : Held) → current_entry held.trail ≡ None → nat_lt 1 (length held.trail) ≡ false
-      → Walks job prefix phase.Walk held held no_calls (Goes phase.End)
+      → Walks job prefix phase.Walk held held no_calls (Ok phase.End)

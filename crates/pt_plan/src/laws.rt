@@ -6,10 +6,6 @@ ghost use Rattle.pt_plan.specs.CountLaws.{CountsGrow, EachLineIsCounted, EndLine
 ghost use Rattle.pt_plan.specs.RerunLaws.{RerunEndsAlike, RootStaysWithoutStaging, TurnsHaveNoPart};
 ghost use Rattle.pt_plan.specs.GrowthLaws.{AfterGrows, AfterStays, FoldersGrow, ObjectIsMovedIn, RootIsItsOwn, RootIsMadeInPlace, RootIsMovedIn, RootsHaveNoGaps};
 ghost use Rattle.pt_plan.specs.FixityLaws.{FaultsLeaveWhatIsKept, RowsMakeWholeObjects};
-ghost use Rattle.pt_plan.specs.BegunLaws.{NewRunIsBegun};
-ghost use Rattle.pt_plan.specs.DestLaws.{ScanningKeepsDest, WalkingKeepsDest};
-ghost use Rattle.pt_plan.specs.HeldLaws.{MakingKeepsTrail, PlacingKeepsTrail, ScanningKeepsTrail, StartingKeepsTrail, TurnsFeed, WalkingKeepsTrail};
-ghost use Rattle.pt_plan.specs.SourceLaws.{PlacingKeepsSource, ScanningKeepsSource, StartingKeepsSource, WalkingKeepsSource};
 
 /// In the order of the walk the files of a directory have logical paths that come in order, none leading to another: what
 /// the laws on objects ask of them.
@@ -162,69 +158,4 @@ pub fn turns_have_no_part()
 /// in it.
 pub fn way_stays_free()
     ensures { WayStaysFree }
-{}
-
-/// A new run is in progress, whatever its devices tell.
-pub fn new_run_is_begun()
-    ensures { NewRunIsBegun }
-{}
-
-/// The turns of the start keep what holds of a run in progress where the source tells.
-pub fn starting_keeps_source()
-    ensures { StartingKeepsSource }
-{}
-
-/// So do the turns of the walk.
-pub fn walking_keeps_source()
-    ensures { WalkingKeepsSource }
-{}
-
-/// So do the turns of the scan of an object.
-pub fn scanning_keeps_source()
-    ensures { ScanningKeepsSource }
-{}
-
-/// So do the turns that bring an object to its place, and those that tell of it and of the end.
-pub fn placing_keeps_source()
-    ensures { PlacingKeepsSource }
-{}
-
-/// The turns of the walk keep what holds of a run in progress where the destination tells.
-pub fn walking_keeps_dest()
-    ensures { WalkingKeepsDest }
-{}
-
-/// So do the turns of the scan of an object.
-pub fn scanning_keeps_dest()
-    ensures { ScanningKeepsDest }
-{}
-
-/// Whatever the devices tell, the turns of the start keep the trail one.
-pub fn starting_keeps_trail()
-    ensures { StartingKeepsTrail }
-{}
-
-/// So do the turns of the walk.
-pub fn walking_keeps_trail()
-    ensures { WalkingKeepsTrail }
-{}
-
-/// So do the turns of the scan of an object.
-pub fn scanning_keeps_trail()
-    ensures { ScanningKeepsTrail }
-{}
-
-/// So do the turns that make an object.
-pub fn making_keeps_trail()
-    ensures { MakingKeepsTrail }
-{}
-
-/// So do the turns that bring an object to its place, and those that tell of it and of the end.
-pub fn placing_keeps_trail()
-    ensures { PlacingKeepsTrail }
-{}
-
-/// After each turn that leads to the sidecar of an inventory, the hasher has been fed the inventory's text.
-pub fn turns_feed()
-    ensures { TurnsFeed }
 {}
