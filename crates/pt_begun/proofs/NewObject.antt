@@ -1,0 +1,240 @@
+-- A site that was judged to have an object, with the object before it is entered.
+use Rattle.std.proofs.Common.{◌≡◌, ◌-◌, ℕ, suc, Bool, true, false, List, [], ◌∷◌, ◌++◌, refl, ap, sym, ◌∙◌, subst, cond, length, arith, drop}
+use Rattle.std.specs.Prelude.{Option, None, Some, Result, Ok, Err, is_none, ◌+◌}
+use Rattle.std.specs.List.{concat}
+use Rattle.std.specs.Str.{is_utf8}
+use Rattle.pt_name.specs.Reading.{reading_of}
+use Rattle.pt_tree.specs.Forest.{Forest, Node, Dir, none, file, other, dir, is_proper, listing_of}
+use Rattle.pt_tree.specs.Listing.{Item}
+use Rattle.pt_tree.specs.Path.{Path}
+use Rattle.pt_tree.specs.declared.kind.Kind.{Kind}
+use Rattle.pt_tree.specs.declared.kind.Kind.TheVariants as kind
+use Rattle.pt_walk.proofs.Findings.{candidate}
+use Rattle.pt_walk.proofs.ObjectSteps as step
+use Rattle.pt_walk.proofs.TrailSteps.{fits_moved, listing_there, path_grows}
+use Rattle.pt_walk.specs.Left.{Fits, entries_from, entries_left, inside_at}
+use Rattle.pt_walk.specs.Object.{Entry, emptiness, entries_in, without_shorties}
+use Rattle.pt_walk.specs.Site.{found, found_at_top, found_below, is_short, non_shorties, non_shorties_from}
+use Rattle.pt_walk.specs.Sites.{Listed, at_of}
+use Rattle.pt_walk.specs.Trail.{current_entry, entered, is_dir_entry, names_to, sought, trail_path}
+use Rattle.pt_walk.specs.declared.cause.Cause.{Cause}
+use Rattle.pt_walk.specs.declared.cause.Cause.TheVariants as cause
+use Rattle.pt_walk.specs.declared.frame.Frame.{Frame}
+use Rattle.pt_walk.specs.declared.site.At.{At}
+use Rattle.pt_walk.specs.declared.site.At.TheVariants as at
+use Rattle.pt_walk.specs.declared.site.Form.{Form}
+use Rattle.pt_walk.specs.declared.site.Finding.{Finding}
+use Rattle.pt_walk.specs.declared.site.Finding.TheVariants as finding
+use Rattle.pt_begun.specs.BegunSource.{IsInObject, IsOnWay, IsSiteOf, IsToJudge, inside_object, object_at}
+use Rattle.pt_plan.specs.Items.{Named, PairtreeObject, Skip, encapsulated, gathered_from, is_reserved, verdict_by_finding, verdict_by_reading, verdict_of, verdict_on_candidate}
+use Rattle.pt_plan.specs.Job.{Job, form_of}
+use Rattle.pt_plan.specs.Store.{pairtree_of}
+use Rattle.pt_plan.specs.TurnScan.{to_site}
+use Rattle.pt_plan.specs.TurnWalk.{at_object, found_at, has_object, identifier_at, identifier_by, new_object}
+use Rattle.pt_plan.specs.declared.object.Object.{Object}
+
+-- ---- an identifier is that of the verdict
+
+by_tests : (utf8 reserved : Bool) (read id : List ℕ) (object : PairtreeObject) → cond utf8 (cond reserved (Err cause.Reserved) (Ok read)) (Err cause.Utf8) ≡ Ok id
+    → cond utf8 (cond reserved (Skip cause.Reserved) (Named read object)) (Skip cause.Utf8) ≡ Named id object
+by_tests false reserved read id object e = absurd (cc)
+by_tests true true read id object e = absurd (cc)
+by_tests true false read id object e = ap (λ (x : List ℕ). Named x object) (ok_is read id (Ok read) (Ok id) refl refl e)
+  where
+    ok_is : (a b : List ℕ) (r s : Result (List ℕ) Cause) → r ≡ Ok a → s ≡ Ok b → r ≡ s → a ≡ b
+    ok_is a b r s h k same = cc
+
+identified : (job : Job) (prefix : List ℕ) (object : PairtreeObject) (read : Option (List ℕ)) (id : List ℕ) → identifier_by job prefix read ≡ Ok id → verdict_by_reading job prefix object read ≡ Named id object
+identified job prefix object None id e = absurd (cc)
+identified job prefix object (Some read) id e = by_tests (is_utf8 read) (is_reserved job (prefix ++ read)) (prefix ++ read) id object e
+
+-- without one the object is passed over
+by_refusals : (utf8 reserved : Bool) (read : List ℕ) (object : PairtreeObject) (why : Cause) → cond utf8 (cond reserved (Err cause.Reserved) (Ok read)) (Err cause.Utf8) ≡ Err why
+    → cond utf8 (cond reserved (Skip cause.Reserved) (Named read object)) (Skip cause.Utf8) ≡ Skip why
+by_refusals false reserved read object why e = let same : cause.Utf8 ≡ why = err_is cause.Utf8 why e in ap (λ (c : Cause). Skip c) same
+  where
+    err_is : (a b : Cause) → ◌≡◌ {A = Result (List ℕ) Cause} (Err a) (Err b) → a ≡ b
+    err_is a b same = cc
+by_refusals true true read object why e = let same : cause.Reserved ≡ why = err_is cause.Reserved why e in ap (λ (c : Cause). Skip c) same
+  where
+    err_is : (a b : Cause) → ◌≡◌ {A = Result (List ℕ) Cause} (Err a) (Err b) → a ≡ b
+    err_is a b same = cc
+by_refusals true false read object why e = absurd (cc)
+
+unidentified : (job : Job) (prefix : List ℕ) (object : PairtreeObject) (read : Option (List ℕ)) (why : Cause) → identifier_by job prefix read ≡ Err why → verdict_by_reading job prefix object read ≡ Skip why
+unidentified job prefix object None why e = let same : cause.Name ≡ why = err_is cause.Name why e in ap (λ (c : Cause). Skip c) same
+  where
+    err_is : (a b : Cause) → ◌≡◌ {A = Result (List ℕ) Cause} (Err a) (Err b) → a ≡ b
+    err_is a b same = cc
+unidentified job prefix object (Some read) why e = by_refusals (is_utf8 read) (is_reserved job (prefix ++ read)) (prefix ++ read) object why e
+
+-- ---- the entry that encapsulates an object
+
+heads : {X : Type 0} → (x y : X) (xs ys : List X) → x ∷ xs ≡ y ∷ ys → x ≡ y
+heads x y xs ys e = cc
+
+dirs_same : (a b : Forest) → Dir a ≡ Dir b → a ≡ b
+dirs_same a b e = cc
+
+encapsulated_is : (site : Path) (f : Forest) (name : List ℕ) (inside : Forest) (rest : List Entry) → entries_in [] f ++ [] ≡ (name ∷ [], Dir inside) ∷ rest
+    → encapsulated site f ≡ Some (record { at = site ++ name ∷ []; gathered = false; inside = inside })
+encapsulated_is site none name inside rest e = absurd (cc)
+encapsulated_is site (file n bytes after) name inside rest e = absurd (let nodes : Rattle.pt_tree.specs.Forest.File bytes ≡ Dir inside = ap (λ (x : Entry). x.1) (heads _ _ _ _ e) in cc)
+encapsulated_is site (other n after) name inside rest e = absurd (let nodes : Rattle.pt_tree.specs.Forest.Other ≡ Dir inside = ap (λ (x : Entry). x.1) (heads _ _ _ _ e) in cc)
+encapsulated_is site (dir n d after) name inside rest e =
+    let head = heads _ _ _ _ e in
+    let names : n ≡ name = heads n name [] [] (ap (λ (x : Entry). x.0) head) in
+    let insides : d ≡ inside = dirs_same d inside (ap (λ (x : Entry). x.1) head) in
+    ap (λ (m : List ℕ). Some (record { at = site ++ m ∷ []; gathered = false; inside = d })) names
+    ∙ ap (λ (f : Forest). Some (record { at = site ++ name ∷ []; gathered = false; inside = f })) insides
+
+-- ---- the object of a site that was judged
+
+pub found_there : (job : Job) (top : Forest) (frame : Frame) (frames : List Frame) (what : Finding) → is_proper top ≡ true → Fits top (frame ∷ frames) → found frame.listing (at_of (names_to frames)) (form_of job) ≡ what
+    → found (listing_of (inside_at top (names_to frames))) (at_of (names_to frames)) (form_of job) ≡ what
+found_there job top frame frames what proper fits is =
+    ap (λ (l : List Item). found l (at_of (names_to frames)) (form_of job)) (listing_there top frame frames proper fits).1 ∙ is
+
+-- it is named so
+pub named_there : (job : Job) (source : Forest) (prefix : List ℕ) (frame : Frame) (frames : List Frame) (index : Option ℕ) (id : List ℕ) → is_proper (pairtree_of source) ≡ true → Fits (pairtree_of source) (frame ∷ frames)
+    → found_at (form_of job) (frame ∷ frames) ≡ has_object index → identifier_at job prefix (names_to frames) ≡ Ok id
+    → verdict_of job prefix (names_to frames) (Listed (inside_at (pairtree_of source) (names_to frames))) ≡ Named id (object_at source (new_object job id index (frame ∷ frames)) (at_object index (frame ∷ frames)))
+named_there job source prefix frame frames None id proper fits is reads =
+    let top = pairtree_of source in
+    let site = names_to frames in
+    let inside = inside_at top site in
+    ap (verdict_by_finding job prefix site inside) (found_there job top frame frames finding.Gathered proper fits is)
+    ∙ identified job prefix (gathered_from site inside) (reading_of (concat site)) id reads
+named_there job source prefix frame frames (Some i) id proper fits is reads =
+    let top = pairtree_of source in
+    let site = names_to frames in
+    let inside = inside_at top site in
+    let there : Frame = record { listing = frame.listing; place = i } in
+    let entry = candidate frame.listing (at_of site) (form_of job) i is in
+    let name = entry.0 in
+    let object : PairtreeObject = record { at = site ++ name ∷ []; gathered = false; inside = inside_at top (site ++ name ∷ []) } in
+    let next = step.enters false top 0 there frames name (inside_at top (site ++ name ∷ [])) proper fits entry.1 refl refl in
+    let held = encapsulated_is site (entries_from i inside) name (inside_at top (site ++ name ∷ [])) (entries_left false top 2 (entered (listing_of (inside_at top (site ++ name ∷ []))) (there ∷ frames))) next in
+    let path : site ++ name ∷ [] ≡ names_to (there ∷ frames) = sym (path_grows there frames (name, kind.Dir) entry.1) in
+    ap (verdict_by_finding job prefix site inside) (found_there job top frame frames (finding.Candidate i) proper fits is)
+    ∙ ap (verdict_on_candidate job prefix site) held
+    ∙ identified job prefix object (reading_of (concat site)) id reads
+    ∙ ap (λ (p : Path). Named id (record { at = p; gathered = false; inside = inside_at top p })) path
+
+-- it is passed over
+pub nameless_there : (job : Job) (source : Forest) (prefix : List ℕ) (frame : Frame) (frames : List Frame) (index : Option ℕ) (why : Cause) → is_proper (pairtree_of source) ≡ true → Fits (pairtree_of source) (frame ∷ frames)
+    → found_at (form_of job) (frame ∷ frames) ≡ has_object index → identifier_at job prefix (names_to frames) ≡ Err why
+    → verdict_of job prefix (names_to frames) (Listed (inside_at (pairtree_of source) (names_to frames))) ≡ Skip why
+nameless_there job source prefix frame frames None why proper fits is reads =
+    let site = names_to frames in
+    let inside = inside_at (pairtree_of source) site in
+    ap (verdict_by_finding job prefix site inside) (found_there job (pairtree_of source) frame frames finding.Gathered proper fits is)
+    ∙ unidentified job prefix (gathered_from site inside) (reading_of (concat site)) why reads
+nameless_there job source prefix frame frames (Some i) why proper fits is reads =
+    let top = pairtree_of source in
+    let site = names_to frames in
+    let inside = inside_at top site in
+    let there : Frame = record { listing = frame.listing; place = i } in
+    let entry = candidate frame.listing (at_of site) (form_of job) i is in
+    let name = entry.0 in
+    let object : PairtreeObject = record { at = site ++ name ∷ []; gathered = false; inside = inside_at top (site ++ name ∷ []) } in
+    let next = step.enters false top 0 there frames name (inside_at top (site ++ name ∷ [])) proper fits entry.1 refl refl in
+    let held = encapsulated_is site (entries_from i inside) name (inside_at top (site ++ name ∷ [])) (entries_left false top 2 (entered (listing_of (inside_at top (site ++ name ∷ []))) (there ∷ frames))) next in
+    ap (verdict_by_finding job prefix site inside) (found_there job top frame frames (finding.Candidate i) proper fits is)
+    ∙ ap (verdict_on_candidate job prefix site) held
+    ∙ unidentified job prefix object (reading_of (concat site)) why reads
+
+-- an object that is encapsulated stands at a directory
+leads_there : (job : Job) (frame : Frame) (frames : List Frame) (index : Option ℕ) → found_at (form_of job) (frame ∷ frames) ≡ has_object index
+    → is_none index ≡ false → is_dir_entry (current_entry (at_object index (frame ∷ frames))) ≡ true
+leads_there job frame frames None is apart = absurd (cc)
+leads_there job frame frames (Some i) is apart = ap is_dir_entry (candidate frame.listing (at_of (names_to frames)) (form_of job) i is).1
+
+-- a site that is gathered has an entry that is no shorty
+some_below : (form : Form) (items : List Item) (l : List (ℕ × Kind)) → found_below form items l ≡ finding.Gathered → l ≡ [] → ⊥
+some_below form [] [] is nothing = absurd (cc)
+some_below form (item ∷ items) [] is nothing = absurd (cc)
+some_below form items (x ∷ l) is nothing = absurd (cc)
+
+some_at_top : (l : List (ℕ × Kind)) → found_at_top l ≡ finding.Gathered → l ≡ [] → ⊥
+some_at_top [] is nothing = absurd (cc)
+some_at_top (x ∷ l) is nothing = absurd (cc)
+
+some_found : (form : Form) (items : List Item) (where_it_stands : At) → found items where_it_stands form ≡ finding.Gathered → non_shorties items ≡ [] → ⊥
+some_found form items at.Root is = some_at_top (non_shorties items) is
+some_found form items at.Pair is = some_below form items (non_shorties items) is
+some_found form items at.Last is = some_below form items (non_shorties items) is
+
+either_left : (short : Bool) (x : ℕ × Kind) (l m : List (ℕ × Kind)) (name : List ℕ) (inside after : Forest) → ((l ≡ [] → ⊥) → emptiness (without_shorties after) ≡ 0)
+    → (cond short l (x ∷ m) ≡ [] → ⊥) → emptiness (cond short (without_shorties after) (dir name inside (without_shorties after))) ≡ 0
+either_left true x l m name inside after later some = later some
+either_left false x l m name inside after later some = refl
+
+some_left : (i : ℕ) (f : Forest) → (non_shorties_from i (listing_of f) ≡ [] → ⊥) → emptiness (without_shorties f) ≡ 0
+some_left i none some = absurd (some refl)
+some_left i (file name bytes after) some = refl
+some_left i (other name after) some = refl
+some_left i (dir name inside after) some =
+    either_left (is_short name) (i, kind.Dir) (non_shorties_from (i + 1) (listing_of after)) (non_shorties_from (i + 1) (listing_of after)) name inside after (some_left (i + 1) after) some
+
+filled_there : (job : Job) (source : Forest) (frame : Frame) (frames : List Frame) (index : Option ℕ) (id : List ℕ) → is_proper (pairtree_of source) ≡ true → Fits (pairtree_of source) (frame ∷ frames) → found_at (form_of job) (frame ∷ frames) ≡ has_object index
+    → is_none index ≡ true → emptiness (inside_object source (new_object job id index (frame ∷ frames)) (at_object index (frame ∷ frames))) ≡ 0
+filled_there job source frame frames (Some i) id proper fits is gathered = absurd (cc)
+filled_there job source frame frames None id proper fits is gathered =
+    let top = pairtree_of source in
+    some_left 0 (inside_at top (names_to frames))
+    (some_found (form_of job) (listing_of (inside_at top (names_to frames))) (at_of (names_to frames)) (found_there job top frame frames finding.Gathered proper fits is))
+
+long_at : (index : Option ℕ) (trail : List Frame) → length (at_object index trail) ≡ length trail
+long_at None trail = refl
+long_at (Some i) [] = refl
+long_at (Some i) (frame ∷ frames) = refl
+
+fits_at : (top : Forest) (index : Option ℕ) (trail : List Frame) → Fits top trail → Fits top (at_object index trail)
+fits_at top None trail fits = fits
+fits_at top (Some i) trail fits = (fits_moved top trail i fits).0
+
+path_at : (index : Option ℕ) (trail : List Frame) → trail_path (at_object index trail) ≡ trail_path trail
+path_at None trail = refl
+path_at (Some i) [] = refl
+path_at (Some i) (frame ∷ frames) = refl
+
+first_at : (index : Option ℕ) (trail : List Frame) → sought 0 (at_object index trail) ≡ sought 0 trail
+first_at None trail = refl
+first_at (Some i) [] = refl
+first_at (Some i) (frame ∷ frames) = refl
+
+pub record IsNewObject (job : Job) (source : Forest) (prefix : List ℕ) (object : Object) (trail : List Frame) (count : ℕ) : Type 0 where
+  pub stands : IsInObject job source prefix object trail count
+  pub at_site : length trail ≡ object.site
+
+pub new_object_there : (job : Job) (source : Forest) (prefix : List ℕ) (trail : List Frame) (index : Option ℕ) (id : List ℕ) (count : ℕ) → is_proper (pairtree_of source) ≡ true
+    → found_at (form_of job) trail ≡ has_object index → identifier_at job prefix (trail_path trail) ≡ Ok id → IsToJudge job source trail count
+    → IsNewObject job source prefix (new_object job id index trail) (at_object index trail) count
+new_object_there job source prefix [] index id count proper is reads judge = absurd (omega (arith, judge.way.entered))
+new_object_there job source prefix (frame ∷ frames) index id count proper is reads judge =
+    let top = pairtree_of source in
+    let trail = frame ∷ frames in
+    let object = new_object job id index trail in
+    let there = at_object index trail in
+    let long = long_at index trail in
+    let no_more : length there - length trail ≡ 0 = omega (arith, long) in
+    let site : to_site object there ≡ there = ap (λ (n : ℕ). drop n there) no_more in
+    let named = named_there job source prefix frame frames index id proper judge.way.fits is reads in
+    let here : IsSiteOf job source prefix object there count = record {
+      here = record { site = judge.here.site ∙ ap (λ (p : Path). Some (p, Listed (inside_at top p))) (sym (path_at index trail)) };
+      way = subst (λ (t : List Frame). IsOnWay job source t (suc count)) (judge.first ∙ sym (first_at index trail)) judge.way;
+      named = ap (λ (p : Path). verdict_of job prefix p (Listed (inside_at top p))) (path_at index trail) ∙ named;
+      leads = leads_there job frame frames index is;
+      filled = filled_there job source frame frames index id proper judge.way.fits is;
+    } in
+    record {
+      stands = record {
+        some = omega arith;
+        within = omega (arith, long);
+        fits = fits_at top index trail judge.way.fits;
+        site = subst (λ (t : List Frame). IsSiteOf job source prefix object t count) (sym site) here;
+        place = refl;
+      };
+      at_site = long;
+    }

@@ -1,0 +1,59 @@
+-- A new run is in progress.
+use Rattle.std.proofs.Common.{◌≡◌, ℕ, true, List, [], refl, sym, append-nil, arith}
+use Rattle.std.specs.Prelude.{Option, None, Some}
+use Rattle.std.specs.Option.{ForSome}
+use Rattle.pt_tree.specs.Dest.{Writing}
+use Rattle.pt_tree.specs.Forest.{Forest, is_proper}
+use Rattle.pt_tree.specs.Source.{Reading}
+use Rattle.pt_tree.specs.Tree.{IsTree, Tree}
+use Rattle.pt_begun.specs.Begun.{Begun, HasTold, TellsAsBefore, TellsStill}
+use Rattle.pt_begun.specs.BegunDest.{DestPart}
+use Rattle.pt_begun.specs.BegunSource.{SourcePart}
+use Rattle.pt_plan.specs.Roots.{root_in}
+use Rattle.pt_begun.specs.BegunHeld.{HeldAt}
+use Rattle.pt_begun.specs.BegunLaws.{NewRunIsBegun}
+use Rattle.pt_plan.specs.Job.{Job}
+use Rattle.pt_begun.specs.Past.{no_past}
+use Rattle.pt_plan.specs.Run.{nothing_held}
+use Rattle.pt_plan.specs.World.{dest_tree}
+use Rattle.pt_plan.specs.declared.phase.Phase.TheVariants as phase
+
+held_new : (job : Job) → HeldAt job no_past phase.Begin nothing_held
+held_new job = record {
+  trail = record { is_one = refl; none = refl; entry = tt };
+  ends = tt;
+  rows = record { rows = refl; contents = refl };
+  behind = tt;
+  numbers = tt;
+  fed = tt;
+}
+
+source_new : (job : Job) (s : Reading) → is_proper s.tree ≡ true → SourcePart job no_past phase.Begin [] nothing_held s
+source_new job s proper = record {
+  proper = proper;
+  at = (record { trail = refl; rows = refl; contents = refl }, refl, refl);
+  bytes = tt;
+  few = omega arith;
+}
+
+dest_new : (job : Job) (dest : Option Writing) → ForSome dest (λ now. IsTree now.tree) → TellsAsBefore (dest_tree dest) dest (DestPart job no_past phase.Begin nothing_held)
+dest_new job None tree = tt
+dest_new job (Some now) tree = record { started = tree now refl; tree = tree now refl; at = record { tree = refl } }
+
+log_new : (job : Job) (source : Forest) (root : Tree) (log : Option (List ℕ)) → TellsStill log log (HasTold job source root no_past phase.Begin)
+log_new job source root None = tt
+log_new job source root (Some bytes) = sym (append-nil bytes)
+
+pub new_run_is_begun : NewRunIsBegun
+unfolding Begun
+new_run_is_begun job world layout is = (
+  no_past,
+  record {
+    layout = layout;
+    held = held_new job;
+    source = λ s e. source_new job s (is.source s e);
+    dest = dest_new job world.dest is.dest;
+    items = λ s e old f. record { places = record { placed = refl; next = tt }; lines_are = record { done = refl; present = refl; skipped = refl } };
+    log = λ s e old f. log_new job s.tree (root_in old) world.log;
+  },
+)

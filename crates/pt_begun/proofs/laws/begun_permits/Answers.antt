@@ -1,0 +1,5 @@
+use Rattle.pt_begun.proofs.Permitted.{begun_permits}
+use Rattle.pt_begun.proofs.laws.begun_permits.Goals as goal
+
+pub returns : goal.returns
+returns c = begun_permits

@@ -1,0 +1,5 @@
+use Rattle.pt_begun.proofs.StagingFound.{finds_staging}
+use Rattle.pt_begun.proofs.laws.finds_staging.Goals as goal
+
+pub returns : goal.returns
+returns c = finds_staging

@@ -1,0 +1,5 @@
+use Rattle.pt_begun.proofs.PlacesDest.{places_dest}
+use Rattle.pt_begun.proofs.laws.placing_keeps_dest.Goals as goal
+
+pub returns : goal.returns
+returns c = places_dest

@@ -1,0 +1,5 @@
+use Rattle.pt_begun.proofs.Refusing.{refuses_rightly}
+use Rattle.pt_begun.proofs.laws.refuses_rightly.Goals as goal
+
+pub returns : goal.returns
+returns c = refuses_rightly

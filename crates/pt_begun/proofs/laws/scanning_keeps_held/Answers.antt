@@ -1,0 +1,5 @@
+use Rattle.pt_begun.proofs.ScansHold.{scans_hold}
+use Rattle.pt_begun.proofs.laws.scanning_keeps_held.Goals as goal
+
+pub returns : goal.returns
+returns c = scans_hold

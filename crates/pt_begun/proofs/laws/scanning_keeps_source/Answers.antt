@@ -1,0 +1,5 @@
+use Rattle.pt_begun.proofs.ScansSource.{scans_source}
+use Rattle.pt_begun.proofs.laws.scanning_keeps_source.Goals as goal
+
+pub returns : goal.returns
+returns c = scans_source

@@ -1,0 +1,5 @@
+use Rattle.pt_begun.proofs.SourceKeeps.{starts_source}
+use Rattle.pt_begun.proofs.laws.starting_keeps_source.Goals as goal
+
+pub returns : goal.returns
+returns c = starts_source

@@ -1,0 +1,13 @@
+pub mod Begun
+pub mod BegunDest
+pub mod BegunHeld
+pub mod BegunLaws
+pub mod BegunSource
+pub mod DestLaws
+pub mod EndLaws
+pub mod HeldLaws
+pub mod ItemLaws
+pub mod PartsMade
+pub mod Past
+pub mod RefusalLaws
+pub mod SourceLaws

@@ -1,0 +1,149 @@
+//! Laws on a run in progress. Each is the contract of a function that does nothing.
+ghost use Rattle.pt_begun.specs.BegunLaws.{BegunPermits, NewRunIsBegun, TurnEndsBegun, TurnKeepsBegun};
+ghost use Rattle.pt_begun.specs.DestLaws.{MakingKeepsDest, PlacingKeepsDest, ScanningKeepsDest, StartingKeepsDest, WalkingKeepsDest};
+ghost use Rattle.pt_begun.specs.EndLaws.{BegunIsWithinBound, EndsWell};
+ghost use Rattle.pt_begun.specs.HeldLaws.{MakingKeepsHeld, PlacingKeepsHeld, ScanningKeepsHeld, StartingKeepsHeld, WalkingKeepsHeld};
+ghost use Rattle.pt_begun.specs.ItemLaws.{MakingKeepsItems, PlacingKeepsItems, ScanningKeepsItems, StartingKeepsItems, WalkingKeepsItems};
+ghost use Rattle.pt_begun.specs.RefusalLaws.{FindsStaging, RefusesRightly};
+ghost use Rattle.pt_begun.specs.SourceLaws.{MakingKeepsSource, PlacingKeepsSource, ScanningKeepsSource, StartingKeepsSource, WalkingKeepsSource};
+
+/// A new run is in progress, whatever its devices tell.
+pub fn new_run_is_begun()
+    ensures { NewRunIsBegun }
+{}
+
+/// A run in progress permits the calls of its next turn.
+pub fn begun_permits()
+    ensures { BegunPermits }
+{}
+
+/// A turn that goes on leaves the run in progress, at its next phase.
+pub fn turn_keeps_begun()
+    ensures { TurnKeepsBegun }
+{}
+
+/// A turn that halts the run leaves it ended, and what is left in a destination that tells may be kept.
+pub fn turn_ends_begun()
+    ensures { TurnEndsBegun }
+{}
+
+/// After the turn that ends a run, where all devices tell, the start was a good one, the destination holds the root with all objects that are carried and is as it was elsewhere, the log has got all lines, and the counts are the end line's.
+pub fn ends_well()
+    ensures { EndsWell }
+{}
+
+/// Between two turns a run holds no more than its source's bound, where the source tells.
+pub fn begun_is_within_bound()
+    ensures { BegunIsWithinBound }
+{}
+
+/// Where the source tells, it is refused as no pairtree or for its prefix only where that is so, and never as changed.
+pub fn refuses_rightly()
+    ensures { RefusesRightly }
+{}
+
+/// Where the destination tells, a run halts for what stands at `staging` only where something stood there at the start.
+pub fn finds_staging()
+    ensures { FindsStaging }
+{}
+
+/// The turns of the start keep what holds of a run in progress where the source tells.
+pub fn starting_keeps_source()
+    ensures { StartingKeepsSource }
+{}
+
+/// So do the turns of the walk.
+pub fn walking_keeps_source()
+    ensures { WalkingKeepsSource }
+{}
+
+/// So do the turns of the scan of an object.
+pub fn scanning_keeps_source()
+    ensures { ScanningKeepsSource }
+{}
+
+/// So do the turns that make an object.
+pub fn making_keeps_source()
+    ensures { MakingKeepsSource }
+{}
+
+/// So do the turns that bring an object to its place, and those that tell of it and of the end.
+pub fn placing_keeps_source()
+    ensures { PlacingKeepsSource }
+{}
+
+/// The turns of the start keep what holds of a run in progress where the destination tells.
+pub fn starting_keeps_dest()
+    ensures { StartingKeepsDest }
+{}
+
+/// So do the turns of the walk.
+pub fn walking_keeps_dest()
+    ensures { WalkingKeepsDest }
+{}
+
+/// So do the turns of the scan of an object.
+pub fn scanning_keeps_dest()
+    ensures { ScanningKeepsDest }
+{}
+
+/// So do the turns that make an object.
+pub fn making_keeps_dest()
+    ensures { MakingKeepsDest }
+{}
+
+/// So do the turns that bring an object to its place, and those that tell of it and of the end.
+pub fn placing_keeps_dest()
+    ensures { PlacingKeepsDest }
+{}
+
+/// The turns of the start keep what holds of what is held, whatever the devices tell.
+pub fn starting_keeps_held()
+    ensures { StartingKeepsHeld }
+{}
+
+/// So do the turns of the walk.
+pub fn walking_keeps_held()
+    ensures { WalkingKeepsHeld }
+{}
+
+/// So do the turns of the scan of an object.
+pub fn scanning_keeps_held()
+    ensures { ScanningKeepsHeld }
+{}
+
+/// So do the turns that make an object.
+pub fn making_keeps_held()
+    ensures { MakingKeepsHeld }
+{}
+
+/// So do the turns that bring an object to its place, and those that tell of it and of the end.
+pub fn placing_keeps_held()
+    ensures { PlacingKeepsHeld }
+{}
+
+/// The turns of the start keep what holds of the items that are done, of the counts and of the log, where the devices tell
+/// these.
+pub fn starting_keeps_items()
+    ensures { StartingKeepsItems }
+{}
+
+/// So do the turns of the walk.
+pub fn walking_keeps_items()
+    ensures { WalkingKeepsItems }
+{}
+
+/// So do the turns of the scan of an object.
+pub fn scanning_keeps_items()
+    ensures { ScanningKeepsItems }
+{}
+
+/// So do the turns that make an object.
+pub fn making_keeps_items()
+    ensures { MakingKeepsItems }
+{}
+
+/// So do the turns that bring an object to its place, and those that tell of it and of the end.
+pub fn placing_keeps_items()
+    ensures { PlacingKeepsItems }
+{}
