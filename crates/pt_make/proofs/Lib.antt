@@ -1,0 +1,8 @@
+pub mod Copies
+pub mod NextParts
+pub mod Parts
+pub mod Places
+pub mod Standing
+pub mod Tells
+pub mod Texts
+pub mod Turns

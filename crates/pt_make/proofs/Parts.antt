@@ -1,0 +1,66 @@
+-- The turns that make the folders of an object and its declaration, from their calls.
+use Rattle.std.proofs.Common.{◌≡◌, ℕ, List, [], ◌∷◌, ◌++◌, refl, sym, subst}
+use Rattle.std.specs.Prelude.{Option, Ok, IsErrAnd}
+use Rattle.pt_object.specs.Files.{object_declaration_bytes}
+use Rattle.pt_object.specs.Object.{object_declaration_name}
+use Rattle.pt_object.specs.Script.{Item, MakeFile, MakeFolder}
+use Rattle.pt_object.specs.Scripts.{staging}
+use Rattle.pt_tree.specs.Dest.{Writing, MayMake}
+use Rattle.pt_tree.specs.Path.{Path}
+use Rattle.pt_tree.specs.Source.{Reading}
+use Rattle.pt_plan.specs.Answer.{Answer}
+use Rattle.pt_plan.specs.TurnMake.{MakesDeclaration, MakesStaging, MakesVersion, content_at, in_version}
+use Rattle.pt_plan.specs.World.{Makes}
+use Rattle.pt_plan.specs.declared.halt.Halt.{Halt}
+use Rattle.pt_plan.specs.declared.object.Object.{Object}
+use Rattle.pt_plan.specs.declared.phase.Part.{Part}
+use Rattle.pt_plan.specs.declared.phase.Part.TheVariants as part
+use Rattle.pt_plan.specs.declared.phase.Phase.TheVariants as phase
+use Rattle.pt_state.specs.Calls.{DestDid, DestKeepsPart}
+use Rattle.pt_state.specs.States.{held_of}
+use Rattle.pt_state.specs.Turned.{Turned}
+use Rattle.pt_state.specs.declared.state.State.{State}
+use Rattle.pt_make.proofs.Turns.{left_part, made}
+
+pub made_staging : (s : State) (r : Option Reading) (w w' : Option Writing) (g : Option (List ℕ)) (n d d' l : ℕ) (object : Object) (path : Path) → DestDid (Makes (MakeFolder path)) w w' d d' → path ≡ staging
+    → Turned (phase.Make object part.Staging) s s r r w w' g g n n d d' l l (Ok (phase.Make object part.Declaration))
+made_staging s r w w' g n d d' l object path did is =
+    made (phase.Make object part.Staging) (phase.Make object part.Declaration) s s r w w' g n d d' l (Makes (MakeFolder staging)) (λ fed. fed) (λ fed. MakesStaging (held_of s fed) object)
+    (subst (λ (p : Path). DestDid (Makes (MakeFolder p)) w w' d d') is did) (λ fed was. was) refl refl refl refl refl
+
+declaration : (path : Path) (bytes : List ℕ) → path ≡ staging ++ object_declaration_name ∷ [] → bytes ≡ object_declaration_bytes → MakeFile path bytes ≡ MakeFile (staging ++ object_declaration_name ∷ []) object_declaration_bytes
+declaration path bytes is same = λ i. MakeFile (is i) (same i)
+
+pub made_declaration : (s : State) (r : Option Reading) (w w' : Option Writing) (g : Option (List ℕ)) (n d d' l : ℕ) (object : Object) (path : Path) (bytes : List ℕ) → DestDid (Makes (MakeFile path bytes)) w w' d d' → path ≡ staging ++ object_declaration_name ∷ [] → bytes ≡ object_declaration_bytes
+    → Turned (phase.Make object part.Declaration) s s r r w w' g g n n d d' l l (Ok (phase.Make object part.Version))
+made_declaration s r w w' g n d d' l object path bytes did is same =
+    made (phase.Make object part.Declaration) (phase.Make object part.Version) s s r w w' g n d d' l _ (λ fed. fed) (λ fed. MakesDeclaration (held_of s fed) object)
+    (subst (λ (item : Item). DestDid (Makes item) w w' d d') (declaration path bytes is same) did) (λ fed was. was) refl refl refl refl refl
+
+pub left_declaration : (s : State) (r : Option Reading) (w w' : Option Writing) (g : Option (List ℕ)) (n d d' l : ℕ) (object : Object) (path : Path) (bytes : List ℕ) (f : Halt) (result : Answer) → IsErrAnd result (λ h. h ≡ f) → DestKeepsPart (Makes (MakeFile path bytes)) f w w' d d' → path ≡ staging ++ object_declaration_name ∷ [] → bytes ≡ object_declaration_bytes
+    → Turned (phase.Make object part.Declaration) s s r r w w' g g n n d d' l l result
+left_declaration s r w w' g n d d' l object path bytes f result is some at same =
+    left_part (phase.Make object part.Declaration) (phase.Make object part.Version) s s r w w' g n d d' l _ (λ fed. fed) f result is (λ fed. MakesDeclaration (held_of s fed) object)
+    (subst (λ (item : Item). DestKeepsPart (Makes item) f w w' d d') (declaration path bytes at same) some) refl refl refl refl refl
+
+pub made_version : (s : State) (r : Option Reading) (w w' : Option Writing) (g : Option (List ℕ)) (n d d' l : ℕ) (object : Object) (path : Path) (next : Part) → DestDid (Makes (MakeFolder path)) w w' d d' → path ≡ in_version [] → next ≡ content_at s.rows (record { row = 0; stored = 0; directories = 0 })
+    → Turned (phase.Make object part.Version) s s r r w w' g g n n d d' l l (Ok (phase.Make object next))
+made_version s r w w' g n d d' l object path next did is then =
+    subst (λ (p : Part). Turned (phase.Make object part.Version) s s r r w w' g g n n d d' l l (Ok (phase.Make object p))) (sym then)
+    (made (phase.Make object part.Version) (phase.Make object (content_at s.rows (record { row = 0; stored = 0; directories = 0 }))) s s r w w' g n d d' l (Makes (MakeFolder (in_version []))) (λ fed. fed) (λ fed. MakesVersion (held_of s fed) object)
+    (subst (λ (p : Path). DestDid (Makes (MakeFolder p)) w w' d d') is did) (λ fed was. was) refl refl refl refl refl)
+
+-- at an equal path it may be made as well
+pub may_make_at : (told : Option Writing) (path at : Path) → MayMake told at → path ≡ at → MayMake told path
+may_make_at told path at may is = subst (λ (p : Path). MayMake told p) (sym is) may
+
+pub may_staging : (told : Option Writing) (path : Path) → MayMake told staging → path ≡ staging → MayMake told path
+may_staging told path may is = may_make_at told path staging may is
+
+pub may_declaration : (told : Option Writing) (path : Path) → MayMake told (staging ++ object_declaration_name ∷ []) → path ≡ staging ++ object_declaration_name ∷ [] → MayMake told path
+may_declaration told path may is = may_make_at told path _ may is
+
+pub may_version : (told : Option Writing) (path : Path) → MayMake told (in_version []) → path ≡ in_version [] → MayMake told path
+may_version told path may is = may_make_at told path _ may is
+
+pub ruleset parts = (made_staging, made_declaration, left_declaration, made_version, may_staging, may_declaration, may_version)

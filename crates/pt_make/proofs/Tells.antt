@@ -1,0 +1,87 @@
+-- The turns that tell of an object and of the end, from what the log got.
+use Rattle.std.proofs.Common.{◌≡◌, ◌<◌, ◌≤◌, ◌+◌, ◌^◌, ℕ, List, [], ◌∷◌, refl, subst, ap, ◌∙◌, length, take, arith, zero, suc, Fits, w64}
+use Rattle.std.specs.Prelude.{Option, Some, Ok, IsErrAnd, slice_get}
+use Rattle.std.specs.String.{string_bytes}
+use Rattle.std.proofs.lemmas.List.{take_all}
+use Rattle.std.proofs.lemmas.List.Sums.{sum_by-cons, sum_by-take-le}
+use Rattle.pt_object.specs.declared.rows.Row.{Row}
+use Rattle.pt_tree.specs.Dest.{Writing}
+use Rattle.pt_tree.specs.Path.{Path}
+use Rattle.pt_tree.specs.Source.{Reading}
+use Rattle.pt_walk.specs.Trail.{sought}
+use Rattle.pt_plan.specs.Answer.{Answer}
+use Rattle.pt_plan.specs.Lines.{Done, End, Line}
+use Rattle.pt_plan.specs.Turn.{Follows, Place}
+use Rattle.pt_plan.specs.TurnMake.{path_of_source}
+use Rattle.pt_plan.specs.TurnPlace.{TellsDone, TellsEnd, bytes_in_rows, done_line, last_line, restarted}
+use Rattle.pt_plan.specs.World.{tells}
+use Rattle.pt_plan.specs.declared.halt.Halt.{Halt}
+use Rattle.pt_plan.specs.declared.object.Object.{Object}
+use Rattle.pt_plan.specs.declared.phase.Phase.TheVariants as phase
+use Rattle.pt_state.proofs.Whole.{told_whole, turned_front, turned_on}
+use Rattle.pt_state.specs.Calls.{LogGot, LogGotFront}
+use Rattle.pt_state.specs.Lines.{with_done}
+use Rattle.pt_state.specs.States.{counts_of, held_of, job_of}
+use Rattle.pt_state.specs.Turned.{Turned}
+use Rattle.pt_state.specs.declared.state.State.{State}
+
+-- ---- the lengths of rows
+
+abbrev row_length : Row → ℕ
+row_length row = row.length
+
+bytes_at : (rows : List Row) (i : ℕ) (row : Row) → Some row ≡ slice_get rows i → bytes_in_rows (take (suc i) rows) ≡ bytes_in_rows (take i rows) + row.length
+bytes_at [] i row is = absurd (cc)
+bytes_at (x ∷ rows) zero row is = let same : row ≡ x = cc in let long : row.length ≡ x.length = ap row_length same in omega (arith, long)
+bytes_at (x ∷ rows) (suc i) row is =
+    let rest = bytes_at rows i row is in
+    let more = sum_by-cons row_length x (take (suc i) rows) in
+    let less = sum_by-cons row_length x (take i rows) in
+    omega (arith, rest, more, less)
+
+pub one_row_more : (rows : List Row) (i bytes : ℕ) (row : Row) → bytes ≡ bytes_in_rows (take i rows) → Some row ≡ slice_get rows i → bytes + row.length ≡ bytes_in_rows (take (i + 1) rows)
+one_row_more rows i bytes row so_far is =
+    let next : i + 1 ≡ suc i = omega arith in
+    rw next (let more = bytes_at rows i row is in omega (arith, more, so_far))
+
+pub row_fits : (rows : List Row) (i bytes : ℕ) (row : Row) → bytes_in_rows rows < 2 ^ 64 → bytes ≡ bytes_in_rows (take i rows) → Some row ≡ slice_get rows i → Fits w64 (bytes + row.length)
+row_fits rows i bytes row small so_far is =
+    let next = bytes_at rows i row is in
+    let part = sum_by-take-le row_length rows (suc i) in
+    omega (arith, next, part, small, so_far)
+
+pub all_rows : (rows : List Row) (i bytes : ℕ) → length rows ≤ i → bytes ≡ bytes_in_rows (take i rows) → bytes ≡ bytes_in_rows rows
+all_rows rows i bytes most so_far = so_far ∙ ap bytes_in_rows (take_all i rows most)
+
+-- ---- lines
+
+-- the line of the object, from its parts
+line_of : (s : State) (object : Object) (at : Path) (bytes : ℕ) → at ≡ path_of_source object s.trail → bytes ≡ bytes_in_rows s.rows → Done at bytes object.empty (length s.rows) object.id object.place ≡ done_line object (held_of s [])
+line_of s object at bytes is sum = λ i. Done (is i) (sum i) object.empty (length s.rows) object.id object.place
+
+follows_done : (s : State) (object : Object) (fed : List ℕ) → Follows (job_of s.job) (counts_of s.counts) (phase.Line object) (string_bytes s.prefix) (held_of s fed) (string_bytes s.prefix) (restarted (held_of s fed)) (tells (done_line object (held_of s []))) (Ok phase.Walk)
+follows_done s object fed = Place (phase.Line object) (string_bytes s.prefix) (held_of s fed) _ _ _ (TellsDone (held_of s fed) object)
+
+pub told_done : (s s' : State) (object : Object) (at : Path) (bytes : ℕ) (r : Option Reading) (w : Option Writing) (g g' : Option (List ℕ)) (n d l l' : ℕ) → LogGot (Done at bytes object.empty (length s.rows) object.id object.place) g g' l l' → at ≡ path_of_source object s.trail → bytes ≡ bytes_in_rows s.rows
+    → s'.trail ≡ sought 0 s.trail → s'.rows ≡ [] → s'.contents ≡ [] → s'.counts ≡ with_done s.counts → string_bytes s'.prefix ≡ string_bytes s.prefix → s'.hasher ≡ s.hasher → Turned (phase.Line object) s s' r r w w g g' n n d d l l' (Ok phase.Walk)
+told_done s s' object at bytes r w g g' n d l l' got is sum trail rows contents counts prefix hasher =
+    turned_on (phase.Line object) phase.Walk s s' r r w w g g' n n d d l l' (tells (done_line object (held_of s []))) (sought 0 s.trail) [] [] (λ fed. follows_done s object fed)
+    (told_whole (done_line object (held_of s [])) r w g g' n d l l' (subst (λ (line : Line). LogGot line g g' l l') (line_of s object at bytes is sum) got)) trail rows contents (ap counts_of counts) prefix hasher
+
+pub told_front : (s s' : State) (object : Object) (at : Path) (bytes : ℕ) (r : Option Reading) (w : Option Writing) (g g' : Option (List ℕ)) (n d l l' : ℕ) (f : Halt) (result : Answer) → IsErrAnd result (λ h. h ≡ f) → LogGotFront (Done at bytes object.empty (length s.rows) object.id object.place) f g g' l l' → at ≡ path_of_source object s.trail → bytes ≡ bytes_in_rows s.rows
+    → string_bytes s'.prefix ≡ string_bytes s.prefix → s'.trail ≡ s.trail → s'.rows ≡ s.rows → s'.contents ≡ s.contents → s'.counts ≡ s.counts → Turned (phase.Line object) s s' r r w w g g' n n d d l l' result
+told_front s s' object at bytes r w g g' n d l l' f result is front there sum prefix trail rows contents counts =
+    turned_front (phase.Line object) phase.Walk s s' r r w w g g' n d l l' (tells (done_line object (held_of s []))) (done_line object (held_of s [])) _ f result is (subst (λ (line : Line). LogGotFront line f g g' l l') (line_of s object at bytes there sum) front) refl
+    (λ fed. follows_done s object fed) refl refl prefix trail rows contents counts
+
+pub told_end : (s : State) (r : Option Reading) (w : Option Writing) (g g' : Option (List ℕ)) (n d l l' : ℕ) → LogGot (End s.counts.done s.counts.present s.counts.skipped) g g' l l' → Turned phase.End s s r r w w g g' n n d d l l' (Ok phase.Ended)
+told_end s r w g g' n d l l' got =
+    turned_on phase.End phase.Ended s s r r w w g g' n n d d l l' (tells (last_line (counts_of s.counts))) s.trail s.rows s.contents
+    (λ fed. Place phase.End (string_bytes s.prefix) (held_of s fed) _ _ _ (TellsEnd (held_of s fed))) (told_whole (last_line (counts_of s.counts)) r w g g' n d l l' got) refl refl refl refl refl refl
+
+pub end_front : (s : State) (r : Option Reading) (w : Option Writing) (g g' : Option (List ℕ)) (n d l l' : ℕ) (f : Halt) (result : Answer) → IsErrAnd result (λ h. h ≡ f) → LogGotFront (End s.counts.done s.counts.present s.counts.skipped) f g g' l l' → Turned phase.End s s r r w w g g' n n d d l l' result
+end_front s r w g g' n d l l' f result is front =
+    turned_front phase.End phase.Ended s s r r w w g g' n d l l' (tells (last_line (counts_of s.counts))) (last_line (counts_of s.counts)) _ f result is front refl
+    (λ fed. Place phase.End (string_bytes s.prefix) (held_of s fed) _ _ _ (TellsEnd (held_of s fed))) refl refl refl refl refl refl refl
+
+pub ruleset telling = (one_row_more, row_fits, all_rows, told_done, told_front, told_end, end_front)

@@ -1,0 +1,75 @@
+-- What the turns that make an object ask of what is held, beside what their calls need of the devices.
+use Rattle.std.specs.Prelude.{◌≡◌, ◌<◌, ◌==◌, ◌&&◌, ◌++◌, ◌-◌, ◌^◌, ℕ, List, None, Option, Some, false, length, map, nat_lt, slice_get, take, true, ⊤}
+use Rattle.std.specs.Str.{bytes_eq}
+use Rattle.pt_object.specs.declared.contents.Content.{Content}
+use Rattle.pt_object.specs.Distinct.{content_of_row, distinct}
+use Rattle.pt_object.specs.Hasher.{HasBeenFed}
+use Rattle.pt_plan.specs.TurnMake.{behind, behind_stored, content_at, in_content, is_stored, path_of_source, text_of_inventory}
+use Rattle.pt_plan.specs.TurnWalk.{in_pairtree}
+use Rattle.pt_object.specs.declared.rows.Row.{Row}
+use Rattle.pt_tree.specs.Path.{Path}
+use Rattle.pt_plan.specs.declared.object.Object.{Object}
+use Rattle.pt_plan.specs.declared.phase.Part.{Part}
+use Rattle.pt_plan.specs.declared.phase.Part.TheVariants as part
+use Rattle.pt_plan.specs.declared.phase.Position.{Position}
+use Rattle.pt_make.specs.declared.contents.Copied.{Copied}
+use Rattle.pt_make.specs.declared.contents.Step.{Step}
+use Rattle.pt_make.specs.declared.contents.Step.TheVariants as step
+use Rattle.pt_state.specs.States.{job_of}
+use Rattle.pt_state.specs.declared.state.State.{State}
+
+-- the row at the position is passed, and this is next
+unfoldable pub IsPassed : State → Position → Part → Type 0
+IsPassed s position next =
+    (row : Row) × ((slice_get s.rows position.row ≡ Some row) × (is_stored s.contents position.stored row.path ≡ false) × (next ≡ content_at s.rows (behind position)))
+
+-- a folder of the content at the position is next, at this path
+unfoldable pub IsNextFolder : State → Position → Path → Type 0
+IsNextFolder s position path =
+    (row : Row) × ((slice_get s.rows position.row ≡ Some row) × (is_stored s.contents position.stored row.path ≡ true) × (nat_lt position.directories (length row.path) ≡ true) × (position.directories < 2 ^ 64 - 1) × (path ≡ in_content (take position.directories row.path)))
+
+-- its file is next
+unfoldable pub IsNextCopy : State → Object → Position → Copied → Type 0
+IsNextCopy s object position copied =
+    (row : Row) × ((slice_get s.rows position.row ≡ Some row) × (is_stored s.contents position.stored row.path ≡ true) × (nat_lt position.directories (length row.path) ≡ false)
+    × (copied.to ≡ in_content row.path) × (copied.from ≡ in_pairtree (path_of_source object s.trail ++ row.path)) × (copied.length ≡ row.length))
+
+-- this is next at the position
+abbrev pub IsStep : State → Object → Position → Step → Type 0
+IsStep s object position (step.Pass next) = IsPassed s position next
+IsStep s object position (step.Folder path) = IsNextFolder s position path
+IsStep s object position (step.File copied) = IsNextCopy s object position copied
+
+-- what was read is as the row at the position says, and this is next
+unfoldable pub IsAsRead : List Row → List Content → Position → ℕ → List ℕ → Part → Type 0
+IsAsRead rows contents position left digest next =
+    (row : Row) × ((slice_get rows position.row ≡ Some row) × (((left == 0) && bytes_eq digest row.digest) ≡ true) × (next ≡ content_at rows (behind_stored contents position row.path)))
+
+-- it is not
+unfoldable pub IsOther : List Row → Position → ℕ → List ℕ → Type 0
+IsOther rows position left digest =
+    (row : Row) × ((slice_get rows position.row ≡ Some row) × (((left == 0) && bytes_eq digest row.digest) ≡ false))
+
+-- so the end of a file is answered
+abbrev pub EndsAs : List Row → List Content → Position → ℕ → List ℕ → Option Part → Type 0
+EndsAs rows contents position left digest (Some next) = IsAsRead rows contents position left digest next
+EndsAs rows contents position left digest None = IsOther rows position left digest
+
+-- the contents are those of the rows
+unfoldable pub HasContentsOfRows : State → Type 0
+HasContentsOfRows s = s.contents ≡ map content_of_row (distinct s.rows)
+
+-- the hasher has been fed the text of the object's inventory
+unfoldable pub HasFedInventory : State → Object → Type 0
+HasFedInventory s object = HasBeenFed s.job.algorithm s.hasher (text_of_inventory (job_of s.job) object s.rows)
+
+-- what the turn of a part needs of what is held
+abbrev pub IsReadyFor : Part → Object → State → Type 0
+IsReadyFor part.Staging object s = ⊤
+IsReadyFor part.Declaration object s = ⊤
+IsReadyFor part.Version object s = ⊤
+IsReadyFor (part.Content position) object s = position.row < length s.rows
+IsReadyFor part.VersionInventory object s = HasContentsOfRows s
+IsReadyFor part.VersionSidecar object s = HasFedInventory s object
+IsReadyFor part.Inventory object s = HasContentsOfRows s
+IsReadyFor part.Sidecar object s = HasFedInventory s object

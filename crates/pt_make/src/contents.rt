@@ -1,0 +1,149 @@
+#![tactic(auto, using(crate::proofs::NextParts::next_steps, crate::proofs::NextParts::next_parts, pt_state::proofs::Counting::calls, pt_state::proofs::Whole::whole))]
+//! The turns that make an object's contents: a row whose content is stored is passed; of any other the folders on the
+//! way are made, one a turn, and then its file, for which the source's is opened.
+ghost use Rattle.std.specs.Prelude.{◌≡◌, ◌<◌, ◌≤◌, ◌++◌, ◌-◌, ◌^◌, [], IfOk, ℕ, List, Option, length};
+ghost use Rattle.pt_plan.specs.Permits.{MayMakeContent};
+ghost use Rattle.pt_plan.specs.TurnMake.{content_at, is_stored as is_stored_of};
+ghost use Rattle.pt_plan.specs.declared.phase.Part.TheVariants as part;
+ghost use Rattle.pt_plan.specs.declared.phase.Phase.TheVariants as phase;
+ghost use Rattle.pt_state.specs.Counting.{AtMostCalls};
+ghost use Rattle.pt_state.specs.States.{held_of};
+ghost use Rattle.pt_state.specs.Turned.{Turned};
+ghost use Rattle.pt_tree.specs.Dest.{MayMake};
+ghost use Rattle.pt_tree.specs.Source.{Reading, CanOpen};
+ghost use Rattle.pt_make.specs.Making.{IsNextCopy, IsNextFolder, IsStep};
+
+use pt_object::{Contents, Hasher, Rows};
+use pt_plan::{Halt, Object, Part, Phase, Position};
+use pt_state::paths::{content_path, source_path};
+use pt_state::{State, calls};
+use pt_tree::{Dest, MemoryFault, NamePath, Source};
+
+// The file of a content that is next to be made, with the one that it is copied from.
+#[derive(Drop)]
+struct Copied {
+    to: NamePath,
+    from: NamePath,
+    length: u64,
+}
+
+// What is next of the contents.
+#[derive(Drop)]
+enum Step {
+    // The row's content is stored, and it is passed.
+    Pass(Part),
+    // The folder of this path is made.
+    Folder(NamePath),
+    // The file is made.
+    File(Copied),
+}
+
+/// Passes a row whose content is stored already; else makes the next folder of its content path, or its file.
+pub(crate) fn make_content<S: Source, D: Dest>(
+    state: &mut State,
+    object: Object,
+    position: Position,
+    source: &mut S,
+    dest: &mut D,
+) -> Result<Phase, Halt>
+    requires row { position.row < length state.old.rows }
+    requires may { MayMakeContent (S.told source.old) (D.told dest.old) object (held_of state.old []) position }
+    ensures job { state.new.job ≡ state.old.job }
+    ensures turn { (log : Option (List ℕ)) (l : ℕ) → Turned (phase.Make object (part.Content position)) state.old state.new (S.told source.old) (S.told source.new) (D.told dest.old) (D.told dest.new) log log (S.failed source.old) (S.failed source.new) (D.failed dest.old) (D.failed dest.new) l l result }
+    ensures calls { AtMostCalls 1 (S.called source.old) (S.called source.new) }
+{
+    match next_step(state, &object, position)? {
+        Step::Pass(next) => Ok(Phase::Make(object, next)),
+        Step::Folder(path) => make_folder(state, object, position, &path, dest),
+        Step::File(copied) => open_copy(state, object, position, &copied, source, dest),
+    }
+}
+
+// What is next at a position.
+fn next_step(state: &State, object: &Object, position: Position) -> Result<Step, MemoryFault>
+    requires { position.row < length state.now.rows }
+    ensures { IfOk result (IsStep state.now object.now position) }
+{
+    let _rows = state.rows.len();
+    let Some(row) = state.rows.get(position.row) else {
+        unreachable!()
+    };
+    if !is_stored(&state.contents, position.stored, &row.path) {
+        let row = position.row + 1;
+        let next = next_content(&state.rows, Position { row, ..position });
+        return Ok(Step::Pass(next));
+    }
+    let names = row.path.len();
+    if position.directories < names {
+        let path = content_path(state.alloc, &row.path, position.directories)?;
+        return Ok(Step::Folder(path));
+    }
+    let to = content_path(state.alloc, &row.path, names)?;
+    let from = source_path(state.alloc, object, &state.trail, &row.path)?;
+    let length = row.length;
+    Ok(Step::File(Copied { to, from, length }))
+}
+
+/// The part at a position: the content there, or what follows the contents.
+pub(crate) fn next_content(rows: &Rows, position: Position) -> Part
+    ensures { result ≡ content_at rows.now position }
+{
+    if position.row < rows.len() {
+        Part::Content(position)
+    } else {
+        Part::VersionInventory
+    }
+}
+
+// Whether a row's content is the one of this number, so that it is stored at the row's path.
+fn is_stored(contents: &Contents, stored: usize, path: &NamePath) -> bool
+    ensures { result ≡ is_stored_of contents.now stored path.now }
+{
+    match contents.get(stored) {
+        Some(content) => content.path == *path,
+        None => false,
+    }
+}
+
+// Makes the folder of this path, which is next on the way to a content.
+fn make_folder<D: Dest>(
+    state: &State,
+    object: Object,
+    position: Position,
+    path: &NamePath,
+    dest: &mut D,
+) -> Result<Phase, Halt>
+    requires next { IsNextFolder state.now position path.now }
+    requires may { MayMake (D.told dest.old) path.now }
+    ensures turn { (reading : Option Reading) (log : Option (List ℕ)) (n l : ℕ) → Turned (phase.Make object (part.Content position)) state.now state.now reading reading (D.told dest.old) (D.told dest.new) log log n n (D.failed dest.old) (D.failed dest.new) l l result }
+{
+    calls::mkdir(dest, path)?;
+    let directories = position.directories + 1;
+    let next = Position {
+        directories,
+        ..position
+    };
+    Ok(Phase::Make(object, Part::Content(next)))
+}
+
+// Makes the file of a content, and opens the one that it is copied from.
+fn open_copy<S: Source, D: Dest>(
+    state: &mut State,
+    object: Object,
+    position: Position,
+    copied: &Copied,
+    source: &mut S,
+    dest: &mut D,
+) -> Result<Phase, Halt>
+    requires next { IsNextCopy state.old object position copied.now }
+    requires make { MayMake (D.told dest.old) copied.now.to }
+    requires open { CanOpen (S.told source.old) copied.now.from }
+    ensures job { state.new.job ≡ state.old.job }
+    ensures turn { (log : Option (List ℕ)) (l : ℕ) → Turned (phase.Make object (part.Content position)) state.old state.new (S.told source.old) (S.told source.new) (D.told dest.old) (D.told dest.new) log log (S.failed source.old) (S.failed source.new) (D.failed dest.old) (D.failed dest.new) l l result }
+    ensures calls { AtMostCalls 1 (S.called source.old) (S.called source.new) }
+{
+    calls::create(dest, &copied.to)?;
+    calls::open(source, &copied.from)?;
+    state.hasher = Hasher::start(state.job.algorithm);
+    Ok(Phase::Copy(object, position, copied.length))
+}

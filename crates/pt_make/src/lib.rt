@@ -1,0 +1,9 @@
+//! The turns that make an object in `staging` and bring it to its place, and those that tell of it and of the end.
+#![tactic(auto)]
+
+mod contents;
+pub mod copying;
+mod inventories;
+pub mod making;
+pub mod placing;
+pub mod telling;

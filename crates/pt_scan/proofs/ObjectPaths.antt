@@ -1,0 +1,151 @@
+-- Paths in an object, from the trail that leads to where the scan stands.
+use Rattle.std.proofs.Common.{◌≡◌, ◌<◌, ◌≤◌, ℕ, ◌+◌, ◌-◌, ◌==◌, Bool, true, false, List, [], ◌∷◌, ◌++◌, refl, sym, subst, ap, ◌∙◌, length, cond, drop, take, arith, zero, suc}
+use Rattle.std.specs.Prelude.{Option, None, Some, IsSome, ◌&&◌, option_to_list}
+use Rattle.std.specs.Option.{option_map}
+use Rattle.std.proofs.lemmas.List.{length-append, length-drop, length-take-le, take_all}
+use Rattle.std.proofs.lemmas.Bool.{and_parts, eq-eqb}
+use Rattle.pt_tree.specs.Listing.{Item}
+use Rattle.pt_tree.specs.Path.{Path}
+use Rattle.pt_walk.specs.Trail.{are_outer, current_entry, entry_at, is_dir_entry, is_frame, is_trail, name_at, names_to, parent, trail_path}
+use Rattle.pt_walk.specs.declared.frame.Frame.{Frame}
+use Rattle.pt_walk.proofs.TrailSteps.{path_splits}
+use Rattle.pt_plan.specs.TurnScan.{is_in_site, logical_path, own_listings, to_site}
+use Rattle.pt_plan.specs.declared.object.Object.{Object}
+use Rattle.pt_scan.specs.Scanning.{IsSite}
+
+-- ---- plain lists
+
+drop_front : (front rest : Path) (k : ℕ) → length front ≡ k → drop k (front ++ rest) ≡ rest
+drop_front [] rest zero long = refl
+drop_front [] rest (suc k) long = absurd (omega (arith, long))
+drop_front (x ∷ front) rest zero long = absurd (omega (arith, long))
+drop_front (x ∷ front) rest (suc k) long = drop_front front rest k (omega (arith, long))
+
+take_front : (front rest : Path) (k : ℕ) → length front ≡ k → take k (front ++ rest) ≡ front
+take_front [] rest zero long = refl
+take_front [] rest (suc k) long = absurd (omega (arith, long))
+take_front (x ∷ front) rest zero long = absurd (omega (arith, long))
+take_front (x ∷ front) rest (suc k) long = ap (λ (p : Path). x ∷ p) (take_front front rest k (omega (arith, long)))
+
+-- ---- trails
+
+one_name : (o : Option Item) → is_dir_entry o ≡ true → length (option_to_list (option_map (λ (x : Item). x.0) o)) ≡ 1
+one_name None h = absurd (cc)
+one_name (Some item) h = refl
+
+outer_names : (frames : List Frame) → are_outer frames ≡ true → length (names_to frames) ≡ length frames
+outer_names [] is = refl
+outer_names (frame ∷ frames) is =
+    let parts = and_parts (is_frame frame) (is_dir_entry (entry_at frame) && are_outer frames) is in
+    let inner = and_parts (is_dir_entry (entry_at frame)) (are_outer frames) parts.1 in
+    let more = length-append (names_to frames) (name_at frame) in
+    let one = one_name (entry_at frame) inner.0 in
+    let before = outer_names frames inner.1 in
+    omega (arith, more, one, before)
+
+outer_drop : (k : ℕ) (frames : List Frame) → are_outer frames ≡ true → are_outer (drop k frames) ≡ true
+outer_drop zero frames is = is
+outer_drop (suc k) [] is = refl
+outer_drop (suc k) (frame ∷ frames) is = outer_drop k frames (and_parts (is_dir_entry (entry_at frame)) (are_outer frames) (and_parts (is_frame frame) (is_dir_entry (entry_at frame) && are_outer frames) is).1).1
+
+outer_parent : (trail : List Frame) → is_trail trail ≡ true → are_outer (parent trail) ≡ true
+outer_parent [] is = refl
+outer_parent (frame ∷ frames) is = (and_parts (is_frame frame) (are_outer frames) is).1
+
+drop_parent : (k : ℕ) (trail : List Frame) → drop (suc k) trail ≡ drop k (parent trail)
+drop_parent zero [] = refl
+drop_parent (suc k) [] = refl
+drop_parent k (frame ∷ frames) = refl
+
+parent_drops : (k : ℕ) (trail : List Frame) → parent (drop k trail) ≡ drop (suc k) trail
+parent_drops zero [] = refl
+parent_drops zero (frame ∷ frames) = refl
+parent_drops (suc k) [] = refl
+parent_drops (suc k) (frame ∷ frames) = parent_drops k frames
+
+parent_drop : (k : ℕ) (trail : List Frame) → parent (drop k trail) ≡ drop k (parent trail)
+parent_drop k trail = parent_drops k trail ∙ drop_parent k trail
+
+-- so many names lead to the listing outside of the innermost ones
+names_outside : (own : ℕ) (trail : List Frame) → is_trail trail ≡ true → 0 < own → length (names_to (drop own trail)) ≡ length trail - own
+names_outside zero trail is some = absurd (omega (arith, some))
+names_outside (suc k) trail is some =
+    ap (λ (t : List Frame). length (names_to t)) (drop_parent k trail) ∙ outer_names (drop k (parent trail)) (outer_drop k (parent trail) (outer_parent trail is)) ∙ ap (λ (t : List Frame). length t) (sym (drop_parent k trail)) ∙ length-drop (suc k) trail
+
+-- ---- the logical path
+
+first_of : (object : Object) (trail : List Frame) → IsSite object trail → 0 < own_listings object trail → length trail - own_listings object trail ≡ cond object.gathered (object.site - 1) object.site
+unfolding IsSite
+first_of object trail (some, long) own = by object.gathered own
+  where
+    by : (gathered : Bool) → 0 < cond gathered (length trail - object.site + 1) (length trail - object.site) → length trail - cond gathered (length trail - object.site + 1) (length trail - object.site) ≡ cond gathered (object.site - 1) object.site
+    by true own = omega (arith, some, long)
+    by false own = omega (arith, some, long)
+
+pub logical_is : (object : Object) (trail : List Frame) (entry names start whole : Path) (first : ℕ) → is_trail trail ≡ true → IsSite object trail → 0 < own_listings object trail → entry ≡ names_to trail → first ≡ cond object.gathered (object.site - 1) object.site → names ≡ entry → start ≡ []
+    → whole ≡ start ++ take (length names - first) (drop first names) → whole ≡ logical_path object trail
+logical_is object trail entry names start whole first is site own at begin names_is none whole_is =
+    whole_is ∙ ap (λ (p : Path). p ++ take (length names - first) (drop first names)) none ∙ take_all (length names - first) (drop first names) (let short = length-drop first names in omega (arith, short))
+    ∙ ap (drop first) (names_is ∙ at) ∙ ap (λ (k : ℕ). drop k (names_to trail)) (begin ∙ sym (first_of object trail site own)) ∙ ap (λ (p : Path). drop (length trail - own_listings object trail) p) (path_splits (own_listings object trail) trail)
+    ∙ drop_front (names_to (drop (own_listings object trail) trail)) (names_to (take (own_listings object trail) trail)) (length trail - own_listings object trail) (names_outside (own_listings object trail) trail is own)
+
+-- it begins within the path
+pub logical_within : (object : Object) (trail : List Frame) (entry : Path) (first : ℕ) → is_trail trail ≡ true → IsSite object trail → 0 < own_listings object trail → entry ≡ names_to trail → first ≡ cond object.gathered (object.site - 1) object.site → first ≤ length entry
+logical_within object trail entry first is site own at names =
+    let whole = ap length (at ∙ path_splits (own_listings object trail) trail) in
+    let both = length-append (names_to (drop (own_listings object trail) trail)) (names_to (take (own_listings object trail) trail)) in
+    let outside = names_outside (own_listings object trail) trail is own in
+    let begin = first_of object trail site own in
+    omega (arith, whole, both, outside, begin, names)
+
+-- ---- the path of the site
+
+pub site_is : (object : Object) (trail : List Frame) (inner part whole : Path) → is_trail trail ≡ true → IsSite object trail → inner ≡ trail_path trail → part ≡ take (object.site - 1) inner → whole ≡ [] ++ part → whole ≡ trail_path (to_site object trail)
+unfolding IsSite
+site_is object trail inner part whole is (some, long) at part_is whole_is =
+    let k = length trail - object.site in
+    let outer = outer_parent trail is in
+    let left = outer_names (drop k (parent trail)) (outer_drop k (parent trail) outer) in
+    let shorter = length-drop k (parent trail) in
+    let one = length_parent trail in
+    let names : length (names_to (drop k (parent trail))) ≡ object.site - 1 = omega (arith, left, shorter, one, some, long) in
+    whole_is ∙ part_is ∙ ap (λ (p : Path). take (object.site - 1) p) (at ∙ path_splits k (parent trail))
+    ∙ take_front (names_to (drop k (parent trail))) (names_to (take k (parent trail))) (object.site - 1) names ∙ ap names_to (sym (parent_drop k trail))
+  where
+    length_parent : (trail : List Frame) → length (parent trail) ≡ length trail - 1
+    length_parent [] = refl
+    length_parent (frame ∷ frames) = omega (arith)
+
+pub site_within : (object : Object) (trail : List Frame) (inner : Path) → is_trail trail ≡ true → IsSite object trail → inner ≡ trail_path trail → object.site - 1 ≤ length inner
+unfolding IsSite
+site_within object [] inner is (some, long) at = absurd (omega (arith, some, long))
+site_within object (frame ∷ frames) inner is (some, long) at =
+    let names = ap length at in
+    let each = outer_names frames (outer_parent (frame ∷ frames) is) in
+    omega (arith, names, each, long)
+
+pub site_some : (object : Object) (trail : List Frame) → IsSite object trail → 0 < object.site
+unfolding IsSite
+site_some object trail (some, long) = some
+
+pub taken_long : (n : ℕ) (xs names : Path) → names ≡ xs → n ≤ length xs → n ≡ length (take n names)
+taken_long n xs names is long = sym (ap (λ (p : Path). length (take n p)) is ∙ length-take-le n xs long)
+
+-- around the listing that is left there is another, left for a directory
+pub left_some : (object : Object) (trail left : List Frame) (in_site : Bool) → is_trail trail ≡ true → IsSite object trail → 0 < own_listings object trail → in_site ≡ is_in_site object trail → in_site ≡ false → left ≡ parent trail → IsSome (current_entry left)
+unfolding IsSite
+left_some object trail left in_site is (some, long) own place not left_is = subst (λ (t : List Frame). IsSome (current_entry t)) (sym left_is) (by trail is long own (sym place ∙ not))
+  where
+    entry : (o : Option Item) → is_dir_entry o ≡ true → IsSome o
+    entry None is = absurd (cc)
+    entry (Some item) is = refl
+
+    differ : (a b : ℕ) → (a == b) ≡ false → a ≡ b → ⊥
+    differ a b unlike is = let same : (a == a) ≡ false = ap (λ (x : ℕ). a == x) is ∙ unlike in let yes : (a == a) ≡ true = eq-eqb a a refl in absurd (let both : true ≡ false = sym yes ∙ same in cc)
+
+    by : (trail : List Frame) → is_trail trail ≡ true → object.site ≤ length trail → 0 < own_listings object trail → is_in_site object trail ≡ false → IsSome (current_entry (parent trail))
+    by [] is long own outside = absurd (omega (arith, some, long))
+    by (frame ∷ []) is long own outside = absurd (differ 1 object.site outside (omega (arith, some, long)))
+    by (frame ∷ outer ∷ frames) is long own outside = entry (entry_at outer) (and_parts (is_dir_entry (entry_at outer)) (are_outer frames) (and_parts (is_frame outer) (is_dir_entry (entry_at outer) && are_outer frames) (and_parts (is_frame frame) (are_outer (outer ∷ frames)) is).1).1).0
+
+pub ruleset paths = (taken_long, left_some, logical_is, logical_within, site_is, site_within, site_some)

@@ -1,0 +1,45 @@
+-- What the judging of a site asks, and what its parts say.
+use Rattle.std.specs.Prelude.{◌≡◌, ℕ, ◌==◌, ◌&&◌, Bool, true, false, cond, codes, List, [], ◌∷◌, ◌++◌, Option, None, Some, Result, Ok, Err}
+use Rattle.std.specs.Str.{is_utf8}
+use Rattle.std.specs.String.{string_bytes}
+use Rattle.pt_name.specs.Place.{place_of}
+use Rattle.pt_name.specs.Tuples.{Tuples}
+use Rattle.pt_tree.specs.Path.{Path, same_path}
+use Rattle.pt_walk.specs.Trail.{trail_path}
+use Rattle.pt_walk.specs.declared.cause.Cause.{Cause}
+use Rattle.pt_walk.specs.declared.cause.Cause.TheVariants as cause
+use Rattle.pt_plan.specs.Job.{form_of}
+use Rattle.pt_plan.specs.Lines.{Skipped}
+use Rattle.pt_plan.specs.TurnWalk.{Walks, found_at, has_object, identifier_at}
+use Rattle.pt_plan.specs.World.{tells}
+use Rattle.pt_plan.specs.declared.phase.Phase.TheVariants as phase
+use Rattle.pt_state.specs.States.{held_of, job_of}
+use Rattle.pt_state.specs.declared.state.State.{State}
+use Rattle.pt_scan.specs.declared.judging.Candidate.{Candidate}
+
+-- the site is to be passed over for this cause
+unfoldable pub PassesSite : State → Cause → Type 0
+PassesSite s why = (fed : List ℕ) → Walks (job_of s.job) (string_bytes s.prefix) phase.Judge (held_of s fed) (held_of s fed) (tells (Skipped (trail_path s.trail) why)) (Ok phase.Walk)
+
+-- the site has an object, which is the entry of this index, or else is gathered
+unfoldable pub FindsObject : State → Option ℕ → Type 0
+FindsObject s index = found_at (form_of (job_of s.job)) s.trail ≡ has_object index
+
+-- the object's identifier and place, or why none is carried
+unfoldable pub IsNamed : State → Result Candidate Cause → Type 0
+IsNamed s (Ok named) = (identifier_at (job_of s.job) (string_bytes s.prefix) (trail_path s.trail) ≡ Ok named.id) × (named.place ≡ place_of s.job.layout named.id)
+IsNamed s (Err why) = identifier_at (job_of s.job) (string_bytes s.prefix) (trail_path s.trail) ≡ Err why
+
+-- the identifier behind a prefix, by what a text reads
+abbrev pub read_behind : List ℕ → Option (List ℕ) → Result (List ℕ) Cause
+read_behind prefix None = Err cause.Name
+read_behind prefix (Some read) = cond (is_utf8 read) (Ok (prefix ++ read)) (Err cause.Utf8)
+
+-- no tuples are used, and the place is that of the storage root's own extensions
+abbrev pub is_own_place : Tuples → Path → Bool
+is_own_place tuples place = tuples.count == 0 && same_path place (codes "extensions" ∷ [])
+
+-- the identifier's place, unless that is the root's own
+unfoldable pub IsPlaced : Tuples → List ℕ → Result Candidate Cause → Type 0
+IsPlaced tuples id (Ok named) = (named.id ≡ id) × (named.place ≡ place_of tuples id) × (is_own_place tuples (place_of tuples id) ≡ false)
+IsPlaced tuples id (Err why) = (why ≡ cause.Reserved) × (is_own_place tuples (place_of tuples id) ≡ true)

@@ -1,0 +1,7 @@
+//! The turns that look at the source: the walk through the sites, the judging of each, and the scan of an object.
+#![tactic(auto)]
+
+pub mod judging;
+pub mod reading;
+pub mod scanning;
+pub mod walking;

@@ -1,0 +1,120 @@
+#![tactic(auto, using(crate::proofs::Starting::starting, pt_state::proofs::Counting::calls))]
+//! The source has to be a Pairtree store with a good prefix.
+ghost use Rattle.std.specs.Prelude.{◌≡◌, [], None, Some, IfOk, IfErr, slice_get};
+ghost use Rattle.std.specs.String.{string_bytes};
+ghost use Rattle.pt_name.specs.Prefix.{prefix_refusal, without_line_ends};
+ghost use Rattle.pt_plan.specs.Job.{Job};
+ghost use Rattle.pt_plan.specs.Permits.{MayOpenPrefix};
+ghost use Rattle.pt_plan.specs.Run.{Counts, Held, Kept};
+ghost use Rattle.pt_plan.specs.TurnStart.{is_dir_kind, is_file_kind, kind_in as kind_in_of, lists_store};
+ghost use Rattle.pt_plan.specs.declared.phase.Phase.TheVariants as phase;
+ghost use Rattle.pt_tree.specs.Source.{CanList};
+ghost use Rattle.pt_state.specs.Counting.{AtMostCalls};
+ghost use Rattle.pt_state.specs.Turned.{SourceTurns};
+ghost use Rattle.pt_start.specs.Starting.{PrefixFails, kind_if_named};
+
+use pt_name::{PrefixFault, read_prefix};
+use pt_plan::{Halt, Phase};
+use pt_state::calls;
+use pt_state::files::read_first;
+use pt_state::paths::{PAIRTREE_ROOT, PREFIX_FILE, VERSION_FILE, path_of};
+use pt_tree::{Block, Kind, Listing, NamePath, Source};
+use std::alloc::Global;
+
+/// Lists the top.
+pub fn begin<S: Source>(alloc: Global, source: &mut S) -> Result<Phase, Halt>
+    requires { CanList (S.told source.old) [] }
+    ensures turn { (job : Job) (kept : Kept) → SourceTurns job phase.Begin kept kept (S.told source.old) (S.told source.new) (S.failed source.old) (S.failed source.new) result }
+    ensures calls { AtMostCalls 1 (S.called source.old) (S.called source.new) }
+{
+    let top = NamePath::new(alloc);
+    let listing = calls::list(source, &top)?;
+    if !is_store(&listing) {
+        return Err(Halt::NotPairtree);
+    }
+    Ok(Phase::Prefix(kind_in(&listing, PREFIX_FILE)))
+}
+
+// Whether a top lists what a store has.
+fn is_store(listing: &Listing) -> bool
+    ensures { result ≡ lists_store listing.now }
+{
+    is_file(kind_in(listing, VERSION_FILE)) && is_dir(kind_in(listing, PAIRTREE_ROOT))
+}
+
+pub(crate) fn is_file(kind: Option<Kind>) -> bool
+    ensures { result ≡ is_file_kind kind }
+{
+    matches!(kind, Some(Kind::File))
+}
+
+fn is_dir(kind: Option<Kind>) -> bool
+    ensures { result ≡ is_dir_kind kind }
+{
+    matches!(kind, Some(Kind::Dir))
+}
+
+// The kind of the entry of this name.
+#[tactic(auto, using(crate::proofs::Starting::finding_kind))]
+fn kind_in(listing: &Listing, name: &str) -> Option<Kind>
+    ensures { result ≡ kind_in_of listing.now name.now }
+{
+    for i in 0..listing.len() {
+        if let Some(kind) = kind_at(listing, i, name) {
+            return Some(kind);
+        }
+    }
+    None
+}
+
+// The kind of the entry of this index, if it has this name.
+fn kind_at(listing: &Listing, i: usize, name: &str) -> Option<Kind>
+    ensures { result ≡ kind_if_named (slice_get listing.now i) name.now }
+{
+    match listing.get(i) {
+        Some((entry, kind)) => {
+            if entry.bytes() == name.as_bytes() {
+                Some(kind)
+            } else {
+                None
+            }
+        }
+        None => None,
+    }
+}
+
+/// Reads the prefix file, if it is there.
+pub fn prefix<S: Source>(
+    alloc: Global,
+    here: Option<Kind>,
+    prefix: &mut String,
+    block: &mut Block,
+    source: &mut S,
+) -> Result<Phase, Halt>
+    requires { MayOpenPrefix (S.told source.old) here }
+    ensures turn { (job : Job) (held : Held) (counts : Counts) → SourceTurns job (phase.Prefix here) (record { prefix = string_bytes prefix.old; held = held; counts = counts }) (record { prefix = string_bytes prefix.new; held = held; counts = counts }) (S.told source.old) (S.told source.new) (S.failed source.old) (S.failed source.new) result }
+    ensures calls { AtMostCalls 2 (S.called source.old) (S.called source.new) }
+{
+    match here {
+        None => return Ok(Phase::Staging),
+        Some(Kind::File) => {}
+        Some(_) => return Err(Halt::Prefix),
+    }
+    let path = path_of(alloc, &[PREFIX_FILE])?;
+    read_first(source, &path, block)?;
+    *prefix = prefix_of(alloc, block)?;
+    Ok(Phase::Staging)
+}
+
+// The prefix in the prefix file's first block.
+fn prefix_of(alloc: Global, block: &Block) -> Result<String, Halt>
+    ensures good { IfOk result (λ prefix. prefix_refusal block.now.items ≡ None) }
+    ensures prefix { IfOk result (λ prefix. string_bytes prefix ≡ without_line_ends block.now.items) }
+    ensures err { IfErr result (PrefixFails block.now.items) }
+{
+    match read_prefix(alloc, block.as_slice()) {
+        Ok(prefix) => Ok(prefix),
+        Err(PrefixFault::Memory) => Err(Halt::Memory),
+        Err(_) => Err(Halt::Prefix),
+    }
+}

@@ -1,0 +1,5 @@
+pub mod Calls
+pub mod Counting
+pub mod Lines
+pub mod States
+pub mod Turned

@@ -1,0 +1,21 @@
+-- The lines of a log, as they are put and counted.
+use Rattle.std.specs.Prelude.{◌≡◌, ◌+◌}
+use Rattle.pt_plan.specs.Lines.{Line, line_tree}
+use Rattle.serde_json.specs.Data.{Data}
+use Rattle.pt_state.specs.declared.job.Report.{Report}
+
+-- the JSON is the line's
+unfoldable pub IsTreeOf : Line → Data → Type 0
+IsTreeOf line tree = tree ≡ line_tree line
+
+-- one done line more
+abbrev pub with_done : Report → Report
+with_done counts = record counts { done = counts.done + 1 }
+
+-- one present line more
+abbrev pub with_present : Report → Report
+with_present counts = record counts { present = counts.present + 1 }
+
+-- one skip line more
+abbrev pub with_skipped : Report → Report
+with_skipped counts = record counts { skipped = counts.skipped + 1 }

@@ -1,0 +1,24 @@
+-- What a run holds between two turns, as the definitions of a run see it.
+use Rattle.std.specs.Prelude.{ℕ, List}
+use Rattle.std.specs.String.{string_bytes}
+use Rattle.pt_plan.specs.Job.{Job}
+use Rattle.pt_plan.specs.Run.{Counts, Held, Kept}
+use Rattle.pt_state.specs.declared.job.Job as own
+use Rattle.pt_state.specs.declared.job.Report.{Report}
+use Rattle.pt_state.specs.declared.state.State.{State}
+
+-- what it was asked for
+abbrev pub job_of : own.Job → Job
+job_of job = record { meta = job.meta; tuples = job.layout; algorithm = job.algorithm; limits = job.limits; gather = job.gather }
+
+-- its counts
+abbrev pub counts_of : Report → Counts
+counts_of counts = record { done = counts.done; present = counts.present; skipped = counts.skipped; turns = counts.turns }
+
+-- what it holds of the source, where the hasher was fed this
+abbrev pub held_of : State → List ℕ → Held
+held_of s fed = record { trail = s.trail; rows = s.rows; contents = s.contents; fed = fed }
+
+-- all that it keeps beside its phase
+abbrev pub kept_of : State → List ℕ → Kept
+kept_of s fed = record { prefix = string_bytes s.prefix; held = held_of s fed; counts = counts_of s.counts }

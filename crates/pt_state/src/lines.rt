@@ -1,0 +1,201 @@
+#![tactic(auto, using(crate::proofs::Putting::putting))]
+//! The lines of a run's log: each one compact JSON object with its keys in byte order, and LF. A line is counted where it
+//! was put whole.
+ghost use Rattle.std.specs.Prelude.{◌≡◌, ◌<◌, ◌^◌, ◌++◌, [], ◌∷◌, IfErr, IfOk, OnOk, OnErr, false};
+ghost use Rattle.std.specs.Io.KnownBytes.{Appends};
+ghost use Rattle.serde_json.specs.Data.{number, put as put_member, string, unsigned};
+ghost use Rattle.serde_json.specs.View.{members_view, view};
+ghost use Rattle.serde_json.specs.Written.{compact_text, has_float};
+ghost use Rattle.pt_tree.specs.Log.{AppendsFront};
+ghost use Rattle.pt_plan.specs.Lines.{Line, Done as DoneLine, Present as PresentLine, Skipped as SkippedLine, End as EndLine};
+ghost use Rattle.pt_state.specs.Calls.{LogGot, LogGotFront};
+ghost use Rattle.pt_state.specs.Lines.{IsTreeOf, with_done, with_present, with_skipped};
+
+use crate::Report;
+use crate::paths::text_of;
+use pt_plan::{Halt, Identifier};
+use pt_tree::{Log, MemoryFault, NamePath};
+use pt_walk::Cause;
+use serde_json::{Map, Value};
+use std::alloc::{AllocError, Global};
+
+/// An object that was carried.
+#[derive(Drop)]
+pub struct Done<'a> {
+    /// Where it lies in the source, from below `pairtree_root` on.
+    pub at: &'a NamePath,
+    /// The lengths of its files together.
+    pub bytes: u64,
+    /// How many directories without entries it has.
+    pub empty: u64,
+    /// How many files it has.
+    pub files: u64,
+    /// Its identifier.
+    pub id: &'a Identifier,
+    /// Its place, from the storage root on.
+    pub to: &'a NamePath,
+}
+
+/// Tells that an object was carried.
+pub fn put_done<L: Log>(
+    alloc: Global,
+    log: &mut L,
+    object: &Done<'_>,
+    counts: &mut Report,
+) -> Result<(), Halt>
+    requires { counts.old.done < 2 ^ 40 }
+    ensures ok { OnOk result (counts.new ≡ with_done counts.old) }
+    ensures err { OnErr result (counts.new ≡ counts.old) }
+    ensures line { OnOk result (LogGot (DoneLine object.now.at.now object.now.bytes object.now.empty object.now.files object.now.id.now object.now.to.now) (L.told log.old) (L.told log.new) (L.failed log.old) (L.failed log.new)) }
+    ensures front { IfErr result (λ why. LogGotFront (DoneLine object.now.at.now object.now.bytes object.now.empty object.now.files object.now.id.now object.now.to.now) why (L.told log.old) (L.told log.new) (L.failed log.old) (L.failed log.new)) }
+{
+    let value = done_line(alloc, object)?;
+    put(alloc, log, &value)?;
+    counts.done += 1;
+    Ok(())
+}
+
+fn done_line(alloc: Global, object: &Done<'_>) -> Result<Value, MemoryFault>
+    ensures { IfOk result (λ value. IsTreeOf (DoneLine object.now.at.now object.now.bytes object.now.empty object.now.files object.now.id.now object.now.to.now) (view value)) }
+{
+    let at = text_of(object.at)?;
+    let to = text_of(object.to)?;
+    let mut members = Map::new(alloc);
+    put_text(&mut members, alloc, "as", "done")?;
+    put_text(&mut members, alloc, "at", at.as_str())?;
+    put_number(&mut members, alloc, "bytes", object.bytes)?;
+    put_number(&mut members, alloc, "empty", object.empty)?;
+    put_number(&mut members, alloc, "files", object.files)?;
+    put_text(&mut members, alloc, "id", object.id.as_str())?;
+    put_text(&mut members, alloc, "to", to.as_str())?;
+    Ok(Value::from(members))
+}
+
+/// Tells that an object's place is taken already.
+pub fn put_present<L: Log>(
+    alloc: Global,
+    log: &mut L,
+    at: &NamePath,
+    id: &Identifier,
+    to: &NamePath,
+    counts: &mut Report,
+) -> Result<(), Halt>
+    requires { counts.old.present < 2 ^ 40 }
+    ensures ok { OnOk result (counts.new ≡ with_present counts.old) }
+    ensures err { OnErr result (counts.new ≡ counts.old) }
+    ensures line { OnOk result (LogGot (PresentLine at.now id.now to.now) (L.told log.old) (L.told log.new) (L.failed log.old) (L.failed log.new)) }
+    ensures front { IfErr result (λ why. LogGotFront (PresentLine at.now id.now to.now) why (L.told log.old) (L.told log.new) (L.failed log.old) (L.failed log.new)) }
+{
+    let value = present_line(alloc, at, id, to)?;
+    put(alloc, log, &value)?;
+    counts.present += 1;
+    Ok(())
+}
+
+fn present_line(
+    alloc: Global,
+    at: &NamePath,
+    id: &Identifier,
+    to: &NamePath,
+) -> Result<Value, MemoryFault>
+    ensures { IfOk result (λ value. IsTreeOf (PresentLine at.now id.now to.now) (view value)) }
+{
+    let at = text_of(at)?;
+    let to = text_of(to)?;
+    let mut members = Map::new(alloc);
+    put_text(&mut members, alloc, "as", "present")?;
+    put_text(&mut members, alloc, "at", at.as_str())?;
+    put_text(&mut members, alloc, "id", id.as_str())?;
+    put_text(&mut members, alloc, "to", to.as_str())?;
+    Ok(Value::from(members))
+}
+
+/// Tells that a site, or a shorty that isn't walked, was passed over.
+pub fn put_skip<L: Log>(
+    alloc: Global,
+    log: &mut L,
+    at: &NamePath,
+    cause: Cause,
+    counts: &mut Report,
+) -> Result<(), Halt>
+    requires { counts.old.skipped < 2 ^ 40 }
+    ensures ok { OnOk result (counts.new ≡ with_skipped counts.old) }
+    ensures err { OnErr result (counts.new ≡ counts.old) }
+    ensures line { OnOk result (LogGot (SkippedLine at.now cause) (L.told log.old) (L.told log.new) (L.failed log.old) (L.failed log.new)) }
+    ensures front { IfErr result (λ why. LogGotFront (SkippedLine at.now cause) why (L.told log.old) (L.told log.new) (L.failed log.old) (L.failed log.new)) }
+{
+    let value = skip_line(alloc, at, cause)?;
+    put(alloc, log, &value)?;
+    counts.skipped += 1;
+    Ok(())
+}
+
+fn skip_line(alloc: Global, at: &NamePath, cause: Cause) -> Result<Value, MemoryFault>
+    ensures { IfOk result (λ value. IsTreeOf (SkippedLine at.now cause) (view value)) }
+{
+    let at = text_of(at)?;
+    let mut members = Map::new(alloc);
+    put_text(&mut members, alloc, "as", "skip")?;
+    put_text(&mut members, alloc, "at", at.as_str())?;
+    put_text(&mut members, alloc, "cause", cause.word())?;
+    Ok(Value::from(members))
+}
+
+/// Tells that the run is done.
+pub fn put_end<L: Log>(alloc: Global, log: &mut L, counts: &Report) -> Result<(), Halt>
+    ensures line { OnOk result (LogGot (EndLine counts.now.done counts.now.present counts.now.skipped) (L.told log.old) (L.told log.new) (L.failed log.old) (L.failed log.new)) }
+    ensures front { IfErr result (λ why. LogGotFront (EndLine counts.now.done counts.now.present counts.now.skipped) why (L.told log.old) (L.told log.new) (L.failed log.old) (L.failed log.new)) }
+{
+    let value = end_line(alloc, counts)?;
+    put(alloc, log, &value)
+}
+
+fn end_line(alloc: Global, counts: &Report) -> Result<Value, AllocError>
+    ensures { IfOk result (λ value. IsTreeOf (EndLine counts.now.done counts.now.present counts.now.skipped) (view value)) }
+{
+    let mut members = Map::new(alloc);
+    put_text(&mut members, alloc, "as", "end")?;
+    put_number(&mut members, alloc, "done", counts.done)?;
+    put_number(&mut members, alloc, "present", counts.present)?;
+    put_number(&mut members, alloc, "skip", counts.skipped)?;
+    Ok(Value::from(members))
+}
+
+// Puts the line that this is the JSON of.
+fn put<L: Log>(alloc: Global, log: &mut L, value: &Value) -> Result<(), Halt>
+    requires { (line : Line) × IsTreeOf line (view value.now) }
+    ensures line { (line : Line) → IsTreeOf line (view value.now) → OnOk result (LogGot line (L.told log.old) (L.told log.new) (L.failed log.old) (L.failed log.new)) }
+    ensures front { (line : Line) → IsTreeOf line (view value.now) → IfErr result (λ why. LogGotFront line why (L.told log.old) (L.told log.new) (L.failed log.old) (L.failed log.new)) }
+{
+    let mut text = value.to_string(alloc)?;
+    text.push_str("\n")?;
+    match log.put(text.as_bytes()) {
+        Ok(()) => Ok(()),
+        Err(fault) => Err(Halt::of_log(fault)),
+    }
+}
+
+// Puts a text at a key.
+fn put_text(
+    members: &mut Map<String, Value>,
+    alloc: Global,
+    key: &str,
+    text: &str,
+) -> Result<(), AllocError>
+    ensures { OnOk result (members_view members.new.entries ≡ put_member key.now (string text.now) (members_view members.old.entries)) }
+{
+    let text = String::from_str(alloc, text)?;
+    serde_json::put(members, alloc, key, Value::from(text))
+}
+
+// Puts a number at a key.
+fn put_number(
+    members: &mut Map<String, Value>,
+    alloc: Global,
+    key: &str,
+    n: u64,
+) -> Result<(), AllocError>
+    ensures { OnOk result (members_view members.new.entries ≡ put_member key.now (number (unsigned n)) (members_view members.old.entries)) }
+{
+    serde_json::put(members, alloc, key, Value::from(n))
+}

@@ -1,0 +1,26 @@
+use crate::{Job, Report};
+use pt_object::{Contents, Hasher, Rows};
+use pt_plan::Phase;
+use pt_tree::Block;
+use pt_walk::Trail;
+use std::alloc::Global;
+
+// What a run holds between two turns.
+#[derive(Drop)]
+pub struct State {
+    pub alloc: Global,
+    pub job: Job,
+    // What stands in front of each identifier; at most 1,024 bytes.
+    pub prefix: String,
+    // The listings from `pairtree_root` to where the run stands.
+    pub trail: Trail,
+    // The files of the object that is being carried, as they were read.
+    pub rows: Rows,
+    // Which of them are stored.
+    pub contents: Contents,
+    // What was read last.
+    pub block: Block,
+    // What was read of the open file.
+    pub hasher: Hasher,
+    pub counts: Report,
+}

@@ -1,0 +1,37 @@
+-- Numbers that always hold of a run, whatever its devices answer.
+use Rattle.std.specs.Prelude.{◌≡◌, ◌≤◌, ◌<◌, ◌+◌, ◌*◌, ℕ, length, ⊤}
+use Rattle.pt_plan.specs.Job.{Job}
+use Rattle.pt_plan.specs.Run.{Counts, Held, Kept}
+use Rattle.pt_plan.specs.TurnPlace.{bytes_in_rows}
+use Rattle.pt_plan.specs.declared.phase.Phase.{Phase}
+use Rattle.pt_plan.specs.declared.phase.Phase.TheVariants as phase
+
+-- how many lines were put
+abbrev pub lines_put : Counts → ℕ
+lines_put counts = counts.done + counts.present + counts.skipped
+
+-- after so many turns: the first two turns are those of their phases; each directory without entries that was met in the object took one of them, a file is read within its limit, and there is room for its row
+abbrev pub IsWithin : Job → Phase → Held → ℕ → Type 0
+IsWithin job phase.Begin held turns = turns ≡ 0
+IsWithin job (phase.Prefix here) held turns = turns ≡ 1
+IsWithin job (phase.OpenObject object) held turns = object.empty ≤ turns
+IsWithin job (phase.Scan object) held turns = object.empty ≤ turns
+IsWithin job (phase.Read object bytes) held turns = (object.empty ≤ turns) × (bytes ≤ job.limits.file_bytes) × (length held.rows < job.limits.files)
+IsWithin job _ held turns = ⊤
+
+-- the rows are no more than the limits allow, and together no longer
+pub record AreFew (job : Job) (held : Held) : Type 0 where
+  pub rows : length held.rows ≤ job.limits.files
+  pub lengths : bytes_in_rows held.rows ≤ length held.rows * job.limits.file_bytes
+
+-- each line took a turn, and the turns are within their limit; so are the rows, and what the phase counts
+pub record IsBounded (job : Job) (here : Phase) (kept : Kept) : Type 0 where
+  pub lines : lines_put kept.counts ≤ kept.counts.turns
+  pub turns : kept.counts.turns ≤ job.limits.turns
+  pub few : AreFew job kept.held
+  pub within : IsWithin job here kept.held kept.counts.turns
+
+-- how often a turn of this phase calls the source at most
+abbrev pub most_calls : Phase → ℕ
+most_calls (phase.Prefix here) = 2
+most_calls _ = 1
