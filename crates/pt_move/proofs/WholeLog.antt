@@ -5,15 +5,18 @@ use Rattle.std.specs.Io.KnownBytes.{Appends}
 use Rattle.std.proofs.Math.Seq.{take-append_seam, take-append-add}
 use Rattle.std.proofs.lemmas.List.{flat_map_more}
 use Rattle.std.proofs.lemmas.List.Sums.{sum_by-append}
-use Rattle.std.proofs.lemmas.List.{append_assoc}
+use Rattle.std.proofs.lemmas.List.{append-nil, append_assoc}
 use Rattle.pt_plan.specs.Lines.{Line, Done, Present, Skipped, End, end_line, is_done, is_present, is_skipped, line_text}
 use Rattle.pt_tree.specs.Log.{AppendsFront}
 use Rattle.pt_move.specs.Lines.{CountsLine, FinishTold, GotFront, GotLine, HasTold, IsReport, HasToldAll, HasToldFront, SameLines, TellsEnd, TellsFront, TellsLine}
-use Rattle.pt_move.specs.Stepping.{no_lines}
-use Rattle.pt_move.proofs.Telling.{appends_nothing}
-use Rattle.pt_move.specs.declared.job.Report.{Report}
-use Rattle.pt_move.specs.declared.job.Turn.{Turn}
-use Rattle.pt_move.specs.declared.job.Turn.TheVariants as turn
+use Rattle.pt_move.specs.Running.{no_lines}
+use Rattle.pt_state.specs.declared.job.Report.{Report}
+use Rattle.pt_move.specs.declared.mover.Turn.{Turn}
+use Rattle.pt_move.specs.declared.mover.Turn.TheVariants as turn
+
+appends_nothing : (b a : Option (List ℕ)) → a ≡ b → Appends b a []
+appends_nothing None a same = tt
+appends_nothing (Some xs) a same = subst (λ o. Appends (Some xs) o []) (sym same) (sym (append-nil xs))
 
 appends_on : (b m a : Option (List ℕ)) (x y : List ℕ) → Appends b m x → Appends m a y → Appends b a (x ++ y)
 appends_on None m a x y p q = tt

@@ -1,32 +1,32 @@
 -- The faults of a run.
 use Rattle.std.specs.Prelude.{ℕ}
-use Rattle.pt_tree.specs.declared.faults.TreeFault.{TreeFault}
-use Rattle.pt_tree.specs.declared.faults.TreeFault.TheVariants as tree
+use Rattle.pt_plan.specs.declared.halt.Halt.{Halt}
+use Rattle.pt_plan.specs.declared.halt.Halt.TheVariants as halt
 use Rattle.pt_move.specs.declared.fault.Fault.{Fault}
-use Rattle.pt_move.specs.declared.fault.Fault.TheVariants.{Source, Dest, Log, Memory, NotPairtree, Prefix, StagingLeft, Target, Changed, Turns, Ended}
+use Rattle.pt_move.specs.declared.fault.Fault.TheVariants as fault
 
+-- the number of a fault
 abbrev pub fault_number : Fault → ℕ
-fault_number Source = 1
-fault_number Dest = 2
-fault_number Log = 3
-fault_number Memory = 4
-fault_number NotPairtree = 5
-fault_number Prefix = 6
-fault_number StagingLeft = 7
-fault_number Target = 8
-fault_number Changed = 9
-fault_number Turns = 10
-fault_number Ended = 11
+fault_number fault.Source = 1
+fault_number fault.Dest = 2
+fault_number fault.Log = 3
+fault_number fault.Memory = 4
+fault_number fault.NotPairtree = 5
+fault_number fault.Prefix = 6
+fault_number fault.StagingLeft = 7
+fault_number fault.Target = 8
+fault_number fault.Changed = 9
+fault_number fault.Turns = 10
+fault_number fault.Ended = 11
 
--- what a device's fault is for the run, by the device
-abbrev pub source_fault : TreeFault → Fault
-source_fault tree.Device = Source
-source_fault tree.Memory = Memory
-
-abbrev pub dest_fault : TreeFault → Fault
-dest_fault tree.Device = Dest
-dest_fault tree.Memory = Memory
-
-abbrev pub log_fault : TreeFault → Fault
-log_fault tree.Device = Log
-log_fault tree.Memory = Memory
+-- the fault that a halted turn is
+abbrev pub fault_of : Halt → Fault
+fault_of halt.Source = fault.Source
+fault_of halt.Dest = fault.Dest
+fault_of halt.Log = fault.Log
+fault_of halt.Memory = fault.Memory
+fault_of halt.NotPairtree = fault.NotPairtree
+fault_of halt.Prefix = fault.Prefix
+fault_of halt.StagingLeft = fault.StagingLeft
+fault_of halt.Target = fault.Target
+fault_of halt.Changed = fault.Changed

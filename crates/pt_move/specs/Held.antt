@@ -1,9 +1,7 @@
 -- What one turn may change of what a run holds.
-use Rattle.std.specs.Prelude.{◌≡◌, ◌⊎◌, ℕ, ◌+◌, ◌≤◌, List, [], ◌∷◌, ◌++◌, drop, map}
+use Rattle.std.specs.Prelude.{◌≡◌, ◌⊎◌, ℕ, List, [], ◌∷◌, ◌++◌, drop, map}
 use Rattle.pt_tree.specs.Listing.{Item}
 use Rattle.pt_walk.specs.declared.frame.Frame.{Frame}
-use Rattle.pt_move.specs.Fits.{lines_put}
-use Rattle.pt_move.specs.declared.state.State.{State}
 
 -- the listings of a trail, the innermost first
 abbrev pub listings : List Frame → List (List Item)
@@ -16,23 +14,3 @@ Moves old new = ((items : List Item) × (listings new ≡ items ∷ listings old
 -- a table is the earlier one, or that with one record more, or empty
 unfoldable pub Gains : {A : Type 0} → List A → List A → Type 0
 Gains old new = (new ≡ old) ⊎ (((x : _) × (new ≡ old ++ x ∷ [])) ⊎ (new ≡ []))
-
--- what one turn leaves of what a run holds
-pub record IsHeld (old new : State) : Type 0 where
-  pub phase : new.phase ≡ old.phase
-  pub job : new.job ≡ old.job
-  pub turns : new.counts.turns ≡ old.counts.turns
-  pub lines : lines_put new.counts ≤ lines_put old.counts + 1
-  pub trail : Moves old.trail new.trail
-  pub rows : Gains old.rows new.rows
-  pub contents : Gains old.contents new.contents
-
--- what one turn leaves of what a run holds, where it is counted
-pub record IsHeldCounted (old new : State) : Type 0 where
-  pub phase : new.phase ≡ old.phase
-  pub job : new.job ≡ old.job
-  pub turns : new.counts.turns ≡ old.counts.turns + 1
-  pub lines : lines_put new.counts ≤ lines_put old.counts + 1
-  pub trail : Moves old.trail new.trail
-  pub rows : Gains old.rows new.rows
-  pub contents : Gains old.contents new.contents

@@ -1,7 +1,8 @@
 pub mod Counting
 pub mod Fault
-pub mod Fits
 pub mod Held
+pub mod Leaving
 pub mod Lines
+pub mod Outcome
+pub mod Running
 pub mod Stepping
-pub mod Turns

@@ -1,27 +1,12 @@
 -- What a turn tells in a run's log, and how it is counted.
 use Rattle.std.specs.Prelude.{◌≡◌, ◌⊎◌, ℕ, ◌+◌, List, ◌++◌, count_by, flat_map, Option, Result, Ok, Err, ⊤}
 use Rattle.std.specs.Io.KnownBytes.{Appends}
-use Rattle.pt_plan.specs.Lines.{Line, Done, Present, Skipped, End, end_line, is_done, is_present, is_skipped, line_text, line_tree}
-use Rattle.pt_plan.specs.declared.phase.Phase.{Phase}
-use Rattle.pt_plan.specs.declared.phase.Phase.TheVariants as phase
+use Rattle.pt_plan.specs.Lines.{Line, Done, Present, Skipped, End, end_line, is_done, is_present, is_skipped, line_text}
 use Rattle.pt_tree.specs.Log.{AppendsFront}
-use Rattle.serde_json.specs.Data.{Data}
 use Rattle.pt_move.specs.declared.fault.Fault.{Fault}
-use Rattle.pt_move.specs.declared.job.Report.{Report}
-use Rattle.pt_move.specs.declared.job.Turn.{Turn}
-use Rattle.pt_move.specs.declared.job.Turn.TheVariants as turn
-
--- one done line more
-abbrev pub with_done : Report → Report
-with_done counts = record { done = counts.done + 1; present = counts.present; skipped = counts.skipped; turns = counts.turns }
-
--- one present line more
-abbrev pub with_present : Report → Report
-with_present counts = record { done = counts.done; present = counts.present + 1; skipped = counts.skipped; turns = counts.turns }
-
--- one skip line more
-abbrev pub with_skipped : Report → Report
-with_skipped counts = record { done = counts.done; present = counts.present; skipped = counts.skipped + 1; turns = counts.turns }
+use Rattle.pt_state.specs.declared.job.Report.{Report}
+use Rattle.pt_move.specs.declared.mover.Turn.{Turn}
+use Rattle.pt_move.specs.declared.mover.Turn.TheVariants as turn
 
 -- the lines are counted as before
 abbrev pub SameLines : Report → Report → Type 0
@@ -33,10 +18,6 @@ CountsLine (Done at bytes empty files id to) old new = (new.done ≡ old.done + 
 CountsLine (Present at id to) old new = (new.done ≡ old.done) × (new.present ≡ old.present + 1) × (new.skipped ≡ old.skipped)
 CountsLine (Skipped at why) old new = (new.done ≡ old.done) × (new.present ≡ old.present) × (new.skipped ≡ old.skipped + 1)
 CountsLine (End done present skipped) old new = ((done ≡ old.done) × (present ≡ old.present) × (skipped ≡ old.skipped)) × SameLines old new
-
--- the JSON is the line's
-unfoldable pub IsTreeOf : Line → Data → Type 0
-IsTreeOf line tree = tree ≡ line_tree line
 
 -- the log got this line
 unfoldable pub GotLine : Line → Option (List ℕ) → Option (List ℕ) → Type 0
@@ -59,18 +40,9 @@ abbrev pub Tells : {T : Type 0} → Option (List ℕ) → Option (List ℕ) → 
 Tells before after old new (Ok x) = TellsLine before after old new
 Tells before after old new (Err f) = TellsFront before after old new
 
--- the run goes on from the phase
-abbrev pub GoesOn : Phase → Type 0
-GoesOn phase.Ended = ⊥
-GoesOn p = ⊤
-
 -- where the run ended, its last line told the numbers, which stay
 abbrev pub TellsEnd : Option (List ℕ) → Option (List ℕ) → Report → Report → Type 0
 TellsEnd before after old new = GotLine (End old.done old.present old.skipped) before after × SameLines old new
-
-abbrev pub EndsTold : Phase → Option (List ℕ) → Option (List ℕ) → Report → Report → Type 0
-EndsTold phase.Ended before after old new = TellsEnd before after old new
-EndsTold p before after old new = ⊤
 
 -- so it did where the turn was the last
 abbrev pub FinishTold : Turn → Option (List ℕ) → Option (List ℕ) → Report → Report → Type 0

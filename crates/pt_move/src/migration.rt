@@ -1,12 +1,19 @@
-#![tactic(auto, using(crate::proofs::Migrating::migrating, crate::proofs::WholeLog::whole_log))]
+#![tactic(auto, using(crate::proofs::Ending::migrating, crate::proofs::Outcomes::whole, crate::proofs::WholeLog::whole_log))]
 
-ghost use Rattle.std.specs.Prelude.{◌≡◌, ◌≢◌, ◌≤◌, None, IfErr, IfOk, OnErr};
+ghost use Rattle.std.specs.Prelude.{◌≢◌, ◌≤◌, IfErr, IfOk, OnErr};
 ghost use Rattle.pt_move.specs.Counting.{Counts};
-ghost use Rattle.pt_move.specs.Fits.{lines_put};
+ghost use Rattle.pt_state.specs.States.{counts_of};
+ghost use Rattle.pt_turn.specs.Bounds.{lines_put};
+ghost use Rattle.pt_plan.specs.World.{dest_tree, source_tree};
+ghost use Rattle.pt_begun.specs.Begun.{start_of};
+ghost use Rattle.pt_state.specs.Turned.{world};
+ghost use Rattle.pt_move.specs.Outcome.{EndsWhole, SaysRightly};
+ghost use Rattle.pt_move.specs.Running.{LeavesBehind};
 ghost use Rattle.pt_move.specs.Lines.{HasToldAll, HasToldFront};
 ghost use Rattle.pt_move.specs.declared.fault.Fault.TheVariants as fault;
 
-use crate::{Fault, Job, Mover, Report, Turn};
+use crate::{Fault, Mover, Turn};
+use pt_state::{Job, Report};
 use pt_tree::{Dest, Log, Source};
 use std::alloc::Global;
 
@@ -15,8 +22,7 @@ use std::alloc::Global;
 /// many turns as its limit allows.
 ///
 /// `Source`, `Dest` and `Log` are answered only where that device's count of failures rose, or stood at its greatest
-/// value, and then no other answer is given; `Ended` is never answered. What is promised so far is for a source and a
-/// destination that tell nothing.
+/// value, and then no other answer is given; `Ended` is never answered.
 pub fn migrate<S: Source, D: Dest, L: Log>(
     alloc: Global,
     source: &mut S,
@@ -24,17 +30,19 @@ pub fn migrate<S: Source, D: Dest, L: Log>(
     log: &mut L,
     job: Job,
 ) -> Result<Report, Fault>
-    requires source { S.told source.old ≡ None }
-    requires dest { D.told dest.old ≡ None }
+    ensures ends { IfOk result (EndsWhole job (source_tree (S.told source.old)) (start_of (world (S.told source.old) (D.told dest.old) (L.told log.old) (S.failed source.old) (D.failed dest.old) (L.failed log.old))) (D.told dest.new) (L.told log.new)) }
+    ensures says { IfErr result (SaysRightly (source_tree (S.told source.old)) (dest_tree (D.told dest.old))) }
     ensures source { Counts 1 (S.failed source.old) (S.failed source.new) result }
     ensures dest { Counts 2 (D.failed dest.old) (D.failed dest.new) result }
     ensures log { Counts 3 (L.failed log.old) (L.failed log.new) result }
+    ensures leaves { LeavesBehind job (dest_tree (D.told dest.old)) (D.told dest.new) }
     ensures told { IfOk result (λ report. HasToldAll (L.told log.old) (L.told log.new) report) }
     ensures told_front { OnErr result (HasToldFront (L.told log.old) (L.told log.new)) }
     ensures turns { IfOk result (λ report. report.turns ≤ job.limits.turns) }
-    ensures lines { IfOk result (λ report. lines_put report ≤ report.turns) }
+    ensures lines { IfOk result (λ report. lines_put (counts_of report) ≤ report.turns) }
     ensures never_ended { IfErr result (λ f. f ≢ fault.Ended) }
 {
+    let _tuples = job.layout.count();
     let mut mover = Mover::start(alloc, job);
     while let Turn::More = mover.step(source, dest, log)? {}
     Ok(mover.report())

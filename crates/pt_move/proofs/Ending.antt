@@ -1,0 +1,50 @@
+-- What the steps of a run say of the whole.
+use Rattle.std.proofs.Common.{◌≡◌, ℕ, List, [], sym, ◌∙◌, subst}
+use Rattle.std.specs.Prelude.{Err, ◌≢◌, Option}
+use Rattle.pt_name.specs.Tuples.{IsLayout}
+use Rattle.pt_object.specs.Hasher.{HasBeenFed}
+use Rattle.pt_tree.specs.Dest.{Writing}
+use Rattle.pt_tree.specs.Source.{Reading}
+use Rattle.pt_plan.specs.Run.{Run, new_run}
+use Rattle.pt_plan.specs.World.{World}
+use Rattle.pt_plan.specs.declared.phase.Phase.{Phase}
+use Rattle.pt_plan.specs.declared.phase.Phase.TheVariants as phase
+use Rattle.pt_begun.specs.Begun.{Begun, IsWorld, start_of}
+use Rattle.pt_begun.proofs.NewRun.{new_run_is_begun}
+use Rattle.pt_state.specs.States.{job_of}
+use Rattle.pt_state.specs.declared.job.Job.{Job}
+use Rattle.pt_move.specs.Running.{FedUntilEnd, IsBegun, IsNew, LeavesBehind, Running, run_of}
+use Rattle.pt_move.proofs.Answering.{has_begun, leaves_behind}
+use Rattle.pt_state.specs.Turned.{world}
+use Rattle.pt_move.specs.Stepping.{EndsAs}
+use Rattle.pt_move.specs.declared.fault.Fault.{Fault}
+use Rattle.pt_move.specs.declared.fault.Fault.TheVariants as fault
+
+-- a run that is to begin hasn't ended
+pub new_goes_on : (job : Job) (r : Running) → IsNew job r → r.phase ≢ phase.Ended
+new_goes_on job r new ended = let both : phase.Begin ≡ phase.Ended = sym new.phase ∙ ended in absurd (cc)
+
+-- a run that goes on isn't told that it has ended
+pub not_ended : (f : Fault) (old new : Running) → old.phase ≢ phase.Ended → EndsAs old new (Err f) → f ≢ fault.Ended
+not_ended f old new going ends is = absurd (going (told (subst (λ f. EndsAs old new (Err f)) is ends)))
+  where
+    told : (old.phase ≡ phase.Ended) × (new ≡ old) → old.phase ≡ phase.Ended
+    told both = both.0
+
+-- it began where the devices stand
+pub new_is_begun : (job : Job) (r : Running) (now : World) → IsNew job r → IsLayout job.layout → IsWorld now → IsBegun (start_of now) now r
+unfolding IsBegun
+new_is_begun job r now new layout is = record {
+  fed = [];
+  was = subst (λ (p : Phase). FedUntilEnd p r.state.job.algorithm r.state.hasher []) (sym new.phase) (subst (λ j. HasBeenFed j.algorithm r.state.hasher []) (sym new.job_is) new.fed);
+  begun = subst (λ j. Begun (job_of j) (start_of now) now (run_of r [])) (sym new.job_is) (subst (λ (run : Run). Begun (job_of job) (start_of now) now run) (sym run_is) (new_run_is_begun (job_of job) now layout is));
+}
+  where
+    run_is : run_of r [] ≡ new_run
+    run_is = λ i. record { phase = new.phase i; kept = new.kept i }
+
+-- what the run left in the destination
+pub left_by_run : (job : Job) (r : Running) (old : World) (reading : Option Reading) (w : Option Writing) (g : Option (List ℕ)) (n d l : ℕ) → IsBegun (start_of old) (world reading w g n d l) r → r.state.job ≡ job → LeavesBehind job (start_of old).dest w
+left_by_run job r old reading w g n d l begun same = subst (λ j. LeavesBehind j (start_of old).dest w) same (leaves_behind (start_of old) r reading w g n d l begun)
+
+pub ruleset migrating = (new_goes_on, not_ended, has_begun, left_by_run)

@@ -1,0 +1,163 @@
+-- What a turn of the run's definitions leaves.
+use Rattle.std.proofs.Common.{◌≡◌, ◌≤◌, ℕ, ◌+◌, List, refl, sym, subst, ap, ◌∙◌, inl, inr, arith}
+use Rattle.std.specs.Prelude.{Option, None, Some, Ok, Err}
+use Rattle.pt_object.specs.declared.rows.Row.{Row}
+use Rattle.pt_tree.specs.Dest.{Writing}
+use Rattle.pt_tree.specs.Source.{Reading}
+use Rattle.pt_plan.specs.Answer.{Answer}
+use Rattle.pt_plan.specs.Job.{Job}
+use Rattle.pt_plan.specs.Lines.{Line, Done, Present, Skipped, End}
+use Rattle.pt_plan.specs.Run.{Counts, turning}
+use Rattle.pt_plan.specs.Turn.{Did, FailsAtFirst, FailsLater, GoesOn, HasFailed, IsHalted, IsRefused, LeavesSome, Stays, Turn, counted}
+use Rattle.pt_plan.specs.World.{Failures, LeavesFront, Puts}
+use Rattle.pt_plan.specs.declared.halt.Halt.{Halt}
+use Rattle.pt_plan.specs.declared.halt.Halt.TheVariants as halt
+use Rattle.pt_plan.specs.declared.phase.Phase.{Phase}
+use Rattle.pt_plan.specs.declared.phase.Phase.TheVariants as phase
+use Rattle.pt_state.specs.States.{counts_of, kept_of}
+use Rattle.pt_state.specs.Turned.{world}
+use Rattle.pt_state.specs.declared.job.Report.{Report}
+use Rattle.pt_state.specs.declared.state.State.{State}
+use Rattle.pt_turn.specs.Bounds.{lines_put}
+use Rattle.pt_move.proofs.Changes.{EndsWith, IsRefusal, LineOf, follows_change, follows_end, follows_line, follows_refuse, gains_same, moves_to}
+use Rattle.pt_move.specs.Held.{Gains}
+use Rattle.pt_move.specs.Leaving.{Blames, EndsBy, TurnLeaves}
+use Rattle.pt_move.specs.Lines.{CountsLine, GotFront, GotLine, SameLines, TellsFront, TellsLine}
+
+-- ---- failures
+
+refusal_blames : (why : Halt) (old new : Failures) → IsRefusal why → new ≡ old → Blames why old new
+refusal_blames halt.Source old new is same = absurd is
+refusal_blames halt.Dest old new is same = absurd is
+refusal_blames halt.Log old new is same = absurd is
+refusal_blames halt.Memory old new is same = absurd is
+refusal_blames halt.NotPairtree old new is same = same
+refusal_blames halt.Prefix old new is same = same
+refusal_blames halt.StagingLeft old new is same = same
+refusal_blames halt.Target old new is same = same
+refusal_blames halt.Changed old new is same = same
+
+failed_blames : (why : Halt) (old new : Failures) → HasFailed why old new → Blames why old new
+failed_blames halt.Source old new failed = failed
+failed_blames halt.Dest old new failed = failed
+failed_blames halt.Log old new failed = failed
+failed_blames halt.Memory old new failed = failed
+failed_blames halt.NotPairtree old new failed = absurd failed
+failed_blames halt.Prefix old new failed = absurd failed
+failed_blames halt.StagingLeft old new failed = absurd failed
+failed_blames halt.Target old new failed = absurd failed
+failed_blames halt.Changed old new failed = absurd failed
+
+-- ---- the log
+
+same_lines : (c c' : Report) (counts : Counts) → counts_of c' ≡ counts → counts.done ≡ c.done → counts.present ≡ c.present → counts.skipped ≡ c.skipped → SameLines c c'
+same_lines c c' counts is d p s = (ap (λ (k : Counts). k.done) is ∙ d, ap (λ (k : Counts). k.present) is ∙ p, ap (λ (k : Counts). k.skipped) is ∙ s)
+
+-- of these counts the turn was counted
+counted_turn : Report → Counts
+counted_turn c = record { done = c.done; present = c.present; skipped = c.skipped; turns = c.turns + 1 }
+
+counts_line : (line : Line) (c c' : Report) → counts_of c' ≡ counted (Some line) (counted_turn c) → LineOf (counted_turn c) (Some line) → CountsLine line c c'
+unfolding counted_turn
+counts_line (Done at bytes empty files id to) c c' is of = (ap (λ (k : Counts). k.done) is, ap (λ (k : Counts). k.present) is, ap (λ (k : Counts). k.skipped) is)
+counts_line (Present at id to) c c' is of = (ap (λ (k : Counts). k.done) is, ap (λ (k : Counts). k.present) is, ap (λ (k : Counts). k.skipped) is)
+counts_line (Skipped at why) c c' is of = (ap (λ (k : Counts). k.done) is, ap (λ (k : Counts). k.present) is, ap (λ (k : Counts). k.skipped) is)
+counts_line (End done present skipped) c c' is (d, p, s) = ((d, p, s), (ap (λ (k : Counts). k.done) is, ap (λ (k : Counts). k.present) is, ap (λ (k : Counts). k.skipped) is))
+
+told_line : (line : Option Line) (g g' : Option (List ℕ)) (c c' : Report) → Puts line g g' → counts_of c' ≡ counted line (counted_turn c) → LineOf (counted_turn c) line → TellsLine g g' c c'
+unfolding Puts TellsLine GotLine counted_turn
+told_line None g g' c c' put is of = inl (put, same_lines c c' _ is refl refl refl)
+told_line (Some line) g g' c c' put is of = inr (line, (put, counts_line line c c' is of))
+
+left_front : (line : Option Line) (g g' : Option (List ℕ)) (c c' : Report) → LeavesFront line g g' → counts_of c' ≡ counted_turn c → TellsFront g g' c c'
+unfolding TellsFront GotFront counted_turn
+left_front None g g' c c' left is = (inl left, same_lines c c' _ is refl refl refl)
+left_front (Some line) g g' c c' left is = (inr (line, left), same_lines c c' _ is refl refl refl)
+
+ended_with : (next : Phase) (line : Option Line) (g g' : Option (List ℕ)) (c c' : Report) → EndsWith (counted_turn c) next line → Puts line g g' → counts_of c' ≡ counted line (counted_turn c) → EndsBy next g g' c c'
+unfolding Puts GotLine counted_turn
+ended_with phase.Ended line g g' c c' ends put is =
+    (subst (λ (o : Option Line). Puts o g g') ends put, same_lines c c' _ (is ∙ ap (λ (o : Option Line). counted o (counted_turn c)) ends) refl refl refl)
+ended_with phase.Begin line g g' c c' ends put is = tt
+ended_with (phase.Prefix here) line g g' c c' ends put is = tt
+ended_with phase.Staging line g g' c c' ends put is = tt
+ended_with phase.Root line g g' c c' ends put is = tt
+ended_with (phase.RootMake item) line g g' c c' ends put is = tt
+ended_with phase.RootRename line g g' c c' ends put is = tt
+ended_with (phase.RootCheck file) line g g' c c' ends put is = tt
+ended_with phase.OpenRoot line g g' c c' ends put is = tt
+ended_with phase.Judge line g g' c c' ends put is = tt
+ended_with (phase.OpenObject object) line g g' c c' ends put is = tt
+ended_with (phase.Scan object) line g g' c c' ends put is = tt
+ended_with (phase.Read object bytes) line g g' c c' ends put is = tt
+ended_with (phase.Make object part) line g g' c c' ends put is = tt
+ended_with (phase.Copy object position left) line g g' c c' ends put is = tt
+ended_with (phase.Tuples object number) line g g' c c' ends put is = tt
+ended_with (phase.Rename object) line g g' c c' ends put is = tt
+ended_with (phase.Line object) line g g' c c' ends put is = tt
+ended_with phase.Walk line g g' c c' ends put is = tt
+ended_with phase.End line g g' c c' ends put is = tt
+
+-- ---- counts
+
+counted_more : (line : Option Line) (counts : Counts) → (lines_put (counted line counts) ≤ lines_put counts + 1) × ((counted line counts).turns ≡ counts.turns)
+counted_more None counts = (omega (arith), refl)
+counted_more (Some (Done at bytes empty files id to)) counts = (omega (arith), refl)
+counted_more (Some (Present at id to)) counts = (omega (arith), refl)
+counted_more (Some (Skipped at why)) counts = (omega (arith), refl)
+counted_more (Some (End done present skipped)) counts = (omega (arith), refl)
+
+gains_by : {A : Type 0} (xs ys zs : List A) → zs ≡ ys → Gains xs ys → Gains xs zs
+gains_by xs ys zs is gains = subst (λ l. Gains xs l) (sym is) gains
+
+-- ---- a halted turn
+
+halted_leaves : (s s' : State) (fed fed' : List ℕ) (rows : List Row) (g g' : Option (List ℕ)) (old new : Failures) (why : Halt) → IsHalted rows (turning (kept_of s fed)) (kept_of s' fed') → Gains s.rows rows → Blames why old new → TellsFront g g' s.counts s'.counts → TurnLeaves s s' g g' old new (Err why)
+halted_leaves s s' fed fed' rows g g' old new why halted gains blames told =
+    let put = ap lines_put halted.counts in
+    record {
+      failures = blames;
+      told = told;
+      ended = tt;
+      turns = ap (λ (k : Counts). k.turns) halted.counts;
+      lines = omega (arith, put);
+      trail = moves_to s.trail s'.trail halted.trail;
+      rows = gains_by s.rows rows s'.rows halted.rows_are gains;
+      contents = gains_same s.contents s'.contents halted.contents;
+    }
+
+-- ---- a turn
+
+pub turn_leaves : (job : Job) (here : Phase) (s s' : State) (fed fed' : List ℕ) (r r' : Option Reading) (w w' : Option Writing) (g g' : Option (List ℕ)) (n n' d d' l l' : ℕ) (answer : Answer)
+    → Turn job here (turning (kept_of s fed)) (kept_of s' fed') (world r w g n d l) (world r' w' g' n' d' l') answer
+    → TurnLeaves s s' g g' (record { source = n; dest = d; log = l }) (record { source = n'; dest = d'; log = l' }) answer
+unfolding Did LeavesSome Stays counted_turn Puts
+turn_leaves job here s s' fed fed' r r' w w' g g' n n' d d' l l' _ (GoesOn calls next follows did counts) =
+    let changes = follows_change job (turning (kept_of s fed)).counts here _ _ _ _ calls (Ok next) follows in
+    let more = counted_more calls.line (turning (kept_of s fed)).counts in
+    let put = ap lines_put counts in
+    let one = more.0 in
+    record {
+      failures = did.1;
+      told = told_line calls.line g g' s.counts s'.counts did.0.log counts (follows_line job (turning (kept_of s fed)).counts here _ _ _ _ calls (Ok next) follows);
+      ended = ended_with next calls.line g g' s.counts s'.counts (follows_end job (turning (kept_of s fed)).counts here _ _ _ _ calls next follows) did.0.log counts;
+      turns = ap (λ (k : Counts). k.turns) counts ∙ more.1;
+      lines = omega (arith, put, one);
+      trail = changes.trail;
+      rows = changes.rows;
+      contents = changes.contents;
+    }
+turn_leaves job here s s' fed fed' r r' w w' g g' n n' d d' l l' _ (IsRefused prefix held calls why follows did halted) =
+    let refused = follows_refuse job (turning (kept_of s fed)).counts here _ _ _ _ calls why follows in
+    halted_leaves s s' fed fed' s.rows g g' _ _ why halted (gains_same s.rows s.rows refl) (refusal_blames why _ _ refused.0 did.1)
+    (left_front None g g' s.counts s'.counts (subst (λ (o : Option Line). Puts o g g') refused.1 did.0.log) halted.counts)
+turn_leaves job here s s' fed fed' r r' w w' g g' n n' d d' l l' _ (FailsAtFirst why stays halted) =
+    halted_leaves s s' fed fed' s.rows g g' _ _ why halted (gains_same s.rows s.rows refl) (failed_blames why _ _ stays.3) (left_front None g g' s.counts s'.counts stays.2 halted.counts)
+turn_leaves job here s s' fed fed' r r' w w' g g' n n' d d' l l' _ (FailsLater prefix held calls answer rows why follows left which halted) =
+    halted_leaves s s' fed fed' rows g g' _ _ why halted gained (failed_blames why _ _ left.1) (left_front calls.line g g' s.counts s'.counts left.0.log halted.counts)
+  where
+    gained : Gains s.rows rows
+    gained = elim which [
+      | inl same ↦ gains_same s.rows rows same
+      | inr same ↦ gains_by s.rows held.rows rows same (follows_change job (turning (kept_of s fed)).counts here _ _ _ _ calls answer follows).rows
+    ]

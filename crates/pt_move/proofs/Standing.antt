@@ -1,0 +1,79 @@
+-- What a turn needs of what is held, from what holds of a run in progress whatever its devices tell; and that a turn keeps it.
+use Rattle.std.proofs.Common.{◌≡◌, ◌≢◌, ◌<◌, ◌≤◌, ℕ, List, refl, sym, subst, length, arith, true, false}
+use Rattle.std.specs.Prelude.{Option, None, Some, IsSome, slice_get}
+use Rattle.std.specs.Option.{option_map_or}
+use Rattle.std.proofs.lemmas.Option.{slice_get_within}
+use Rattle.pt_object.specs.declared.contents.Content.{Content}
+use Rattle.pt_tree.specs.Path.{same_path}
+use Rattle.pt_plan.specs.declared.phase.Position.{Position}
+use Rattle.pt_object.specs.Hasher.{HasBeenFed}
+use Rattle.pt_tree.specs.Listing.{Item}
+use Rattle.pt_walk.specs.declared.frame.Frame.{Frame}
+use Rattle.pt_plan.specs.Run.{Held}
+use Rattle.pt_plan.specs.declared.object.Object.{Object}
+use Rattle.pt_plan.specs.declared.phase.Part.{Part}
+use Rattle.pt_plan.specs.declared.phase.Part.TheVariants as part
+use Rattle.pt_plan.specs.declared.phase.Phase.{Phase}
+use Rattle.pt_plan.specs.declared.phase.Phase.TheVariants as phase
+use Rattle.pt_begun.specs.BegunHeld.{HeldAt}
+use Rattle.pt_begun.specs.Past.{Past}
+use Rattle.pt_begun.specs.PartsMade.{IsAtStoredRow}
+use Rattle.pt_make.specs.Making.{HasContentsOfRows, HasFedInventory, IsReadyFor}
+use Rattle.pt_scan.specs.Scanning.{IsSite}
+use Rattle.pt_state.specs.States.{held_of, job_of}
+use Rattle.pt_state.specs.declared.state.State.{State}
+use Rattle.pt_turn.specs.Stands.{Stands}
+
+-- ---- what the code needs
+
+some_entry : (o : Option Item) (item : Item) → o ≡ Some item → IsSome o
+some_entry o item is = subst (λ (x : Option Item). IsSome x) (sym is) refl
+
+as_site : (object : Object) (trail : List Frame) → 0 < object.site → length trail ≡ object.site → IsSite object trail
+unfolding IsSite
+as_site object trail some long = (some, omega (arith, long))
+
+in_object : (object : Object) (trail : List Frame) → 0 < object.site → object.site ≤ length trail → IsSite object trail
+unfolding IsSite
+in_object object trail some within = (some, within)
+
+ready : (here : Part) (object : Object) (s : State) (fed : List ℕ) (past : Past) → HasBeenFed s.job.algorithm s.hasher fed → HeldAt (job_of s.job) past (phase.Make object here) (held_of s fed) → IsReadyFor here object s
+unfolding HasContentsOfRows HasFedInventory
+ready part.Staging object s fed past was held = tt
+ready part.Declaration object s fed past was held = tt
+ready part.Version object s fed past was held = tt
+ready (part.Content position) object s fed past was held = held.numbers.within
+ready part.VersionInventory object s fed past was held = held.rows.contents
+ready part.VersionSidecar object s fed past was held = subst (λ (f : List ℕ). HasBeenFed s.job.algorithm s.hasher f) held.fed was
+ready part.Inventory object s fed past was held = held.rows.contents
+ready part.Sidecar object s fed past was held = subst (λ (f : List ℕ). HasBeenFed s.job.algorithm s.hasher f) held.fed was
+
+-- the row there is stored, so there is a content of that number
+stored_there : (held : Held) (position : Position) → IsAtStoredRow held position → position.stored < length held.contents
+stored_there held position at = by (slice_get held.contents position.stored) refl at.next
+  where
+    by : (o : Option Content) → slice_get held.contents position.stored ≡ o → option_map_or (λ (content : Content). same_path content.path at.row.path) o false ≡ true → position.stored < length held.contents
+    by None is absent = absurd (cc)
+    by (Some content) is there = slice_get_within held.contents position.stored content is
+
+pub stands : (here : Phase) (s : State) (fed : List ℕ) (past : Past) → here ≢ phase.Ended → HasBeenFed s.job.algorithm s.hasher fed → HeldAt (job_of s.job) past here (held_of s fed) → Stands here s
+stands phase.Begin s fed past going was held = tt
+stands (phase.Prefix here) s fed past going was held = tt
+stands phase.Staging s fed past going was held = tt
+stands phase.Root s fed past going was held = tt
+stands (phase.RootMake item) s fed past going was held = held.numbers
+stands phase.RootRename s fed past going was held = tt
+stands (phase.RootCheck file) s fed past going was held = held.numbers
+stands phase.OpenRoot s fed past going was held = held.trail.none
+stands phase.Judge s fed past going was held = tt
+stands (phase.OpenObject object) s fed past going was held = (as_site object s.trail held.ends.0.some held.ends.1, held.trail.entry)
+stands (phase.Scan object) s fed past going was held = (in_object object s.trail held.ends.0.some held.ends.1.within, held.ends.1.own)
+stands (phase.Read object bytes) s fed past going was held = (in_object object s.trail held.ends.0.some held.ends.1.within, held.ends.1.own, some_entry _ held.trail.entry.0 held.trail.entry.1)
+stands (phase.Make object here) s fed past going was held = ready here object s fed past was held
+stands (phase.Copy object position left) s fed past going was held = (held.numbers.at.within, stored_there (held_of s fed) position held.numbers)
+stands (phase.Tuples object number) s fed past going was held = held.numbers
+stands (phase.Rename object) s fed past going was held = tt
+stands (phase.Line object) s fed past going was held = let some = held.ends.0.some in let long = held.ends.1 in omega (arith, some, long)
+stands phase.Walk s fed past going was held = tt
+stands phase.End s fed past going was held = tt
+stands phase.Ended s fed past going was held = absurd (going refl)
