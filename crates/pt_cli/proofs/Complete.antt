@@ -17,8 +17,10 @@ use Rattle.clap.proofs.ValueTestLemmas.{accepts-Accepts}
 use Rattle.clap.proofs.WalkLemmas.{list_any-map}
 use Rattle.pt_object.specs.declared.algorithm.Algorithm.{Algorithm}
 use Rattle.pt_object.specs.declared.algorithm.Algorithm.TheVariants.{Sha512, Sha256}
-use Rattle.pt_cli.specs.Grammar.{SpellsAlgorithms, migrate_app, names_app, program, u32_parser}
-use Rattle.pt_cli.specs.Options.{algorithm_of, number_of, options_in}
+use Rattle.pt_run.specs.declared.watch.Progress.{Progress}
+use Rattle.pt_run.specs.declared.watch.Progress.TheVariants.{Auto, Always, Never}
+use Rattle.pt_cli.specs.Grammar.{Spelled, SpellsAlgorithms, SpellsTimes, migrate_app, names_app, program, u32_parser}
+use Rattle.pt_cli.specs.Options.{algorithm_of, asked_in, number_of, options_in, progress_of}
 use Rattle.pt_cli.specs.Words.{OrNone, answer_to, command_answer, migrate_answer, names_answer}
 use Rattle.pt_cli.specs.declared.command.Command.{Command}
 use Rattle.pt_cli.specs.declared.words.WordsFault.{WordsFault}
@@ -45,6 +47,26 @@ algorithm_there words spells v e =
         (Sha256, ap algorithm_of (sym same))
     go false false is other h = absurd (cc)
 
+time_there : (words : Bor (List (Bor Text))) → SpellsTimes words → (v : Text) → accepts false (vp.Names words) v ≡ true
+    → (t : Progress) × (progress_of v ≡ Some t)
+time_there words spells v e =
+    let listed : list_any (λ t. bytes_eq t v) (codes "auto" ∷ codes "always" ∷ codes "never" ∷ []) ≡ true =
+    ap (list_any (λ t. bytes_eq t v)) (sym spells) ∙ sym (list_any-map (λ t. bytes_eq t v) (λ (s : Bor Text). s.now) words.now) ∙ e in
+    go (bytes_eq (codes "auto") v) (bytes_eq (codes "always") v) (bytes_eq (codes "never") v) refl refl refl listed
+  where
+    go : (a b c : Bool) → bytes_eq (codes "auto") v ≡ a → bytes_eq (codes "always") v ≡ b → bytes_eq (codes "never") v ≡ c → (a || (b || (c || false))) ≡ true
+        → (x : Progress) × (progress_of v ≡ Some x)
+    go true b c is other last h =
+        let same : codes "auto" ≡ v = (bytes_eq-Decides _ _).0 is in
+        (Auto, ap progress_of (sym same))
+    go false true c other is last h =
+        let same : codes "always" ≡ v = (bytes_eq-Decides _ _).0 is in
+        (Always, ap progress_of (sym same))
+    go false false true other last is h =
+        let same : codes "never" ≡ v = (bytes_eq-Decides _ _).0 is in
+        (Never, ap progress_of (sym same))
+    go false false false other last is h = absurd (cc)
+
 number_there : (v : Text) → accepts false u32_parser v ≡ true → (n : ℕ) × (number_of (without_minus v) ≡ Some n)
 number_there v e =
     let read = signed_reads ⊤ (λ u x. ParsesUnsigned 32 10 u x) 32 0 4294967295 v (number_of (without_minus v)) (number_read_back (without_minus v)) (λ u x g. g) (omega arith)
@@ -53,15 +75,22 @@ number_there v e =
 
 -- ---- the answer to a command
 
-all_given : (rows : List Row) (created name message digest source dest : Text) (algorithm : Algorithm) (size_text count_text : Text) (size count : ℕ)
+all_given : (rows : List Row) (created name message digest source dest : Text) (algorithm : Algorithm) (size_text count_text when : Text) (size count : ℕ) (progress : Progress)
     → first_of (codes "created") rows ≡ Some created → first_of (codes "name") rows ≡ Some name → first_of (codes "message") rows ≡ Some message
     → first_of (codes "digest") rows ≡ Some digest → algorithm_of digest ≡ Some algorithm
     → one_of (codes "tuple-size") rows ≡ Some size_text → number_of size_text ≡ Some size
     → one_of (codes "tuples") rows ≡ Some count_text → number_of count_text ≡ Some count
+    → first_of (codes "progress") rows ≡ Some when → progress_of when ≡ Some progress
     → first_of (codes "SOURCE") rows ≡ Some source → first_of (codes "DEST") rows ≡ Some dest
     → is_some (option_map migrate_answer (options_in rows)) ≡ true
-all_given rows created name message digest source dest algorithm size_text count_text size count e1 e2 e3 e4 e5 e6 e7 e8 e9 e10 e11 =
-    rw (e1, e2, e3, e4, e5, e6, e7, e8, e9, e10, e11) refl
+all_given rows created name message digest source dest algorithm size_text count_text when size count progress e1 e2 e3 e4 e5 e6 e7 e8 e9 e10 e11 e12 e13 =
+    rw (e1, e2, e3, e4, e5, e6, e7, e8, e9, e10, e11, e12, e13) refl
+
+id_given : (rows : List Row) (id size_text count_text : Text) (size count : ℕ) → first_of (codes "ID") rows ≡ Some id
+    → one_of (codes "tuple-size") rows ≡ Some size_text → number_of size_text ≡ Some size
+    → one_of (codes "tuples") rows ≡ Some count_text → number_of count_text ≡ Some count
+    → is_some (option_map names_answer (asked_in rows)) ≡ true
+id_given rows id size_text count_text size count e1 e2 e3 e4 e5 = rw (e1, e2, e3, e4, e5) refl
 
 -- ---- the program
 
@@ -108,67 +137,55 @@ module _ (top x y z : Shape) (names_answered : Answered x) (migrate_answered : A
       let checks = check_passed top once fit names words (is_some (entered (three top x y z) stop)) (entered_fault (three top x y z) stop) e in
       dispatched stop (walk_goes top helps names (walk_from nothing_held) words tt walks.0) walks.1 (some_command _ (rows_after top.rules names words) quiet wants checks)
 
-module _ (algorithms : Bor (List (Bor Text))) where
+module _ (spelled : Spelled) where
   -- the commands as the parser builds them
   abbrev above : Shape
-  above = with_leaf_noted (marked_built (program algorithms).top)
+  above = with_leaf_noted (marked_built (program spelled).top)
 
   abbrev built_names : Shape
   built_names = built_leaf (inherited above names_app.top)
 
   abbrev built_migrate : Shape
-  built_migrate = built_leaf (inherited above (migrate_app algorithms).top)
+  built_migrate = built_leaf (inherited above (migrate_app spelled).top)
 
   abbrev built_help : Shape
   built_help = built_leaf help_shape
 
-  fit_top : Every (Fits (built (program algorithms)).top.rules) (built (program algorithms)).top.rules
-  fit_top = ((refl, refl, refl), tt)
+  fit_top : Every (Fits (built (program spelled)).top.rules) (built (program spelled)).top.rules
+  fit_top = ((refl, refl, refl), ((refl, refl, refl), tt))
 
   fit_names : Every (Fits built_names.rules) built_names.rules
-  fit_names = ((refl, refl, refl), ((refl, refl, refl), tt))
+  fit_names = ((refl, refl, refl), ((refl, refl, refl), ((refl, refl, refl), ((refl, refl, refl), ((refl, refl, refl), tt)))))
 
   fit_migrate : Every (Fits built_migrate.rules) built_migrate.rules
-  fit_migrate = (
-    (refl, refl, refl),
-    (
-      (refl, refl, refl),
-      (
-        (refl, refl, refl),
-        (
-          (refl, refl, refl),
-          (
-            (refl, refl, refl),
-            (
-              (refl, refl, refl),
-              ((refl, refl, refl), ((refl, refl, refl), ((refl, refl, refl), ((refl, refl, refl), ((refl, refl, refl), tt))))),
-            ),
-          ),
-        ),
-      ),
-    ),
-  )
+  fit_migrate = ((refl, refl, refl), ((refl, refl, refl), ((refl, refl, refl), ((refl, refl, refl), ((refl, refl, refl), ((refl, refl, refl), ((refl, refl, refl), ((refl, refl, refl), ((refl, refl, refl), ((refl, refl, refl), ((refl, refl, refl), ((refl, refl, refl), ((refl, refl, refl), ((refl, refl, refl), ((refl, refl, refl), tt)))))))))))))))
 
   names_is_answered : Answered built_names
   names_is_answered words e =
       let id = required_value built_names refl fit_names [] words false [] e (codes "ID") _ refl refl refl in
-      ap (λ o. is_some (option_map names_answer o)) id.1
+      let size = default_value built_names refl fit_names [] words false [] e (codes "tuple-size") _ refl refl in
+      let count = default_value built_names refl fit_names [] words false [] e (codes "tuples") _ refl refl in
+      let digits = number_there size.0 size.3 in
+      let number = number_there count.0 count.3 in
+      id_given (rows_after built_names.rules [] words) id.0 _ _ digits.0 number.0 id.1 size.2 digits.1 count.2 number.1
 
-  migrate_is_answered : SpellsAlgorithms algorithms → Answered built_migrate
-  migrate_is_answered spells words e =
+  migrate_is_answered : Answered built_migrate
+  migrate_is_answered words e =
       let created = required_value built_migrate refl fit_migrate [] words false [] e (codes "created") _ refl refl refl in
       let name = required_value built_migrate refl fit_migrate [] words false [] e (codes "name") _ refl refl refl in
       let message = default_value built_migrate refl fit_migrate [] words false [] e (codes "message") _ refl refl in
       let digest = default_value built_migrate refl fit_migrate [] words false [] e (codes "digest") _ refl refl in
       let size = default_value built_migrate refl fit_migrate [] words false [] e (codes "tuple-size") _ refl refl in
       let count = default_value built_migrate refl fit_migrate [] words false [] e (codes "tuples") _ refl refl in
+      let when = default_value built_migrate refl fit_migrate [] words false [] e (codes "progress") _ refl refl in
       let source = required_value built_migrate refl fit_migrate [] words false [] e (codes "SOURCE") _ refl refl refl in
       let dest = required_value built_migrate refl fit_migrate [] words false [] e (codes "DEST") _ refl refl refl in
-      let algorithm = algorithm_there algorithms spells digest.0 digest.3 in
+      let algorithm = algorithm_there spelled.algorithms spelled.spells_algorithms digest.0 digest.3 in
+      let progress = time_there spelled.times spelled.spells_times when.0 when.3 in
       let digits = number_there size.0 size.3 in
       let number = number_there count.0 count.3 in
-      all_given (rows_after built_migrate.rules [] words) created.0 name.0 message.0 digest.0 source.0 dest.0 algorithm.0 _ _ digits.0 number.0
-      created.1 name.1 message.1 digest.1 algorithm.1 size.2 digits.1 count.2 number.1 source.1 dest.1
+      all_given (rows_after built_migrate.rules [] words) created.0 name.0 message.0 digest.0 source.0 dest.0 algorithm.0 _ _ when.0 digits.0 number.0 progress.0
+      created.1 name.1 message.1 digest.1 algorithm.1 size.2 digits.1 count.2 number.1 when.1 progress.1 source.1 dest.1
 
   help_is_help : (word : Text) → answers_to word (label_of built_help) ≡ true → bytes_eq word (codes "help") ≡ true
   help_is_help word e = go (bytes_eq (codes "help") word) refl e
@@ -180,11 +197,11 @@ module _ (algorithms : Bor (List (Bor Text))) where
       go false is h = absurd (cc)
 
   -- where the parser accepts, there is an answer
-  pub program_answered : SpellsAlgorithms algorithms → (words : List Text) → fault_of (program algorithms) words ≡ []
-      → is_some (answer_to (subcommand_of (program algorithms) words)) ≡ true
-  program_answered spells words e =
-      answered (built (program algorithms)).top built_names built_migrate built_help names_is_answered (migrate_is_answered spells) help_is_help refl fit_top refl refl refl
-      (argument_words (program algorithms) words) e
+  pub program_answered : (words : List Text) → fault_of (program spelled) words ≡ []
+      → is_some (answer_to (subcommand_of (program spelled) words)) ≡ true
+  program_answered words e =
+      answered (built (program spelled)).top built_names built_migrate built_help names_is_answered migrate_is_answered help_is_help refl fit_top refl refl refl
+      (argument_words (program spelled) words) e
 
 -- so an answer that isn't there isn't met
 pub never_none : (found : Option (Text × List Row)) → is_some (answer_to found) ≡ true → OrNone (answer_to found) None → ⊥

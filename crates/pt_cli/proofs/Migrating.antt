@@ -43,6 +43,10 @@ made given meta tuples source dest = Ok (Migrate (record {
   algorithm = given.algorithm;
   layout = tuples;
   gather = given.gather;
+  sync = given.sync;
+  rehearse = given.rehearse;
+  verbose = given.verbose;
+  progress = given.progress;
   source = source;
   dest = dest;
 }))

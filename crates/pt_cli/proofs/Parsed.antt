@@ -3,7 +3,7 @@ use Rattle.std.proofs.Common.{◌≡◌, ◌∙◌, inl, inr, Bool, List, [], �
 use Rattle.std.specs.Borrow.{Bor}
 use Rattle.std.specs.Str.{bytes_eq}
 use Rattle.std.specs.Prelude.{⊤, codes}
-use Rattle.clap.specs.Words.{Kinds, IsAmong, HasKind, Row, Text, first_of, kind_of, is_simple, is_simple_and_free}
+use Rattle.clap.specs.Words.{Kinds, IsAmong, HasKind, Row, Text, kind_of, is_simple, is_simple_and_free}
 use Rattle.clap.specs.declared.error.Error.{Error}
 use Rattle.clap.specs.declared.error.kind.ErrorKind.{ErrorKind}
 use Rattle.clap.specs.declared.error.kind.ErrorKind.TheVariants as kind
@@ -14,33 +14,39 @@ use Rattle.pt_name.specs.declared.layout.LayoutFault.{LayoutFault}
 use Rattle.pt_object.specs.Meta.{meta_refusal}
 use Rattle.pt_object.specs.declared.meta.MetaFault.{MetaFault}
 use Rattle.pt_object.specs.declared.meta.MetaFault.TheVariants as meta_fault
-use Rattle.pt_cli.specs.Grammar.{SpellsAlgorithms, program}
-use Rattle.pt_cli.specs.Options.{Options, options_in}
-use Rattle.pt_cli.specs.Words.{Answers, HasRefusal, OrNone, RefusedAs, answer_to, command_answer, described, migrate_answer, names_answer}
+use Rattle.pt_cli.specs.Grammar.{Spelled, program}
+use Rattle.pt_cli.specs.Options.{Options, Request, asked_in, options_in}
+use Rattle.pt_cli.specs.Words.{Answers, HasRefusal, IsRefusal, OrNone, RefusedAs, answer_to, command_answer, described, migrate_answer, named, names_answer}
 use Rattle.pt_cli.specs.declared.command.Command.{Command}
 use Rattle.pt_cli.specs.declared.words.WordsFault.{WordsFault}
 use Rattle.pt_cli.specs.declared.words.WordsFault.TheVariants as fault
 
 -- the parser's answers are known from the words alone
-pub program-simple : (algorithms : Bor (List (Bor Text))) → is_simple (program algorithms) ≡ true
+pub program-simple : (words : Spelled) → is_simple (program words) ≡ true
 unfolding clap_on_literals
-program-simple algorithms = refl
+program-simple words = refl
 
-pub program-free : (algorithms : Bor (List (Bor Text))) → is_simple_and_free (program algorithms) ≡ true
+pub program-free : (words : Spelled) → is_simple_and_free (program words) ≡ true
 unfolding clap_on_literals
-program-free algorithms = refl
+program-free words = refl
 
--- the words of the two algorithms, at some place
-abbrev pub some_words : Bor (List (Bor Text))
-some_words = record { ref_ptr = (0, 0); now = record { ref_ptr = (0, 0); now = codes "sha512" } ∷ record { ref_ptr = (0, 0); now = codes "sha256" } ∷ [] }
+-- a word, at some place
+abbrev at_some : Text → Bor Text
+at_some word = record { ref_ptr = (0, 0); now = word }
 
-pub some_words-spell : SpellsAlgorithms some_words
-some_words-spell = refl
+-- the words of values, at some places
+abbrev pub some_words : Spelled
+some_words = record {
+  algorithms = record { ref_ptr = (0, 0); now = at_some (codes "sha512") ∷ at_some (codes "sha256") ∷ [] };
+  times = record { ref_ptr = (0, 0); now = at_some (codes "auto") ∷ at_some (codes "always") ∷ at_some (codes "never") ∷ [] };
+  spells_algorithms = refl;
+  spells_times = refl;
+}
 
--- a kind that isn't help is a refusal
-refusal_among : (k : ErrorKind) (kinds : Kinds) → IsAmong k kinds → (k ≡ kind.DisplayHelp → ⊥) → HasRefusal kinds
+-- a kind that is a refusal is one among them
+refusal_among : (k : ErrorKind) (kinds : Kinds) → IsAmong k kinds → IsRefusal k → HasRefusal kinds
 refusal_among k [] h other = absurd h
-refusal_among k (x ∷ kinds) (inl e) other = inl (λ h. other (e ∙ h))
+refusal_among k (x ∷ kinds) (inl e) other = inl ((λ h. other.0 (e ∙ h)), (λ h. other.1 (e ∙ h)))
 refusal_among k (x ∷ kinds) (inr h) other = inr (refusal_among k kinds h other)
 
 -- the parser's error, refused
@@ -48,6 +54,8 @@ pub answers_error : (kinds : Kinds) (found : Option (Text × List Row)) (e : Err
     → RefusedAs (kind_of e) f → Answers kinds found (Err f)
 answers_error kinds found e (fault.Help text) (inl none) h = cc (none, h)
 answers_error kinds found e (fault.Help text) (inr k) h = subst (λ x. IsAmong x kinds) h k
+answers_error kinds found e (fault.Version text) (inl none) h = cc (none, h)
+answers_error kinds found e (fault.Version text) (inr k) h = subst (λ x. IsAmong x kinds) h k
 answers_error kinds found e (fault.Words text) (inl none) h = absurd (h.1 none)
 answers_error kinds found e (fault.Words text) (inr k) h = refusal_among (kind_of e) kinds k h.0
 answers_error kinds found e fault.Created k h = absurd h
@@ -59,12 +67,14 @@ answers_error kinds found e fault.Tuples k h = absurd h
 -- a command, or a refusal that isn't the parser's
 abbrev IsOwn : Result Command WordsFault → Type 0
 IsOwn (Err (fault.Help text)) = ⊥
+IsOwn (Err (fault.Version text)) = ⊥
 IsOwn (Err (fault.Words text)) = ⊥
 IsOwn _ = ⊤
 
-names-own : (id : Text) → IsOwn (names_answer id)
-names-own [] = tt
-names-own (x ∷ xs) = tt
+named-own : (id prefix : Text) (layout : Result Tuples LayoutFault) → IsOwn (named id prefix layout)
+named-own [] prefix layout = tt
+named-own (x ∷ xs) prefix (Err f) = tt
+named-own (x ∷ xs) prefix (Ok l) = tt
 
 described-own : (given : Options) (refusal : Option MetaFault) (layout : Result Tuples LayoutFault) → IsOwn (described given refusal layout)
 described-own given (Some meta_fault.Created) layout = tt
@@ -74,14 +84,14 @@ described-own given None (Err f) = tt
 described-own given None (Ok l) = tt
 
 command-own : (found : Text × List Row) (r : Result Command WordsFault) → command_answer found ≡ Some r → IsOwn r
-command-own found r is = go (bytes_eq found.0 (codes "names")) (bytes_eq found.0 (codes "migrate")) (first_of (codes "ID") found.1) (options_in found.1) is
+command-own found r is = go (bytes_eq found.0 (codes "names")) (bytes_eq found.0 (codes "migrate")) (asked_in found.1) (options_in found.1) is
   where
-    go : (names migrate : Bool) (id : Option Text) (given : Option Options)
+    go : (names migrate : Bool) (id : Option Request) (given : Option Options)
         → (if names then option_map names_answer id else if migrate then option_map migrate_answer given else None) ≡ Some r → IsOwn r
     go true migrate None given e = absurd (cc)
     go true migrate (Some id) given e =
         let same : names_answer id ≡ r = cc in
-        subst IsOwn same (names-own id)
+        subst IsOwn same (named-own id.id id.prefix (layout_of id.size id.count))
     go false true id None e = absurd (cc)
     go false true id (Some given) e =
         let same : migrate_answer given ≡ r = cc in
@@ -96,6 +106,7 @@ own (Some found) r e = command-own found r e
 accepted : (found : Option (Text × List Row)) (r : Result Command WordsFault) → answer_to found ≡ Some r → Answers [] found r
 accepted found (Ok command) e = (refl, e)
 accepted found (Err (fault.Help text)) e = absurd (own found _ e)
+accepted found (Err (fault.Version text)) e = absurd (own found _ e)
 accepted found (Err (fault.Words text)) e = absurd (own found _ e)
 accepted found (Err fault.Created) e = (refl, e)
 accepted found (Err fault.EmptyName) e = (refl, e)

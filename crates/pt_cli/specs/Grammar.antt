@@ -1,7 +1,7 @@
 -- The words that the program takes, as its parser is told.
 use Rattle.std.specs.Prelude.{◌≡◌, List, [], ◌∷◌, Some, true, codes, pos}
 use Rattle.std.specs.Borrow.{Bor}
-use Rattle.clap.specs.Words.{App, Rule, Text, new_app, new_rule, with_rule, with_subcommand}
+use Rattle.clap.specs.Words.{App, Rule, Text, new_app, new_rule, with_subcommand}
 use Rattle.clap.specs.Walk.{texts}
 use Rattle.clap.specs.Simple.{on_top}
 use Rattle.clap.specs.declared.builder.action.ArgAction.TheVariants.{SetTrue}
@@ -11,10 +11,6 @@ use Rattle.clap.specs.declared.builder.value_parser.ValueParser.TheVariants as v
 -- the identifier, which must be there
 abbrev pub id_rule : Rule
 id_rule = record (new_rule (codes "ID")) { required = true }
-
--- `names ID`
-abbrev pub names_app : App
-names_app = with_rule (new_app (codes "names")) id_rule
 
 -- `--id VALUE`
 abbrev pub option_rule : Text → Rule
@@ -47,6 +43,24 @@ SpellsAlgorithms words = texts words.now ≡ codes "sha512" ∷ codes "sha256" �
 abbrev pub IsDigestRule : Rule → Type 0
 IsDigestRule rule = (words : Bor (List (Bor Text))) × SpellsAlgorithms words × (rule ≡ digest_rule words)
 
+-- `--progress WHEN`, one of these words
+abbrev pub progress_rule : Bor (List (Bor Text)) → Rule
+progress_rule words = record (option_rule (codes "progress")) { defaults = codes "auto" ∷ []; parser = Some (vp.Names words) }
+
+-- the words that say when, wherever they lie in memory
+abbrev pub SpellsTimes : Bor (List (Bor Text)) → Type 0
+SpellsTimes words = texts words.now ≡ codes "auto" ∷ codes "always" ∷ codes "never" ∷ []
+
+abbrev pub IsProgressRule : Rule → Type 0
+IsProgressRule rule = (words : Bor (List (Bor Text))) × SpellsTimes words × (rule ≡ progress_rule words)
+
+-- the words that the parser reads values from
+pub record Spelled : Type 0 where
+  pub algorithms : Bor (List (Bor Text))
+  pub times : Bor (List (Bor Text))
+  pub spells_algorithms : SpellsAlgorithms algorithms
+  pub spells_times : SpellsTimes times
+
 -- the numbers of `u32`
 abbrev pub u32_parser : ValueParser
 u32_parser = vp.Signed (pos 0) (pos 4294967295)
@@ -63,9 +77,29 @@ size_rule = number_rule (codes "tuple-size")
 abbrev pub count_rule : Rule
 count_rule = number_rule (codes "tuples")
 
+-- `--prefix TEXT`
+abbrev pub prefix_rule : Rule
+prefix_rule = option_rule (codes "prefix")
+
+-- `--id`
+abbrev pub flag_rule : Text → Rule
+flag_rule id = record (new_rule id) { long = Some id; action = Some SetTrue }
+
 -- `--gather`
 abbrev pub gather_rule : Rule
-gather_rule = record (new_rule (codes "gather")) { long = Some (codes "gather"); action = Some SetTrue }
+gather_rule = flag_rule (codes "gather")
+
+-- `--sync`
+abbrev pub sync_rule : Rule
+sync_rule = flag_rule (codes "sync")
+
+-- `--dry-run`, `-n`
+abbrev pub rehearse_rule : Rule
+rehearse_rule = record (flag_rule (codes "dry-run")) { short = Some 110 }
+
+-- `--verbose`, `-v`
+abbrev pub verbose_rule : Rule
+verbose_rule = record (flag_rule (codes "verbose")) { short = Some 118 }
 
 -- the source, which must be there
 abbrev pub source_rule : Rule
@@ -75,24 +109,30 @@ source_rule = record (new_rule (codes "SOURCE")) { required = true }
 abbrev pub dest_rule : Rule
 dest_rule = record (new_rule (codes "DEST")) { required = true }
 
+-- `names [OPTIONS] ID`
+abbrev pub names_app : App
+names_app = on_top (λ s. record s { rules = prefix_rule ∷ size_rule ∷ count_rule ∷ id_rule ∷ [] }) (new_app (codes "names"))
+
 -- the options of `migrate` and its two paths
-abbrev pub migrate_rules : Bor (List (Bor Text)) → List Rule
+abbrev pub migrate_rules : Spelled → List Rule
 migrate_rules words =
-    created_rule ∷ name_rule ∷ address_rule ∷ message_rule ∷ digest_rule words ∷ size_rule ∷ count_rule ∷ gather_rule
-    ∷ source_rule ∷ dest_rule ∷ []
+    created_rule ∷ name_rule ∷ address_rule ∷ message_rule ∷ digest_rule words.algorithms ∷ size_rule ∷ count_rule ∷ gather_rule
+    ∷ sync_rule ∷ rehearse_rule ∷ verbose_rule ∷ progress_rule words.times ∷ source_rule ∷ dest_rule ∷ []
 
 -- `migrate [OPTIONS] SOURCE DEST`
-abbrev pub migrate_app : Bor (List (Bor Text)) → App
+abbrev pub migrate_app : Spelled → App
 migrate_app words = on_top (λ s. record s { rules = migrate_rules words }) (new_app (codes "migrate"))
 
 abbrev pub IsMigrateApp : App → Type 0
-IsMigrateApp app = (words : Bor (List (Bor Text))) × SpellsAlgorithms words × (app ≡ migrate_app words)
+IsMigrateApp app = (words : Spelled) × (app ≡ migrate_app words)
 
--- `pairtree2ocfl` with a command behind it, whose parser reads the words of the algorithms from here
-abbrev pub program : Bor (List (Bor Text)) → App
-program words =
-    with_subcommand (with_subcommand (on_top (λ s. record s { subcommand_required = true }) (new_app (codes "pairtree2ocfl"))) names_app.top)
-    (migrate_app words).top
+-- `pairtree2ocfl` with a command behind it, or `--version`
+abbrev pub top_app : App
+top_app = on_top (λ s. record s { has_version = true; subcommand_required = true }) (new_app (codes "pairtree2ocfl"))
+
+-- the program, whose parser reads values from these words
+abbrev pub program : Spelled → App
+program words = with_subcommand (with_subcommand top_app names_app.top) (migrate_app words).top
 
 abbrev pub IsProgram : App → Type 0
-IsProgram app = (words : Bor (List (Bor Text))) × SpellsAlgorithms words × (app ≡ program words)
+IsProgram app = (words : Spelled) × (app ≡ program words)

@@ -1,6 +1,6 @@
--- What `migrate` was given.
-use Rattle.std.specs.Prelude.{ℕ, ◌^◌, ◌&&◌, nat_lt, Bool, false, List, Option, None, Some, if◌then◌else◌, codes, option_and_then}
-use Rattle.std.specs.Option.{option_map_or}
+-- What `migrate` and `names` were given.
+use Rattle.std.specs.Prelude.{ℕ, ◌^◌, ◌&&◌, nat_lt, Bool, false, List, [], Option, None, Some, if◌then◌else◌, codes, option_and_then}
+use Rattle.std.specs.Option.{option_map_or, unwrap_or}
 use Rattle.std.specs.Str.{bytes_eq}
 use Rattle.std.specs.Str.Parse.{digits_value, without_leading_plus}
 use Rattle.clap.specs.Words.{Row, Text, first_of, one_of}
@@ -8,6 +8,8 @@ use Rattle.clap.specs.ValueTests.{is_numeral}
 use Rattle.pt_object.specs.Algorithm.{algorithm_word}
 use Rattle.pt_object.specs.declared.algorithm.Algorithm.{Algorithm}
 use Rattle.pt_object.specs.declared.algorithm.Algorithm.TheVariants.{Sha512, Sha256}
+use Rattle.pt_run.specs.declared.watch.Progress.{Progress}
+use Rattle.pt_run.specs.declared.watch.Progress.TheVariants.{Auto, Always, Never}
 
 -- the values of the options, with their defaults, and the two paths
 pub record Options : Type 0 where
@@ -19,6 +21,10 @@ pub record Options : Type 0 where
   pub size : ℕ
   pub count : ℕ
   pub gather : Bool
+  pub sync : Bool
+  pub rehearse : Bool
+  pub verbose : Bool
+  pub progress : Progress
   pub source : Text
   pub dest : Text
 
@@ -27,6 +33,14 @@ abbrev pub algorithm_of : Text → Option Algorithm
 algorithm_of word =
     if bytes_eq word (algorithm_word Sha512) then Some Sha512
     else if bytes_eq word (algorithm_word Sha256) then Some Sha256
+    else None
+
+-- when a word says to show progress
+abbrev pub progress_of : Text → Option Progress
+progress_of word =
+    if bytes_eq word (codes "auto") then Some Auto
+    else if bytes_eq word (codes "always") then Some Always
+    else if bytes_eq word (codes "never") then Some Never
     else None
 
 -- the number of `u32` that a text writes
@@ -56,6 +70,7 @@ options_in rows = do
   algorithm ← first_of (codes "digest") rows >>= algorithm_of
   size ← number_in (codes "tuple-size") rows
   count ← number_in (codes "tuples") rows
+  progress ← first_of (codes "progress") rows >>= progress_of
   source ← first_of (codes "SOURCE") rows
   dest ← first_of (codes "DEST") rows
   Some (record {
@@ -67,6 +82,25 @@ options_in rows = do
     size = size;
     count = count;
     gather = is_set_in (codes "gather") rows;
+    sync = is_set_in (codes "sync") rows;
+    rehearse = is_set_in (codes "dry-run") rows;
+    verbose = is_set_in (codes "verbose") rows;
+    progress = progress;
     source = source;
     dest = dest;
   })
+
+-- what `names` was given
+pub record Request : Type 0 where
+  pub id : Text
+  pub prefix : Text
+  pub size : ℕ
+  pub count : ℕ
+
+-- the options of `names` in what its parser found
+abbrev pub asked_in : List Row → Option Request
+asked_in rows = do
+  id ← first_of (codes "ID") rows
+  size ← number_in (codes "tuple-size") rows
+  count ← number_in (codes "tuples") rows
+  Some (record { id = id; prefix = unwrap_or (first_of (codes "prefix") rows) []; size = size; count = count })

@@ -1,8 +1,7 @@
 -- The program's exit statuses: 0, 1, 2 and 3.
-use Rattle.std.specs.Prelude.{◌≡◌, ◌⊎◌, ◌↔◌, ◌+◌, ◌==◌, ℕ, List, [], if◌then◌else◌, Result, Ok, Err, IsErrOf}
+use Rattle.std.specs.Prelude.{◌≡◌, ◌⊎◌, ◌↔◌, ℕ, List, [], Result, Ok, Err, IsErrOf}
 use Rattle.clap.specs.Words.{Text}
-use Rattle.pt_move.specs.declared.fault.Fault.{Fault}
-use Rattle.pt_move.specs.declared.job.Report.{Report}
+use Rattle.pt_run.specs.Ends as run
 use Rattle.pt_cli.specs.Words.{ReadsWords}
 use Rattle.pt_cli.specs.declared.command.Command.{Command}
 use Rattle.pt_cli.specs.declared.command.Command.TheVariants.{Names, Migrate}
@@ -18,25 +17,17 @@ names_status (Err names.Empty) = 2
 names_status (Err names.Write) = 3
 names_status (Err names.Memory) = 3
 
--- of a run: 0 where its log has neither present nor skip lines, 1 where it has, 3 after a fault
-abbrev pub run_status : Result Report Fault → ℕ
-run_status (Ok report) = if report.present + report.skipped == 0 then 0 else 1
-run_status (Err fault) = 3
-
 -- what writing the names of an identifier came to, and its status
 abbrev pub NamesEnd : Text → ℕ → Type 0
 NamesEnd id status = (result : Result (Unit {0}) NamesFault) × (IsErrOf result names.Empty ↔ (id ≡ [])) × (status ≡ names_status result)
 
--- what a run came to, and its status
-abbrev pub RunEnds : ℕ → Type 0
-RunEnds status = (result : Result Report Fault) × (status ≡ run_status result)
-
--- what the status may be where the words were answered so: 2 where they were refused, 3 for want of memory; help is
--- 0, or 3 where it can't be written; a command's is that of what came of it
+-- what the status may be where the words were answered so: 2 where they were refused, 3 for want of memory; help and the
+-- version are 0, or 3 where they can't be written; a command's is that of what came of it
 abbrev pub IsStatus : Result Command WordsFault → ℕ → Type 0
-IsStatus (Ok (Names id)) status = NamesEnd id status
-IsStatus (Ok (Migrate migration)) status = RunEnds status
+IsStatus (Ok (Names asked)) status = NamesEnd asked.id status
+IsStatus (Ok (Migrate migration)) status = run.Ends status
 IsStatus (Err (words.Help text)) status = (status ≡ 0) ⊎ (status ≡ 3)
+IsStatus (Err (words.Version text)) status = (status ≡ 0) ⊎ (status ≡ 3)
 IsStatus (Err (words.Words text)) status = status ≡ 2
 IsStatus (Err words.Created) status = status ≡ 2
 IsStatus (Err words.EmptyName) status = status ≡ 2

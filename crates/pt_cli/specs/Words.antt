@@ -1,8 +1,7 @@
 -- What the words of the command line ask for.
 use Rattle.std.specs.Prelude.{ℕ, ◌≡◌, ◌≢◌, ◌⊎◌, ⊤, List, [], ◌∷◌, Option, Some, None, Result, Ok, Err, if◌then◌else◌, codes, option_and_then, option_map}
-use Rattle.std.specs.Borrow.{Bor}
 use Rattle.std.specs.Str.{bytes_eq}
-use Rattle.clap.specs.Words.{Kinds, IsAmong, Row, Text, first_of, fault_of, subcommand_of}
+use Rattle.clap.specs.Words.{Kinds, IsAmong, Row, Text, fault_of, subcommand_of}
 use Rattle.clap.specs.declared.error.kind.ErrorKind.{ErrorKind}
 use Rattle.clap.specs.declared.error.kind.ErrorKind.TheVariants as kind
 use Rattle.pt_name.specs.Layout.{layout_of}
@@ -11,17 +10,22 @@ use Rattle.pt_name.specs.declared.layout.LayoutFault.{LayoutFault}
 use Rattle.pt_object.specs.Meta.{given_address, meta_refusal, parts_of}
 use Rattle.pt_object.specs.declared.meta.MetaFault.{MetaFault}
 use Rattle.pt_object.specs.declared.meta.MetaFault.TheVariants as meta_fault
-use Rattle.pt_cli.specs.Grammar.{SpellsAlgorithms, program}
-use Rattle.pt_cli.specs.Options.{Options, options_in}
+use Rattle.pt_cli.specs.Grammar.{Spelled, program}
+use Rattle.pt_cli.specs.Options.{Request, Options, asked_in, options_in}
 use Rattle.pt_cli.specs.declared.command.Command.{Command}
 use Rattle.pt_cli.specs.declared.command.Command.TheVariants.{Names, Migrate}
 use Rattle.pt_cli.specs.declared.words.WordsFault.{WordsFault}
 use Rattle.pt_cli.specs.declared.words.WordsFault.TheVariants as fault
 
--- what `names` of an identifier is answered
-abbrev pub names_answer : Text → Result Command WordsFault
-names_answer [] = Err fault.EmptyId
-names_answer (x ∷ xs) = Ok (Names (x ∷ xs))
+-- refused where the identifier is empty, and then by the layout
+abbrev pub named : Text → Text → Result Tuples LayoutFault → Result Command WordsFault
+named [] prefix layout = Err fault.EmptyId
+named (x ∷ xs) prefix (Err refusal) = Err fault.Tuples
+named (x ∷ xs) prefix (Ok layout) = Ok (Names (record { id = x ∷ xs; prefix = prefix; layout = layout }))
+
+-- what `names` with these options is answered
+abbrev pub names_answer : Request → Result Command WordsFault
+names_answer given = named given.id given.prefix (layout_of given.size given.count)
 
 -- what is said of words that describe no version
 abbrev pub words_of_meta : MetaFault → WordsFault
@@ -36,6 +40,10 @@ migration given layout = Migrate (record {
   algorithm = given.algorithm;
   layout = layout;
   gather = given.gather;
+  sync = given.sync;
+  rehearse = given.rehearse;
+  verbose = given.verbose;
+  progress = given.progress;
   source = given.source;
   dest = given.dest;
 })
@@ -53,7 +61,7 @@ migrate_answer given = described given (meta_refusal given.created given.name) (
 -- what a command and its arguments are answered; None where they ask for nothing that there is
 abbrev pub command_answer : Text × List Row → Option (Result Command WordsFault)
 command_answer found =
-    if bytes_eq found.0 (codes "names") then option_map names_answer (first_of (codes "ID") found.1)
+    if bytes_eq found.0 (codes "names") then option_map names_answer (asked_in found.1)
     else if bytes_eq found.0 (codes "migrate") then option_map migrate_answer (options_in found.1)
     else None
 
@@ -71,20 +79,25 @@ OrNone None None = ⊤
 OrNone (Some expected) (Some result) = OrMemory expected result
 OrNone _ _ = ⊥
 
--- one of the kinds isn't that help was asked for
+-- neither help nor the version was asked for
+abbrev pub IsRefusal : ErrorKind → Type 0
+IsRefusal k = (k ≢ kind.DisplayHelp) × (k ≢ kind.DisplayVersion)
+
+-- one of the kinds is that of a refusal
 abbrev pub HasRefusal : Kinds → Type 0
 HasRefusal [] = ⊥
-HasRefusal (k ∷ ks) = (k ≢ kind.DisplayHelp) ⊎ HasRefusal ks
+HasRefusal (k ∷ ks) = IsRefusal k ⊎ HasRefusal ks
 
 -- the parser accepts, and this is the answer to the command that it found
 abbrev pub Accepted : Kinds → Option (Text × List Row) → Result Command WordsFault → Type 0
 Accepted kinds found answer = (kinds ≡ []) × (answer_to found ≡ Some answer)
 
 -- What is answered where the parser gives these kinds of error (none, where it accepts) and finds this command:
--- help and refusals are the parser's, and what it accepts has its answer.
+-- help, the version and refusals are the parser's, and what it accepts has its answer.
 abbrev pub Answers : Kinds → Option (Text × List Row) → Result Command WordsFault → Type 0
 Answers kinds found (Ok command) = Accepted kinds found (Ok command)
 Answers kinds found (Err (fault.Help text)) = IsAmong kind.DisplayHelp kinds
+Answers kinds found (Err (fault.Version text)) = IsAmong kind.DisplayVersion kinds
 Answers kinds found (Err (fault.Words text)) = HasRefusal kinds
 Answers kinds found (Err fault.Created) = Accepted kinds found (Err fault.Created)
 Answers kinds found (Err fault.EmptyName) = Accepted kinds found (Err fault.EmptyName)
@@ -95,15 +108,15 @@ Answers kinds found (Err fault.Tuples) = Accepted kinds found (Err fault.Tuples)
 -- how an error of the parser is refused: as Memory at any time, since its text takes memory
 abbrev pub RefusedAs : ErrorKind → WordsFault → Type 0
 RefusedAs k (fault.Help text) = k ≡ kind.DisplayHelp
-RefusedAs k (fault.Words text) = (k ≢ kind.DisplayHelp) × (k ≢ kind.OutOfMemory)
+RefusedAs k (fault.Version text) = k ≡ kind.DisplayVersion
+RefusedAs k (fault.Words text) = IsRefusal k × (k ≢ kind.OutOfMemory)
 RefusedAs k fault.Memory = ⊤
 RefusedAs k _ = ⊥
 
 -- what these words, the program's name first, are answered
 abbrev pub ReadsWords : List Text → Result Command WordsFault → Type 0
 ReadsWords words result =
-    (algorithms : Bor (List (Bor Text))) × SpellsAlgorithms algorithms
-    × Answers (fault_of (program algorithms) words) (subcommand_of (program algorithms) words) result
+    (spelled : Spelled) × Answers (fault_of (program spelled) words) (subcommand_of (program spelled) words) result
 
 abbrev pub words_number : WordsFault → ℕ
 words_number (fault.Help text) = 1
@@ -113,3 +126,4 @@ words_number fault.EmptyName = 4
 words_number fault.EmptyId = 5
 words_number fault.Memory = 6
 words_number fault.Tuples = 7
+words_number (fault.Version text) = 8

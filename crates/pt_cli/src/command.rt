@@ -1,14 +1,26 @@
 use crate::Text;
 use pt_name::Layout;
 use pt_object::{Algorithm, Meta};
+use pt_run::Progress;
 
 /// What the words ask the program to do.
 #[derive(Debug, Drop)]
 pub enum Command {
-    /// Write the two names of this identifier, which isn't empty.
-    Names(Text),
+    /// Write the two names of an identifier.
+    Names(Named),
     /// Carry a Pairtree store into a storage root.
     Migrate(Migrate),
+}
+
+/// An identifier whose names are asked for.
+#[derive(Debug, Drop)]
+pub struct Named {
+    /// The identifier, which isn't empty.
+    pub id: Text,
+    /// What is put before it for its place.
+    pub prefix: Text,
+    /// How its place is cut.
+    pub layout: Layout,
 }
 
 /// A migration, as the words ask for it.
@@ -22,6 +34,14 @@ pub struct Migrate {
     pub layout: Layout,
     /// Whether files that lie directly at a site are carried too.
     pub gather: bool,
+    /// Whether files are put onto the disk before they are closed.
+    pub sync: bool,
+    /// Whether it is rehearsed only.
+    pub rehearse: bool,
+    /// Whether the reason of a fault is told.
+    pub verbose: bool,
+    /// When to show how far the run is.
+    pub progress: Progress,
     /// The folder that holds `pairtree_root`.
     pub source: Text,
     /// The folder in which `ocfl` is, or comes to be.

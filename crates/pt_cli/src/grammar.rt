@@ -1,8 +1,9 @@
 ghost use Rattle.std.specs.Prelude.{◌≡◌, ◌∷◌, [], false, IfOk};
-ghost use Rattle.clap.specs.Words.{app_of, rule_of, with_rule};
+ghost use Rattle.clap.specs.Words.{app_of, rule_of};
 ghost use Rattle.clap.specs.declared.builder.command.Command.TheViews.{out-Command};
-ghost use Rattle.pt_cli.specs.Grammar.{IsDigestRule, IsMigrateApp, IsProgram, address_rule, count_rule, created_rule};
-ghost use Rattle.pt_cli.specs.Grammar.{dest_rule, gather_rule, message_rule, name_rule, names_app, size_rule, source_rule};
+ghost use Rattle.pt_cli.specs.Grammar.{IsDigestRule, IsMigrateApp, IsProgram, IsProgressRule, address_rule, count_rule};
+ghost use Rattle.pt_cli.specs.Grammar.{created_rule, dest_rule, gather_rule, id_rule, message_rule, name_rule, names_app};
+ghost use Rattle.pt_cli.specs.Grammar.{prefix_rule, rehearse_rule, size_rule, source_rule, sync_rule, verbose_rule};
 
 use clap::{Arg, ArgAction, Command as Parser, value_parser};
 use std::alloc::{AllocError, Global};
@@ -29,11 +30,26 @@ pub(crate) const TUPLES: &str = "tuples";
 
 pub(crate) const GATHER: &str = "gather";
 
+pub(crate) const SYNC: &str = "sync";
+
+pub(crate) const REHEARSE: &str = "dry-run";
+
+pub(crate) const VERBOSE: &str = "verbose";
+
+pub(crate) const PROGRESS: &str = "progress";
+
+pub(crate) const PREFIX: &str = "prefix";
+
 pub(crate) const SOURCE: &str = "SOURCE";
 
 pub(crate) const DEST: &str = "DEST";
 
 static DIGESTS: [&str; 2] = ["sha512", "sha256"];
+
+static TIMES: [&str; 3] = ["auto", "always", "never"];
+
+// The program's version, and the line of the toolchain that proves it.
+const VERSION: &str = "0.1.0\nrattle-kit-13b logic dac8208d650f15bf";
 
 const LOG_AND_STATUS: &str =
     r#"The log goes to standard output: a line of JSON for each object, and for each place that isn't carried.
@@ -65,6 +81,7 @@ pub(crate) fn parser<'a>(alloc: Global) -> Result<Parser<'a>, AllocError>
     ensures { IfOk result (λ parser. IsProgram (app_of parser)) }
 {
     let top = Parser::new(alloc, "pairtree2ocfl")
+        .version(VERSION)
         .about("Carries a Pairtree 0.1 store into an OCFL 1.1 storage root")
         .subcommand_required(true);
     let with_names = top.subcommand(names_parser(alloc)?)?;
@@ -74,10 +91,11 @@ pub(crate) fn parser<'a>(alloc: Global) -> Result<Parser<'a>, AllocError>
 fn names_parser<'a>(alloc: Global) -> Result<Parser<'a>, AllocError>
     ensures { IfOk result (λ parser. (app_of parser ≡ names_app) × ((out-Command parser).has_globals ≡ false)) }
 {
-    let id = Arg::new(alloc, ID).required(true).help("The identifier");
-    Parser::new(alloc, NAMES)
-        .about("Prints the pairpath of an identifier and its place in the default layout")
-        .arg(id)
+    let parser = Parser::new(alloc, NAMES).about(
+        "Prints the pairpath of an identifier and its place in a layout",
+    );
+    let parser = parser.arg(prefix(alloc))?.arg(tuple_size(alloc))?;
+    parser.arg(tuples(alloc))?.arg(id(alloc))
 }
 
 fn migrate_parser<'a>(alloc: Global) -> Result<Parser<'a>, AllocError>
@@ -90,6 +108,8 @@ fn migrate_parser<'a>(alloc: Global) -> Result<Parser<'a>, AllocError>
     let parser = parser.arg(address(alloc))?.arg(message(alloc))?;
     let parser = parser.arg(digest(alloc))?.arg(tuple_size(alloc))?;
     let parser = parser.arg(tuples(alloc))?.arg(gather(alloc))?;
+    let parser = parser.arg(sync(alloc))?.arg(rehearse(alloc))?;
+    let parser = parser.arg(verbose(alloc))?.arg(progress(alloc))?;
     parser.arg(source(alloc))?.arg(dest(alloc))
 }
 
@@ -174,6 +194,60 @@ fn gather<'a>(alloc: Global) -> Arg<'a>
         .help(
             "Carry what lies directly in an identifier's folder too, as one object [default: skip it]",
         )
+}
+
+fn sync<'a>(alloc: Global) -> Arg<'a>
+    ensures { (rule_of result ≡ sync_rule) × (result.global ≡ false) }
+{
+    Arg::new(alloc, SYNC)
+        .long(SYNC)
+        .action(ArgAction::SetTrue)
+        .help("Have each file, each object's folder and the log put onto the disk")
+}
+
+fn rehearse<'a>(alloc: Global) -> Arg<'a>
+    ensures { (rule_of result ≡ rehearse_rule) × (result.global ≡ false) }
+{
+    Arg::new(alloc, REHEARSE)
+        .long(REHEARSE)
+        .short('n')
+        .action(ArgAction::SetTrue)
+        .help("Rehearse: read all, write the log, and make or change nothing in DEST")
+}
+
+fn verbose<'a>(alloc: Global) -> Arg<'a>
+    ensures { (rule_of result ≡ verbose_rule) × (result.global ≡ false) }
+{
+    Arg::new(alloc, VERBOSE)
+        .long(VERBOSE)
+        .short('v')
+        .action(ArgAction::SetTrue)
+        .help("Tell of a fault also the path and the reason, on one more line")
+}
+
+fn progress<'a>(alloc: Global) -> Arg<'a>
+    ensures { IsProgressRule (rule_of result) × (result.global ≡ false) }
+{
+    Arg::new(alloc, PROGRESS)
+        .long(PROGRESS)
+        .value_name("WHEN")
+        .value_parser(TIMES.as_slice())
+        .default_value("auto")
+        .help("When to show on standard error how far the run is")
+}
+
+fn prefix<'a>(alloc: Global) -> Arg<'a>
+    ensures { (rule_of result ≡ prefix_rule) × (result.global ≡ false) }
+{
+    Arg::new(alloc, PREFIX).long(PREFIX).value_name("TEXT").help(
+        "The prefix of the store, put before the identifier for its place",
+    )
+}
+
+fn id<'a>(alloc: Global) -> Arg<'a>
+    ensures { (rule_of result ≡ id_rule) × (result.global ≡ false) }
+{
+    Arg::new(alloc, ID).required(true).help("The identifier")
 }
 
 fn source<'a>(alloc: Global) -> Arg<'a>

@@ -10,7 +10,7 @@ mod program;
 mod text;
 mod words;
 
-pub use command::{Command, Migrate};
+pub use command::{Command, Migrate, Named};
 pub use names::{NamesFault, names_to};
 pub use program::run;
 pub use text::Text;

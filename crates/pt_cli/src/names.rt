@@ -1,4 +1,4 @@
-ghost use Rattle.std.specs.Prelude.{◌≡◌, ◌↔◌, [], IfOk, IfErr, OnOk, length, ◌<◌, IsErrOf};
+ghost use Rattle.std.specs.Prelude.{◌≡◌, ◌↔◌, ◌++◌, [], IfOk, IfErr, OnOk, length, ◌<◌, IsErrOf};
 ghost use Rattle.std.specs.Io.KnownBytes.{Appends};
 ghost use Rattle.pt_cli.specs.Names.{names_text, names_number, LeavesWritten};
 
@@ -47,32 +47,54 @@ impl From<MemoryFault> for NamesFault {
     }
 }
 
-/// Writes the pairpath of an identifier by Pairtree 0.1, LF, its place in the default layout of extension
-/// 0003-hash-and-id-n-tuple-storage-layout, LF; then flushes.
+/// Writes the pairpath of an identifier by Pairtree 0.1, LF, the place of a prefix with the identifier behind in a layout of
+/// extension 0003-hash-and-id-n-tuple-storage-layout, LF; then flushes.
 ///
 /// `Empty` for the empty identifier, which is tested first. `Memory` where a growth was refused, before anything is
 /// written. `Write` where the output answers an error, or takes nothing of a piece that isn't empty: a front of the
 /// two lines was written then. After the other refusals nothing was.
-pub fn names_to<W: Write>(alloc: Global, id: &str, out: &mut W) -> Result<(), NamesFault>
+pub fn names_to<W: Write>(
+    alloc: Global,
+    layout: &Layout,
+    prefix: &str,
+    id: &str,
+    out: &mut W,
+) -> Result<(), NamesFault>
     ensures empty { IsErrOf result NamesFault.Empty ↔ (id.now ≡ []) }
-    ensures ok { OnOk result (Appends (W.contents out.old) (W.contents out.new) (names_text id.now)) }
-    ensures err { IfErr result (λ fault. LeavesWritten fault (W.contents out.old) (W.contents out.new) (names_text id.now)) }
+    ensures ok { OnOk result (Appends (W.contents out.old) (W.contents out.new) (names_text layout.now prefix.now id.now)) }
+    ensures err { IfErr result (λ fault. LeavesWritten fault (W.contents out.old) (W.contents out.new) (names_text layout.now prefix.now id.now)) }
 {
     if id.is_empty() {
         return Err(NamesFault::Empty);
     }
-    let text = two_lines(alloc, id.as_bytes())?;
+    let text = two_lines(alloc, layout, prefix.as_bytes(), id.as_bytes())?;
     put(out, &text)
 }
 
 // The two lines of an identifier that isn't empty.
-fn two_lines(alloc: Global, id: &[u8]) -> Result<Vec<u8>, MemoryFault>
+fn two_lines(
+    alloc: Global,
+    layout: &Layout,
+    prefix: &[u8],
+    id: &[u8],
+) -> Result<Vec<u8>, MemoryFault>
     requires { 0 < length id.now }
-    ensures { IfOk result (λ text. text.items ≡ names_text id.now) }
+    ensures { IfOk result (λ text. text.items ≡ names_text layout.now prefix.now id.now) }
 {
+    let whole = behind(alloc, prefix, id)?;
     let mut text = pairpath(alloc, id)?;
     text.push(b'\n')?;
-    text.extend_from_slice(&Layout::default_form().place_text(alloc, id)?)?;
+    text.extend_from_slice(&layout.place_text(alloc, &whole)?)?;
     text.push(b'\n')?;
     Ok(text)
+}
+
+// A prefix with an identifier behind.
+fn behind(alloc: Global, prefix: &[u8], id: &[u8]) -> Result<Vec<u8>, MemoryFault>
+    ensures { IfOk result (λ whole. whole.items ≡ prefix.now ++ id.now) }
+{
+    let mut whole = Vec::new(alloc);
+    whole.extend_from_slice(prefix)?;
+    whole.extend_from_slice(id)?;
+    Ok(whole)
 }

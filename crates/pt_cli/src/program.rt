@@ -1,12 +1,14 @@
-ghost use Rattle.std.specs.Prelude.{◌≡◌, map, string_bytes};
+ghost use Rattle.std.specs.Prelude.{◌≡◌, ◌⊎◌, map, string_bytes};
 ghost use Rattle.std.specs.Process.{exit_status};
 ghost use Rattle.pt_cli.specs.Statuses.{Ends, EndsWith, NamesEnd};
 
 use crate::migration::migrate;
-use crate::{Command, NamesFault, WordsFault, names_to, read_words};
+use crate::{Command, Named, NamesFault, Text, WordsFault, names_to, read_words};
+use pt_guard::Lockable;
+use pt_run::Terminals;
 use std::env::Env;
 use std::process::ExitCode;
-use std::rt::Files;
+use std::rt::{Clock, Files};
 use std::{env, io};
 
 const DONE: u8 = 0;
@@ -16,9 +18,13 @@ const REFUSED: u8 = 2;
 const FAILED: u8 = 3;
 
 /// Runs the program on the words that it was started with, and gives its exit status: 0 the names were written, all was
-/// carried, or help was asked for; 1 a run ended whose log has present or skip lines; 2 the words were refused; 3 a fault
-/// of the run, an output that failed, or want of memory.
-pub fn run<R: Files + Print + Eprint + Env + AllocGlobal>(rt: &R) -> ExitCode
+/// carried, or help or the version was asked for; 1 a run ended whose log has present or skip lines; 2 the words were
+/// refused, or the folders lie in one another; 3 a fault of the run, a destination that another run has, an output that
+/// failed, or want of memory.
+pub fn run<R>(rt: &R) -> ExitCode
+where
+    R: Files + Clock + Print + Eprint + Env + AllocGlobal + Terminals,
+    R::File: Lockable,
     ensures { Ends (exit_status result) }
 {
     let status = match words(rt) {
@@ -34,16 +40,17 @@ fn words<R: Env + AllocGlobal>(rt: &R) -> io::Result<Vec<String>> {
 }
 
 // Does what the words ask for, and says how it went.
-fn answer<R: Files + Print + Eprint + AllocGlobal>(rt: &R, words: &[String]) -> u8
+fn answer<R>(rt: &R, words: &[String]) -> u8
+where
+    R: Files + Clock + Print + Eprint + AllocGlobal + Terminals,
+    R::File: Lockable,
     ensures { EndsWith (map string_bytes words.now) result }
 {
     match read_words(rt.alloc(), words) {
-        Ok(Command::Names(id)) => names(rt, id.as_str()),
+        Ok(Command::Names(asked)) => names(rt, &asked),
         Ok(Command::Migrate(words)) => migrate(rt, words),
-        Err(WordsFault::Help(text)) => match print!(rt; "{text}") {
-            Ok(()) => DONE,
-            Err(_) => failed(rt, NamesFault::Write),
-        },
+        Err(WordsFault::Help(text)) => tell(rt, &text),
+        Err(WordsFault::Version(text)) => tell(rt, &text),
         Err(WordsFault::Words(text)) => {
             let _ = eprint!(rt; "{text}");
             REFUSED
@@ -56,10 +63,21 @@ fn answer<R: Files + Print + Eprint + AllocGlobal>(rt: &R, words: &[String]) -> 
     }
 }
 
-fn names<R: Print + Eprint + AllocGlobal>(rt: &R, id: &str) -> u8
-    ensures { NamesEnd id.now result }
+// Writes a text that was asked for.
+fn tell<R: Print + Eprint>(rt: &R, text: &Text) -> u8
+    ensures { (result ≡ 0) ⊎ (result ≡ 3) }
 {
-    match names_to(rt.alloc(), id, &mut io::writer(rt)) {
+    match print!(rt; "{text}") {
+        Ok(()) => DONE,
+        Err(_) => failed(rt, NamesFault::Write),
+    }
+}
+
+fn names<R: Print + Eprint + AllocGlobal>(rt: &R, asked: &Named) -> u8
+    ensures { NamesEnd asked.now.id result }
+{
+    let (prefix, id) = (asked.prefix.as_str(), asked.id.as_str());
+    match names_to(rt.alloc(), &asked.layout, prefix, id, &mut io::writer(rt)) {
         Ok(()) => DONE,
         Err(NamesFault::Empty) => refused(rt, "the identifier is empty"),
         Err(fault) => failed(rt, fault),

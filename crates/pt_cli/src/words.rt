@@ -1,19 +1,20 @@
 ghost use Rattle.std.specs.Prelude.{◌≡◌, [], is_some, map, true};
 ghost use Rattle.std.specs.Option.{option_map};
 ghost use Rattle.clap.specs.Words.{first_of, found_of, kind_of, rows_of, subcommand_rows_of};
-ghost use Rattle.pt_cli.specs.Options.{algorithm_of, number_in, options_in};
+ghost use Rattle.pt_cli.specs.Options.{algorithm_of, asked_in, is_set_in, number_in, options_in, progress_of};
 ghost use Rattle.pt_cli.specs.Words.{Answers, OrMemory, OrNone, ReadsWords, RefusedAs, answer_to};
 ghost use Rattle.pt_cli.specs.Words.{migrate_answer, names_answer, words_number};
 
 use crate::grammar::{
-    ADDRESS, CREATED, DEST, DIGEST, GATHER, ID, MESSAGE, MIGRATE, NAME, NAMES, SOURCE, TUPLE_SIZE,
-    TUPLES, parser,
+    ADDRESS, CREATED, DEST, DIGEST, GATHER, ID, MESSAGE, MIGRATE, NAME, NAMES, PREFIX, PROGRESS,
+    REHEARSE, SOURCE, SYNC, TUPLE_SIZE, TUPLES, VERBOSE, parser,
 };
-use crate::{Command, Migrate, Text};
+use crate::{Command, Migrate, Named, Text};
 use clap::error::ErrorKind;
 use clap::{ArgMatches, Error};
 use pt_name::{Layout, LayoutFault};
 use pt_object::{Algorithm, Meta, MetaFault};
+use pt_run::Progress;
 use pt_tree::MemoryFault;
 use std::alloc::{AllocError, Global};
 use std::convert::AsStr;
@@ -25,6 +26,9 @@ pub enum WordsFault {
     /// Help was asked for; this is its text, for standard output.
     #[error("{0}")]
     Help(Text),
+    /// The version was asked for; this is its text, for standard output.
+    #[error("{0}")]
+    Version(Text),
     /// The parser refuses the words; this is its text, for standard error.
     #[error("{0}")]
     Words(Text),
@@ -46,7 +50,8 @@ pub enum WordsFault {
 }
 
 impl WordsFault {
-    /// The fault's number: 1 `Help`, 2 `Words`, 3 `Created`, 4 `EmptyName`, 5 `EmptyId`, 6 `Memory`, 7 `Tuples`.
+    /// The fault's number: 1 `Help`, 2 `Words`, 3 `Created`, 4 `EmptyName`, 5 `EmptyId`, 6 `Memory`, 7 `Tuples`,
+    /// 8 `Version`.
     pub fn number(&self) -> u8
         ensures { result ≡ words_number self.now }
     {
@@ -58,6 +63,7 @@ impl WordsFault {
             WordsFault::EmptyId => 5,
             WordsFault::Memory => 6,
             WordsFault::Tuples => 7,
+            WordsFault::Version(_) => 8,
         }
     }
 }
@@ -121,6 +127,10 @@ struct Given<'a> {
     size: u32,
     count: u32,
     gather: bool,
+    sync: bool,
+    rehearse: bool,
+    verbose: bool,
+    progress: Progress,
     source: &'a str,
     dest: &'a str,
 }
@@ -140,15 +150,36 @@ impl<'a> Model for Given<'a> {
       size = g.size;
       count = g.count;
       gather = g.gather;
+      sync = g.sync;
+      rehearse = g.rehearse;
+      verbose = g.verbose;
+      progress = g.progress;
       source = g.source.now;
       dest = g.dest.now;
     } };
 }
 
+// What `names` was given, as its parser reads it.
+#[derive(Drop)]
+struct Request<'a> {
+    id: &'a str,
+    prefix: &'a str,
+    size: u32,
+    count: u32,
+}
+
+impl<'a> Model for Request<'a> {
+    ghost use Rattle.pt_cli.specs.Options.{Request};
+
+    ghost Value = { Request };
+
+    ghost view = { λ g. record { id = g.id.now; prefix = g.prefix.now; size = g.size; count = g.count } };
+}
+
 /// Reads the words of a command line, of which the first is the program's name.
 ///
-/// Refused as `Help` where the parser was asked for help, and as `Words` where it refuses the words otherwise. Then for
-/// `names` as `EmptyId`, where the identifier is empty. For `migrate`, in this order, as `Created`, where `--created`
+/// Refused as `Help` where the parser was asked for help, as `Version` where for the version, and as `Words` where it refuses
+/// the words otherwise. Then for `names` as `EmptyId`, where the identifier is empty, and as `Tuples`. For `migrate`, in this order, as `Created`, where `--created`
 /// isn't a moment of RFC 3339 to the second; as `EmptyName`, where `--name` is empty; as `Tuples`, where `--tuple-size`
 /// and `--tuples` aren't a layout of extension 0003-hash-and-id-n-tuple-storage-layout. As `Memory` where a growth was
 /// refused.
@@ -177,7 +208,7 @@ fn answer(alloc: Global, matches: &ArgMatches<'_>) -> Option<Result<Command, Wor
     ensures { OrNone (answer_to (subcommand_rows_of matches.now)) result }
 {
     match entered(matches)? {
-        (NAMES, inner) => Some(names(alloc, text(inner, ID)?)),
+        (NAMES, inner) => Some(names(alloc, &asked(inner)?)),
         (MIGRATE, inner) => Some(migrate(alloc, &options(inner)?)),
         _ => None,
     }
@@ -190,13 +221,18 @@ fn entered<'m, 'a>(matches: &'m ArgMatches<'a>) -> Option<(&'a str, &'m ArgMatch
     matches.subcommand()
 }
 
-fn names(alloc: Global, id: &str) -> Result<Command, WordsFault>
-    ensures { OrMemory (names_answer id.now) result }
+fn names(alloc: Global, given: &Request<'_>) -> Result<Command, WordsFault>
+    ensures { OrMemory (names_answer given.now) result }
 {
-    if id.is_empty() {
+    if given.id.is_empty() {
         return Err(WordsFault::EmptyId);
     }
-    Ok(Command::Names(Text::of(alloc, id)?))
+    let layout = Layout::of(given.size, given.count)?;
+    Ok(Command::Names(Named {
+        id: Text::of(alloc, given.id)?,
+        prefix: Text::of(alloc, given.prefix)?,
+        layout,
+    }))
 }
 
 fn migrate(alloc: Global, given: &Given<'_>) -> Result<Command, WordsFault>
@@ -215,6 +251,10 @@ fn migrate(alloc: Global, given: &Given<'_>) -> Result<Command, WordsFault>
         algorithm: given.algorithm,
         layout,
         gather: given.gather,
+        sync: given.sync,
+        rehearse: given.rehearse,
+        verbose: given.verbose,
+        progress: given.progress,
         source: Text::of(alloc, given.source)?,
         dest: Text::of(alloc, given.dest)?,
     }))
@@ -232,10 +272,32 @@ fn options<'a>(matches: &ArgMatches<'a>) -> Option<Given<'a>>
         algorithm: algorithm(text(matches, DIGEST)?)?,
         size: number(matches, TUPLE_SIZE)?,
         count: number(matches, TUPLES)?,
-        gather: text(matches, GATHER) == Some("true"),
+        gather: is_set(matches, GATHER),
+        sync: is_set(matches, SYNC),
+        rehearse: is_set(matches, REHEARSE),
+        verbose: is_set(matches, VERBOSE),
+        progress: progress(text(matches, PROGRESS)?)?,
         source: text(matches, SOURCE)?,
         dest: text(matches, DEST)?,
     })
+}
+
+// The options of `names` in its matches. The parser leaves none out that is wanted here.
+fn asked<'a>(matches: &ArgMatches<'a>) -> Option<Request<'a>>
+    ensures { result ≡ asked_in (rows_of (found_of matches.now)) }
+{
+    Some(Request {
+        id: text(matches, ID)?,
+        prefix: text(matches, PREFIX).unwrap_or(""),
+        size: number(matches, TUPLE_SIZE)?,
+        count: number(matches, TUPLES)?,
+    })
+}
+
+fn is_set(matches: &ArgMatches<'_>, id: &str) -> bool
+    ensures { result ≡ is_set_in id.now (rows_of (found_of matches.now)) }
+{
+    text(matches, id) == Some("true")
 }
 
 fn text<'a>(matches: &ArgMatches<'a>, id: &str) -> Option<&'a str>
@@ -260,6 +322,17 @@ fn algorithm(word: &str) -> Option<Algorithm>
     }
 }
 
+fn progress(word: &str) -> Option<Progress>
+    ensures { result ≡ progress_of word.now }
+{
+    match word {
+        "auto" => Some(Progress::Auto),
+        "always" => Some(Progress::Always),
+        "never" => Some(Progress::Never),
+        _ => None,
+    }
+}
+
 // The parser's error as a refusal of the words.
 fn refusal(alloc: Global, error: &Error) -> WordsFault
     ensures { RefusedAs (kind_of error.now) result }
@@ -267,6 +340,7 @@ fn refusal(alloc: Global, error: &Error) -> WordsFault
     match (error.kind(), Text::shown(alloc, error)) {
         (ErrorKind::OutOfMemory, _) | (_, Err(_)) => WordsFault::Memory,
         (ErrorKind::DisplayHelp, Ok(text)) => WordsFault::Help(text),
+        (ErrorKind::DisplayVersion, Ok(text)) => WordsFault::Version(text),
         (_, Ok(text)) => WordsFault::Words(text),
     }
 }

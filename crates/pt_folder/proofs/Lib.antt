@@ -1,5 +1,7 @@
 mod Blocks
+mod Kept
 mod Looking
+mod Moved
 mod Names
 mod Texts
 mod Turns

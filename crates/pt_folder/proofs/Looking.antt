@@ -2,7 +2,8 @@
 use Rattle.std.proofs.Common.{◌≡◌, ℕ, List, [], ◌∷◌, ◌++◌, map, refl, sym, ap, ◌∙◌, subst, inl, inr, false, ◌+◌, ◌<◌, length, take, drop, get_or}
 use Rattle.std.proofs.lemmas.List.{take-append-drop, drop_more}
 use Rattle.std.specs.List.{FoldsTo}
-use Rattle.std.specs.Prelude.{Result, Ok, Err}
+use Rattle.std.specs.Prelude.{Option, Some, None, IfSome, Result, Ok, Err}
+use Rattle.std.specs.Result.{IsErrAnd}
 use Rattle.std.specs.declared.fs.Metadata.{Metadata}
 use Rattle.std.specs.declared.io.Error.{Error}
 use Rattle.pt_tree.specs.declared.kind.Kind.{Kind}
@@ -10,6 +11,8 @@ use Rattle.pt_tree.specs.Listing.{Item, can_follow}
 use Rattle.pt_tree.specs.declared.faults.TreeFault.{TreeFault}
 use Rattle.pt_tree.specs.declared.faults.TreeFault.TheVariants.{Device, Memory}
 use Rattle.pt_folder.specs.Calls.{IsDueTo}
+use Rattle.pt_folder.specs.Failure.{FailsLook, IsOfCall, IsOfEntry, OnDevice}
+use Rattle.pt_folder.specs.declared.failure.Failure.{Failure}
 use Rattle.pt_folder.specs.Listing.{FailsToLook, LeadsToOwnKind, LooksAt}
 
 -- a look that gave a kind
@@ -17,6 +20,17 @@ pub looked_one : {S : Type 0} (looks : S → List ℕ → Result Metadata Error 
     → ((reply : Result Metadata Error) × looks old text reply new × LeadsToOwnKind reply (Ok kind)) → LooksAt looks front old (name, kind) new
 looked_one looks front old new name text kind is (Ok m, asked, leads) = (m, subst (λ t. looks old t (Ok m) new) is asked, leads)
 looked_one looks front old new name text kind is (Err e, asked, leads) = absurd leads
+
+-- a look that failed is kept as one at an entry
+pub kept_entry : {S T : Type 0} (looks : S → List ℕ → Result Metadata Error → S → Type 0) (front name text : List ℕ) (r : Result T TreeFault) (fault : TreeFault) (last : Option Failure)
+    → IsErrAnd r (λ y. y ≡ fault) → text ≡ front ++ name → OnDevice {T = Kind} (Err fault) (IfSome last (IsOfCall text (FailsLook looks text))) → OnDevice r (IfSome last (IsOfEntry looks front))
+kept_entry looks front name text (Ok x) fault last bad is kept = tt
+kept_entry looks front name text (Err Memory) fault last same is kept = tt
+kept_entry looks front name text (Err Device) fault last same is kept = go last (subst (λ f. OnDevice {T = Kind} (Err f) (IfSome last (IsOfCall text (FailsLook looks text)))) (sym same) kept)
+  where
+    go : (o : Option Failure) → IfSome o (IsOfCall text (FailsLook looks text)) → IfSome o (IsOfEntry looks front)
+    go None k = tt
+    go (Some f) k = inl (name, subst (λ t. IsOfCall t (FailsLook looks t) f) is k)
 
 -- the names of a listing with one more entry
 pub names_more : (listing new : List Item) (yielded : List (List ℕ)) (name : List ℕ) (kind : Kind) → map (λ (item : Item). item.0) listing ≡ yielded → new ≡ listing ++ (name, kind) ∷ []

@@ -1,5 +1,5 @@
 -- What folders ask of the system, and what becomes of the answers.
-use Rattle.std.specs.Prelude.{◌≡◌, ◌≢◌, ◌⊎◌, ⊤, ℕ, true, List, length, Option, None, Some, Result, Ok, Err}
+use Rattle.std.specs.Prelude.{◌≡◌, ◌≢◌, ◌⊎◌, ◌<◌, ◌≤◌, ⊤, ℕ, true, List, length, Option, None, Some, Result, Ok, Err}
 use Rattle.std.specs.Fs.{file_type, new_options, with_read, with_write, with_create_new}
 use Rattle.std.specs.IoError.{error_kind}
 use Rattle.std.specs.declared.fs.Metadata.{Metadata}
@@ -58,3 +58,30 @@ LeadsToKind (Ok metadata) (Err fault) = ⊥
 LeadsToKind (Err e) (Ok None) = IsAbsent (error_kind e)
 LeadsToKind (Err e) (Ok (Some kind)) = ⊥
 LeadsToKind (Err e) (Err fault) = (¬ (IsAbsent (error_kind e))) × (fault ≡ fault_of e)
+
+-- why an entry can't be made: the folder's path is empty, or the entry's is longer than any that may be made
+abbrev pub CannotMake : ℕ → List ℕ → Path → Type 0
+CannotMake longest folder p = (length folder ≡ 0) ⊎ (longest < length (entry_text folder p))
+
+-- why making an entry isn't asked for: it can't be made, or a growth was refused
+abbrev pub IsNotMade : {T : Type 0} → ℕ → List ℕ → Path → Result T TreeFault → Type 0
+IsNotMade longest folder p (Ok x) = ⊥
+IsNotMade longest folder p (Err Device) = CannotMake longest folder p
+IsNotMade longest folder p (Err Memory) = ⊤
+
+-- one call is made, for the path of an entry that isn't too long, and its reply leads to this result
+pub record IsAskedToMake {S A T : Type 0} (longest : ℕ) (call : S → List ℕ → A → S → Type 0) (leads : A → Result T TreeFault → Type 0) (folder : List ℕ) (p : Path) (old new : S) (result : Result T TreeFault) : Type 0 where
+  pub reply : A
+  pub filled : length folder ≢ 0
+  pub fits : length (entry_text folder p) ≤ longest
+  pub made : call old (entry_text folder p) reply new
+  pub gives : leads reply result
+
+-- nothing is asked of the system, and the entry can't be made; or the one call is made
+abbrev pub MakesOnce : {S A T : Type 0} → ℕ → (S → List ℕ → A → S → Type 0) → (A → Result T TreeFault → Type 0) → List ℕ → Path → S → S → Result T TreeFault → Type 0
+MakesOnce longest call leads folder p old new result = ((new ≡ old) × IsNotMade longest folder p result) ⊎ IsAskedToMake longest call leads folder p old new result
+
+-- something is at a path, by the system's reply, or that failed
+abbrev pub IsThere : Result Metadata Error → Result (Unit {0}) TreeFault → Type 0
+IsThere (Ok metadata) result = result ≡ Ok tt
+IsThere (Err e) result = result ≡ Err (fault_of e)

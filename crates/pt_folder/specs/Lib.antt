@@ -1,9 +1,13 @@
 pub mod Bytes
 pub mod Calls
 pub mod Devices
+pub mod Failure
 pub mod Folder
 pub mod Listing
+pub mod Moving
 pub mod Names
 pub mod Reading
+pub mod Rehearsal
 pub mod Runs
+pub mod Settings
 pub mod Writing

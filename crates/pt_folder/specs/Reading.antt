@@ -6,6 +6,9 @@ use Rattle.pt_tree.specs.declared.faults.TreeFault.TheVariants.{Device}
 use Rattle.pt_folder.specs.declared.reading.Reading.{Reading}
 use Rattle.pt_folder.specs.Bytes.{TakesBlock}
 use Rattle.pt_folder.specs.Calls.{fault_of}
+use Rattle.pt_folder.specs.Failure.{IsAt, IsOfCall}
+use Rattle.pt_folder.specs.declared.failure.Failure.{Failure}
+use Rattle.pt_folder.specs.declared.failure.Cause.TheVariants as cause
 use Rattle.pt_folder.specs.Runs.{FailsToRead, GoesTo, ReadsBlock}
 
 -- a file is open, and is read from its start
@@ -50,3 +53,8 @@ GoesBack {F} goes before place (Some new) = GoesTo goes before place new.file tr
 abbrev pub FailsBack : {F : Type 0} → (F → List ℕ → Result ℕ Error → F → Type 0) → (F → ℕ → Result ℕ Error → F → Type 0) → Option (Reading F) → Option (Reading F) → TreeFault → Type 0
 FailsBack reads goes None new fault = (fault ≡ Device) × (new ≡ None)
 FailsBack {F} reads goes (Some old) new fault = (e : Error) × (before : F) × FailsToReadOn reads old e before × (fault ≡ fault_of e) × GoesBack goes before old.place new
+
+-- a failed `next`, at the open file's path: no file is open, or one of its reads answered so
+abbrev pub IsOfReading : {F : Type 0} → (F → List ℕ → Result ℕ Error → F → Type 0) → List ℕ → Option (Reading F) → Failure → Type 0
+IsOfReading reads path None f = IsAt path cause.Closed f
+IsOfReading {F} reads path (Some old) f = IsOfCall path (λ e. (after : F) × FailsToReadOn reads old e after) f

@@ -1,5 +1,5 @@
 -- The open file of a folder that is written.
-use Rattle.std.specs.Prelude.{◌≡◌, ℕ, cond, is_some, List, Option, Some, None, Result, Ok, Err, MatchResult}
+use Rattle.std.specs.Prelude.{◌≡◌, ℕ, Bool, true, false, cond, is_some, List, [], Option, Some, None, Result, Ok, Err, MatchResult}
 use Rattle.std.specs.Io.KnownBytes.{Appends}
 use Rattle.std.specs.declared.io.Error.{Error}
 use Rattle.pt_tree.specs.Log.{AppendsFront}
@@ -7,7 +7,11 @@ use Rattle.pt_tree.specs.Path.{Path, rest_below}
 use Rattle.pt_tree.specs.declared.faults.TreeFault.{TreeFault}
 use Rattle.pt_tree.specs.declared.faults.TreeFault.TheVariants.{Device}
 use Rattle.pt_folder.specs.declared.dest.Writing.{Writing}
-use Rattle.pt_folder.specs.Calls.{fault_of}
+use Rattle.pt_folder.specs.Calls.{IsAnswer, fault_of}
+use Rattle.pt_folder.specs.Failure.{IsAt, IsOfCall}
+use Rattle.pt_folder.specs.Folder.{entry_text}
+use Rattle.pt_folder.specs.declared.failure.Failure.{Failure}
+use Rattle.pt_folder.specs.declared.failure.Cause.TheVariants as cause
 use Rattle.pt_folder.specs.Runs.{FailsToWrite, WritesAll}
 
 -- the file at this path is the open one
@@ -37,3 +41,13 @@ abbrev pub WritesTo : {F : Type 0} → (F → List ℕ → Result ℕ Error → 
 WritesTo writes None new piece result = (result ≡ Err Device) × (new ≡ None)
 WritesTo writes (Some old) None piece result = ⊥
 WritesTo writes (Some old) (Some new) piece result = MatchResult result (λ _. WritesAll writes piece old.file new.file) (λ fault. (e : Error) × FailsToWrite writes piece old.file e new.file × (fault ≡ fault_of e))
+
+-- how the open file is closed: at once, or put onto the disk before, and so it was answered
+abbrev pub FinishesBy : {F : Type 0} → (F → Result (Unit {0}) Error → F → Type 0) → Bool → F → Result (Unit {0}) TreeFault → Type 0
+FinishesBy syncs false file result = result ≡ Ok tt
+FinishesBy {F} syncs true file result = (answer : Result (Unit {0}) Error) × (after : F) × syncs file answer after × IsAnswer answer result
+
+-- a failure of a call on the open file, at its path; or no file is open
+abbrev pub IsOfWriting : {F : Type 0} → List ℕ → (F → Error → Type 0) → Option (Writing F) → Failure → Type 0
+IsOfWriting folder P None f = IsAt [] cause.Closed f
+IsOfWriting folder P (Some w) f = IsOfCall (entry_text folder w.path) (P w.file) f

@@ -3,12 +3,16 @@
 
 mod bytes;
 mod dest;
+mod failure;
 mod folder;
 mod listing;
 mod reading;
+mod rehearsal;
 mod source;
 mod system;
 
 pub use dest::HostDest;
+pub use failure::{Cause, Failure};
+pub use rehearsal::Rehearsal;
 pub use source::HostSource;
 pub use system::{Handle, Input, System};

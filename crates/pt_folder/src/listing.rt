@@ -1,13 +1,15 @@
 //! Listing a directory of a folder.
 ghost use Rattle.std.specs.Prelude.{◌≡◌, ◌==◌, ◌≤◌, ◌++◌, ◌∷◌, [], false, if◌then◌else◌, map, position, IfErr, IfOk, IfSome, OnOk, Err, MatchResult, length, string_bytes, vec_len};
 ghost use Rattle.std.specs.List.{FoldsTo};
+ghost use Rattle.pt_folder.specs.Failure.{FailsLook, IsAt, IsOfCall, IsOfEntry, IsOfName, IsOfNames, KeepsListing, OnDevice};
 ghost use Rattle.pt_folder.specs.Folder.{entry_text};
 ghost use Rattle.pt_tree.specs.Listing.{can_follow};
 ghost use Rattle.pt_folder.specs.Calls.{IsDueTo, fault_of as fault_for};
 ghost use Rattle.pt_folder.specs.Listing.{FailsToGet, FailsToList, FailsToLook, GetsNames, IsListedBy, LeadsToOwnKind, LooksAt, dir_front, most_entries};
 ghost use Rattle.pt_folder.specs.Names.{AddsNames, GivesNames, IsRefusedName, RefusesBytes, is_entry};
 
-use crate::folder::{Folder, fault_of, kind_of, name_text};
+use crate::failure::{Cause, Failure, heard, keep};
+use crate::folder::{Folder, kind_of, name_text};
 use crate::system::{Input, System};
 use pt_tree::{Kind, Listing, ListingFault, Name, NameFault, NamePath, TreeFault};
 use std::alloc::Global;
@@ -28,29 +30,38 @@ pub fn list<S: System>(
     system: &mut S,
     folder: &Folder<'_>,
     path: &NamePath,
+    last: &mut Option<Failure>,
 ) -> Result<Listing, TreeFault>
     ensures most { IfOk result (λ listing. length listing ≤ most_entries) }
     ensures listed { IfOk result (λ listing. IsListedBy S.opens_dir S.looks S.Dir.Input.reads S.Dir.Input.remaining (entry_text folder.now.path.now path.now) (dir_front folder.now.path.now path.now) system.old system.new listing) }
     ensures fault { IfErr result (λ fault. IsDueTo fault (FailsToList S.opens_dir S.looks S.Dir.Input.reads folder.now.path.now path.now system.old system.new)) }
+    ensures kept { OnDevice result (KeepsListing S.looks folder.now.path.now path.now last.new) }
 {
-    let mut text = folder.text(path)?;
-    let mut names = names_in(system, folder.alloc, text.as_str())?;
+    let mut text = folder.text(path, last)?;
+    let mut names = names_in(system, folder.alloc, text.as_str(), last)?;
     names.sort_unstable();
     if !path.is_empty() {
         text.push('/')?;
     }
-    with_kinds(system, folder.alloc, text, names)
+    with_kinds(system, folder.alloc, text, names, last)
 }
 
-fn names_in<S: System>(system: &mut S, alloc: Global, text: &str) -> Result<Vec<Name>, TreeFault>
+#[tactic(auto, using(crate::proofs::Kept::kept_names))]
+fn names_in<S: System>(
+    system: &mut S,
+    alloc: Global,
+    text: &str,
+    last: &mut Option<Failure>,
+) -> Result<Vec<Name>, TreeFault>
     ensures most { IfOk result (λ names. vec_len names ≤ most_entries) }
     ensures asked { (reply : _) × S.opens_dir system.old text.now reply system.new
         × MatchResult reply (λ dir. (after : _) × MatchResult result (λ names. GetsNames S.Dir.Input.reads dir names.items after × IfSome (S.Dir.Input.remaining dir) (λ bytes. GivesNames bytes names.items))
         (λ fault. IsDueTo fault (FailsToGet S.Dir.Input.reads most_entries dir after))) (λ e. result ≡ Err (fault_for e)) }
+    ensures kept { OnDevice result (IfSome last.new (IsOfNames text.now)) }
 {
     match system.open_names(text) {
-        Ok(mut dir) => read_names(alloc, &mut dir, most()),
-        Err(error) => Err(fault_of(error)),
+        Ok(mut dir) => read_names(alloc, &mut dir, most(), text, last),
+        Err(error) => Err(heard(last, alloc, text, error)),
     }
 }
 
@@ -62,44 +73,59 @@ fn most() -> usize
 }
 
 /// All names that a directory gives, in its order, but for `.` and `..`; `Device` where there are more than `most`.
-pub fn read_names<D: Input>(alloc: Global, dir: &mut D, most: usize) -> Result<Vec<Name>, TreeFault>
+/// What fails is kept at the directory's path.
+#[tactic(auto, using(crate::proofs::Kept::kept_names))]
+pub fn read_names<D: Input>(
+    alloc: Global,
+    dir: &mut D,
+    most: usize,
+    text: &str,
+    last: &mut Option<Failure>,
+) -> Result<Vec<Name>, TreeFault>
     ensures most { IfOk result (λ names. vec_len names ≤ most) }
     ensures read { IfOk result (λ names. GetsNames D.reads dir.old names.items dir.new) }
     ensures fault { IfErr result (λ fault. IsDueTo fault (FailsToGet D.reads most dir.old dir.new)) }
     ensures names { IfOk result (λ names. IfSome (D.remaining dir.old) (λ bytes. GivesNames bytes names.items)) }
+    ensures kept { OnDevice result (IfSome last.new (IsOfNames text.now)) }
 {
     let mut names = Vec::new(alloc);
     let mut piece = [0u8; PIECE];
     for _ in 0..u64::MAX {
         match dir.read_piece(&mut piece) {
             Ok(0) => return Ok(names),
-            Ok(count) => add_names(alloc, &mut names, &piece[..count], most)?,
-            Err(error) => return Err(fault_of(error)),
+            Ok(count) => add_names(alloc, &mut names, &piece[..count], most, text, last)?,
+            Err(error) => return Err(heard(last, alloc, text, error)),
         }
     }
+    keep(last, alloc, text, Cause::Endless);
     Err(TreeFault::Device)
 }
 
 // Adds the names of a piece of a directory, each ended by a NUL.
+#[tactic(auto, using(crate::proofs::Kept::kept_names))]
 fn add_names(
     alloc: Global,
     names: &mut Vec<Name>,
     piece: &[u8],
     most: usize,
+    text: &str,
+    last: &mut Option<Failure>,
 ) -> Result<(), TreeFault>
     requires { vec_len names.old ≤ most }
     ensures most { vec_len names.new ≤ most }
     ensures names { OnOk result (AddsNames piece.now names.old.items names.new.items) }
     ensures fault { IfErr result (λ fault. IsDueTo fault (RefusesBytes most names.old.items piece.now)) }
+    ensures kept { OnDevice result (IfSome last.new (IsOfNames text.now)) }
 {
     let mut rest = piece;
     while let Some(end) = nul_at(rest) {
-        add_name(alloc, names, &rest[..end], most)?;
+        add_name(alloc, names, &rest[..end], most, text, last)?;
         rest = &rest[end + 1..];
     }
     if rest.is_empty() {
         Ok(())
     } else {
+        keep(last, alloc, text, Cause::Endless);
         Err(TreeFault::Device)
     }
 }
@@ -112,27 +138,36 @@ fn nul_at(bytes: &[u8]) -> Option<usize>
 }
 
 // Adds a name, unless it is `.` or `..`.
+#[tactic(auto, using(crate::proofs::Kept::kept_names, crate::proofs::Kept::kept_name))]
 fn add_name(
     alloc: Global,
     names: &mut Vec<Name>,
     bytes: &[u8],
     most: usize,
+    text: &str,
+    last: &mut Option<Failure>,
 ) -> Result<(), TreeFault>
     requires { vec_len names.old ≤ most }
     ensures most { vec_len names.new ≤ most }
     ensures added { OnOk result (names.new.items ≡ (if is_entry bytes.now then names.old.items ++ bytes.now ∷ [] else names.old.items)) }
     ensures fault { IfErr result (λ fault. IsDueTo fault (IsRefusedName most names.old.items bytes.now)) }
+    ensures cause { OnDevice result (IfSome last.new (λ f. IsOfName most names.old.items bytes.now f.cause)) }
+    ensures kept { OnDevice result (IfSome last.new (IsOfNames text.now)) }
 {
     if bytes == b".".as_slice() || bytes == b"..".as_slice() {
         return Ok(());
     }
     if names.len() >= most {
+        keep(last, alloc, text, Cause::Entries);
         return Err(TreeFault::Device);
     }
     match Name::of(alloc, bytes) {
         Ok(name) => names.push(name).map_err(|_| TreeFault::Memory),
         Err(NameFault::Memory) => Err(TreeFault::Memory),
-        Err(_) => Err(TreeFault::Device),
+        Err(_) => {
+            keep(last, alloc, text, Cause::Name);
+            Err(TreeFault::Device)
+        }
     }
 }
 
@@ -142,10 +177,12 @@ fn with_kinds<S: System>(
     alloc: Global,
     text: String,
     names: Vec<Name>,
+    last: &mut Option<Failure>,
 ) -> Result<Listing, TreeFault>
     ensures names { IfOk result (λ listing. map (λ item. item.0) listing ≡ names.items) }
     ensures looked { IfOk result (λ listing. FoldsTo (LooksAt S.looks (string_bytes text)) system.old listing system.new) }
     ensures fault { IfErr result (λ fault. IsDueTo fault (FailsToLook S.looks (string_bytes text) names.items system.old system.new)) }
+    ensures kept { OnDevice result (IfSome last.new (IsOfEntry S.looks (string_bytes text))) }
 {
     let mut text = text;
     let end = text.len();
@@ -153,30 +190,48 @@ fn with_kinds<S: System>(
     let mut listing = Listing::new(alloc);
     for name in names {
         text.push_str(name_text(&name))?;
-        let kind = own_kind(system, text.as_str())?;
+        let kind = own_kind(system, alloc, text.as_str(), last)?;
         text.truncate(end);
-        add_entry(&mut listing, name, kind)?;
+        add_entry(&mut listing, name, kind, alloc, text.as_str(), last)?;
     }
     Ok(listing)
 }
 
 // The kind of an entry itself, links not followed.
-fn own_kind<S: System>(system: &mut S, text: &str) -> Result<Kind, TreeFault>
-    ensures { (reply : _) × S.looks system.old text.now reply system.new × LeadsToOwnKind reply result }
+fn own_kind<S: System>(
+    system: &mut S,
+    alloc: Global,
+    text: &str,
+    last: &mut Option<Failure>,
+) -> Result<Kind, TreeFault>
+    ensures asked { (reply : _) × S.looks system.old text.now reply system.new × LeadsToOwnKind reply result }
+    ensures kept { OnDevice result (IfSome last.new (IsOfCall text.now (FailsLook S.looks text.now))) }
 {
     match system.look(text) {
         Ok(metadata) => Ok(kind_of(&metadata)),
-        Err(error) => Err(fault_of(error)),
+        Err(error) => Err(heard(last, alloc, text, error)),
     }
 }
 
-fn add_entry(listing: &mut Listing, name: Name, kind: Kind) -> Result<(), TreeFault>
+// Adds an entry to the listing of the directory whose path, with `/` behind, is the text.
+fn add_entry(
+    listing: &mut Listing,
+    name: Name,
+    kind: Kind,
+    alloc: Global,
+    text: &str,
+    last: &mut Option<Failure>,
+) -> Result<(), TreeFault>
     ensures added { OnOk result (listing.new ≡ listing.old ++ (name, kind) ∷ []) }
     ensures fault { IfErr result (λ fault. IsDueTo fault (can_follow listing.old name ≡ false)) }
+    ensures kept { OnDevice result (IfSome last.new (IsAt text.now Cause.Twice)) }
 {
     match listing.add(name, kind) {
         Ok(()) => Ok(()),
         Err(ListingFault::Memory) => Err(TreeFault::Memory),
-        Err(ListingFault::NotRising) => Err(TreeFault::Device),
+        Err(ListingFault::NotRising) => {
+            keep(last, alloc, text, Cause::Twice);
+            Err(TreeFault::Device)
+        }
     }
 }

@@ -8,7 +8,7 @@ ghost use Rattle.std.specs.declared.io.Error.{Error};
 ghost use Rattle.std.specs.Io.{ReadsAtMost, WritesAtMost};
 ghost use Rattle.std.specs.Io.KnownBytes.{ReadConsumes, WriteAppends};
 
-use std::fs::{Metadata, OpenOptions};
+use std::fs::{Metadata, OpenFile, OpenOptions};
 use std::io;
 use std::io::{Read, Seek, SeekFrom, Write};
 use std::rt::Files;
@@ -41,6 +41,9 @@ pub trait Handle: Input + Write + Seek {
     /// Going to a place may answer so, and leave it so.
     ghost goes: { Self → ℕ → Result ℕ Error → Self → Type 0 };
 
+    /// Having all that was written put onto the disk may answer so, and leave it so.
+    ghost syncs: { Self → Result (Unit {0}) Error → Self → Type 0 };
+
     /// One write.
     fn write_piece(&mut self, piece: &[u8]) -> io::Result<usize>
         ensures bound { WritesAtMost result piece.now }
@@ -50,12 +53,18 @@ pub trait Handle: Input + Write + Seek {
     /// Goes to a place, counted from the file's start.
     fn go_to(&mut self, place: u64) -> io::Result<u64>
         ensures gone { goes self.old place result self.new };
+
+    /// Has all that was written to it put onto its disk.
+    fn sync(&mut self) -> io::Result<()>
+        ensures synced { syncs self.old result self.new };
 }
 
-impl<F: Read + Write + Seek> Handle for F {
+impl<F: Read + Write + Seek + OpenFile> Handle for F {
     ghost writes = { λ _ _ _ _. ⊤ };
 
     ghost goes = { λ _ _ _ _. ⊤ };
+
+    ghost syncs = { λ _ _ _. ⊤ };
 
     fn write_piece(&mut self, piece: &[u8]) -> io::Result<usize> {
         self.write(piece)
@@ -63,6 +72,10 @@ impl<F: Read + Write + Seek> Handle for F {
 
     fn go_to(&mut self, place: u64) -> io::Result<u64> {
         self.seek(SeekFrom::Start(place))
+    }
+
+    fn sync(&mut self) -> io::Result<()> {
+        self.sync_all()
     }
 }
 

@@ -1,15 +1,14 @@
-use Rattle.std.proofs.Common.{rules, ◌≡◌, ◌∙◌, ap, ap₂, codes, true}
+use Rattle.std.proofs.Common.{rules, ◌≡◌, ◌∙◌, ap, ap₂}
 use Rattle.std.proofs.lemmas.Result.{IfOk-weaker}
-use Rattle.clap.specs.Words.{App, app_of, new_app, with_subcommand}
-use Rattle.clap.specs.Simple.{on_top}
-use Rattle.pt_cli.specs.Grammar.{names_app}
+use Rattle.clap.specs.Words.{App, app_of, with_subcommand}
+use Rattle.pt_cli.specs.Grammar.{names_app, top_app}
 use Rattle.pt_cli.proofs.grammar.parser.Goals as goal
 
 pub returns : goal.returns
 returns c =
-    let top_is : app_of c.subcommand_required-top.result ≡ on_top (λ s. record s { subcommand_required = true }) (new_app (codes "pairtree2ocfl")) = search rules in
+    let top_is : app_of c.subcommand_required-top.result ≡ top_app = search rules in
     let names_is : app_of c.in_ok-names_parser.field-0 ≡ names_app = search rules in
     let first = c.in_ok-with_names.ensures.shape (search rules) ∙ ap₂ with_subcommand top_is (ap (λ (a : App). a.top) names_is) in
     let migrate = c.in_ok-migrate_parser.ensures.0 in
     IfOk-weaker c.subcommand-2.result _ _
-    (λ r adds. (migrate.0, migrate.1, adds.shape c.in_ok-migrate_parser.ensures.1 ∙ ap₂ with_subcommand first (ap (λ (a : App). a.top) migrate.2))) c.subcommand-2.ensures
+    (λ r adds. (migrate.0, adds.shape c.in_ok-migrate_parser.ensures.1 ∙ ap₂ with_subcommand first (ap (λ (a : App). a.top) migrate.1))) c.subcommand-2.ensures

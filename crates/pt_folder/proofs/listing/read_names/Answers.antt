@@ -30,7 +30,7 @@ returns-in_err-add_names-in-Ok-clause-fault g c =
 pub returns-in-Err-clause-fault : goal.returns-in-Err-clause-fault
 returns-in-Err-clause-fault g c =
     let whole : length c.read_piece.new.buffer ≡ 8192 = c.read_piece.auto.buffer ∙ c.loop.invariant.piece in
-    names_fail g.D.Input.reads c.args.most c.args.dir.now c.loop.dir c.read_piece.new.self c.loop.names.items c.read_piece.new.buffer c.loop.counter c.loop.invariant.reads whole c.in-Err.error c.fault_of.result c.in-Err.ensures.read c.fault_of.ensures
+    names_fail g.D.Input.reads c.args.most c.args.dir.now c.loop.dir c.read_piece.new.self c.loop.names.items c.read_piece.new.buffer c.loop.counter c.loop.invariant.reads whole c.in-Err.error c.heard.result c.in-Err.ensures.read c.heard.ensures.fault
 
 pub returns-clause-fault : goal.returns-clause-fault
 returns-clause-fault g c = names_spent g.D.Input.reads c.args.most c.args.dir.now c.loop.dir c.loop.names.items c.loop.counter c.loop.invariant.reads (omega arith)

@@ -5,7 +5,7 @@ use Rattle.std.proofs.lemmas.Iterator.Adapters.{YieldsList-from_vec}
 use Rattle.std.proofs.lemmas.Iterator.Consumers.{YieldsList-so_far, YieldsList-turn}
 use Rattle.std.specs.List.{FoldsTo}
 use Rattle.pt_folder.specs.Listing.{LooksAt}
-use Rattle.pt_folder.proofs.Looking.{item_here, looked_one, looks_fail, names_more, rises_not}
+use Rattle.pt_folder.proofs.Looking.{item_here, kept_entry, looked_one, looks_fail, names_more, rises_not}
 use Rattle.pt_folder.proofs.Names.{err_due}
 use Rattle.pt_folder.proofs.Texts.{cut_before}
 use Rattle.pt_folder.proofs.listing.with_kinds.Goals as goal
@@ -26,7 +26,7 @@ loop-name-preserved g c =
     let end : c.len-end.result ≡ length front = c.len-end.ensures ∙ c.args.text.bytes.ok.0 in
     let cut : string_bytes c.truncate.new.self ≡ take c.len-end.result (front ++ c.name_text.result.now) = c.truncate.ensures.bytes ∙ ap (take c.len-end.result) pushed in
     let looks = LooksAt g.S.System.looks front in
-    let one = looked_one g.S.System.looks front c.loop-name.system c.own_kind.new.system c.in-Some.name c.as_str.result.now c.in_ok-kind.kind text c.in_ok-kind.ensures in
+    let one = looked_one g.S.System.looks front c.loop-name.system c.own_kind.new.system c.in-Some.name c.as_str.result.now c.in_ok-kind.kind text c.in_ok-kind.ensures.asked in
     let more = FoldsTo-push looks c.args.system.now c.loop-name.listing c.loop-name.system (c.in-Some.name, c.in_ok-kind.kind) c.own_kind.new.system c.loop-name.invariant.looked one in
     record {
       can = search rules;
@@ -44,15 +44,22 @@ returns-in_err-kind-clause-fault g c =
     let gives = YieldsList-from_vec c.args.names.items (search rules) (search rules) in
     let here = item_here c.args.names.items c.loop-name.yielded c.in-Some.name (YieldsList-so_far gives c.loop-name.yielded c.loop-name.name-iterator c.loop-name.yielded_by) (YieldsList-turn gives c.loop-name.yielded c.loop-name.name-iterator c.loop-name.yielded_by c.next.result c.next.new.self c.in-Some.name c.in-Some.is c.next.ensures.steps) in
     err_due c.from_residual-in_err-kind.result c.in_err-kind.field-0.0 _ c.from_residual-in_err-kind.ensures.1
-    (looks_fail g.S.System.looks front c.args.names.items c.args.system.now c.loop-name.system c.own_kind.new.system c.loop-name.listing c.loop-name.yielded (drop (length c.loop-name.yielded + 1) c.args.names.items) c.in-Some.name c.loop-name.invariant.names here c.loop-name.invariant.looked c.as_str.result.now c.in_err-kind.field-0.0 text c.in_err-kind.ensures)
+    (looks_fail g.S.System.looks front c.args.names.items c.args.system.now c.loop-name.system c.own_kind.new.system c.loop-name.listing c.loop-name.yielded (drop (length c.loop-name.yielded + 1) c.args.names.items) c.in-Some.name c.loop-name.invariant.names here c.loop-name.invariant.looked c.as_str.result.now c.in_err-kind.field-0.0 text c.in_err-kind.ensures.asked)
 
 pub returns-in_err-add_entry-clause-fault : goal.returns-in_err-add_entry-clause-fault
 returns-in_err-add_entry-clause-fault g c =
     let front = string_bytes c.args.text in
     let pushed : string_bytes c.push_str.new.self ≡ front ++ c.name_text.result.now = rw (← c.loop-name.invariant.text) c.in_ok-push_str.ensures.bytes in
     let text : c.as_str.result.now ≡ front ++ c.in-Some.name = c.as_str.ensures.value ∙ pushed ∙ ap (λ (n : List ℕ). front ++ n) c.name_text.ensures in
-    let one = looked_one g.S.System.looks front c.loop-name.system c.own_kind.new.system c.in-Some.name c.as_str.result.now c.in_ok-kind.kind text c.in_ok-kind.ensures in
+    let one = looked_one g.S.System.looks front c.loop-name.system c.own_kind.new.system c.in-Some.name c.as_str.result.now c.in_ok-kind.kind text c.in_ok-kind.ensures.asked in
     let gives = YieldsList-from_vec c.args.names.items (search rules) (search rules) in
     let here = item_here c.args.names.items c.loop-name.yielded c.in-Some.name (YieldsList-so_far gives c.loop-name.yielded c.loop-name.name-iterator c.loop-name.yielded_by) (YieldsList-turn gives c.loop-name.yielded c.loop-name.name-iterator c.loop-name.yielded_by c.next.result c.next.new.self c.in-Some.name c.in-Some.is c.next.ensures.steps) in
     err_due c.from_residual-in_err-add_entry.result c.in_err-add_entry.field-0.0 _ c.from_residual-in_err-add_entry.ensures.1
     (rises_not g.S.System.looks front c.args.names.items c.args.system.now c.loop-name.system c.own_kind.new.system c.loop-name.listing c.loop-name.yielded (drop (length c.loop-name.yielded + 1) c.args.names.items) c.in-Some.name c.loop-name.invariant.names here c.loop-name.invariant.looked c.in_ok-kind.kind c.in_err-add_entry.field-0.0 one c.in_err-add_entry.ensures.fault)
+
+pub returns-in_err-kind-clause-kept : goal.returns-in_err-kind-clause-kept
+returns-in_err-kind-clause-kept g c =
+    let front = string_bytes c.args.text in
+    let pushed : string_bytes c.push_str.new.self ≡ front ++ c.name_text.result.now = rw (← c.loop-name.invariant.text) c.in_ok-push_str.ensures.bytes in
+    let text : c.as_str.result.now ≡ front ++ c.in-Some.name = c.as_str.ensures.value ∙ pushed ∙ ap (λ (n : List ℕ). front ++ n) c.name_text.ensures in
+    kept_entry g.S.System.looks front c.in-Some.name c.as_str.result.now c.from_residual-in_err-kind.result c.in_err-kind.field-0.0 c.own_kind.new.last c.from_residual-in_err-kind.ensures.1 text c.in_err-kind.ensures.kept

@@ -1,0 +1,83 @@
+-- The failure that a folder keeps.
+use Rattle.std.specs.Prelude.{◌≡◌, ◌⊎◌, ℕ, ◌<◌, ◌≤◌, ◌++◌, ⊤, false, [], List, length, Option, IfSome, Result, Ok, Err, string_bytes}
+use Rattle.std.specs.declared.io.Error.{Error}
+use Rattle.std.specs.declared.fs.Metadata.{Metadata}
+use Rattle.pt_tree.specs.declared.faults.TreeFault.{TreeFault}
+use Rattle.pt_tree.specs.declared.faults.TreeFault.TheVariants.{Device, Memory}
+use Rattle.pt_tree.specs.Name.{is_name}
+use Rattle.pt_tree.specs.Path.{Path}
+use Rattle.pt_folder.specs.declared.failure.Failure.{Failure}
+use Rattle.pt_folder.specs.declared.failure.Cause.{Cause}
+use Rattle.pt_folder.specs.declared.failure.Cause.TheVariants as cause
+use Rattle.pt_folder.specs.Folder.{entry_text}
+use Rattle.pt_folder.specs.Listing.{dir_front}
+use Rattle.pt_folder.specs.Runs.{FailsToRead}
+
+-- it was at this path, for this cause
+abbrev pub IsAt : List ℕ → Cause → Failure → Type 0
+IsAt path why f = (string_bytes f.path ≡ path) × (f.cause ≡ why)
+
+-- where the device failed, this holds
+abbrev pub OnDevice : {T : Type 0} → Result T TreeFault → Type 0 → Type 0
+OnDevice (Ok x) P = ⊤
+OnDevice (Err Device) P = P
+OnDevice (Err Memory) P = ⊤
+
+-- the cause is an error of the system, of which this holds
+abbrev pub HasError : (Error → Type 0) → Cause → Type 0
+HasError P (cause.System e) = P e
+HasError P _ = ⊥
+
+-- nothing was asked, since the folder's path is empty
+abbrev pub IsUnasked : List ℕ → Failure → Type 0
+IsUnasked folder f = (length folder ≡ 0) × IsAt [] cause.Empty f
+
+-- nothing was asked, since no path that is made may be so long
+abbrev pub IsTooLong : ℕ → List ℕ → Failure → Type 0
+IsTooLong longest path f = (longest < length path) × IsAt path cause.Long f
+
+-- a call on this path answered with an error of which this holds
+abbrev pub IsOfCall : List ℕ → (Error → Type 0) → Failure → Type 0
+IsOfCall path P f = (string_bytes f.path ≡ path) × HasError P f.cause
+
+-- what is kept, where memory allowed it, of a call on an entry's path
+abbrev pub KeepsCall : List ℕ → Path → (Error → Type 0) → Option Failure → Type 0
+KeepsCall folder p P last = IfSome last (λ f. IsUnasked folder f ⊎ IsOfCall (entry_text folder p) P f)
+
+-- the same of a call that makes the entry
+abbrev pub KeepsMaking : ℕ → List ℕ → Path → (Error → Type 0) → Option Failure → Type 0
+KeepsMaking longest folder p P last = IfSome last (λ f. (IsUnasked folder f ⊎ IsTooLong longest (entry_text folder p) f) ⊎ IsOfCall (entry_text folder p) P f)
+
+-- why looking at the first bytes of a file failed: it could not be opened, or a read failed
+abbrev pub FailsToPeek : {S F : Type 0} → (S → List ℕ → Result F Error → S → Type 0) → (F → List ℕ → Result ℕ Error → F → Type 0) → List ℕ → S → S → Error → Type 0
+FailsToPeek {S} {F} opens reads text old new e = opens old text (Err e) new ⊎ ((file : F) × (after : F) × opens old text (Ok file) new × FailsToRead reads 8192 file e after)
+
+-- looking at something answered with this error
+abbrev pub FailsLook : {S : Type 0} → (S → List ℕ → Result Metadata Error → S → Type 0) → List ℕ → Error → Type 0
+FailsLook {S} looks text e = (old : S) × (new : S) × looks old text (Err e) new
+
+-- why a name isn't added to these: it would be one too many, or no entry may have it
+abbrev pub IsOfName : ℕ → List (List ℕ) → List ℕ → Cause → Type 0
+IsOfName most names name cause.Entries = most ≤ length names
+IsOfName most names name cause.Name = is_name name ≡ false
+IsOfName most names name _ = ⊥
+
+-- why the names of a directory aren't had: the system said so, or one isn't added, or there is no end
+abbrev pub IsNamesCause : Cause → Type 0
+IsNamesCause (cause.System e) = ⊤
+IsNamesCause cause.Name = ⊤
+IsNamesCause cause.Entries = ⊤
+IsNamesCause cause.Endless = ⊤
+IsNamesCause _ = ⊥
+
+-- of a directory: its names aren't had
+abbrev pub IsOfNames : List ℕ → Failure → Type 0
+IsOfNames text f = (string_bytes f.path ≡ text) × IsNamesCause f.cause
+
+-- of an entry in a directory: looking at it failed; or its name comes twice
+abbrev pub IsOfEntry : {S : Type 0} → (S → List ℕ → Result Metadata Error → S → Type 0) → List ℕ → Failure → Type 0
+IsOfEntry looks front f = ((name : List ℕ) × IsOfCall (front ++ name) (FailsLook looks (front ++ name)) f) ⊎ IsAt front cause.Twice f
+
+-- what is kept, where memory allowed it, of a listing
+abbrev pub KeepsListing : {S : Type 0} → (S → List ℕ → Result Metadata Error → S → Type 0) → List ℕ → Path → Option Failure → Type 0
+KeepsListing looks folder p last = IfSome last (λ f. (IsUnasked folder f ⊎ IsOfNames (entry_text folder p) f) ⊎ IsOfEntry looks (dir_front folder p) f)

@@ -1,0 +1,95 @@
+//! The last failure of a folder: the path of the call that failed, and why.
+ghost use Rattle.std.specs.Prelude.{◌≡◌, IfSome, string_bytes};
+ghost use Rattle.std.specs.IoError.{error_kind};
+ghost use Rattle.pt_folder.specs.Folder.{fault_of_kind};
+ghost use Rattle.pt_folder.specs.Failure.{IsAt};
+
+use crate::folder::fault_of;
+use pt_tree::TreeFault;
+use std::alloc::Global;
+use std::{fmt, io};
+
+/// Why a call of a folder failed: the system's own error, or one of the folder's own rules.
+#[derive(Clone, Copy, Debug)]
+pub enum Cause {
+    /// The system's answer.
+    System(io::Error),
+    /// The folder's own path is empty, so nothing was asked.
+    Empty,
+    /// The path is longer than any that may be made, so nothing was asked.
+    Long,
+    /// The directory has a name that no entry may have: on Linux one that isn't UTF-8.
+    Name,
+    /// The directory has more than 16,777,216 entries.
+    Entries,
+    /// The directory's names don't end, or one of them doesn't.
+    Endless,
+    /// The directory gives a name twice.
+    Twice,
+    /// No file is open.
+    Closed,
+}
+
+impl fmt::Display for Cause {
+    fn fmt<W: fmt::Write>(&self, f: &mut fmt::Formatter<W>) -> fmt::Result {
+        match self {
+            Cause::System(error) => fmt::Display::fmt(error, f),
+            Cause::Empty => f.write_str("the path is empty"),
+            Cause::Long => f.write_str("the path would be too long at its place in ocfl"),
+            Cause::Name => f.write_str("a name in it is not UTF-8"),
+            Cause::Entries => f.write_str("it has more than 16777216 entries"),
+            Cause::Endless => f.write_str("its names do not end"),
+            Cause::Twice => f.write_str("it gives a name twice"),
+            Cause::Closed => f.write_str("no file is open"),
+        }
+    }
+}
+
+/// A call that failed, by its path, and why.
+#[derive(Debug, Drop)]
+pub struct Failure {
+    path: String,
+    cause: Cause,
+}
+
+impl Failure {
+    /// A failure of a call on a path.
+    pub fn at(path: String, cause: Cause) -> Failure
+        ensures { result ≡ record { path = path; cause = cause } }
+    {
+        Failure { path, cause }
+    }
+
+    /// The path of the call that failed.
+    pub fn path(&self) -> &str
+        ensures { result.now ≡ string_bytes self.now.path }
+    {
+        self.path.as_str()
+    }
+
+    /// Why it failed.
+    pub fn cause(&self) -> Cause
+        ensures { result ≡ self.now.cause }
+    {
+        self.cause
+    }
+}
+
+/// Keeps a failure at a path; none is kept where there is no memory for the path.
+pub fn keep(last: &mut Option<Failure>, alloc: Global, path: &str, cause: Cause)
+    ensures { IfSome last.new (IsAt path.now cause) }
+{
+    *last = match String::from_str(alloc, path) {
+        Ok(path) => Some(Failure::at(path, cause)),
+        Err(_) => None,
+    };
+}
+
+/// Keeps the system's error at a path, and gives what it is answered: `Memory` for want of memory, else `Device`.
+pub fn heard(last: &mut Option<Failure>, alloc: Global, path: &str, error: io::Error) -> TreeFault
+    ensures fault { result ≡ fault_of_kind (error_kind error) }
+    ensures kept { IfSome last.new (IsAt path.now (Cause.System error)) }
+{
+    keep(last, alloc, path, Cause::System(error));
+    fault_of(error)
+}

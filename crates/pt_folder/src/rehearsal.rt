@@ -1,0 +1,153 @@
+ghost use Rattle.std.specs.Prelude.{◌≡◌, ◌⊎◌, [], Ok, OnOk, OnErr, IfOk};
+ghost use Rattle.std.specs.Option.{option_map};
+ghost use Rattle.pt_tree.specs.Failures.{IsCounted};
+ghost use Rattle.pt_tree.specs.Path.{joined};
+ghost use Rattle.pt_folder.specs.Calls.{AsksOnce, CannotMake, IsThere, LeadsToKind, for_reading};
+ghost use Rattle.pt_folder.specs.Failure.{OnDevice};
+ghost use Rattle.pt_folder.specs.Rehearsal.{IsFromMemory, Remembers, is_known};
+ghost use Rattle.pt_folder.specs.Runs.{PeeksAt};
+
+use crate::HostDest;
+use crate::system::{Handle, System};
+use pt_tree::{Block, Dest, Kind, NamePath, TreeFault};
+use std::alloc::Global;
+use std::collections::BTreeSet;
+
+/// A rehearsal over a destination: it looks where the destination would look, makes and changes nothing, and remembers what
+/// would have been moved, so that a directory stands there for it. It tells nothing. What it remembers grows with the number
+/// of moves.
+#[derive(Drop)]
+pub struct Rehearsal<'a, S: System> {
+    dest: HostDest<'a, S>,
+    moved: BTreeSet<Vec<u8>>,
+}
+
+impl<'a, S: System> Rehearsal<'a, S> {
+    /// A rehearsal that remembers nothing yet. It calls nothing and takes no memory.
+    pub fn new(alloc: Global, dest: HostDest<'a, S>) -> Rehearsal<'a, S>
+        ensures dest { result.dest ≡ dest.entry }
+        ensures moved { result.moved.keys ≡ [] }
+    {
+        Rehearsal {
+            dest,
+            moved: BTreeSet::new(alloc),
+        }
+    }
+
+    /// The destination that it looks at.
+    pub fn dest(&self) -> &HostDest<'a, S>
+        ensures { result.now ≡ self.now.dest }
+    {
+        &self.dest
+    }
+
+    // Whether something was moved to a path; its text is made for that.
+    fn known(&self, path: &NamePath) -> Result<bool, TreeFault>
+        ensures known { IfOk result (λ known. known ≡ is_known self.now.moved path.now) }
+        ensures memory { OnDevice result ⊥ }
+    {
+        let text = path.join()?;
+        Ok(self.moved.contains(text.as_slice()))
+    }
+}
+
+impl<'a, S: System> Dest for Rehearsal<'a, S> {
+    ghost use Rattle.pt_tree.specs.Dest.{IsKindAt, IsPeeked, LeavesPart, after_mkdir, after_create, after_append, after_finish, after_rename};
+    ghost use Rattle.pt_folder.specs.Devices.{no_dest, tree_untold};
+
+    ghost told = { no_dest };
+
+    ghost failed = { λ d. d.dest.failures };
+
+    ghost is_tree = { tree_untold };
+
+    fn failures(&self) -> u64 {
+        self.dest.failures()
+    }
+
+    #[tactic(auto, unfolding(pt_tree::specs::Dest::IsKindAt))]
+    fn kind(&mut self, path: &NamePath) -> Result<Option<Kind>, TreeFault>
+        ensures kind { IfOk result (λ kind. IsKindAt (no_dest self.old) path.now kind) }
+        ensures same { no_dest self.new ≡ no_dest self.old }
+        ensures asked { ((self.new.dest.system ≡ self.old.dest.system) × IsFromMemory self.old.moved path.now result) ⊎ AsksOnce S.looks LeadsToKind self.old.dest.folder.path.now path.now self.old.dest.system self.new.dest.system result }
+        ensures moved { self.new.moved ≡ self.old.moved }
+        ensures failures { IsCounted self.old.dest.failures self.new.dest.failures result }
+    {
+        if self.known(path)? {
+            return Ok(Some(Kind::Dir));
+        }
+        self.dest.kind(path)
+    }
+
+    #[tactic(auto, unfolding(pt_tree::specs::Dest::IsPeeked))]
+    fn peek(&mut self, path: &NamePath, block: &mut Block) -> Result<(), TreeFault>
+        ensures block { OnOk result (IsPeeked (no_dest self.old) path.now block.new.items) }
+        ensures empty { OnErr result (block.new.items ≡ []) }
+        ensures same { no_dest self.new ≡ no_dest self.old }
+        ensures asked { AsksOnce (λ s. S.opens s for_reading) (PeeksAt ⟦<S::File as Handle>⟧.remaining ⟦<S::File as Handle>⟧.reads block.new.items) self.old.dest.folder.path.now path.now self.old.dest.system self.new.dest.system result }
+        ensures moved { self.new.moved ≡ self.old.moved }
+        ensures failures { IsCounted self.old.dest.failures self.new.dest.failures result }
+    {
+        self.dest.peek(path, block)
+    }
+
+    fn mkdir(&mut self, path: &NamePath) -> Result<(), TreeFault>
+        ensures made { OnOk result (no_dest self.new ≡ option_map (after_mkdir path.now) (no_dest self.old)) }
+        ensures same { OnErr result (no_dest self.new ≡ no_dest self.old) }
+        ensures asked { (self.new.dest.system ≡ self.old.dest.system) ⊎ AsksOnce S.looks IsThere self.old.dest.folder.path.now [] self.old.dest.system self.new.dest.system result }
+        ensures moved { self.new.moved ≡ self.old.moved }
+        ensures failures { IsCounted self.old.dest.failures self.new.dest.failures result }
+    {
+        self.dest.may_make(path)?;
+        if path.len() == 1 {
+            return self.dest.look_at_folder();
+        }
+        Ok(())
+    }
+
+    fn create(&mut self, path: &NamePath) -> Result<(), TreeFault>
+        ensures made { OnOk result (no_dest self.new ≡ option_map (after_create path.now) (no_dest self.old)) }
+        ensures same { OnErr result (no_dest self.new ≡ no_dest self.old) }
+        ensures system { self.new.dest.system ≡ self.old.dest.system }
+        ensures refused { OnDevice result (CannotMake self.old.dest.longest self.old.dest.folder.path.now path.now) }
+        ensures moved { self.new.moved ≡ self.old.moved }
+        ensures failures { IsCounted self.old.dest.failures self.new.dest.failures result }
+    {
+        self.dest.may_make(path)
+    }
+
+    #[tactic(auto, using(crate::proofs::Untold::leaves_nothing))]
+    fn append(&mut self, piece: &[u8]) -> Result<(), TreeFault>
+        ensures added { OnOk result (no_dest self.new ≡ option_map (after_append piece.now) (no_dest self.old)) }
+        ensures part { OnErr result (LeavesPart (no_dest self.old) (no_dest self.new) piece.now) }
+        ensures failures { IsCounted self.old.dest.failures self.new.dest.failures result }
+        ensures still { self.new ≡ self.old }
+        ensures done { result ≡ Ok tt }
+    {
+        Ok(())
+    }
+
+    fn finish(&mut self) -> Result<(), TreeFault>
+        ensures closed { OnOk result (no_dest self.new ≡ option_map after_finish (no_dest self.old)) }
+        ensures same { OnErr result (no_dest self.new ≡ no_dest self.old) }
+        ensures failures { IsCounted self.old.dest.failures self.new.dest.failures result }
+        ensures still { self.new ≡ self.old }
+        ensures done { result ≡ Ok tt }
+    {
+        Ok(())
+    }
+
+    fn rename(&mut self, from: &NamePath, to: &NamePath) -> Result<(), TreeFault>
+        ensures moved { OnOk result (no_dest self.new ≡ option_map (after_rename from.now to.now) (no_dest self.old)) }
+        ensures same { OnErr result (no_dest self.new ≡ no_dest self.old) }
+        ensures remembered { OnOk result (Remembers self.old.moved self.new.moved to.now) }
+        ensures dest { self.new.dest ≡ self.old.dest }
+        ensures failures { IsCounted self.old.dest.failures self.new.dest.failures result }
+    {
+        let text = to.join()?;
+        match self.moved.insert(text) {
+            Ok(_) => Ok(()),
+            Err(_) => Err(TreeFault::Memory),
+        }
+    }
+}

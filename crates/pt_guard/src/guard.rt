@@ -1,0 +1,56 @@
+//! What is seen to before a run.
+ghost use Rattle.std.specs.Prelude.{◌≡◌};
+ghost use Rattle.pt_guard.specs.Guard.{Begins};
+
+use crate::apart::overlap;
+use crate::places::{Hold, Places};
+use std::alloc::{AllocError, Global};
+use thiserror::Error;
+
+/// Why a run may not begin. Nothing was read or made.
+#[derive(Clone, Copy, Debug, PartialEq, Eq, Error)]
+pub enum GuardFault {
+    /// The destination is the store or lies in it, or the store lies in `ocfl` or `staging` of the destination.
+    #[error("SOURCE and DEST lie in one another")]
+    Overlap,
+    /// Another run holds the destination.
+    #[error("another run has the destination")]
+    Taken,
+    /// A growth was refused.
+    #[error("out of memory")]
+    Memory,
+}
+
+impl From<AllocError> for GuardFault {
+    ghost use Rattle.std.specs.Prelude.{◌≡◌};
+    ghost use Rattle.pt_guard.specs.declared.guard.GuardFault.TheVariants.{Memory};
+
+    ghost from_gives = { λ _ e. e ≡ Memory };
+
+    fn from(_: AllocError) -> Self {
+        GuardFault::Memory
+    }
+}
+
+/// Sees to it that a run may begin: its folders lie apart, and no other run holds the destination. What it gives holds the
+/// destination's folder until it is dropped; None where that can't be locked.
+///
+/// `Overlap` where the folders, links resolved, lie in one another, which is asked first; `Taken` where another holds the
+/// lock; `Memory` where a growth was refused.
+pub fn begin<S: Places>(
+    system: &mut S,
+    alloc: Global,
+    source: &str,
+    dest: &str,
+) -> Result<Option<S::Lock>, GuardFault>
+    ensures { Begins S.resolves S.holds source.now dest.now system.old system.new result }
+{
+    if overlap(system, alloc, source, dest)? {
+        return Err(GuardFault::Overlap);
+    }
+    match system.hold(dest) {
+        Hold::Held(lock) => Ok(Some(lock)),
+        Hold::Taken => Err(GuardFault::Taken),
+        Hold::Unknown => Ok(None),
+    }
+}

@@ -1,0 +1,93 @@
+//! The calls of the system that look where folders are and lock them. Each has a ghost word of what it may answer, so that a
+//! contract over them says which calls are made and what becomes of their answers.
+ghost use Rattle.std.specs.Prelude.{⊤, ℕ, List};
+ghost use Rattle.std.specs.declared.io.Error.{Error};
+ghost use Rattle.pt_guard.specs.Paths.{Place};
+ghost use Rattle.std.specs.declared.result.Result.{Result};
+ghost use Rattle.pt_guard.specs.declared.places.Hold.{Hold};
+
+use std::alloc::Global;
+use std::fs::{File, OpenOptions, TryLockError};
+use std::io;
+use std::path::PathBuf;
+use std::rt::Files;
+
+/// What asking for a lock came to.
+#[derive(Debug, Drop)]
+pub enum Hold<L> {
+    /// The lock is held, until this is dropped.
+    Held(L),
+    /// Another holds it.
+    Taken,
+    /// It can't be asked for: the folder can't be opened, or its file system has no locks.
+    Unknown,
+}
+
+/// A file that can be locked.
+pub trait Lockable {
+    /// Asks for the lock that one open file at a time may have, and doesn't wait: false where another has it, `Err` where
+    /// there are no locks.
+    fn ask_lock(&self) -> io::Result<bool>;
+}
+
+impl Lockable for File {
+    fn ask_lock(&self) -> io::Result<bool> {
+        match self.try_lock() {
+            Ok(()) => Ok(true),
+            Err(TryLockError::WouldBlock) => Ok(false),
+            Err(TryLockError::Error(error)) => Err(error),
+        }
+    }
+}
+
+/// A system with folders that are somewhere and can be locked.
+pub trait Places {
+    type Lock: Drop;
+
+    /// Where a path leads, links resolved, may be this.
+    ghost resolves: { Self → List ℕ → Result Place Error → Self → Type 0 };
+
+    /// Asking for the lock of the folder at a path may come to this.
+    ghost holds: { Self → List ℕ → Hold Self.Lock → Self → Type 0 };
+
+    /// Where a path leads, from the top, links resolved.
+    fn resolve(&mut self, alloc: Global, path: &str) -> io::Result<PathBuf>
+        ensures { resolves self.old path.now result self.new };
+
+    /// Asks for the lock of the folder at a path.
+    fn hold(&mut self, path: &str) -> Hold<Self::Lock>
+        ensures { holds self.old path.now result self.new };
+}
+
+impl<'a, R: Files> Places for &'a R
+where
+    R::File: Lockable,
+{
+    type Lock = R::File;
+
+    ghost resolves = { λ _ _ _ _. ⊤ };
+
+    ghost holds = { λ _ _ _ _. ⊤ };
+
+    fn resolve(&mut self, alloc: Global, path: &str) -> io::Result<PathBuf> {
+        self.canonicalize(alloc, path)
+    }
+
+    fn hold(&mut self, path: &str) -> Hold<R::File> {
+        let mut options = OpenOptions::new();
+        options.read(true);
+        match self.open_file(&options, path) {
+            Ok(folder) => asked(folder),
+            Err(_) => Hold::Unknown,
+        }
+    }
+}
+
+// Asks for the lock of a folder that was opened.
+fn asked<F: Lockable + Drop>(folder: F) -> Hold<F> {
+    match folder.ask_lock() {
+        Ok(true) => Hold::Held(folder),
+        Ok(false) => Hold::Taken,
+        Err(_) => Hold::Unknown,
+    }
+}

@@ -1,0 +1,17 @@
+//! A migration from folder to folder as the command asks for it: what is seen to before it, what is shown of it, and what it
+//! ends with.
+#![tactic(auto)]
+
+mod log;
+mod migration;
+mod reason;
+mod room;
+mod shown;
+mod tally;
+mod terminal;
+mod watch;
+
+pub use migration::{Wanted, migrate};
+pub use room::longest_made;
+pub use terminal::Terminals;
+pub use watch::Progress;

@@ -1,0 +1,80 @@
+ghost use Rattle.std.specs.Prelude.{◌≡◌, IfSome, Ok, OnErr, OnOk};
+ghost use Rattle.std.specs.Io.KnownBytes.{Appends};
+ghost use Rattle.pt_tree.specs.Failures.{HasRisen, IsCounted};
+ghost use Rattle.pt_tree.specs.Log.{AppendsFront};
+
+use pt_folder::Handle;
+use pt_tree::{Log, TreeFault, WriterLog};
+use std::io;
+use std::io::Write;
+
+/// A log over a writer whose file, where there is one, is put onto its disk after each piece.
+#[derive(Drop)]
+pub struct DurableLog<W: Write, F: Handle + Drop> {
+    log: WriterLog<W>,
+    file: Option<F>,
+    failures: u64,
+}
+
+impl<W: Write, F: Handle + Drop> DurableLog<W, F> {
+    /// A log over a writer, and the file that it writes to, if that is to be put onto its disk.
+    pub fn new(writer: W, file: Option<F>) -> DurableLog<W, F>
+        ensures writer { result.log.writer ≡ writer }
+        ensures file { result.file ≡ file }
+        ensures failures { result.failures ≡ 0 }
+    {
+        DurableLog {
+            log: WriterLog::new(writer),
+            file,
+            failures: 0,
+        }
+    }
+
+    // Counts a failure, and gives it.
+    fn failed(&mut self) -> TreeFault
+        ensures fault { result ≡ TreeFault.Device }
+        ensures same { self.new.log ≡ self.old.log }
+        ensures risen { HasRisen self.old.failures self.new.failures }
+    {
+        self.failures = self.failures.saturating_add(1);
+        TreeFault::Device
+    }
+}
+
+impl<W: Write, F: Handle + Drop> Log for DurableLog<W, F> {
+    ghost told = { λ l. W.contents l.log.writer };
+
+    ghost failed = { λ l. l.failures };
+
+    fn failures(&self) -> u64 {
+        self.failures
+    }
+
+    fn put(&mut self, piece: &[u8]) -> Result<(), TreeFault>
+        ensures ok { OnOk result (Appends (W.contents self.old.log.writer) (W.contents self.new.log.writer) piece.now) }
+        ensures part { OnErr result (AppendsFront (W.contents self.old.log.writer) (W.contents self.new.log.writer) piece.now) }
+        ensures synced { OnOk result (IfSome self.old.file (λ file. (after : F) × F.syncs file (Ok tt) after)) }
+        ensures failures { IsCounted self.old.failures self.new.failures result }
+    {
+        match self.log.put(piece) {
+            Ok(()) => match sync_there(&mut self.file) {
+                Ok(()) => Ok(()),
+                Err(_) => Err(self.failed()),
+            },
+            Err(_) => Err(self.failed()),
+        }
+    }
+}
+
+// Puts a file onto its disk, where there is one.
+fn sync_there<F: Handle>(file: &mut Option<F>) -> io::Result<()>
+    ensures { OnOk result (IfSome file.old (λ file. (after : F) × F.syncs file (Ok tt) after)) }
+{
+    match file {
+        Some(file) => match file.sync() {
+            Ok(()) => Ok(()),
+            Err(error) => Err(error),
+        },
+        None => Ok(()),
+    }
+}

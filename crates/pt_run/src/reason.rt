@@ -1,0 +1,59 @@
+//! Why a run failed, in a line of its own: the path of the call that failed, and the system's text, or the program's where no
+//! call failed.
+use crate::shown::escaped;
+use pt_folder::{Failure, HostDest, HostSource, System};
+use pt_move::Fault;
+use std::alloc::{AllocGlobal, Global};
+
+/// Tells standard error why a run over these folders ended with a fault, where that has a path.
+pub(crate) fn tell<R: Eprint + AllocGlobal, S: System, D: System>(
+    rt: &R,
+    fault: &Fault,
+    source: &HostSource<'_, S>,
+    dest: &HostDest<'_, D>,
+    store: &str,
+) {
+    match fault {
+        Fault::Source => failure(rt, source.last_failure()),
+        Fault::Dest => failure(rt, dest.last_failure()),
+        Fault::NotPairtree => say(
+            rt,
+            store,
+            "it holds no file pairtree_version0_1 or no directory pairtree_root",
+        ),
+        Fault::Prefix => say(
+            rt,
+            store,
+            "pairtree_prefix in it is no file, has more than 1024 bytes, or is not UTF-8",
+        ),
+        Fault::StagingLeft => say(rt, dest.looked_path(), "it stands there already"),
+        Fault::Target => say(
+            rt,
+            dest.looked_path(),
+            "it is not what this program makes there with these tuples",
+        ),
+        Fault::Changed => say(
+            rt,
+            source.opened_path(),
+            "it was not the same at its second reading",
+        ),
+        Fault::Log | Fault::Memory | Fault::Turns | Fault::Ended => {}
+    }
+}
+
+// Tells of a call that failed.
+fn failure<R: Eprint + AllocGlobal>(rt: &R, failure: Option<&Failure>) {
+    if let Some(failure) = failure {
+        let cause = failure.cause();
+        if let Ok(path) = escaped(rt.alloc(), failure.path()) {
+            let _ = eprintln!(rt; "pairtree2ocfl: {path}: {cause}");
+        }
+    }
+}
+
+// Tells what was found at a path.
+fn say<R: Eprint + AllocGlobal>(rt: &R, path: &str, reason: &str) {
+    if let Ok(path) = escaped(rt.alloc(), path) {
+        let _ = eprintln!(rt; "pairtree2ocfl: {path}: {reason}");
+    }
+}

@@ -1,0 +1,97 @@
+//! How far a run is, as its devices see it.
+ghost use Rattle.std.specs.Prelude.{◌≡◌};
+
+use pt_tree::{Log, TreeFault};
+use std::cell::Cell;
+
+/// The lines of each kind that were put, and the bytes that were read.
+#[derive(Drop)]
+pub struct Tally {
+    done: Cell<u64>,
+    present: Cell<u64>,
+    skipped: Cell<u64>,
+    bytes: Cell<u64>,
+}
+
+impl Tally {
+    /// Nothing yet.
+    pub fn new() -> Tally {
+        Tally {
+            done: Cell::new(0),
+            present: Cell::new(0),
+            skipped: Cell::new(0),
+            bytes: Cell::new(0),
+        }
+    }
+
+    /// The lines of objects that were carried.
+    pub fn done(&self) -> u64 {
+        self.done.get()
+    }
+
+    /// The lines of objects whose places were taken.
+    pub fn present(&self) -> u64 {
+        self.present.get()
+    }
+
+    /// The lines of what isn't carried.
+    pub fn skipped(&self) -> u64 {
+        self.skipped.get()
+    }
+
+    /// The bytes that were read of files, each time that they were.
+    pub fn bytes(&self) -> u64 {
+        self.bytes.get()
+    }
+
+    /// So many more bytes were read.
+    pub fn add_bytes(&self, count: u64) {
+        self.bytes.set(self.bytes.get().saturating_add(count));
+    }
+
+    // Counts a line by its kind, which stands at its start.
+    fn add_line(&self, line: &[u8]) {
+        let counter = if line.starts_with(b"{\"as\":\"done\"".as_slice()) {
+            &self.done
+        } else if line.starts_with(b"{\"as\":\"present\"".as_slice()) {
+            &self.present
+        } else if line.starts_with(b"{\"as\":\"skip\"".as_slice()) {
+            &self.skipped
+        } else {
+            return;
+        };
+        counter.set(counter.get().saturating_add(1));
+    }
+}
+
+/// A log that counts the lines put into another, and is that one in all else.
+#[derive(Drop)]
+pub struct TalliedLog<'a, L: Log> {
+    log: L,
+    tally: &'a Tally,
+}
+
+impl<'a, L: Log> TalliedLog<'a, L> {
+    /// Counts the lines of a log from now on.
+    pub fn new(log: L, tally: &'a Tally) -> TalliedLog<'a, L>
+        ensures { result.log ≡ log }
+    {
+        TalliedLog { log, tally }
+    }
+}
+
+impl<'a, L: Log> Log for TalliedLog<'a, L> {
+    ghost told = { λ l. L.told l.log };
+
+    ghost failed = { λ l. L.failed l.log };
+
+    fn failures(&self) -> u64 {
+        self.log.failures()
+    }
+
+    fn put(&mut self, piece: &[u8]) -> Result<(), TreeFault> {
+        self.log.put(piece)?;
+        self.tally.add_line(piece);
+        Ok(())
+    }
+}
