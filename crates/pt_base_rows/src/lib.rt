@@ -5,6 +5,8 @@
 #[cfg(test)]
 mod inventories;
 #[cfg(test)]
+mod logs;
+#[cfg(test)]
 mod naming;
 #[cfg(test)]
 mod objects;

@@ -1,5 +1,6 @@
 use pt_name::*;
 use pt_tree::{Name, NamePath};
+use std::alloc::Global;
 use std::test::Fail;
 
 // An identifier, its pairpath and its place in the default layout.
@@ -199,6 +200,14 @@ fn prefixes(rt: HostRuntime) -> Result<(), Fail> {
     Ok(())
 }
 
+fn place_of_abc(alloc: Global, size: u32, count: u32) -> Result<NamePath, Fail> {
+    Ok(Layout::of(size, count)?.place(alloc, b"abc")?)
+}
+
+fn place_text_of_abc(alloc: Global, size: u32, count: u32) -> Result<Vec<u8>, Fail> {
+    Ok(Layout::of(size, count)?.place_text(alloc, b"abc")?)
+}
+
 #[test]
 fn places_in_other_layouts(rt: HostRuntime) -> Result<(), Fail> {
     let alloc = rt.alloc();
@@ -214,10 +223,10 @@ fn places_in_other_layouts(rt: HostRuntime) -> Result<(), Fail> {
         ),
     ];
     for (size, count, names, place) in rows {
-        let path = Layout::of(size, count)?.place(alloc, b"abc")?;
+        let path = place_of_abc(alloc, size, count)?;
         assert_eq!(rt; path.len(), names, "{size} by {count}");
         assert_eq!(rt; path.join()?.as_slice(), place, "{size} by {count}");
-        let text = Layout::of(size, count)?.place_text(alloc, b"abc")?;
+        let text = place_text_of_abc(alloc, size, count)?;
         assert_eq!(rt; text.as_slice(), place, "{size} by {count}");
     }
     let text = Layout::default_form().place_text(alloc, b"\n")?;

@@ -1,5 +1,6 @@
 //! What `names` writes, also to outputs that fail.
 use pt_cli::{NamesFault, names_to};
+use pt_name::Layout;
 use std::io;
 use std::io::Write;
 use std::test::Fail;
@@ -73,7 +74,7 @@ fn names_are_written(rt: HostRuntime) -> Result<(), Fail> {
     ];
     for (id, lines) in rows {
         let mut out = Vec::new(alloc);
-        names_to(alloc, id, &mut out)?;
+        names_to(alloc, &Layout::default_form(), "", id, &mut out)?;
         assert_eq!(rt; out.as_slice(), lines.as_bytes(), "{id}");
     }
     Ok(())
@@ -104,15 +105,21 @@ fn outputs_that_fail(rt: HostRuntime) -> Result<(), Fail> {
             flushes,
         };
         assert_eq!(rt;
-            names_to(alloc, "abc", &mut out),
+            names_to(alloc, &Layout::default_form(), "", "abc", &mut out),
             answer,
             "{room} bytes, {at_a_time} at a time"
         );
         assert_eq!(rt; out.bytes.as_slice(), written.as_bytes());
     }
-    assert_eq!(rt; names_to(alloc, "abc", &mut Full), Err(NamesFault::Write));
+    assert_eq!(rt;
+        names_to(alloc, &Layout::default_form(), "", "abc", &mut Full),
+        Err(NamesFault::Write)
+    );
     let mut out = Vec::new(alloc);
-    assert_eq!(rt; names_to(alloc, "", &mut out), Err(NamesFault::Empty));
+    assert_eq!(rt;
+        names_to(alloc, &Layout::default_form(), "", "", &mut out),
+        Err(NamesFault::Empty)
+    );
     assert!(rt; out.is_empty());
     assert_eq!(rt;
         [

@@ -6,7 +6,10 @@ use std::test::Fail;
 #[test]
 fn words_of_names(rt: HostRuntime) -> Result<(), Fail> {
     match &read_words(rt.alloc(), &["pairtree2ocfl", "names", "abc"])? {
-        Command::Names(id) => assert_eq!(rt; id.as_str(), "abc"),
+        Command::Names(asked) => {
+            assert_eq!(rt; (asked.prefix.as_str(), asked.id.as_str()), ("", "abc"));
+            assert_eq!(rt; (asked.layout.size(), asked.layout.count()), (3, 3));
+        }
         Command::Migrate(_) => assert!(rt; false),
     }
     Ok(())

@@ -1,5 +1,5 @@
 -- Turns of the worked stores, one by one.
-use Rattle.std.specs.Prelude.{ℕ, false, List, [], ◌∷◌, ◌++◌, codes, None}
+use Rattle.std.specs.Prelude.{ℕ, false, List, [], ◌∷◌, ◌++◌, codes, None, Ok}
 use Rattle.pt_object.specs.Files.{root_declaration_bytes}
 use Rattle.pt_object.specs.RootFiles.{config_text, extension_name, layout_text}
 use Rattle.pt_object.specs.Script.{MakeFile, MakeFolder}
@@ -7,7 +7,6 @@ use Rattle.pt_object.specs.Scripts.{staging}
 use Rattle.pt_tree.specs.Forest.{listing_of}
 use Rattle.pt_tree.specs.declared.kind.Kind.TheVariants as kind
 use Rattle.pt_walk.specs.declared.frame.Frame.{Frame}
-use Rattle.pt_plan.specs.Answer.{Goes}
 use Rattle.pt_plan.specs.Job.{Job}
 use Rattle.pt_plan.specs.Lines.{End}
 use Rattle.pt_plan.specs.Run.{Held, no_counts, nothing_held, with_fed, with_trail}
@@ -21,7 +20,7 @@ use Rattle.pt_plan.specs.declared.phase.Phase.TheVariants as phase
 
 -- a turn from this phase to that one, of a run that read no prefix
 abbrev pub Leads : Job → Phase → Held → Calls → Phase → Held → Type 0
-Leads job here held calls next after = Follows job no_counts here [] held [] after calls (Goes next)
+Leads job here held calls next after = Follows job no_counts here [] held [] after calls (Ok next)
 
 -- what is held at `pairtree_root` of the empty store
 abbrev pub at_empty_root : Held

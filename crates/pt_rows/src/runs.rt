@@ -1,10 +1,14 @@
-#![tactic(auto, using(pt_move::proofs::Untold::untold))]
-// Runs over a source in memory that tells nothing and a destination that holds nothing: the lines and the turns.
-use pt_memory::{LooseSource, MemLog, MemSource};
+// Runs over devices in memory, those that tell nothing and those that tell everything: the lines and the turns.
+#![tactic(auto)]
+
+ghost use Rattle.pt_move.specs.Running.{HasBegun};
+ghost use Rattle.pt_state.specs.Turned.{world};
+
+use pt_memory::{LooseSource, MemDest, MemLog, MemSource};
 use pt_move::{Fault, Job, Mover, Report, Turn, migrate};
 use pt_name::Layout;
 use pt_object::{Algorithm, Meta};
-use pt_tree::{Block, Dest, Kind, Name, NamePath, TreeFault};
+use pt_tree::{Block, Dest, Kind, Log, Name, NamePath, Source, TreeFault};
 use pt_walk::Limits;
 use std::alloc::Global;
 use std::test::Fail;
@@ -27,10 +31,12 @@ impl Dest for Void {
         0
     }
 
+    #[tactic(auto, unfolding(pt_tree::specs::Dest::IsKindAt))]
     fn kind(&mut self, _path: &NamePath) -> Result<Option<Kind>, TreeFault> {
         Ok(None)
     }
 
+    #[tactic(auto, unfolding(pt_tree::specs::Dest::IsPeeked))]
     fn peek(&mut self, _path: &NamePath, block: &mut Block) -> Result<(), TreeFault> {
         block.clear();
         Ok(())
@@ -113,6 +119,28 @@ fn loose_object(alloc: Global) -> Result<LooseSource, Fail> {
     Ok(LooseSource::of(one_object(alloc)?))
 }
 
+// Makes so many steps, and stops at the first that doesn't answer `More`. Gives how many answered it, and the most
+// records held after one of those.
+fn go_on<S: Source, D: Dest, L: Log>(
+    mover: &mut Mover,
+    source: &mut S,
+    dest: &mut D,
+    log: &mut L,
+    steps: u64,
+) -> (u64, u128)
+    requires { HasBegun (world (S.told source.old) (D.told dest.old) (L.told log.old) (S.failed source.old) (D.failed dest.old) (L.failed log.old)) mover.old }
+    ensures { HasBegun (world (S.told source.new) (D.told dest.new) (L.told log.new) (S.failed source.new) (D.failed dest.new) (L.failed log.new)) mover.new }
+{
+    let mut most = 0;
+    'turns: for made in 0..steps {
+        let Ok(Turn::More) = mover.step(source, dest, log) else {
+            return (made, most);
+        };
+        most = mover.records().max(most);
+    }
+    (steps, most)
+}
+
 const DONE: &str =
     "{\"as\":\"done\",\"at\":\"ab/c/obj\",\"bytes\":3,\"empty\":0,\"files\":1,\"id\":\"abc\",\"to\":\"ba7/816/bf8/abc\"}\n";
 
@@ -188,12 +216,8 @@ fn the_limit_of_turns_ends_a_run(rt: HostRuntime) -> Result<(), Fail> {
     let mut log = MemLog::new(alloc);
     let limits = Limits::of(1_000_000, 4_000, 600, 1 << 43, 42)?;
     let mut mover = Mover::start(alloc, job(alloc, limits)?);
-    for _ in 0..42 {
-        assert_eq!(rt;
-            mover.step(&mut source, &mut Void, &mut log),
-            Ok(Turn::More)
-        );
-    }
+    let (made, _) = go_on(&mut mover, &mut source, &mut Void, &mut log, 42);
+    assert_eq!(rt; made, 42);
     let after = mover.step(&mut source, &mut Void, &mut log);
     assert_eq!(rt; after, Err(Fault::Turns));
     let after = mover.step(&mut source, &mut Void, &mut log);
@@ -210,14 +234,8 @@ fn the_last_turn_is_finished_and_nothing_follows(rt: HostRuntime) -> Result<(), 
     let mut log = MemLog::new(alloc);
     let limits = Limits::of(1_000_000, 4_000, 600, 1 << 43, 43)?;
     let mut mover = Mover::start(alloc, job(alloc, limits)?);
-    let mut most = 0;
-    for _ in 0..42 {
-        assert_eq!(rt;
-            mover.step(&mut source, &mut Void, &mut log),
-            Ok(Turn::More)
-        );
-        most = mover.records().max(most);
-    }
+    let (made, most) = go_on(&mut mover, &mut source, &mut Void, &mut log, 42);
+    assert_eq!(rt; made, 42);
     assert_eq!(rt;
         mover.step(&mut source, &mut Void, &mut log),
         Ok(Turn::Finished)
@@ -228,6 +246,55 @@ fn the_last_turn_is_finished_and_nothing_follows(rt: HostRuntime) -> Result<(), 
     );
     // Four listings of one entry, one row and one content.
     assert_eq!(rt; most, 6);
+    Ok(())
+}
+
+#[test]
+fn devices_that_tell_everything_take_a_migration(rt: HostRuntime) -> Result<(), Fail> {
+    let alloc = rt.alloc();
+    let mut source = one_object(alloc)?;
+    let mut dest = MemDest::new(alloc);
+    let mut log = MemLog::new(alloc);
+    let job = job(alloc, limits())?;
+    let report = migrate(alloc, &mut source, &mut dest, &mut log, job)?;
+    assert_eq!(rt;
+        report,
+        Report {
+            done: 1,
+            present: 0,
+            skipped: 0,
+            turns: 43,
+        }
+    );
+    let lines = str::from_utf8(log.bytes())?;
+    assert!(rt; lines.starts_with(DONE) && lines.ends_with(END_OF_ONE));
+    assert_eq!(rt; lines.len(), DONE.len() + END_OF_ONE.len());
+    let declaration = path(alloc, "ocfl/ba7/816/bf8/abc/0=ocfl_object_1.1")?;
+    assert_eq!(rt;
+        dest.file(&declaration),
+        Some(b"ocfl_object_1.1\n".as_slice())
+    );
+    Ok(())
+}
+
+#[test]
+fn devices_that_tell_everything_take_single_steps(rt: HostRuntime) -> Result<(), Fail> {
+    let alloc = rt.alloc();
+    let mut source = one_object(alloc)?;
+    let mut dest = MemDest::new(alloc);
+    let mut log = MemLog::new(alloc);
+    let mut mover = Mover::start(alloc, job(alloc, limits())?);
+    let (made, most) = go_on(&mut mover, &mut source, &mut dest, &mut log, 42);
+    assert_eq!(rt; (made, most), (42, 6));
+    assert_eq!(rt; str::from_utf8(log.bytes())?, DONE);
+    let last = mover.step(&mut source, &mut dest, &mut log);
+    assert_eq!(rt; last, Ok(Turn::Finished));
+    let lines = str::from_utf8(log.bytes())?;
+    assert!(rt; lines.starts_with(DONE) && lines.ends_with(END_OF_ONE));
+    assert_eq!(rt; lines.len(), DONE.len() + END_OF_ONE.len());
+    let after = mover.step(&mut source, &mut dest, &mut log);
+    assert_eq!(rt; after, Err(Fault::Ended));
+    assert_eq!(rt; mover.report().turns, 43);
     Ok(())
 }
 

@@ -2,6 +2,7 @@
 ghost use Rattle.pt_rows.specs.WorkedRuns.{BadNamesLog, BoundOfEmptyStore, BoundOfEqualContents, BoundOfGathering, DepthsAreLimited, DepthsOfChains, DividedLog, DividedSitesAreGathered, EmptyDirectoriesAreCounted, EmptyStoreLog, ExtensionsLog, FirstBadEntryCounts, LengthsAreLimited, LineFeedLog, LinesComeInOrder, OneIdentifierFlatLog, OneObjectFlatLog, OneObjectIsCarried, OneObjectIsNamed, OneObjectLog, PrefixIsRead, PresentComesFirst, SecondRunCarriesNothing, StoresAreKnown, StraysLog, UsableRootsAreTold, WaysAreTold, WorkOfFirstRuns, WorkOfGathering, WorkOfSecondRun, WorkOfSkips, WorkWithOtherTuples};
 ghost use Rattle.pt_rows.specs.WorkedTurns.{EmptyStoreTurns, OneObjectTurns};
 
+use pt_begun::laws as begun_laws;
 use pt_plan::laws;
 use std::test::Fail;
 
@@ -107,17 +108,38 @@ fn each_law_can_be_called(_rt: HostRuntime) -> Result<(), Fail> {
     laws::rows_make_whole_objects();
     laws::turns_have_no_part();
     laws::way_stays_free();
-    laws::new_run_is_begun();
-    laws::starting_keeps_source();
-    laws::walking_keeps_source();
-    laws::scanning_keeps_source();
-    laws::placing_keeps_source();
-    laws::walking_keeps_dest();
-    laws::scanning_keeps_dest();
-    laws::starting_keeps_trail();
-    laws::walking_keeps_trail();
-    laws::scanning_keeps_trail();
-    laws::making_keeps_trail();
-    laws::placing_keeps_trail();
+    Ok(())
+}
+
+#[test]
+fn each_law_of_a_run_in_progress_can_be_called(_rt: HostRuntime) -> Result<(), Fail> {
+    begun_laws::new_run_is_begun();
+    begun_laws::begun_permits();
+    begun_laws::turn_keeps_begun();
+    begun_laws::turn_ends_begun();
+    begun_laws::ends_well();
+    begun_laws::begun_is_within_bound();
+    begun_laws::refuses_rightly();
+    begun_laws::finds_staging();
+    begun_laws::starting_keeps_source();
+    begun_laws::walking_keeps_source();
+    begun_laws::scanning_keeps_source();
+    begun_laws::making_keeps_source();
+    begun_laws::placing_keeps_source();
+    begun_laws::starting_keeps_dest();
+    begun_laws::walking_keeps_dest();
+    begun_laws::scanning_keeps_dest();
+    begun_laws::making_keeps_dest();
+    begun_laws::placing_keeps_dest();
+    begun_laws::starting_keeps_held();
+    begun_laws::walking_keeps_held();
+    begun_laws::scanning_keeps_held();
+    begun_laws::making_keeps_held();
+    begun_laws::placing_keeps_held();
+    begun_laws::starting_keeps_items();
+    begun_laws::walking_keeps_items();
+    begun_laws::scanning_keeps_items();
+    begun_laws::making_keeps_items();
+    begun_laws::placing_keeps_items();
     Ok(())
 }

@@ -1,0 +1,11 @@
+//! Tests of what surrounds a run, by public calls. No code of the program stands on this crate.
+#![tactic(auto)]
+
+#[cfg(test)]
+mod counting;
+#[cfg(test)]
+mod durable;
+#[cfg(test)]
+mod guarding;
+#[cfg(test)]
+mod rehearsing;
