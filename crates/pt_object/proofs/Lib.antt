@@ -19,5 +19,5 @@ pub mod Stored
 pub mod Manifests
 pub mod Groups
 pub mod VersionStates
-mod Moved
-mod RowFiles
+pub mod Moved
+pub mod RowFiles

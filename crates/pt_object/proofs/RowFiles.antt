@@ -30,7 +30,7 @@ use Rattle.pt_object.proofs.Stored.{not_apart}
 use Rattle.pt_object.proofs.Ways.{is_same, name_itself, path_itself}
 
 -- the row without its length
-abbrev bare : Row → Row
+abbrev pub bare : Row → Row
 bare row = row_of row.path row.digest 0
 
 has-bare : (digest : List ℕ) (rows : List Row) → has digest (map bare rows) ≡ has digest rows
@@ -61,7 +61,7 @@ paths-bare digest (row ∷ rows) = by (bytes_eq row.digest digest) (paths-bare d
     by false later = later
 
 -- rows that are alike but for their lengths have one inventory
-same_text : (id : List ℕ) (rows others : List Row) (meta : MetaParts) (algorithm : Algorithm) → map bare rows ≡ map bare others → inventory_text id rows meta algorithm ≡ inventory_text id others meta algorithm
+pub same_text : (id : List ℕ) (rows others : List Row) (meta : MetaParts) (algorithm : Algorithm) → map bare rows ≡ map bare others → inventory_text id rows meta algorithm ≡ inventory_text id others meta algorithm
 same_text id rows others meta algorithm alike =
     let contents : map content_of_row (distinct rows) ≡ map content_of_row (distinct others) = sym (contents-bare [] rows) ∙ ap (λ (l : List Row). map content_of_row (distinct l)) alike ∙ contents-bare [] others in
     let paths : (digest : List ℕ) → paths_with rows digest ≡ paths_with others digest = λ digest. sym (paths-bare digest rows) ∙ ap (λ (l : List Row). paths_with l digest) alike ∙ paths-bare digest others in
@@ -94,7 +94,7 @@ among [] rows x row h = (and_parts _ _ h).0
 among (y ∷ earlier) rows x row h = among earlier rows x row (and_parts _ _ h).1
 
 -- what the files hold at the path of one of the rows
-held_of_row : (f : Row → List ℕ) (earlier rows : List Row) (row : Row) → are_apart (row_paths (earlier ++ row ∷ rows)) ≡ true → held_at (map (λ r. (r.path, f r)) (earlier ++ row ∷ rows)) row.path ≡ Some (f row)
+pub held_of_row : (f : Row → List ℕ) (earlier rows : List Row) (row : Row) → are_apart (row_paths (earlier ++ row ∷ rows)) ≡ true → held_at (map (λ r. (r.path, f r)) (earlier ++ row ∷ rows)) row.path ≡ Some (f row)
 held_of_row f [] rows row apart = ap (λ t. cond t (Some (f row)) (held_at (map (λ r. (r.path, f r)) rows) row.path)) (path_itself row.path)
 held_of_row f (x ∷ earlier) rows row apart = let parts = and_parts _ _ apart in by (same_path row.path x.path) refl (among earlier rows x row parts.0) (held_of_row f earlier rows row parts.1)
   where
@@ -103,7 +103,7 @@ held_of_row f (x ∷ earlier) rows row apart = let parts = and_parts _ _ apart i
     by true same apart later = absurd (not_apart x.path (ap (is_apart x.path) (sym (is_same row.path x.path same)) ∙ apart))
     by false other apart later = later
 
-abbrev holds_at : (Path → List ℕ) → Row → File
+abbrev pub holds_at : (Path → List ℕ) → Row → File
 holds_at held row = (row.path, held row.path)
 
 stored_same : (held : Path → List ℕ) (all earlier rows : List Row) → earlier ++ rows ≡ all → are_apart (row_paths all) ≡ true
@@ -131,7 +131,7 @@ by_contents : (held : Path → List ℕ) (rows : List Row) → map (holds_at hel
 by_contents held [] = refl
 by_contents held (row ∷ rows) = ap (λ (l : List File). holds_at held row ∷ l) (by_contents held rows)
 
-same_stored : (held : Path → List ℕ) (rows others : List Row) → map bare rows ≡ map bare others → stored_files rows held ≡ stored_files others held
+pub same_stored : (held : Path → List ℕ) (rows others : List Row) → map bare rows ≡ map bare others → stored_files rows held ≡ stored_files others held
 same_stored held rows others alike =
     by_contents held (distinct rows)
     ∙ ap (map (λ (c : Content). (c.path, held c.path))) (sym (contents-bare [] rows) ∙ ap (λ (l : List Row). map content_of_row (distinct l)) alike ∙ contents-bare [] others)
