@@ -8,7 +8,7 @@ PROGRAM := bin/pairtree2ocfl
 BUILT := crates/pairtree2ocfl/out/pairtree2ocfl
 
 .DEFAULT_GOAL := build
-.PHONY: help build demo test bench install clean toolchain
+.PHONY: help build try demo test bench install uninstall dist deb clean toolchain
 
 help: ## list the targets
 	@sed -n 's/^\([a-z]*\):.*## \(.*\)/make \1\t\2/p' $(MAKEFILE_LIST)
@@ -17,6 +17,9 @@ build: toolchain ## prove and build the program, at bin/pairtree2ocfl (the defau
 	cd crates/pairtree2ocfl && $(RT) run -- --help > /dev/null
 	@mkdir -p bin
 	@cp $(BUILT) $(PROGRAM).new && mv $(PROGRAM).new $(PROGRAM)
+
+try: toolchain ## run the program unproved over the store in demo/, in about a minute
+	@sh tools/try.sh $(RT)
 
 demo: build ## build the program and carry the store in demo/ into a temporary folder
 	@sh demo/run $(PROGRAM)
@@ -27,13 +30,21 @@ test: toolchain ## every test: the toolchain's gate, then the tests of the progr
 bench: build ## hold a run against sha512sum and cp over the same store
 	@$(PYTHON) bench/bench.py $(PROGRAM)
 
-install: ## copy the program to PREFIX/bin (PREFIX is /usr/local unless given)
+install: ## copy the program, its man page and its completions to PREFIX (/usr/local unless given), below DESTDIR
 	@test -x $(PROGRAM) || { echo "pairtree2ocfl: run make first, which builds $(PROGRAM)" >&2; exit 1; }
-	mkdir -p $(DESTDIR)$(PREFIX)/bin
-	cp $(PROGRAM) $(DESTDIR)$(PREFIX)/bin/pairtree2ocfl
+	sh tools/install.sh $(PROGRAM) "$(DESTDIR)$(PREFIX)"
+
+uninstall: ## take away what install copied
+	sh tools/install.sh --remove "$(DESTDIR)$(PREFIX)"
+
+dist: build ## make an archive of the program with its documents and licences, in dist/
+	@sh tools/dist.sh $(PROGRAM) dist
+
+deb: build ## make a Debian package, in dist/
+	@sh tools/deb.sh $(PROGRAM) dist
 
 clean: ## remove what was built and what the checks keep
-	rm -rf bin crates/*/out
+	rm -rf bin dist crates/*/out
 
 toolchain:
 	@command -v $(RT) > /dev/null || { echo "pairtree2ocfl: the Rattle toolchain is missing: no command '$(RT)' on the PATH (make RT=/path/to/rt names it)" >&2; exit 1; }

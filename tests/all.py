@@ -1,7 +1,8 @@
 """Every test of the repository: the toolchain's gate, then the tests of the program that the gate built.
 
-Usage: all.py RT PROGRAM. What the gate said of a failure is said again at the end. The last line is 'N passed, M failed', over
-all of them; the status is 0 only where nothing failed.
+Usage: all.py RT PROGRAM. Every few minutes it says how far the gate is, and at the gate's end how long each crate
+took. What the gate said of a failure is said again at the end. The last line is 'N passed, M failed', over all of
+them; the status is 0 only where nothing failed.
 """
 
 import collections
@@ -14,6 +15,7 @@ sys.dont_write_bytecode = True
 
 import migration
 import program
+import progress
 
 # What the gate says of itself, but for what went well.
 SAID = re.compile(r"^rt: (?!must-fail .*: refused, as it must be|.* proved$|.* passed$|.*: trying its )|: error: |^Traceback|^\w*Error: ")
@@ -33,14 +35,17 @@ def run_gate(rt):
 def run_once(rt):
     """Runs the gate and shows what it says. Where it gives no counts, those that are given are None."""
     counts, last = None, collections.deque(maxlen=30)
-    with subprocess.Popen([rt, "ci"], stdout=subprocess.PIPE, stderr=subprocess.STDOUT, text=True, errors="replace") as gate:
+    how = {"stdout": subprocess.PIPE, "stderr": subprocess.STDOUT, "text": True, "errors": "replace"}
+    with progress.Progress(progress.read_crates("crates.txt")) as far, subprocess.Popen([rt, "ci"], **how) as gate:
         for line in gate.stdout:
             line = line.rstrip("\n")
+            far.hear(line)
             told = re.fullmatch(r"(\d+) passed, (\d+) failed", line)
             counts = told or counts
             print(f"the gate: {line}" if told else line, flush=True)
             if SAID.search(line):
                 last.append(line)
+    print(far.table(), flush=True)
     last.append(f"the gate ended with status {gate.returncode}")
     if counts is None:
         return None, None, last

@@ -4,7 +4,7 @@ import random
 
 from running import Case, Run, ends, fault
 from stores import ABC, DIR, FIFO, ONE, ONE_DONE, ONE_ROOT, SOCKET, Link
-from stores import done, present, root, skip, store, stored, with_inventory
+from stores import done, present, root, skip, staged, store, stored, with_inventory
 
 END_ALONE = b'{"as":"end","done":0,"present":0,"skip":0}\n'
 DIGEST_OF_ABC = (
@@ -178,16 +178,36 @@ def contents():
     yield object_of("names of many kinds", {name: name.encode() for name in names})
     tops = {"inventory.json": b"{}", "0=ocfl_object_1.1": b"", "v1/content/x": b"1", "staging": b"2"}
     yield object_of("names that OCFL uses itself", tops)
-    path = "/".join(["d" * 249] * 15 + ["f" * 250])
-    yield object_of("a path of 4000 bytes", {path: b"long"})
-    run = ends([skip("ab/c", "limit")], root())
-    yield Case("a path of 4001 bytes", store({f"ab/c/obj/{path}f": b"long"}), run)
+    yield from longest_paths()
     inner = "/".join(["d"] * 597)
     yield object_of("a directory of an object at the greatest depth", {f"{inner}/f": b"deep"})
+    run = ends([skip("ab/c", "limit")], root())
     yield Case("a directory of an object that is too deep", store({f"ab/c/obj/{inner}/d": DIR}), run)
     dest = root(stored("abc", ABC), stored("abd", ABC))
     run = ends([ONE_DONE, done("ab/d/obj", "abd", ABC)], dest)
     yield Case("equal contents in two objects are stored twice", {**ONE, "pairtree_root/ab/d/obj/a.txt": b"abc"}, run)
+
+
+def longest_paths():
+    """Paths at the greatest length that can be reached at the longest place, and at the greatest that is looked at."""
+    folders = "/".join(["d" * 249] * 15)
+    # `d/staging/v1/content/` has 21 bytes, the longest place 175 more than `staging`, of which 12 are tuples.
+    files = {f"{folders}/{'f' * (4095 - 175 - 21 - 3750)}": b"long"}
+    source = store({f"ab/c/obj/{path}": content for path, content in files.items()})
+    run = ends([done("ab/c/obj", "abc", files)], root(stored("abc", files)), relative=True)
+    yield Case("the longest path that can be reached at its place", source, run)
+    left = root(staged({"0=ocfl_object_1.1": b"ocfl_object_1.1\n", f"v1/content/{folders}": DIR}))
+    for name, length in {"one byte more": 150, "4000 bytes": 250}.items():
+        long = store({f"ab/c/obj/{folders}/{'f' * length}": b"long"})
+        yield Case(f"a path of {name}, which can't be reached at its place", long, fault(2, left, relative=True))
+    run = ends([skip("ab/c", "limit")], root())
+    yield Case("a path of 4001 bytes", store({f"ab/c/obj/{folders}/{'f' * 251}": b"long"}), run)
+    none = {"tuples": ["--tuples", "0", "--tuple-size", "0"], "files": {f"{folders}/{'f' * (149 + 12)}": b"long"}}
+    source = store({f"ab/c/obj/{path}": content for path, content in none["files"].items()})
+    bare = root(stored("abc", none["files"], layout=(0, 0)), layout=(0, 0))
+    line = done("ab/c/obj", "abc", none["files"], layout=(0, 0))
+    run = ends([line], bare, relative=True, words=none["tuples"])
+    yield Case("the longest path where there are no tuples", source, run)
 
 
 def named(name, shorties, identifier, place=None, prefix=None):

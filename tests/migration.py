@@ -1,4 +1,5 @@
-"""The built program's tests of `migrate`, over real folders: tests/carrying.py and tests/refusing.py have the cases.
+"""The built program's tests over real folders: tests/carrying.py, tests/refusing.py and tests/options.py have the cases of
+`migrate`, tests/packages.py those of what is shipped, tests/guide.py those of the guide's commands.
 
 Usage: migration.py PROGRAM. The last line is 'N passed, M failed'.
 """
@@ -8,13 +9,18 @@ import sys
 sys.dont_write_bytecode = True
 
 import carrying
+import guide
+import options
+import packages
 import refusing
 import running
+
+CASES = [*carrying.CASES, *refusing.CASES, *options.CASES, *guide.CASES, *packages.CASES]
 
 
 def run_cases(program):
     """Runs each case, says what is wrong, and gives how many passed and failed."""
-    return running.run_all([*carrying.CASES, *refusing.CASES], program)
+    return running.run_all(CASES, program)
 
 
 if __name__ == "__main__":

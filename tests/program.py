@@ -5,6 +5,7 @@ Usage: program.py PROGRAM. The last line is 'N passed, M failed'.
 
 import hashlib
 import os
+import re
 import subprocess
 import sys
 
@@ -59,6 +60,11 @@ def is_help(text):
     return b"Usage: pairtree2ocfl" in text and b"names" in text
 
 
+def is_version(text):
+    """The name, the version, and on a line of its own the toolchain's."""
+    return re.fullmatch(rb"pairtree2ocfl \d+\.\d+\.\d+\nrattle-kit-\S+ logic [0-9a-f]{16}\n", text) is not None
+
+
 def is_refusal(text):
     """The parser's refusal: what is wrong, and how the program is used."""
     return text.startswith(b"error: ") and b"Usage: pairtree2ocfl" in text
@@ -78,6 +84,36 @@ def long_cases():
     yield names(more, in_pairs("=" * 34), f"{tuples(more.encode())}/{'%2f' * 33}%-{digits}")
 
 
+FULL = b"pairtree2ocfl: fault 3: cannot write the output\n"
+
+
+def of_layout(words, identifier, pairpath, place):
+    """The case of `names` with these options before the identifier."""
+    name = f"names {' '.join(words)} {identifier}"
+    return Case(name, ["names", *words, identifier], 0, f"{pairpath}\n{place}\n".encode())
+
+
+def no_layout(*words):
+    """The case of `names` with numbers that are no layout."""
+    return Case(f"names {' '.join(words)}", ["names", *words, "a"], 2, b"", b"pairtree2ocfl: the tuples are out of range\n")
+
+
+def layouts():
+    """Places in a store's own layout, and with its prefix."""
+    digits = hashlib.sha256(b"uc1.abc").hexdigest()
+    yield of_layout(["--prefix", "uc1."], "abc", "ab/c", f"{tuples(b'uc1.abc')}/uc1%2eabc")
+    cut = "/".join(digits[2 * i : 2 * i + 2] for i in range(4))
+    four = ["--prefix", "uc1.", "--tuple-size", "2", "--tuples", "4"]
+    yield of_layout(four, "abc", "ab/c", f"{cut}/uc1%2eabc")
+    yield of_layout(["--tuple-size=0", "--tuples=0"], "abc", "ab/c", "abc")
+    yield of_layout(["--prefix", ""], "abc", "ab/c", "ba7/816/bf8/abc")
+    yield no_layout("--tuples", "0")
+    yield no_layout("--tuple-size", "33")
+    yield Case("the empty identifier after a prefix", ["names", "--prefix", "a", ""], 2, b"", EMPTY)
+    yield Case("a number that is none", ["names", "--tuples", "x", "a"], 2, b"", lambda err: err.startswith(b"error: "))
+
+
+EMPTY = b"pairtree2ocfl: the identifier is empty\n"
 CASES = [
     names("abc", "ab/c", "ba7/816/bf8/abc"),
     names("ark:/13030/xt12t3", "ar/k+/=1/30/30/=x/t1/2t/3", "4b8/4fe/385/ark%3a%2f13030%2fxt12t3"),
@@ -97,6 +133,7 @@ CASES = [
     names("\u00e9", "^c/3^/a9", tuples(b"\xc3\xa9") + "/%c3%a9"),
     names("a\\ b", "a^/5c/^2/0b", tuples(b"a\\ b") + "/a%5c%20b"),
     *long_cases(),
+    *layouts(),
     Case("help on standard output", ["--help"], 0, is_help),
     Case("help on one command", ["names", "--help"], 0, is_help),
     Case("the empty identifier", ["names", ""], 2, b"", b"pairtree2ocfl: the identifier is empty\n"),
@@ -104,7 +141,10 @@ CASES = [
     Case("names without an identifier", ["names"], 2, b"", is_refusal),
     Case("two identifiers", ["names", "a", "b"], 2, b"", is_refusal),
     Case("a command that there isn't", ["carry"], 2, b"", is_refusal),
-    Case("no version is told", ["--version"], 2, b"", is_refusal),
+    Case("the version", ["--version"], 0, is_version),
+    Case("the version, shortly", ["-V"], 0, is_version),
+    Case("the version to an output that is full", ["-V"], 3, b"", FULL, "/dev/full"),
+    Case("a version of names", ["names", "--version"], 2, b"", is_refusal),
     Case(
         "arguments that are not UTF-8",
         ["names", b"\xff"],

@@ -180,7 +180,7 @@ def run_all(cases, program):
         for case, faults in zip(cases, pool.map(lambda case: case.outcome(path), cases)):
             for text in faults or ():
                 print(f"{case.name}: {text}")
-            said = "skipped: no mounts here" if faults is None else "FAILED" if faults else "ok"
+            said = "skipped: not possible here" if faults is None else "FAILED" if faults else "ok"
             print(f"migrate {case.name} ... {said}", flush=True)
             passed, failed = passed + (faults == []), failed + bool(faults)
     return passed, failed

@@ -1,0 +1,30 @@
+# bash completion of pairtree2ocfl
+_pairtree2ocfl() {
+    local current=${COMP_WORDS[COMP_CWORD]} previous=${COMP_WORDS[COMP_CWORD - 1]} command= options= word
+    for word in "${COMP_WORDS[@]:1:COMP_CWORD-1}"; do
+        case $word in
+            migrate | names | help) command=$word && break ;;
+        esac
+    done
+    COMPREPLY=()
+    case $previous in
+        --digest) mapfile -t COMPREPLY < <(compgen -W 'sha512 sha256' -- "$current") && return ;;
+        --progress) mapfile -t COMPREPLY < <(compgen -W 'auto always never' -- "$current") && return ;;
+        --created | --name | --address | --message | --tuple-size | --tuples | --prefix) return ;;
+    esac
+    case $command in
+        migrate)
+            options='--created --name --address --message --digest --tuple-size --tuples --gather --sync
+                --dry-run -n --verbose -v --progress --help -h'
+            ;;
+        names) options='--prefix --tuple-size --tuples --help -h' ;;
+        help) options='migrate names help' ;;
+        *) options='migrate names help --help -h --version -V' ;;
+    esac
+    if [[ $command == migrate && $current != -* ]]; then
+        mapfile -t COMPREPLY < <(compgen -d -- "$current")
+    else
+        mapfile -t COMPREPLY < <(compgen -W "$options" -- "$current")
+    fi
+}
+complete -o filenames -F _pairtree2ocfl pairtree2ocfl

@@ -1,0 +1,326 @@
+"""Cases of what users expect of a run: reasons, one run at a time, folders that lie apart, rehearsal, durability, progress.
+
+Usage: options.py PROGRAM. The last line is 'N passed, M failed'.
+"""
+
+import contextlib
+import fcntl
+import os
+import pty
+import re
+import shutil
+import subprocess
+import sys
+import tempfile
+import time
+
+sys.dont_write_bytecode = True
+
+import carrying
+import refusing
+import running
+from running import MEANT, TEXTS, Case, Run, ends
+from stores import ABC, DIR, ONE, ONE_DONE, ONE_ROOT, Link
+from stores import build, lines, object_files, read_tree, root, staged, store, stored
+
+OVERLAP = b"pairtree2ocfl: SOURCE and DEST lie in one another\n"
+TAKEN = b"pairtree2ocfl: another run has the destination\n"
+
+
+def apart():
+    """Folders that lie in one another are refused before anything is read or made; others aren't."""
+    refused = Run(b"", {}, 2, OVERLAP, dest_name="s")
+    yield Case("the store as its own destination", ONE, refused)
+    for name, dest in {
+        "an object's folder": "s/pairtree_root/ab/c/obj",
+        "pairtree_root": "s/pairtree_root",
+        "the store by a detour": "d/../s",
+        "the store by a link": "d/link",
+        "a folder of the store by a link": "d/link/pairtree_root/ab",
+    }.items():
+        given = {"link": Link("../s")} if "link" in dest else {}
+        yield Case(f"a destination that is {name}", ONE, Run(b"", given, 2, OVERLAP, dest_name=dest), dest=given)
+    for name in ("ocfl", "staging"):
+        inner = {f"{name}/in/{path}": content for path, content in ONE.items()}
+        run = Run(b"", inner, 2, OVERLAP, source=f"d/{name}/in")
+        yield Case(f"a store in {name} of the destination", ONE, run, dest=inner)
+        run = Run(b"", inner, 2, OVERLAP, source=f"s/way/{name}/in")
+        yield Case(f"a store in {name}, by a link", {"way": Link("../d")}, run, dest=inner)
+    beside = {f"mine/{path}": content for path, content in ONE.items()}
+    run = ends([ONE_DONE], {**beside, **ONE_ROOT}, source="d/mine")
+    yield Case("a store beside ocfl in the destination", ONE, run, dest=beside)
+    words = {"meant": ("--created", "today", "--name", "Ada")}
+    reason = b"pairtree2ocfl: --created is not a moment of RFC 3339 to the second\n"
+    yield Case("words before folders", ONE, Run(b"", {}, 2, reason, dest_name="s", **words))
+
+
+def reasons():
+    """With --verbose a line more tells the path and the reason of a fault; without it there is none."""
+    none = "No such file or directory (os error 2)"
+    yield from told("no store", {}, 1, f"s/absent/: {none}", source="s/absent")
+    yield from told("no destination", ONE, 2, f"d/absent/staging: {none}", dest_name="d/absent")
+    yield from told("no words for the source", ONE, 1, ": the path is empty", source="")
+    yield from told("no words for the destination", ONE, 2, ": the path is empty", dest_name="")
+    neither = "it holds no file pairtree_version0_1 or no directory pairtree_root"
+    yield from told("no Pairtree", {"x": b""}, 5, f"s: {neither}")
+    prefix = "pairtree_prefix in it is no file, has more than 1024 bytes, or is not UTF-8"
+    yield from told("no prefix", store({}, DIR), 6, f"s: {prefix}")
+    yield from told("a left staging", ONE, 7, "d/staging: it stands there already", dest={"staging": DIR})
+    way = "it is not what this program makes there with these tuples"
+    yield from told("an ocfl that is a file", ONE, 8, f"d/ocfl: {way}", dest={"ocfl": b""})
+    other = {**root(), "ocfl/ocfl_layout.json": b"{}"}
+    yield from told("another layout", ONE, 8, f"d/ocfl/ocfl_layout.json: {way}", dest=other)
+    taken = {**root(), "ocfl/ba7": b"1"}
+    left = {**taken, **staged(object_files("abc", ABC))}
+    yield from told("a file for a tuple", ONE, 8, f"d/ocfl/ba7: {way}", dest=taken, left=left)
+    bad = b"\xff".decode(errors="surrogateescape")
+    reason = "s/pairtree_root/ab: a name in it is not UTF-8"
+    yield from told("a name that isn't UTF-8", store({f"ab/{bad}": b""}), 1, reason, left=root())
+    path = "/".join(["d" * 249] * 15)
+    reason = f"d/staging/v1/content/{path}/{'f' * 150}: the path would be too long at its place in ocfl"
+    declared = {"0=ocfl_object_1.1": b"ocfl_object_1.1\n"}
+    left = {**root(), **staged({**declared, f"v1/content/{path}": DIR})}
+    yield from told("a path too long", store({f"ab/c/obj/{path}/{'f' * 150}": b""}), 2, reason, left=left)
+    strange = "x\n\x1b[31m\x7f\u0085\\"
+    shown = "x\\u{a}\\u{1b}[31m\\u{7f}\\u{85}\\\\"
+    text = f"{shown}/staging: {none}"
+    yield from told("control characters of a path", ONE, 2, text, dest_name=strange)
+    yield Case("no reason without a fault", ONE, ends([ONE_DONE], ONE_ROOT, words=["-v"]))
+    no_output = b"pairtree2ocfl: fault 3: cannot write the output\n"
+    run = Run(b"", ONE_ROOT, 3, no_output, words=["-v"], output="/dev/full")
+    yield Case("no reason where a fault has no path", ONE, run)
+
+
+def told(name, held, number, reason, dest=None, left=None, **options):
+    """The case of a fault, told without its reason and with it. Folders are given as they are here."""
+    dest, left = dest or {}, left if left is not None else dest or {}
+    line = f"pairtree2ocfl: fault {number}: {TEXTS[number]}\n".encode()
+    more = f"pairtree2ocfl: {reason}\n".encode()
+    for words, err in {(): line, ("--verbose",): line + more}.items():
+        run = Run(b"", left, 3, err, relative=True, words=words, **options)
+        yield Case(f"{name}: {' '.join(words) or 'no more'}", held, run, dest=dest)
+
+
+class Alone:
+    """A test that is a function of the program and of a new folder, and gives what went wrong."""
+
+    def __init__(self, name, test):
+        self.name = name
+        self.test = test
+
+    def outcome(self, program):
+        with tempfile.TemporaryDirectory(prefix="p") as folder:
+            build(folder, {"s": DIR, "d": DIR})
+            build(f"{folder}/s", ONE)
+            try:
+                return self.test(program, folder)
+            except (OSError, subprocess.SubprocessError) as error:
+                return [repr(error)]
+
+
+def run(program, folder, *words, **options):
+    """The program over the folders of a test."""
+    command = [program, "migrate", *MEANT, *words, "s", "d"]
+    return subprocess.run(command, cwd=folder, capture_output=True, stdin=subprocess.DEVNULL, timeout=120, **options)
+
+
+def differs(**pairs):
+    """What isn't as it must be, of pairs of what was found and what was wanted."""
+    return [f"{name} is {found!r}, not {wanted!r}" for name, (found, wanted) in pairs.items() if found != wanted]
+
+
+def locked(program, folder):
+    """A run is refused while another has the destination, and isn't afterwards. No file is added."""
+    holder = os.open(f"{folder}/d", os.O_RDONLY)
+    fcntl.flock(holder, fcntl.LOCK_EX | fcntl.LOCK_NB)
+    first = [run(program, folder), run(program, folder, "--dry-run")]
+    stands = read_tree(f"{folder}/d")
+    os.close(holder)
+    last = run(program, folder)
+    wanted = (3, b"", TAKEN)
+    faults = differs(stands=(stands, {}), status=(last.returncode, 0))
+    for done in first:
+        faults += differs(refusal=((done.returncode, done.stdout, done.stderr), wanted))
+    return faults + differs(names=(sorted(os.listdir(f"{folder}/d")), ["ocfl"]))
+
+
+def holds(program, folder):
+    """A run holds the destination to its end: here it waits, since nobody reads its log."""
+    many(folder)
+    command = [program, "migrate", *MEANT, "s", "d"]
+    with subprocess.Popen(command, cwd=folder, stdout=subprocess.PIPE, stderr=subprocess.PIPE) as first:
+        for _ in range(1000):
+            if os.path.exists(f"{folder}/d/ocfl/0=ocfl_1.1"):
+                break
+            time.sleep(0.01)
+        second = run(program, folder)
+        first.communicate(timeout=120)
+    wanted = (3, b"", TAKEN)
+    return differs(second=((second.returncode, second.stdout, second.stderr), wanted), first=(first.returncode, 0))
+
+
+def many(folder, content=b""):
+    """More objects in the store, whose log is longer than a pipe holds."""
+    letters = "abcdef"
+    paths = (f"{a}{b}/{c}{d}" for a in letters for b in letters for c in letters for d in letters)
+    build(f"{folder}/s", {f"pairtree_root/{path}/obj/f": content for path in paths})
+
+
+def synced(program, folder):
+    """With --sync each file is put onto the disk before it is closed, and then the folder that the object lies in; the log
+    after each line. Without it nothing is."""
+    if not shutil.which("strace"):
+        return None
+    faults = []
+    for words, least in {(): 0, ("--sync",): 1}.items():
+        trace = f"{folder}/trace"
+        subprocess.run(["rm", "-rf", f"{folder}/d"], check=True)
+        os.mkdir(f"{folder}/d")
+        with open(f"{folder}/log", "wb") as log:
+            command = ["strace", "-f", "-y", "-o", trace, "-e", "trace=fsync,fdatasync,close,rename,openat,open", program]
+            ended = subprocess.run([*command, "migrate", *MEANT, *words, "s", "d"], cwd=folder, stdout=log, timeout=120)
+        with open(trace, encoding="utf-8", errors="replace") as file:
+            calls = re.findall(r"fsync\(\d+<([^>]*)>\)\s+= 0", file.read())
+        made = sum(content != DIR for content in read_tree(f"{folder}/d").values())
+        folders = [path for path in calls if os.path.isdir(path)]
+        files = len(calls) - len(folders) - sum(path.endswith("/log") for path in calls)
+        faults += differs(status=(ended.returncode, 0), files=(files, made * least), folders=(len(folders), 2 * least))
+        faults += differs(log=(sum(path.endswith("/log") for path in calls), 2 * least))
+    return faults
+
+
+def late(program, folder):
+    """With --sync an error that comes late is fault 2."""
+    if not shutil.which("strace"):
+        return None
+    faults = []
+    for when in ("1", "4", "9"):
+        subprocess.run(["rm", "-rf", f"{folder}/d"], check=True)
+        os.mkdir(f"{folder}/d")
+        command = ["strace", "-f", "-o", "/dev/null", "-e", f"inject=fsync:error=EIO:when={when}", program]
+        ended = subprocess.run([*command, "migrate", *MEANT, "--sync", "-v", "s", "d"], cwd=folder, capture_output=True, timeout=120)
+        line = b"pairtree2ocfl: fault 2: cannot write the destination\n"
+        told = ended.stderr.startswith(line) and ended.stderr.endswith(b": Input/output error (os error 5)\n")
+        faults += differs(status=(ended.returncode, 3), told=(told, True))
+    return faults
+
+
+def on_terminal(program, folder, *words, output=True):
+    """What standard error gets, where it is a terminal, in a run over many objects."""
+    many(folder, b"x" * 20_000)
+    ours, theirs = pty.openpty()
+    with open(f"{folder}/log", "wb") as log:
+        command = [program, "migrate", *MEANT, *words, "s", "d"]
+        with subprocess.Popen(command, cwd=folder, stdout=log if output else theirs, stderr=theirs) as child:
+            os.close(theirs)
+            said = b""
+            with contextlib.suppress(OSError):
+                while piece := os.read(ours, 65536):
+                    said += piece
+            child.wait(60)
+    os.close(ours)
+    return child.returncode, said
+
+
+LINE = re.compile(
+    rb"pairtree2ocfl: \d+ s: \d+ done, \d+ present, \d+ skipped, \d+ bytes read, at [^\r\n]*"
+)
+
+
+def shown(program, folder):
+    """On a terminal a line is written over, and taken away at the end; none where the log goes there too, or by `never`."""
+    status, said = on_terminal(program, folder)
+    first = said.split(b"\r")[1:2]
+    faults = differs(status=(status, 0), lines=(b"\n" in said, False), end=(said.endswith(b"\r\x1b[K"), True))
+    if said != b"\r\x1b[K" and not (first and LINE.match(first[0]) and len(first[0]) <= 79 + len(b"\x1b[K")):
+        faults.append(f"standard error is {said[:300]!r}")
+    for words, output in ((("--progress", "never"), True), ((), False)):
+        status, said = on_terminal(program, folder, *words, output=output)
+        faults += differs(status=(status, 1), shown=(b"\x1b" in said, False))
+    return faults
+
+
+def seldom(program, folder):
+    """Elsewhere a line every ten seconds, where it is asked for."""
+    many(folder)
+    command = [program, "migrate", *MEANT, "--progress", "always", "s", "d"]
+    with subprocess.Popen(command, cwd=folder, stdout=subprocess.PIPE, stderr=subprocess.PIPE) as child:
+        time.sleep(11)
+        out, err = child.communicate(timeout=60)
+    quiet = run(program, folder, "--progress", "auto")
+    right = err and all(LINE.fullmatch(line) for line in err.splitlines())
+    faults = differs(status=(child.returncode, 0), lines=(out.count(b"\n"), 6**4 + 2), quiet=(quiet.stderr, b""))
+    return faults if right else [*faults, f"standard error is {err!r}"]
+
+
+def rehearsals():
+    """Every run of the other tests, rehearsed before it."""
+    for case in (*carrying.CASES, *refusing.CASES):
+        if not any(mount[-1] == "d" for mount in case.mounts):
+            yield Rehearsed(f"rehearsed: {case.name}", case.source, *case.runs, dest=case.dest, mounts=case.mounts, unsteady=case.unsteady)
+
+
+class Rehearsed(Case):
+    """A case whose runs are rehearsed first: the log and the status are the run's, and nothing of the destination changes."""
+
+    def run_faults(self, program, folder, run):
+        build(f"{folder}/s", run.grow)
+        build(f"{folder}/d", run.plant)
+        for command in run.commands:
+            subprocess.run(command, cwd=folder, check=True)
+        words = run.command(program, folder)
+        before = stamps(folder)
+        rehearsed = running.started([*words[:-2], "--dry-run", *words[-2:]], folder, run.output)
+        after = stamps(folder)
+        ran = running.started(words, folder, run.output)
+        if before != after:
+            yield f"changed: {sorted(before.items() ^ after.items())[:4]}"
+        by_parser = ran[0] == 2 and ran[2].startswith(b"error: ")
+        if rehearsed != ran and not (by_parser and rehearsed[:2] == ran[:2]):
+            yield f"the rehearsal gave {rehearsed!r:.600}, and the run {ran!r:.600}"
+
+
+def stamps(folder):
+    """All that stands in the folder of a case, each with its number, size and times."""
+    found = {}
+    for top in ("s", "d"):
+        for above, dirs, files in os.walk(f"{folder}/{top}"):
+            for name in (".", *dirs, *files):
+                told = os.stat(os.path.join(above, name), follow_symlinks=False)
+                found[os.path.join(above, name)] = (told.st_ino, told.st_mode, told.st_size, told.st_mtime_ns, told.st_ctime_ns)
+    return found
+
+
+def short_words():
+    """The short words of options."""
+    yield Case("-n is --dry-run, -v is --verbose", ONE, Run(lines(ONE_DONE, END_OF_ONE), {}, 0, words=["-nv"]))
+    twice = store({"^6/1b/c/one/a.txt": b"abc", "ab/c/obj/a.txt": b"abc"})
+    yield Rehearsed("rehearsed: one identifier in two places", twice, Run(b"", {}, 1))
+    for words in (["--dry-run=1"], ["--progress", "often"], ["--sync=no"], ["-x"]):
+        yield Case(f"refused by the parser: {' '.join(words)}", ONE, running.refused_by_parser(MEANT, *words))
+    for words in (["--sync"], ["--progress=always"], ["--progress", "never", "--verbose"]):
+        yield Case(f"the words {' '.join(words)}", ONE, ends([ONE_DONE], ONE_ROOT, words=words))
+
+
+END_OF_ONE = {"as": "end", "done": 1, "present": 0, "skip": 0}
+ALONE = [
+    Alone("one run at a time", locked),
+    Alone("a run holds its destination", holds),
+    Alone("files, folders and the log put onto the disk", synced),
+    Alone("an error that comes late", late),
+    Alone("progress on a terminal", shown),
+    Alone("progress elsewhere", seldom),
+]
+PARTS = (apart, reasons, short_words, rehearsals)
+CASES = [*ALONE, *(case for part in PARTS for case in part())]
+
+
+def run_cases(program):
+    """Runs each case, says what is wrong, and gives how many passed and failed."""
+    return running.run_all(CASES, program)
+
+
+if __name__ == "__main__":
+    PASSED, FAILED = run_cases(sys.argv[1])
+    print(f"{PASSED} passed, {FAILED} failed")
+    sys.exit(1 if FAILED else 0)

@@ -1,0 +1,231 @@
+"""Tests of what is shipped with the program: man page, completions, licences, installing, the archive and the package.
+
+Usage: packages.py PROGRAM. The last line is 'N passed, M failed'.
+"""
+
+import glob
+import hashlib
+import os
+import re
+import shutil
+import subprocess
+import sys
+import tarfile
+
+sys.dont_write_bytecode = True
+
+import running
+from options import Alone, differs
+
+TOP = os.path.dirname(os.path.dirname(os.path.abspath(__file__)))
+COMMANDS = ("migrate", "names")
+INSTALLED = {
+    "bin/pairtree2ocfl",
+    "share/man/man1/pairtree2ocfl.1",
+    "share/bash-completion/completions/pairtree2ocfl",
+    "share/zsh/site-functions/_pairtree2ocfl",
+    "share/fish/vendor_completions.d/pairtree2ocfl.fish",
+    "share/pairtree2ocfl/roots.py",
+}
+
+
+def text_of(path):
+    """A file of the repository."""
+    with open(f"{TOP}/{path}", encoding="utf-8") as file:
+        return file.read()
+
+
+def done(*command, **options):
+    """What a command wrote; an error where it failed."""
+    return subprocess.run(command, capture_output=True, check=True, timeout=120, **options).stdout.decode()
+
+
+def options_of(program, *command):
+    """The options in a command's help, long and short."""
+    helped = done(program, *command, "--help")
+    return set(re.findall(r"^\s+(?:(-\w), )?(--[\w-]+)", helped, re.MULTILINE))
+
+
+def every_option(program):
+    """Each command with each of its options, as (command, option)."""
+    for command in ((), *((name,) for name in COMMANDS)):
+        for pair in sorted(options_of(program, *command)):
+            yield from ((command, option) for option in pair if option)
+
+
+def documented(program, folder):
+    """Each option of the help stands in the README, the guide or the man page, and the completions of all three shells."""
+    page = text_of("man/pairtree2ocfl.1").replace("\\-", "-")
+    zsh, fish = text_of("completions/_pairtree2ocfl"), text_of("completions/pairtree2ocfl.fish")
+    readme, faults = text_of("README.md"), []
+    for command, option in every_option(program):
+        spelled = re.escape(option) + r"(?![\w-])"
+        long = option.startswith("--")
+        in_fish = rf"-l {option[2:]}\b(?!-)" if long else rf"-s {option[1]}\b"
+        places = {"README": (readme, rf"`[^`]*{spelled}"), "the man page": (page, spelled), "zsh": (zsh, spelled), "fish": (fish, in_fish)}
+        faults += [f"{option} isn't in {name}" for name, (text, form) in places.items() if not re.search(form, text)]
+        if option not in completed(*command, option):
+            faults.append(f"bash doesn't complete {' '.join(command)} {option}")
+    guide = text_of("docs/GUIDE.md")
+    seen = {option for _, option in every_option(program) if option.startswith("--")} - {"--help", "--version"}
+    return faults + [f"{option} isn't in GUIDE" for option in sorted(seen) if option not in guide]
+
+
+def known(program, folder):
+    """The man page and the completions have no option that the program hasn't."""
+    there = {option for _, option in every_option(program)}
+    faults = []
+    for path in ("man/pairtree2ocfl.1", "completions/pairtree2ocfl.bash", "completions/_pairtree2ocfl"):
+        told = set(re.findall(r"(?<![\w-])--[a-z][a-z-]*[a-z]", text_of(path).replace("\\-", "-")))
+        faults += [f"{option} of {path} isn't there" for option in sorted(told - there)]
+    told = {f"--{name}" for name in re.findall(r"^complete .*-l ([\w-]+)", text_of("completions/pairtree2ocfl.fish"), re.MULTILINE)}
+    return faults + [f"{option} of fish isn't there" for option in sorted(told - there)]
+
+
+def completed(*words):
+    """What bash completes these words to."""
+    script = f"source {TOP}/completions/pairtree2ocfl.bash\nCOMP_WORDS=(pairtree2ocfl \"$@\")\nCOMP_CWORD=$#\n"
+    script += '_pairtree2ocfl\nprintf "%s\\n" "${COMPREPLY[@]}"'
+    return done("bash", "-c", script, "bash", *words, cwd=TOP).split()
+
+
+def in_bash(program, folder):
+    """What bash completes values, commands and folders to."""
+    return differs(
+        commands=(completed(""), ["migrate", "names", "help", "--help", "-h", "--version", "-V"]),
+        digests=(completed("migrate", "--digest", ""), ["sha512", "sha256"]),
+        times=(completed("migrate", "--progress", "a"), ["auto", "always"]),
+        moments=(completed("migrate", "--created", ""), []),
+        folders=("crates" in completed("migrate", "--gather", "cr"), True),
+        names=(completed("names", "--p"), ["--prefix"]),
+        help=(completed("help", "n"), ["names"]),
+    )
+
+
+def syntax(program, folder):
+    """The man page and the completions can be read by what reads them, where that is here."""
+    faults = []
+    checks = {
+        "mandoc": ["-T", "lint", "-W", "warning", f"{TOP}/man/pairtree2ocfl.1"],
+        "groff": ["-man", "-Tutf8", "-ww", f"{TOP}/man/pairtree2ocfl.1"],
+        "bash": ["-n", f"{TOP}/completions/pairtree2ocfl.bash"],
+        "zsh": ["-n", f"{TOP}/completions/_pairtree2ocfl"],
+        "fish": ["-n", f"{TOP}/completions/pairtree2ocfl.fish"],
+    }
+    for tool, words in checks.items():
+        if shutil.which(tool):
+            ended = subprocess.run([tool, *words], capture_output=True, timeout=120)
+            said = ended.stderr + (ended.stdout if tool == "mandoc" else b"")
+            faults += differs(**{tool: ((ended.returncode, said), (0, b""))})
+    return faults
+
+
+def versions(program, folder):
+    """The version stands in the changelog first and in the man page, and the toolchain's line is the toolchain's."""
+    first, toolchain = done(program, "--version").splitlines()
+    number = first.removeprefix("pairtree2ocfl ")
+    newest = re.search(r"^## \[([^]]*)\]", text_of("CHANGELOG.md"), re.MULTILINE)[1]
+    faults = differs(changelog=(newest, number), page=(f"pairtree2ocfl {number}" in text_of("man/pairtree2ocfl.1"), True))
+    faults += differs(readme=(f"`{toolchain}`" in text_of("README.md"), True))
+    rt = shutil.which(os.environ.get("RT", "rt"))
+    return faults + (differs(toolchain=(done(rt, "version").strip(), toolchain)) if rt else [])
+
+
+def named_files(program, folder):
+    """The documents name files that are there."""
+    faults = []
+    for crate, files in re.findall(r"(pt_\w+), (\w+\.rt(?:(?:, | and )\w+\.rt)*)", text_of("docs/ARCHITECTURE.md")):
+        names = re.findall(r"\w+\.rt", files)
+        faults += [f"{crate} has no {name}" for name in names if not os.path.isfile(f"{TOP}/crates/{crate}/src/{name}")]
+    for path in ("README.md", *(f"docs/{name}" for name in os.listdir(f"{TOP}/docs")), "CONTRIBUTING.md"):
+        for name in re.findall(r"\b(?:docs|tests|tools|bench|man)/[\w./-]+\w", text_of(path)):
+            faults += [] if os.path.exists(f"{TOP}/{name}") else [f"{path} names {name}"]
+    return faults
+
+
+def licences(program, folder):
+    """The licences of the crates that the program holds are the toolchain's own files, where that is here."""
+    faults = differs(own=(all(os.path.isfile(f"{TOP}/LICENSE-{name}") for name in ("MIT", "APACHE")), True))
+    rt = shutil.which(os.environ.get("RT", "rt"))
+    if rt:
+        kit = os.path.dirname(done(rt, "doc").strip())
+        for path in glob.glob(f"{TOP}/LICENSES/*/*"):
+            name = os.path.relpath(path, f"{TOP}/LICENSES")
+            with open(f"{kit}/rattle/{name}", encoding="utf-8") as file:
+                faults += differs(**{name: (text_of(f"LICENSES/{name}") == file.read(), True)})
+    return faults
+
+
+def text_files(top):
+    """The files below a folder."""
+    return {os.path.relpath(os.path.join(above, name), top) for above, _, names in os.walk(top) for name in names}
+
+
+def installed(program, folder):
+    """What is installed runs, and what is uninstalled leaves no file."""
+    root = f"{folder}/root/usr"
+    done("sh", f"{TOP}/tools/install.sh", program, root)
+    faults = differs(files=(text_files(root), INSTALLED))
+    faults += differs(runs=(done(f"{root}/bin/pairtree2ocfl", "names", "abc"), "ab/c\nba7/816/bf8/abc\n"))
+    done("sh", f"{TOP}/tools/install.sh", "--remove", root)
+    return faults + differs(left=(text_files(root), set()))
+
+
+def archived(program, folder):
+    """The archive has all that its sums name, and its program runs."""
+    path = done("sh", f"{TOP}/tools/dist.sh", program, f"{folder}/dist").strip()
+    with tarfile.open(path) as archive:
+        archive.extractall(folder)
+    top = f"{folder}/{os.path.basename(path).removesuffix('.tar.gz')}"
+    sums = dict(reversed(line.split("  ", 1)) for line in open(f"{top}/SHA256SUMS", encoding="utf-8").read().splitlines())
+    faults = differs(listed=(set(sums), text_files(top) - {"SHA256SUMS"}))
+    for name, digest in sums.items():
+        with open(f"{top}/{name}", "rb") as file:
+            faults += differs(**{name: (hashlib.sha256(file.read()).hexdigest(), digest)})
+    wanted = INSTALLED | {"README.md", "CHANGELOG.md", "LICENSE-MIT", "LICENSE-APACHE", "docs/GUIDE.md", "LICENSES/clap/LICENSE-MIT"}
+    faults += differs(missing=(wanted - set(sums), set()))
+    return faults + differs(runs=(done(f"{top}/bin/pairtree2ocfl", "-V"), done(program, "-V")))
+
+
+def packaged(program, folder):
+    """The Debian package, installed into an empty root, where the program runs."""
+    if not shutil.which("dpkg-deb") or not shutil.which("dpkg"):
+        return None
+    done("sh", f"{TOP}/tools/deb.sh", program, f"{folder}/deb")
+    (path,) = glob.glob(f"{folder}/deb/*.deb")
+    fields = done("dpkg-deb", "-f", path, "Package", "Version", "Depends")
+    number = done(program, "-V").split()[1]
+    faults = differs(version=(f"Version: {number}\n" in fields, True), depends=("Depends: libc6" in fields, True))
+    root = f"{folder}/empty"
+    for above in ("var/lib/dpkg/info", "var/lib/dpkg/updates", "var/lib/dpkg/triggers"):
+        os.makedirs(f"{root}/{above}")
+    for name in ("status", "available"):
+        open(f"{root}/var/lib/dpkg/{name}", "w", encoding="utf-8").close()
+    if os.geteuid() != 0:
+        done("dpkg-deb", "-x", path, root)
+    command = ["dpkg", f"--root={root}", "--force-not-root", "--force-depends", "--force-script-chrootless", "--log=/dev/null", "-i", path]
+    if os.geteuid() == 0:
+        done(*command, env={**os.environ, "PATH": f"{os.environ['PATH']}:/usr/sbin:/sbin"})
+    faults += differs(runs=(done(f"{root}/usr/bin/pairtree2ocfl", "names", "abc"), "ab/c\nba7/816/bf8/abc\n"))
+    files = {name.removesuffix(".gz") for name in text_files(f"{root}/usr")}
+    return faults + differs(missing=(INSTALLED - files, set()))
+
+
+CASES = [
+    Alone("each option is documented", documented),
+    Alone("no option is made up", known),
+    Alone("bash completes", in_bash),
+    Alone("man page and completions can be read", syntax),
+    Alone("one version", versions),
+    Alone("the documents name files that are there", named_files),
+    Alone("licences", licences),
+    Alone("install and uninstall", installed),
+    Alone("the archive", archived),
+    Alone("the Debian package", packaged),
+]
+
+
+if __name__ == "__main__":
+    PASSED, FAILED = running.run_all(CASES, sys.argv[1])
+    print(f"{PASSED} passed, {FAILED} failed")
+    sys.exit(1 if FAILED else 0)

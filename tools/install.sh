@@ -1,0 +1,23 @@
+#!/bin/sh
+# Installs the program given, with its man page and completions, below a folder; `--remove` in place of the program takes them away.
+#   install.sh PROGRAM|--remove PREFIX
+set -eu
+program=$1
+prefix=$2
+top=$(dirname "$0")/..
+
+put() {
+    if [ "$program" = --remove ]; then
+        rm -f "$prefix/$3"
+    else
+        mkdir -p "$(dirname "$prefix/$3")"
+        install -m "$1" "$2" "$prefix/$3"
+    fi
+}
+
+put 755 "$program" bin/pairtree2ocfl
+put 644 "$top/man/pairtree2ocfl.1" share/man/man1/pairtree2ocfl.1
+put 644 "$top/completions/pairtree2ocfl.bash" share/bash-completion/completions/pairtree2ocfl
+put 644 "$top/completions/_pairtree2ocfl" share/zsh/site-functions/_pairtree2ocfl
+put 644 "$top/completions/pairtree2ocfl.fish" share/fish/vendor_completions.d/pairtree2ocfl.fish
+put 755 "$top/tools/roots.py" share/pairtree2ocfl/roots.py
