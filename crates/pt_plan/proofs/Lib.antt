@@ -6,6 +6,7 @@ pub mod FreeWays
 pub mod Growing
 pub mod Kept
 pub mod LaterRoots
+pub mod LaterTrees
 pub mod Levels
 pub mod MovedIn
 pub mod NextObject
@@ -15,4 +16,5 @@ pub mod Rerun
 pub mod Reserved
 pub mod StagingKeeps
 pub mod TakenPlaces
+pub mod WholeObjects
 pub mod WithObjects

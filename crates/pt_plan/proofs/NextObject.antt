@@ -92,7 +92,7 @@ or_parts : (a b : Bool) → (a || b) ≡ false → (a ≡ false) × (b ≡ false
 or_parts true b h = absurd (true≢false h)
 or_parts false b h = (refl, h)
 
-below_itself : (p rest : Path) → leads p (p ++ rest) ≡ true
+pub below_itself : (p rest : Path) → leads p (p ++ rest) ≡ true
 below_itself p rest = leads-on p p rest (leads-itself p)
 
 -- earlier objects have nothing at or below a place that they don't have, and no way goes there
@@ -120,7 +120,7 @@ no_way job id rest (object ∷ objects) h =
 
 -- ---- the root with it
 
-rest_of : (p rest : Path) → rest_below p (p ++ rest) ≡ Some rest
+pub rest_of : (p rest : Path) → rest_below p (p ++ rest) ≡ Some rest
 rest_of [] rest = refl
 rest_of (x ∷ p) rest = ap (λ b. cond b (rest_below p (p ++ rest)) None) (name_itself x) ∙ rest_of p rest
 

@@ -14,7 +14,7 @@ use Rattle.pt_plan.specs.Roots.{root_in, storage_root}
 use Rattle.pt_plan.proofs.CarriedFiles.{all_take}
 
 -- what is made is in `staging`
-abbrev in_staging : Item → Bool
+abbrev pub in_staging : Item → Bool
 in_staging item = is_some (rest_below staging (item_path item))
 
 -- no path of the root is
@@ -32,12 +32,12 @@ made_keeps (item ∷ script) t h path =
     let parts = and_parts (in_staging item) (list_all in_staging script) h in
     made_keeps script (done item t) parts.1 path ∙ ap (λ b. cond b (Some (item_entry item)) (t (storage_root ++ path))) (other_path path (item_path item) parts.0)
 
-items_in : (items : List Item) → list_all in_staging (map (item_in staging) items) ≡ true
+pub items_in : (items : List Item) → list_all in_staging (map (item_in staging) items) ≡ true
 items_in [] = refl
 items_in (MakeFolder path ∷ items) = items_in items
 items_in (MakeFile path bytes ∷ items) = items_in items
 
-cut_in : (count : ℕ) (script : List Item) → list_all in_staging script ≡ true → list_all in_staging (cut_last count script) ≡ true
+pub cut_in : (count : ℕ) (script : List Item) → list_all in_staging script ≡ true → list_all in_staging (cut_last count script) ≡ true
 cut_in count [] h = refl
 cut_in count (MakeFolder path ∷ []) h = h
 cut_in count (MakeFile path bytes ∷ []) h = h

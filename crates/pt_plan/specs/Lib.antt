@@ -24,5 +24,6 @@ pub mod TurnPlace
 pub mod TurnScan
 pub mod TurnStart
 pub mod TurnWalk
+pub mod WholeLaws
 pub mod Work
 pub mod World

@@ -1,5 +1,5 @@
 -- What the calls of a phase's turn need of the devices, where they tell. A run in progress gives it, and the turn asks for nothing else of them.
-use Rattle.std.specs.Prelude.{◌≡◌, ℕ, true, false, cond, nat_lt, List, [], ◌∷◌, ◌++◌, length, take, Option, None, Some, slice_get, ⊤}
+use Rattle.std.specs.Prelude.{◌≡◌, ℕ, true, false, nat_lt, List, [], ◌∷◌, ◌++◌, length, take, Option, Some, slice_get, ⊤}
 use Rattle.std.specs.Option.{ForSome}
 use Rattle.pt_name.specs.Tuples.{Tuples}
 use Rattle.pt_object.specs.Object.{inventory_name, object_declaration_name, sidecar_name}

@@ -3,13 +3,13 @@ use Rattle.std.specs.Prelude.{◌≡◌, ◌⊎◌, List, [], ℕ}
 use Rattle.pt_object.specs.Holding.{IsFree}
 use Rattle.pt_object.specs.Scripts.{staging}
 use Rattle.pt_tree.specs.Forest.{Forest}
-use Rattle.pt_tree.specs.Tree.{Tree, without}
-use Rattle.pt_plan.specs.Carried.{IsUsable, after_all}
+use Rattle.pt_tree.specs.Tree.{IsTree, Tree, without}
+use Rattle.pt_plan.specs.Carried.{IsStart, IsUsable, after_all}
 use Rattle.pt_plan.specs.Faults.{MayBeLeft}
 use Rattle.pt_plan.specs.Job.{Job}
 use Rattle.pt_plan.specs.Lines.{all_lines}
 use Rattle.pt_plan.specs.PlaceLaws.{IsRooted}
-use Rattle.pt_plan.specs.Roots.{root_in}
+use Rattle.pt_plan.specs.Roots.{root_in, with_root}
 
 -- no root, or a usable one
 abbrev pub IsTarget : Job → Forest → Tree → Type 0
@@ -26,6 +26,17 @@ abbrev pub RerunEndsAlike : Type 0
 RerunEndsAlike =
     (job : Job) (source : Forest) (start now : Tree) (log : List ℕ) → IsRooted (root_in start) → IsTarget job source (root_in start) → MayBeLeft job source start now log
     → EndsAlike job source (root_in start) (root_in now)
+
+-- a run over what is left, once `staging` is taken away: it may end well, nothing stands at `staging`, and what it then leaves is what one undisturbed run leaves
+pub record RerunEnds (job : Job) (source : Forest) (start now : Tree) : Type 0 where
+  pub begins : IsStart job source (root_in (without now staging))
+  pub free : IsFree (without now staging) staging
+  pub same : with_root (without now staging) (after_all job source (root_in (without now staging))) ≡ with_root (without start staging) (after_all job source (root_in start))
+
+-- so it is with what any fault leaves of a run that might have ended well
+abbrev pub RerunLeavesTheSame : Type 0
+RerunLeavesTheSame =
+    (job : Job) (source : Forest) (start now : Tree) (log : List ℕ) → IsTree start → IsStart job source (root_in start) → MayBeLeft job source start now log → RerunEnds job source start now
 
 -- taking `staging` away leaves the root
 abbrev pub RootStaysWithoutStaging : Type 0

@@ -3,9 +3,10 @@ ghost use Rattle.pt_plan.specs.ItemLaws.{AllItemsAreAll, BeginsWithTheBase, Carr
 ghost use Rattle.pt_plan.specs.FileLaws.{CarriedFilesComeInOrder, FilesComeInOrder};
 ghost use Rattle.pt_plan.specs.PlaceLaws.{NamedIsNotReserved, NextPlaceStandsWhereTaken, PlaceStandsWhereTaken, WayStaysFree};
 ghost use Rattle.pt_plan.specs.CountLaws.{CountsGrow, EachLineIsCounted, EndLineTellsNumbers, LinesTellNumbers};
-ghost use Rattle.pt_plan.specs.RerunLaws.{RerunEndsAlike, RootStaysWithoutStaging, TurnsHaveNoPart};
+ghost use Rattle.pt_plan.specs.RerunLaws.{RerunEndsAlike, RerunLeavesTheSame, RootStaysWithoutStaging, TurnsHaveNoPart};
 ghost use Rattle.pt_plan.specs.GrowthLaws.{AfterGrows, AfterStays, FoldersGrow, ObjectIsMovedIn, RootIsItsOwn, RootIsMadeInPlace, RootIsMovedIn, RootsHaveNoGaps};
 ghost use Rattle.pt_plan.specs.FixityLaws.{FaultsLeaveWhatIsKept, RowsMakeWholeObjects};
+ghost use Rattle.pt_plan.specs.WholeLaws.{CarriedHaveTheirFiles, CarriedStandWhole};
 
 /// In the order of the walk the files of a directory have logical paths that come in order, none leading to another: what
 /// the laws on objects ask of them.
@@ -91,6 +92,13 @@ pub fn rerun_ends_alike()
     ensures { RerunEndsAlike }
 {}
 
+/// What any fault leaves of a run that might have ended well is, once `staging` is taken away, a start from which a run may
+/// end well, and that run then leaves the very destination that one undisturbed run leaves: the same root, and all beside
+/// it as it was.
+pub fn rerun_leaves_the_same()
+    ensures { RerunLeavesTheSame }
+{}
+
 /// Taking `staging` away leaves the storage root.
 pub fn root_stays_without_staging()
     ensures { RootStaysWithoutStaging }
@@ -158,4 +166,16 @@ pub fn turns_have_no_part()
 /// in it.
 pub fn way_stays_free()
     ensures { WayStaysFree }
+{}
+
+/// Each object that is carried of the first items stands whole at its place in the root after them: its OCFL object, path
+/// by path, and nothing else below it (OCFL 1.1, "Object Structure").
+pub fn carried_stand_whole()
+    ensures { CarriedStandWhole }
+{}
+
+/// In the destination that a run leaves that ends well, the state of the version of each object that is carried is its
+/// files, where no two of them whose bytes differ have one digest (OCFL 1.1, "Version Block").
+pub fn carried_have_their_files()
+    ensures { CarriedHaveTheirFiles }
 {}
