@@ -27,7 +27,7 @@ demo: build ## build the program and carry the store in demo/ into a temporary f
 test: toolchain ## every test: the toolchain's gate, then the tests of the program that it built
 	@$(PYTHON) tests/all.py $(RT) $(BUILT)
 
-bench: build ## hold a run against sha512sum and cp over the same store
+bench: build ## hold a run against sha512sum, cp and, where rustc is, plain Rust over the same store
 	@$(PYTHON) bench/bench.py $(PROGRAM)
 
 install: ## copy the program, its man page and its completions to PREFIX (/usr/local unless given), below DESTDIR
