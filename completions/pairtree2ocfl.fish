@@ -14,7 +14,7 @@ complete -c pairtree2ocfl -n '__fish_seen_subcommand_from migrate' -l name -x -d
 complete -c pairtree2ocfl -n '__fish_seen_subcommand_from migrate' -l address -x -d 'Where to reach them'
 complete -c pairtree2ocfl -n '__fish_seen_subcommand_from migrate' -l message -x -d 'What the inventories say'
 complete -c pairtree2ocfl -n '__fish_seen_subcommand_from migrate' -l digest -x -a 'sha512 sha256' -d 'The digest algorithm'
-complete -c pairtree2ocfl -n '__fish_seen_subcommand_from migrate' -l gather -d 'Carry what lies in an identifier folder too'
+complete -c pairtree2ocfl -n '__fish_seen_subcommand_from migrate' -l gather -d "Carry what lies directly in an identifier's folder too, as one object"
 complete -c pairtree2ocfl -n '__fish_seen_subcommand_from migrate' -l sync -d 'Have all put onto the disk'
 complete -c pairtree2ocfl -n '__fish_seen_subcommand_from migrate' -s n -l dry-run -d 'Rehearse'
 complete -c pairtree2ocfl -n '__fish_seen_subcommand_from migrate' -s v -l verbose -d 'Tell of a fault also the reason'
