@@ -1,5 +1,6 @@
 """The built program's tests over real folders: tests/carrying.py, tests/refusing.py and tests/options.py have the cases of
-`migrate`, tests/packages.py those of what is shipped, tests/guide.py those of the guide's commands.
+`migrate`, tests/packages.py those of what is shipped, tests/guide.py those of the guide's commands, tests/documents.py those of
+what the documents name.
 
 Usage: migration.py PROGRAM. The last line is 'N passed, M failed'.
 """
@@ -9,13 +10,14 @@ import sys
 sys.dont_write_bytecode = True
 
 import carrying
+import documents
 import guide
 import options
 import packages
 import refusing
 import running
 
-CASES = [*carrying.CASES, *refusing.CASES, *options.CASES, *guide.CASES, *packages.CASES]
+CASES = [*carrying.CASES, *refusing.CASES, *options.CASES, *guide.CASES, *packages.CASES, *documents.CASES]
 
 
 def run_cases(program):

@@ -131,18 +131,6 @@ def versions(program, folder):
     return faults + (differs(toolchain=(done(rt, "version").strip(), toolchain)) if rt else [])
 
 
-def named_files(program, folder):
-    """The documents name files that are there."""
-    faults = []
-    for crate, files in re.findall(r"(pt_\w+), (\w+\.rt(?:(?:, | and )\w+\.rt)*)", text_of("docs/ARCHITECTURE.md")):
-        names = re.findall(r"\w+\.rt", files)
-        faults += [f"{crate} has no {name}" for name in names if not os.path.isfile(f"{TOP}/crates/{crate}/src/{name}")]
-    for path in ("README.md", *(f"docs/{name}" for name in os.listdir(f"{TOP}/docs")), "CONTRIBUTING.md"):
-        for name in re.findall(r"\b(?:docs|tests|tools|bench|man)/[\w./-]+\w", text_of(path)):
-            faults += [] if os.path.exists(f"{TOP}/{name}") else [f"{path} names {name}"]
-    return faults
-
-
 def licences(program, folder):
     """The licences of the crates that the program holds are the toolchain's own files, where that is here."""
     faults = differs(own=(all(os.path.isfile(f"{TOP}/LICENSE-{name}") for name in ("MIT", "APACHE")), True))
@@ -217,7 +205,6 @@ CASES = [
     Alone("bash completes", in_bash),
     Alone("man page and completions can be read", syntax),
     Alone("one version", versions),
-    Alone("the documents name files that are there", named_files),
     Alone("licences", licences),
     Alone("install and uninstall", installed),
     Alone("the archive", archived),
