@@ -6,6 +6,7 @@
 - A table or a text that says `crate, file.rt and Module` names files of src/ and of specs/ of that crate. The words of the first column of
   the definitions in docs/MODEL.md are declared in the files of the last.
 - In docs/PROVED.md the words of code below a crate's heading are declared in that crate, or where `crate::word` says.
+- Each crate of crates.txt has its row in docs/ARCHITECTURE.md and its heading in docs/PROVED.md.
 - Any other word of code, which has a `_`, a `::` or a capital inside small letters, stands somewhere in the code.
 
 Usage: documents.py PROGRAM. The last line is 'N passed, M failed'.
@@ -167,6 +168,20 @@ def promises(program, folder):
     return faults
 
 
+def crates(program, folder):
+    """Each crate has its row in docs/ARCHITECTURE.md, with what it stands on, and its heading in docs/PROVED.md, or is one of tests."""
+    table = text_of("docs/ARCHITECTURE.md").split("\n## Crates\n", 1)[1].split("\n## ", 1)[0]
+    rows = {name: stands for name, stands in re.findall(r"^\| `(\w+)` \|.*\| ([^|]*) \|$", table, re.MULTILINE)}
+    headings = re.findall(r"\w+", " ".join(re.findall(r"^## .*$", text_of("docs/PROVED.md"), re.MULTILINE)))
+    faults = []
+    for name, below in re.findall(r"^(\w+):(.*)$", text_of("crates.txt"), re.MULTILINE):
+        if rows.pop(name, None) != ", ".join(below.split()):
+            faults.append(f"docs/ARCHITECTURE.md doesn't say what {name} stands on")
+        if name not in headings and not name.endswith("_rows"):
+            faults.append(f"docs/PROVED.md has no heading for {name}")
+    return faults + [f"docs/ARCHITECTURE.md has a crate {name}" for name in rows]
+
+
 def words(program, folder):
     """Each other word of code stands in the code."""
     sources = [path for paths_of in code_files().values() for path in paths_of]
@@ -203,6 +218,7 @@ CASES = [
     Alone("the documents' files of code", files),
     Alone("the model's definitions", definitions),
     Alone("the promises of each crate", promises),
+    Alone("the documents' crates", crates),
     Alone("the documents' words of code", words),
     Alone("the theorem's lines are the demonstration's", shown),
     Alone("what --gather does", gathering),
