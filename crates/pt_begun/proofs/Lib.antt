@@ -4,6 +4,7 @@ pub mod ContentParts
 pub mod DestKeeps
 pub mod DistinctRows
 pub mod Ending
+pub mod EndStates
 pub mod EntriesThere
 pub mod Feeding
 pub mod HeldKeeps

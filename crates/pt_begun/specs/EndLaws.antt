@@ -1,18 +1,19 @@
 -- What a run in progress holds, and what it leaves that ends well.
-use Rattle.std.specs.Prelude.{◌≡◌, ℕ, Bool, true, false, List, ◌++◌, Some, Ok}
+use Rattle.std.specs.Prelude.{◌≡◌, ℕ, All, Bool, true, false, List, ◌++◌, Some, Ok}
 use Rattle.pt_object.specs.Holding.{IsFree}
 use Rattle.pt_object.specs.Scripts.{staging}
 use Rattle.pt_tree.specs.Dest.{Writing}
 use Rattle.pt_tree.specs.Forest.{Forest}
 use Rattle.pt_tree.specs.Source.{Reading}
 use Rattle.pt_tree.specs.Tree.{Tree}
-use Rattle.pt_plan.specs.Carried.{IsStart, after_all}
+use Rattle.pt_plan.specs.Carried.{IsStart, after_all, all_carried}
 use Rattle.pt_plan.specs.Job.{Job}
 use Rattle.pt_plan.specs.Lines.{all_lines, end_line, log_of}
 use Rattle.pt_plan.specs.Roots.{root_in, with_root}
 use Rattle.pt_plan.specs.Run.{Kept, Run, turning}
 use Rattle.pt_plan.specs.Turn.{Turn}
 use Rattle.pt_plan.specs.TurnPlace.{last_line}
+use Rattle.pt_plan.specs.WholeLaws.{HasItsFiles}
 use Rattle.pt_plan.specs.World.{World}
 use Rattle.pt_plan.specs.declared.phase.Phase.{Phase}
 use Rattle.pt_plan.specs.declared.phase.Phase.TheVariants as phase
@@ -32,6 +33,13 @@ EndsWell =
     (job : Job) (start : Start) (old new : World) (run : Run) (after : Kept) (s : Reading) (t : Tree) (now : Writing) (first last : List ℕ) → Begun job start old run → Turn job run.phase (turning run.kept) after old new (Ok phase.Ended)
     → old.source ≡ Some s → start.dest ≡ Some t → new.dest ≡ Some now → start.log ≡ Some first → new.log ≡ Some last
     → ((told : List ℕ) × (last ≡ first ++ told) × IsEnd job s.tree t now.tree told) × (last_line after.counts ≡ end_line (all_lines job s.tree (root_in t)))
+
+-- and the state of the version of each object that is carried is its files, where no two of them whose bytes differ have one digest
+abbrev pub EndsWithStates : Type 0
+EndsWithStates =
+    (job : Job) (start : Start) (old new : World) (run : Run) (after : Kept) (s : Reading) (t : Tree) (now : Writing) (first last : List ℕ) → Begun job start old run → Turn job run.phase (turning run.kept) after old new (Ok phase.Ended)
+    → old.source ≡ Some s → start.dest ≡ Some t → new.dest ≡ Some now → start.log ≡ Some first → new.log ≡ Some last
+    → All (HasItsFiles job now.tree) (all_carried job s.tree (root_in t))
 
 -- the run has ended
 abbrev pub is_ended : Phase → Bool

@@ -1,7 +1,7 @@
 //! Laws on a run in progress. Each is the contract of a function that does nothing.
 ghost use Rattle.pt_begun.specs.BegunLaws.{BegunPermits, NewRunIsBegun, TurnEndsBegun, TurnKeepsBegun};
 ghost use Rattle.pt_begun.specs.DestLaws.{MakingKeepsDest, PlacingKeepsDest, ScanningKeepsDest, StartingKeepsDest, WalkingKeepsDest};
-ghost use Rattle.pt_begun.specs.EndLaws.{BegunIsWithinBound, EndsWell};
+ghost use Rattle.pt_begun.specs.EndLaws.{BegunIsWithinBound, EndsWell, EndsWithStates};
 ghost use Rattle.pt_begun.specs.HeldLaws.{MakingKeepsHeld, PlacingKeepsHeld, ScanningKeepsHeld, StartingKeepsHeld, WalkingKeepsHeld};
 ghost use Rattle.pt_begun.specs.ItemLaws.{MakingKeepsItems, PlacingKeepsItems, ScanningKeepsItems, StartingKeepsItems, WalkingKeepsItems};
 ghost use Rattle.pt_begun.specs.RefusalLaws.{FindsStaging, RefusesRightly};
@@ -30,6 +30,12 @@ pub fn turn_ends_begun()
 /// After the turn that ends a run, where all devices tell, the start was a good one, the destination holds the root with all objects that are carried and is as it was elsewhere, the log has got all lines, and the counts are the end line's.
 pub fn ends_well()
     ensures { EndsWell }
+{}
+
+/// And the state of the version of each object that is carried is its files, where no two of them whose bytes differ have one
+/// digest (OCFL 1.1, "Version Block").
+pub fn ends_with_states()
+    ensures { EndsWithStates }
 {}
 
 /// Between two turns a run holds no more than its source's bound, where the source tells.

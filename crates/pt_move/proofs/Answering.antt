@@ -27,6 +27,7 @@ use Rattle.pt_move.specs.Counting.{Counts}
 use Rattle.pt_move.specs.Fault.{fault_of}
 use Rattle.pt_move.specs.Leaving.{TurnLeaves}
 use Rattle.pt_move.specs.Lines.{TellsFront}
+use Rattle.pt_move.specs.Promises.{TurnKeeps}
 use Rattle.pt_move.specs.Running.{BeganSomewhere, FedUntilEnd, HasBegun, InProgress, IsBegun, IsNew, IsWell, LeavesBehind, Running, fresh_kept, run_of}
 use Rattle.pt_move.specs.Stepping.{EndsAs, IsCounted, IsTurn, Stays as StaysAs}
 use Rattle.pt_move.specs.declared.fault.Fault.{Fault}
@@ -493,9 +494,13 @@ pub has_begun : (start : Start) (world : World) (r : Running) → IsBegun start 
 unfolding HasBegun
 has_begun start world r begun = inr (start, begun)
 
-pub goes_on_begun : (r t : Running) (old new : World) → BeganSomewhere old r → ((start : Start) → IsBegun start old r → IsBegun start new t) → HasBegun new t
-unfolding HasBegun BeganSomewhere
-goes_on_begun r t old new (start, begun) on = inr (start, on start begun)
+pub goes_on_after : (here next : Phase) (s s' : State) (old new : World) → BeganSomewhere old (record { phase = here; state = s }) → ((start : Start) → IsBegun start old (record { phase = here; state = s }) → TurnKeeps start old new s s' (Ok next)) → HasBegun new (record { phase = next; state = s' })
+unfolding HasBegun BeganSomewhere TurnKeeps
+goes_on_after here next s s' old new (start, begun) on = inr (start, (on start begun).begun)
+
+pub goes_on_halted : (here after : Phase) (s s' : State) (old new : World) (why : Halt) → after ≡ phase.Ended → BeganSomewhere old (record { phase = here; state = s }) → ((start : Start) → IsBegun start old (record { phase = here; state = s }) → TurnKeeps start old new s s' (Err why)) → HasBegun new (record { phase = after; state = s' })
+unfolding HasBegun BeganSomewhere TurnKeeps
+goes_on_halted here after s s' old new why ended (start, begun) on = inr (start, subst (λ (p : Phase). IsBegun start new (record { phase = p; state = s' })) (sym ended) (on start begun).begun)
 
 pub goes_on_ended : (r t : Running) (world : World) → BeganSomewhere world r → t.phase ≡ phase.Ended → t.state ≡ r.state → HasBegun world t
 unfolding HasBegun BeganSomewhere
@@ -504,14 +509,10 @@ goes_on_ended r t world (start, begun) ended same = inr (start, begun_ends start
 pub goes_on_same : (r t : Running) (world : World) → t ≡ r → HasBegun world r → HasBegun world t
 goes_on_same r t world same is = subst (λ (x : Running). HasBegun world x) (sym same) is
 
--- what the run after a turn left, by the job from before it
-pub leaves_after : (start : Start) (t : Running) (job : own.Job) (reading : Option Reading) (w : Option Writing) (g : Option (List ℕ)) (n d l : ℕ) → IsBegun start (world reading w g n d l) t → t.state.job ≡ job → LeavesBehind job start.dest w
-leaves_after start t job reading w g n d l is same = subst (λ j. LeavesBehind j start.dest w) same (leaves_behind start t reading w g n d l is)
-
 pub begins_begun : (r : Running) (world : World) → r.phase ≡ phase.Begin → HasBegun world r
 unfolding HasBegun
 begins_begun r world begins = inl begins
 
-pub ruleset making_turn = (may_turn, stands_there, has_fed, is_bounded, left_by_turn, well_after, begun_after, few_calls, one_call_after)
+pub ruleset making_turn = (may_turn, stands_there, has_fed, is_bounded, left_by_turn, well_after, few_calls, one_call_after)
 
-pub ruleset stepping = (begun_ends, same_begun, goes_on_begun, goes_on_ended, goes_on_same, begins_begun, leaves_behind, leaves_after, told_nothing, moves_to, gains_same, ended_well, ok_source, ok_dest, ok_log, err_source, err_dest, err_log, err_answer, err_counted, err_stays, new_well)
+pub ruleset stepping = (goes_on_after, goes_on_halted, goes_on_ended, goes_on_same, begins_begun, told_nothing, moves_to, gains_same, ended_well, ok_source, ok_dest, ok_log, err_source, err_dest, err_log, err_answer, err_counted, err_stays, new_well)

@@ -43,8 +43,4 @@ new_is_begun job r now new layout is = record {
     run_is : run_of r [] ≡ new_run
     run_is = λ i. record { phase = new.phase i; kept = new.kept i }
 
--- what the run left in the destination
-pub left_by_run : (job : Job) (r : Running) (old : World) (reading : Option Reading) (w : Option Writing) (g : Option (List ℕ)) (n d l : ℕ) → IsBegun (start_of old) (world reading w g n d l) r → r.state.job ≡ job → LeavesBehind job (start_of old).dest w
-left_by_run job r old reading w g n d l begun same = subst (λ j. LeavesBehind j (start_of old).dest w) same (leaves_behind (start_of old) r reading w g n d l begun)
-
-pub ruleset migrating = (new_goes_on, not_ended, has_begun, left_by_run)
+pub ruleset migrating = (new_goes_on, not_ended, has_begun)

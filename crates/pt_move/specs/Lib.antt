@@ -4,5 +4,6 @@ pub mod Held
 pub mod Leaving
 pub mod Lines
 pub mod Outcome
+pub mod Promises
 pub mod Running
 pub mod Stepping

@@ -7,7 +7,7 @@ ghost use Rattle.pt_turn.specs.Bounds.{lines_put};
 ghost use Rattle.pt_plan.specs.World.{dest_tree, source_tree};
 ghost use Rattle.pt_begun.specs.Begun.{start_of};
 ghost use Rattle.pt_state.specs.Turned.{world};
-ghost use Rattle.pt_move.specs.Outcome.{EndsWhole, SaysRightly};
+ghost use Rattle.pt_move.specs.Outcome.{EndsWhole, SaysRightly, StatesAreFiles};
 ghost use Rattle.pt_move.specs.Running.{LeavesBehind};
 ghost use Rattle.pt_move.specs.Lines.{HasToldAll, HasToldFront};
 ghost use Rattle.pt_move.specs.declared.fault.Fault.TheVariants as fault;
@@ -31,6 +31,7 @@ pub fn migrate<S: Source, D: Dest, L: Log>(
     job: Job,
 ) -> Result<Report, Fault>
     ensures ends { IfOk result (EndsWhole job (source_tree (S.told source.old)) (start_of (world (S.told source.old) (D.told dest.old) (L.told log.old) (S.failed source.old) (D.failed dest.old) (L.failed log.old))) (D.told dest.new) (L.told log.new)) }
+    ensures states { IfOk result (λ report. StatesAreFiles job (source_tree (S.told source.old)) (start_of (world (S.told source.old) (D.told dest.old) (L.told log.old) (S.failed source.old) (D.failed dest.old) (L.failed log.old))) (D.told dest.new) (L.told log.new)) }
     ensures says { IfErr result (SaysRightly (source_tree (S.told source.old)) (dest_tree (D.told dest.old))) }
     ensures source { Counts 1 (S.failed source.old) (S.failed source.new) result }
     ensures dest { Counts 2 (D.failed dest.old) (D.failed dest.new) result }

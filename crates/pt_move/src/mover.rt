@@ -10,11 +10,11 @@ ghost use Rattle.pt_move.specs.Held.{Gains, Moves};
 ghost use Rattle.pt_move.specs.Lines.{FinishTold, Tells};
 ghost use Rattle.pt_plan.specs.Answer.{phase_after};
 ghost use Rattle.pt_move.specs.Leaving.{TurnLeaves};
-ghost use Rattle.pt_move.specs.Outcome.{FinishesWhole, SaysRightly, TurnSays};
+ghost use Rattle.pt_move.specs.Promises.{Keeps, TurnKeeps};
 ghost use Rattle.pt_begun.specs.Begun.{Start};
 ghost use Rattle.pt_plan.specs.World.{World, source_tree};
 ghost use Rattle.pt_state.specs.Turned.{world};
-ghost use Rattle.pt_move.specs.Running.{BeganSomewhere, HasBegun, IsBegun, IsNew, IsWell, LeavesBehind};
+ghost use Rattle.pt_move.specs.Running.{BeganSomewhere, HasBegun, IsBegun, IsNew, IsWell};
 ghost use Rattle.pt_move.specs.Stepping.{EndsAs, IsCounted, Stays};
 
 use crate::Fault;
@@ -98,12 +98,9 @@ impl Mover {
         log: &mut L,
     ) -> Result<Turn, Fault>
         requires { HasBegun (world (S.told source.old) (D.told dest.old) (L.told log.old) (S.failed source.old) (D.failed dest.old) (L.failed log.old)) self.old }
-        ensures begun { (start : Start) → IsBegun start (world (S.told source.old) (D.told dest.old) (L.told log.old) (S.failed source.old) (D.failed dest.old) (L.failed log.old)) self.old
-            → IsBegun start (world (S.told source.new) (D.told dest.new) (L.told log.new) (S.failed source.new) (D.failed dest.new) (L.failed log.new)) self.new }
+        ensures keeps { (start : Start) → IsBegun start (world (S.told source.old) (D.told dest.old) (L.told log.old) (S.failed source.old) (D.failed dest.old) (L.failed log.old)) self.old
+            → Keeps start (world (S.told source.old) (D.told dest.old) (L.told log.old) (S.failed source.old) (D.failed dest.old) (L.failed log.old)) (world (S.told source.new) (D.told dest.new) (L.told log.new) (S.failed source.new) (D.failed dest.new) (L.failed log.new)) self.old self.new result }
         ensures goes_on { HasBegun (world (S.told source.new) (D.told dest.new) (L.told log.new) (S.failed source.new) (D.failed dest.new) (L.failed log.new)) self.new }
-        ensures leaves { (start : Start) → IsBegun start (world (S.told source.old) (D.told dest.old) (L.told log.old) (S.failed source.old) (D.failed dest.old) (L.failed log.old)) self.old → LeavesBehind self.old.state.job start.dest (D.told dest.new) }
-        ensures ends { (start : Start) → IsBegun start (world (S.told source.old) (D.told dest.old) (L.told log.old) (S.failed source.old) (D.failed dest.old) (L.failed log.old)) self.old → IfOk result (λ t. FinishesWhole t self.old.state.job (source_tree (S.told source.old)) start (D.told dest.new) (L.told log.new) self.new.state.counts) }
-        ensures says { (start : Start) → IsBegun start (world (S.told source.old) (D.told dest.old) (L.told log.old) (S.failed source.old) (D.failed dest.old) (L.failed log.old)) self.old → IfErr result (SaysRightly (source_tree (S.told source.old)) start.dest) }
         ensures tree { source_tree (S.told source.new) ≡ source_tree (S.told source.old) }
         ensures source { Counts 1 (S.failed source.old) (S.failed source.new) result }
         ensures dest { Counts 2 (D.failed dest.old) (D.failed dest.new) result }
@@ -178,9 +175,8 @@ fn made_turn<S: Source, D: Dest, L: Log>(
     requires going { here ≢ phase.Ended }
     requires well { IsWell (record { phase = here; state = state.old }) }
     requires within { state.old.counts.turns < state.old.job.limits.turns }
-    ensures begun { (start : Start) → IsBegun start (world (S.told source.old) (D.told dest.old) (L.told log.old) (S.failed source.old) (D.failed dest.old) (L.failed log.old)) (record { phase = here; state = state.old })
-        → IsBegun start (world (S.told source.new) (D.told dest.new) (L.told log.new) (S.failed source.new) (D.failed dest.new) (L.failed log.new)) (record { phase = phase_after result; state = state.new }) }
-    ensures says { (start : Start) → IsBegun start (world (S.told source.old) (D.told dest.old) (L.told log.old) (S.failed source.old) (D.failed dest.old) (L.failed log.old)) (record { phase = here; state = state.old }) → TurnSays state.old.job (source_tree (S.told source.old)) start (D.told dest.new) (L.told log.new) state.new.counts result }
+    ensures keeps { (start : Start) → IsBegun start (world (S.told source.old) (D.told dest.old) (L.told log.old) (S.failed source.old) (D.failed dest.old) (L.failed log.old)) (record { phase = here; state = state.old })
+        → TurnKeeps start (world (S.told source.old) (D.told dest.old) (L.told log.old) (S.failed source.old) (D.failed dest.old) (L.failed log.old)) (world (S.told source.new) (D.told dest.new) (L.told log.new) (S.failed source.new) (D.failed dest.new) (L.failed log.new)) state.old state.new result }
     ensures tree { source_tree (S.told source.new) ≡ source_tree (S.told source.old) }
     ensures job { state.new.job ≡ state.old.job }
     ensures well { IsWell (record { phase = phase_after result; state = state.new }) }
