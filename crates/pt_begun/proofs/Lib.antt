@@ -7,6 +7,7 @@ pub mod Ending
 pub mod EndStates
 pub mod EntriesThere
 pub mod Feeding
+pub mod HaltedBound
 pub mod HeldKeeps
 pub mod InObject
 pub mod InPairtree

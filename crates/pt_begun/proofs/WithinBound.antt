@@ -22,7 +22,7 @@ in_object job source prefix past object held count rows it room =
     let few = records_held job (object_at source object (to_site object held.trail)) held object.empty (left_of source object held.trail) rows.contents it.scanned in
     omega (arith, few, room)
 
-within : (job : Job) (past : Past) (here : Phase) (prefix : List ℕ) (held : Held) (s : Reading) → HeldAt job past here held → SourcePart job past here prefix held s → is_ended here ≡ false → IsWithinBound job s.tree held
+pub within : (job : Job) (past : Past) (here : Phase) (prefix : List ℕ) (held : Held) (s : Reading) → HeldAt job past here held → SourcePart job past here prefix held s → is_ended here ≡ false → IsWithinBound job s.tree held
 within job past phase.Begin prefix held s has it not = it.few
 within job past (phase.Prefix here) prefix held s has it not = it.few
 within job past phase.Staging prefix held s has it not = it.few

@@ -3,6 +3,7 @@ pub mod BegunDest
 pub mod BegunHeld
 pub mod BegunLaws
 pub mod BegunSource
+pub mod BoundLaws
 pub mod DestLaws
 pub mod EndLaws
 pub mod HeldLaws

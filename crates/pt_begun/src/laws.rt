@@ -1,5 +1,6 @@
 //! Laws on a run in progress. Each is the contract of a function that does nothing.
 ghost use Rattle.pt_begun.specs.BegunLaws.{BegunPermits, NewRunIsBegun, TurnEndsBegun, TurnKeepsBegun};
+ghost use Rattle.pt_begun.specs.BoundLaws.{HaltedIsWithinBound};
 ghost use Rattle.pt_begun.specs.DestLaws.{MakingKeepsDest, PlacingKeepsDest, ScanningKeepsDest, StartingKeepsDest, WalkingKeepsDest};
 ghost use Rattle.pt_begun.specs.EndLaws.{BegunIsWithinBound, EndsWell, EndsWithStates};
 ghost use Rattle.pt_begun.specs.HeldLaws.{MakingKeepsHeld, PlacingKeepsHeld, ScanningKeepsHeld, StartingKeepsHeld, WalkingKeepsHeld};
@@ -41,6 +42,11 @@ pub fn ends_with_states()
 /// Between two turns a run holds no more than its source's bound, where the source tells.
 pub fn begun_is_within_bound()
     ensures { BegunIsWithinBound }
+{}
+
+/// So it is after a turn that halts the run.
+pub fn halted_is_within_bound()
+    ensures { HaltedIsWithinBound }
 {}
 
 /// Where the source tells, it is refused as no pairtree or for its prefix only where that is so, and never as changed.

@@ -159,5 +159,5 @@ turn_leaves job here s s' fed fed' r r' w w' g g' n n' d d' l l' _ (FailsLater p
     gained : Gains s.rows rows
     gained = elim which [
       | inl same ↦ gains_same s.rows rows same
-      | inr same ↦ gains_by s.rows held.rows rows same (follows_change job (turning (kept_of s fed)).counts here _ _ _ _ calls answer follows).rows
+      | inr more ↦ gains_by s.rows held.rows rows more.0 (follows_change job (turning (kept_of s fed)).counts here _ _ _ _ calls answer follows).rows
     ]

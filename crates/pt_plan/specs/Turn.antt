@@ -88,6 +88,10 @@ pub record IsHalted (rows : List Row) (before after : Kept) : Type 0 where
   pub contents : after.held.contents ≡ before.held.contents
   pub counts : after.counts ≡ before.counts
 
+-- a row more is held: the source had answered before the run was halted
+abbrev pub HoldsMore : List Row → Held → Calls → World → World → Type 0
+HoldsMore rows held calls old new = (rows ≡ held.rows) × Answers calls.asked old.source new.source
+
 -- from a phase, what is kept and the world to what is kept and the world after, with the answer. Its own count isn't spoken of: it is made as the turn begins
 pub data Turn (job : Job) (here : Phase) (before after : Kept) (old new : World) : Answer → Type 0 where
   -- all calls succeed, and the run goes on at the next phase
@@ -101,5 +105,5 @@ pub data Turn (job : Job) (here : Phase) (before after : Kept) (old new : World)
       → Turn job here before after old new (Err why)
   -- or later: a part of what the turn was to change is left
   FailsLater : (prefix : List ℕ) (held : Held) (calls : Calls) (answer : Answer) (rows : List Row) (why : Halt) → Follows job before.counts here before.prefix before.held prefix held calls answer → LeavesSome calls why old new
-      → (rows ≡ before.held.rows) ⊎ (rows ≡ held.rows) → IsHalted rows before after
+      → (rows ≡ before.held.rows) ⊎ HoldsMore rows held calls old new → IsHalted rows before after
       → Turn job here before after old new (Err why)

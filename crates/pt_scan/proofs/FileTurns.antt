@@ -19,7 +19,7 @@ use Rattle.pt_plan.specs.Lines.{Line, Skipped}
 use Rattle.pt_plan.specs.Run.{Held, Kept}
 use Rattle.pt_plan.specs.Turn.{Did, FailsLater, GoesOn, LeavesSome, Scan, Turn}
 use Rattle.pt_plan.specs.TurnScan.{EndsFile, IsTooLong, ReadsOn, logical_path, to_site, with_file}
-use Rattle.pt_plan.specs.World.{Calls, Changes, ChangesNothing, Puts, Reads, Untouched, asks}
+use Rattle.pt_plan.specs.World.{Answers, Calls, Changes, ChangesNothing, Puts, Reads, Untouched, asks}
 use Rattle.pt_plan.specs.declared.halt.Halt.{Halt}
 use Rattle.pt_plan.specs.declared.halt.Halt.TheVariants as halt
 use Rattle.pt_plan.specs.declared.object.Object.{Object}
@@ -137,7 +137,7 @@ noted_part s s' r r' w g n n' d l object bytes block path digest (Err f) is did 
         tt,
         subst (λ (f : Halt). Turn job (phase.Read object bytes) (kept_of s fed) (kept_of s' fed) (world r w g n d l) (world r' w g n' d l) (Err f)) (sym is)
             (FailsLater (string_bytes s.prefix) new (asks (Reads [])) (Ok (phase.Scan object)) new.rows halt.Memory (Scan (phase.Read object bytes) (string_bytes s.prefix) held new _ _ (EndsFile held object bytes))
-            (record { source = read_tree r r' n n' block did; dest = Untouched ChangesNothing refl; log = refl }, ap (λ (k : ℕ). record { source = k; dest = d; log = l }) did.1) (inr refl)
+            (record { source = read_tree r r' n n' block did; dest = Untouched ChangesNothing refl; log = refl }, ap (λ (k : ℕ). record { source = k; dest = d; log = l }) did.1) (inr (refl, subst (λ (b : List ℕ). Answers (Reads b) r r') (empty block none) did.0))
             (record { prefix = prefix; trail = trail; rows_are = rows_are; contents = contents; counts = ap counts_of counts })),
       ),
     )

@@ -246,5 +246,5 @@ turn_keeps_bounds job here kept after old new _ bounded more (IsRefused prefix h
 turn_keeps_bounds job here kept after old new _ bounded more (FailsAtFirst why stays halted) = halted_bounds job here kept.held.rows kept.held kept after bounded more bounded.few refl halted
 turn_keeps_bounds job here kept after old new _ bounded more (FailsLater prefix held calls answer rows why follows left which halted) = elim which [
   | inl same ↦ halted_bounds job here rows kept.held kept after bounded more bounded.few (sym same) halted
-  | inr same ↦ halted_bounds job here rows held kept after bounded more (follows_few job _ here _ _ kept.held held calls answer kept.counts.turns follows bounded.few bounded.within) (sym same) halted
+  | inr more_held ↦ halted_bounds job here rows held kept after bounded more (follows_few job _ here _ _ kept.held held calls answer kept.counts.turns follows bounded.few bounded.within) (sym more_held.0) halted
 ]
