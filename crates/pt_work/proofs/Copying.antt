@@ -1,12 +1,17 @@
 -- The rows that are still to copy or to pass, and the blocks of a file.
-use Rattle.std.proofs.Common.{◌≡◌, ◌<◌, ◌≤◌, ◌-◌, ℕ, zero, suc, ◌+◌, ◌*◌, ◌/◌, Bool, true, false, List, [], ◌∷◌, ◌++◌, refl, ap, sym, ◌∙◌, arith, cond, drop, length, take}
-use Rattle.std.specs.Prelude.{Some, slice_get, sum_by}
+use Rattle.std.proofs.Common.{◌≡◌, ◌<◌, ◌≤◌, ◌-◌, ℕ, zero, suc, ◌+◌, ◌/◌, Bool, true, false, List, [], ◌∷◌, ◌++◌, refl, ap, sym, ◌∙◌, arith, cond, drop, length, take}
+use Rattle.std.specs.Prelude.{Option, Some, nat_lt, slice_get, sum_by}
+use Rattle.std.specs.Option.{option_map}
+use Rattle.std.proofs.lemmas.Bool.{ltb-false, ltb-true}
+use Rattle.std.proofs.lemmas.List.{length-drop, length-take-le, take_all}
 use Rattle.std.proofs.Math.Nat.{add-div_left}
 use Rattle.std.proofs.lemmas.List.Sums.{sum_by-cons}
-use Rattle.pt_object.specs.Distinct.{distinct, distinct_after}
+use Rattle.pt_object.specs.Distinct.{distinct_after}
 use Rattle.pt_object.specs.declared.rows.Row.{Row}
 use Rattle.pt_plan.specs.Work.{reads, work_to_copy}
+use Rattle.pt_begun.specs.BegunSource.{IsReading}
 use Rattle.pt_begun.proofs.DistinctRows.{is_known}
+use Rattle.pt_begun.proofs.InPairtree.{some_same}
 use Rattle.pt_begun.proofs.Tests.{take_one}
 use Rattle.pt_work.specs.WorkLeft.{to_copy, to_copy_from}
 
@@ -66,3 +71,33 @@ more_blocks n many =
     let whole = add-div_left (n - 8192 + 8191) {k = 8192} (omega arith) in
     let same : (8192 + (n - 8192 + 8191)) / 8192 ≡ (n + 8191) / 8192 = ap (λ (k : ℕ). k / 8192) split in
     omega (arith, whole, same)
+
+-- a block that is read of what is left lowers the reads of it
+pub block_read : (bytes : List ℕ) (count : ℕ) (fed : List ℕ) (byte : ℕ) (block : List ℕ) (unread : Option (List ℕ)) → IsReading bytes count fed unread → option_map (take 8192) unread ≡ Some (byte ∷ block)
+    → reads (length bytes - (count + length (byte ∷ block))) + 1 ≤ reads (length bytes - count)
+block_read bytes count fed byte block unread it read = by (nat_lt 8192 (length rest)) refl
+  where
+    rest : List ℕ
+    rest = drop count bytes
+
+    is_block : take 8192 rest ≡ byte ∷ block
+    is_block = some_same (take 8192 rest) (byte ∷ block) (sym (ap (option_map (take 8192)) it.left) ∙ read)
+
+    long : length rest ≡ length bytes - count
+    long = length-drop count bytes
+
+    by : (more : Bool) → nat_lt 8192 (length rest) ≡ more → reads (length bytes - (count + length (byte ∷ block))) + 1 ≤ reads (length bytes - count)
+    by true is =
+        let many = ltb-true 8192 (length rest) is in
+        let whole : length (byte ∷ block) ≡ 8192 = sym (ap length is_block) ∙ length-take-le 8192 rest (omega (arith, many)) in
+        let less = more_blocks (length bytes - count) (omega (arith, many, long)) in
+        let left : length bytes - (count + length (byte ∷ block)) ≡ length bytes - count - 8192 = omega (arith, whole, long, many) in
+        let same = ap reads left in
+        omega (arith, less, same)
+    by false is =
+        let few = ltb-false 8192 (length rest) is in
+        let all : length (byte ∷ block) ≡ length rest = sym (ap length is_block) ∙ ap length (take_all 8192 rest few) in
+        let less = one_block (length bytes - count) (omega (arith, all, long)) (omega (arith, few, long)) in
+        let left : length bytes - (count + length (byte ∷ block)) ≡ 0 = omega (arith, all, long) in
+        let same = ap reads left in
+        omega (arith, less, same)

@@ -1,3 +1,4 @@
 pub mod Copying
+pub mod MakesLower
 pub mod PlacesLower
 pub mod StartsLower
