@@ -1,9 +1,14 @@
 //! Laws on the turns that a run makes. Each is the contract of a function that does nothing.
-ghost use Rattle.pt_work.specs.WorkLaws.{MakingLowers, PlacingLowers, StartingLowers};
+ghost use Rattle.pt_work.specs.WorkLaws.{MakingLowers, PlacingLowers, StartingLowers, WalkingLowers};
 
 /// The turns of the start lower what is left.
 pub fn starting_lowers()
     ensures { StartingLowers }
+{}
+
+/// So do the turns of the walk.
+pub fn walking_lowers()
+    ensures { WalkingLowers }
 {}
 
 /// So do the turns that make an object.
