@@ -71,7 +71,7 @@ files_are job source object site rows empty bytes proper it there =
 
 -- ---- the object
 
-comes_whole : (job : Job) (object : PairtreeObject) (rows : List Row) (empty : ℕ) → HasScanned job object rows empty [] → outcome job.limits object ≡ Holds (files (entries object.inside))
+pub comes_whole : (job : Job) (object : PairtreeObject) (rows : List Row) (empty : ℕ) → HasScanned job object rows empty [] → outcome job.limits object ≡ Holds (files (entries object.inside))
 comes_whole job object rows empty it =
     let none : bad_entry job.limits object ≡ None = ap (first_bad job.limits (length object.at) 0) (it.all ∙ append-nil it.front) ∙ it.good in
     ap (outcome_by (files (entries object.inside))) (ap (λ b. cond b (Some cause.Limit) (option_map (λ (bad : Entry × Cause). bad.1) (bad_entry job.limits object))) it.shallow ∙ ap (option_map (λ (bad : Entry × Cause). bad.1)) none)

@@ -266,7 +266,7 @@ same_scan : (job : Job) (source : Forest) (prefix : List ℕ) (object : Object) 
 same_scan job source prefix object held fed count it = record { stands = it.stands; inside = it.inside; scanned = it.scanned }
 
 -- there is no cause against a file that may have a row
-no_cause_file : (job : Job) (at path : Path) (rows : List Row) (bytes : List ℕ) → nat_le job.limits.files (length rows) || nat_lt job.limits.path_bytes (length (joined path)) ≡ false → length bytes ≤ job.limits.file_bytes
+pub no_cause_file : (job : Job) (at path : Path) (rows : List Row) (bytes : List ℕ) → nat_le job.limits.files (length rows) || nat_lt job.limits.path_bytes (length (joined path)) ≡ false → length bytes ≤ job.limits.file_bytes
     → entry_cause job.limits (length at) (length rows) (path, File bytes) ≡ None
 no_cause_file job at path rows bytes room short =
     ap (λ b. cond b (Some cause.Limit) None)

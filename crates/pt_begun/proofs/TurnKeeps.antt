@@ -36,7 +36,7 @@ use Rattle.pt_begun.proofs.StartsDest.{starts_dest}
 -- ---- which devices tell
 
 -- a source that tells told before
-told_source : (asked : Asked) (old : Option Reading) (new : Reading) → Answers asked old (Some new) → (s : Reading) × (old ≡ Some s)
+pub told_source : (asked : Asked) (old : Option Reading) (new : Reading) → Answers asked old (Some new) → (s : Reading) × (old ≡ Some s)
 unfolding Answers
 told_source AsksNothing None new answers = absurd (cc)
 told_source (Lists path entries) None new answers = absurd (let none = answers.2 in cc)
@@ -182,7 +182,7 @@ module _ (job : Job) (past : Past) (start : Start) (old new : World) (run : Run)
       told_again w is_some (Neither a b) = absurd (let no : None ≡ Some w = sym a ∙ is_some in cc)
       told_again w is_some (Both x v a b) = (v, b)
 
-  turned : Turned → Happens calls old new → after.counts ≡ counted calls.line before.counts → IsPast job start old run past → IsPast job start new (record { phase = next; kept = after }) later
+  pub turned : Turned → Happens calls old new → after.counts ≡ counted calls.line before.counts → IsPast job start old run past → IsPast job start new (record { phase = next; kept = after }) later
   turned turn did counts is = record {
     layout = is.layout;
     held = follows_held job past before.counts run.phase run.kept.prefix run.kept.held after.prefix after.held calls next old.source new.source turn did.source is.held;

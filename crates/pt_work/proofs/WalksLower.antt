@@ -54,7 +54,7 @@ items_fewer job source root count = fewer (work_on_item job) count (marked job s
 -- ---- the listings
 
 -- the listing of a frame is that of its directory
-listed_there : (top : Forest) (frame : Frame) (frames : List Frame) → Fits top (frame ∷ frames) → listing_of (inside_at top (names_to frames)) ≡ frame.listing
+pub listed_there : (top : Forest) (frame : Frame) (frames : List Frame) → Fits top (frame ∷ frames) → listing_of (inside_at top (names_to frames)) ≡ frame.listing
 listed_there top frame frames fits = by (dir_at top (names_to frames)) refl
   where
     by : (o : Option Forest) → dir_at top (names_to frames) ≡ o → listing_of (inside_at top (names_to frames)) ≡ frame.listing

@@ -1,5 +1,5 @@
 //! Laws on the turns that a run makes. Each is the contract of a function that does nothing.
-ghost use Rattle.pt_work.specs.WorkLaws.{MakingLowers, PlacingLowers, StartingLowers, WalkingLowers};
+ghost use Rattle.pt_work.specs.WorkLaws.{MakingLowers, PlacingLowers, ScanningLowers, StartingLowers, WalkingLowers};
 
 /// The turns of the start lower what is left.
 pub fn starting_lowers()
@@ -9,6 +9,11 @@ pub fn starting_lowers()
 /// So do the turns of the walk.
 pub fn walking_lowers()
     ensures { WalkingLowers }
+{}
+
+/// So do the turns of the scan of an object.
+pub fn scanning_lowers()
+    ensures { ScanningLowers }
 {}
 
 /// So do the turns that make an object.
