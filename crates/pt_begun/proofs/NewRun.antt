@@ -2,11 +2,12 @@
 use Rattle.std.proofs.Common.{◌≡◌, ℕ, true, List, [], refl, sym, append-nil, arith}
 use Rattle.std.specs.Prelude.{Option, None, Some}
 use Rattle.std.specs.Option.{ForSome}
+use Rattle.pt_name.specs.Tuples.{IsLayout}
 use Rattle.pt_tree.specs.Dest.{Writing}
 use Rattle.pt_tree.specs.Forest.{Forest, is_proper}
 use Rattle.pt_tree.specs.Source.{Reading}
 use Rattle.pt_tree.specs.Tree.{IsTree, Tree}
-use Rattle.pt_begun.specs.Begun.{Begun, HasTold, TellsAsBefore, TellsStill}
+use Rattle.pt_begun.specs.Begun.{Begun, HasTold, IsPast, IsWorld, TellsAsBefore, TellsStill, start_of}
 use Rattle.pt_begun.specs.BegunDest.{DestPart}
 use Rattle.pt_begun.specs.BegunSource.{SourcePart}
 use Rattle.pt_plan.specs.Roots.{root_in}
@@ -14,8 +15,8 @@ use Rattle.pt_begun.specs.BegunHeld.{HeldAt}
 use Rattle.pt_begun.specs.BegunLaws.{NewRunIsBegun}
 use Rattle.pt_plan.specs.Job.{Job}
 use Rattle.pt_begun.specs.Past.{no_past}
-use Rattle.pt_plan.specs.Run.{nothing_held}
-use Rattle.pt_plan.specs.World.{dest_tree}
+use Rattle.pt_plan.specs.Run.{new_run, nothing_held}
+use Rattle.pt_plan.specs.World.{World, dest_tree}
 use Rattle.pt_plan.specs.declared.phase.Phase.TheVariants as phase
 
 held_new : (job : Job) → HeldAt job no_past phase.Begin nothing_held
@@ -44,16 +45,17 @@ log_new : (job : Job) (source : Forest) (root : Tree) (log : Option (List ℕ)) 
 log_new job source root None = tt
 log_new job source root (Some bytes) = sym (append-nil bytes)
 
+-- nothing is behind it
+pub new_past : (job : Job) (world : World) → IsLayout job.tuples → IsWorld world → IsPast job (start_of world) world new_run no_past
+new_past job world layout is = record {
+  layout = layout;
+  held = held_new job;
+  source = λ s e. source_new job s (is.source s e);
+  dest = dest_new job world.dest is.dest;
+  items = λ s e old f. record { places = record { placed = refl; next = tt }; lines_are = record { done = refl; present = refl; skipped = refl } };
+  log = λ s e old f. log_new job s.tree (root_in old) world.log;
+}
+
 pub new_run_is_begun : NewRunIsBegun
 unfolding Begun
-new_run_is_begun job world layout is = (
-  no_past,
-  record {
-    layout = layout;
-    held = held_new job;
-    source = λ s e. source_new job s (is.source s e);
-    dest = dest_new job world.dest is.dest;
-    items = λ s e old f. record { places = record { placed = refl; next = tt }; lines_are = record { done = refl; present = refl; skipped = refl } };
-    log = λ s e old f. log_new job s.tree (root_in old) world.log;
-  },
-)
+new_run_is_begun job world layout is = (no_past, new_past job world layout is)

@@ -5,3 +5,4 @@ pub mod ScanParts
 pub mod ScansLower
 pub mod StartsLower
 pub mod WalksLower
+pub mod Within

@@ -1,5 +1,25 @@
 //! Laws on the turns that a run makes. Each is the contract of a function that does nothing.
-ghost use Rattle.pt_work.specs.WorkLaws.{MakingLowers, PlacingLowers, ScanningLowers, StartingLowers, WalkingLowers};
+ghost use Rattle.pt_work.specs.WorkLaws.{MakingLowers, NewRunIsWithinWork, PlacingLowers, ScanningLowers, StartingLowers, TurnKeepsWithinWork, TurnsAreWithinWork, WalkingLowers, WithinWorkIsBegun};
+
+/// A new run is in progress within its work, whatever its devices tell.
+pub fn new_run_is_within_work()
+    ensures { NewRunIsWithinWork }
+{}
+
+/// What is in progress within its work is in progress.
+pub fn within_work_is_begun()
+    ensures { WithinWorkIsBegun }
+{}
+
+/// A turn that goes on leaves the run in progress within its work, at its next phase.
+pub fn turn_keeps_within_work()
+    ensures { TurnKeepsWithinWork }
+{}
+
+/// After any turn, whatever it answers, no more turns were made than the work, where source and destination told.
+pub fn turns_are_within_work()
+    ensures { TurnsAreWithinWork }
+{}
 
 /// The turns of the start lower what is left.
 pub fn starting_lowers()
