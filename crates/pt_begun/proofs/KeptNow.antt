@@ -90,11 +90,11 @@ module _ (job : Job) (past : Past) (start : Tree) (object : Object) (held : Held
       (ap is_none (ap (root_now job start past.placed) (sym place.place) ∙ free))
 
   -- its script is that of the object that is carried
-  own_script : AreRows job past.bytes held → script ≡ script_of carried.id carried.files job.meta job.algorithm
+  pub own_script : AreRows job past.bytes held → script ≡ script_of carried.id carried.files job.meta job.algorithm
   own_script rows = (own_files object.id held.rows past.bytes job.meta job.algorithm (in_order_apart (row_paths held.rows) rows.order) rows.digests).1
 
   -- the root with some folders on the way
-  on_way : (n : ℕ) → IsTree start → IsRootOfStart job start → IsObject job object → n ≤ job.tuples.count
+  pub on_way : (n : ℕ) → IsTree start → IsRootOfStart job start → IsObject job object → n ≤ job.tuples.count
       → with_root start (root_on_way job start past.placed object.place n) ≡ with_root start (with_folders (take n (tuple_folders job carried)) (with_objects job past.placed (base job.tuples (root_in start))))
   on_way n tree root it few =
       let long = place_long job object it in
@@ -139,7 +139,7 @@ front_stands script front start now it is =
 
 -- ---- a new root
 
-root_free : (start : Tree) → IsFree start storage_root → IsFree (root_in start) []
+pub root_free : (start : Tree) → IsFree start storage_root → IsFree (root_in start) []
 root_free start free path = free path
 
 pub root_kept : (job : Job) (start now : Tree) (items : List Item) (w : Writing) → IsMakingRoot start items w → StandsAtPrefix (root_script job.tuples) start now → IsKept job start now

@@ -61,7 +61,7 @@ same_left job past start here held old new at dest same =
     either (inr untouched) = inr (same ∙ untouched)
 
 -- of these changes nothing can be left
-abbrev is_plain : Change → Bool
+abbrev pub is_plain : Change → Bool
 is_plain ChangesNothing = true
 is_plain (Finds path here) = true
 is_plain (Peeks path block) = true
@@ -73,7 +73,7 @@ is_plain (Adds piece) = false
 is_plain Finishes = true
 is_plain (Renames from to) = true
 
-plain_same : (change : Change) (old new : Writing) → is_plain change ≡ true → LeavesPart (Some old) (Some new) change → new.tree ≡ old.tree
+pub plain_same : (change : Change) (old new : Writing) → is_plain change ≡ true → LeavesPart (Some old) (Some new) change → new.tree ≡ old.tree
 plain_same _ old new plain (Untouched change same) = some_same new.tree old.tree same
 plain_same _ old new plain (OfFile path bytes count same) = absurd (cc)
 plain_same _ old new plain (NewFile path same) = absurd (cc)

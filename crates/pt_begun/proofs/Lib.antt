@@ -1,5 +1,10 @@
 pub mod BehindRows
 pub mod Bounds
+pub mod BrokenMakes
+pub mod BrokenPlaces
+pub mod BrokenTurns
+pub mod BrokenWalks
+pub mod CarriedNext
 pub mod ContentParts
 pub mod DestKeeps
 pub mod DistinctRows
@@ -8,6 +13,7 @@ pub mod EndStates
 pub mod EntriesThere
 pub mod Feeding
 pub mod HaltedBound
+pub mod Halting
 pub mod HeldKeeps
 pub mod InObject
 pub mod InPairtree
@@ -15,6 +21,8 @@ pub mod ItemLines
 pub mod ItemsKeep
 pub mod KeptNow
 pub mod LeavesBehind
+pub mod LeftNow
+pub mod LogsLeft
 pub mod MadeItems
 pub mod MakesDest
 pub mod MakesHold
@@ -30,6 +38,7 @@ pub mod PlacesKeep
 pub mod PlacesOnWay
 pub mod PlacesTell
 pub mod Positions
+pub mod QuietTurns
 pub mod ReadsOn
 pub mod Refusing
 pub mod Rooms

@@ -45,7 +45,7 @@ use Rattle.pt_begun.proofs.ScansTell.{free_mark, item_of_site, named_so}
 
 -- ---- the files
 
-all_at : {X : Type 0} → (P : X → Type 0) (xs : List X) (k : ℕ) (x : X) → All P xs → slice_get xs k ≡ Some x → P x
+pub all_at : {X : Type 0} → (P : X → Type 0) (xs : List X) (k : ℕ) (x : X) → All P xs → slice_get xs k ≡ Some x → P x
 all_at P [] k x all is = absurd (cc)
 all_at P (y ∷ xs) zero x all is = subst P (let same : y ≡ x = cc in same) (all 0 y (omega arith))
 all_at P (y ∷ xs) (suc k) x all is = all_at P xs k x (λ j d h. all (suc j) d (omega (arith, h))) is

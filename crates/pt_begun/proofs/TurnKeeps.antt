@@ -116,7 +116,7 @@ module _ (job : Job) (past : Past) where
 -- ---- all parts
 
 -- the turn is counted, which no part speaks of
-still_counts : (job : Job) (past : Past) (here : Phase) (kept : Kept) (source : Forest) (root : Tree) → ItemsPart job past here kept.counts source root → ItemsPart job past here (turning kept).counts source root
+pub still_counts : (job : Job) (past : Past) (here : Phase) (kept : Kept) (source : Forest) (root : Tree) → ItemsPart job past here kept.counts source root → ItemsPart job past here (turning kept).counts source root
 still_counts job past here kept source root it = record { places = it.places; lines_are = record { done = it.lines_are.done; present = it.lines_are.present; skipped = it.lines_are.skipped } }
 
 -- what both the start and the destination tell

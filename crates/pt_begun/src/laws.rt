@@ -3,6 +3,7 @@ ghost use Rattle.pt_begun.specs.BegunLaws.{BegunPermits, NewRunIsBegun, TurnEnds
 ghost use Rattle.pt_begun.specs.BoundLaws.{HaltedIsWithinBound};
 ghost use Rattle.pt_begun.specs.DestLaws.{MakingKeepsDest, PlacingKeepsDest, ScanningKeepsDest, StartingKeepsDest, WalkingKeepsDest};
 ghost use Rattle.pt_begun.specs.EndLaws.{BegunIsWithinBound, EndsWell, EndsWithStates};
+ghost use Rattle.pt_begun.specs.HaltLaws.{BreaksLeave, StopsLeave};
 ghost use Rattle.pt_begun.specs.HeldLaws.{MakingKeepsHeld, PlacingKeepsHeld, ScanningKeepsHeld, StartingKeepsHeld, WalkingKeepsHeld};
 ghost use Rattle.pt_begun.specs.ItemLaws.{MakingKeepsItems, PlacingKeepsItems, ScanningKeepsItems, StartingKeepsItems, WalkingKeepsItems};
 ghost use Rattle.pt_begun.specs.RefusalLaws.{FindsStaging, RefusesRightly};
@@ -158,4 +159,14 @@ pub fn making_keeps_items()
 /// So do the turns that bring an object to its place, and those that tell of it and of the end.
 pub fn placing_keeps_items()
     ensures { PlacingKeepsItems }
+{}
+
+/// Between any two turns, where all devices tell, the destination and the log are such as a fault may leave of the source.
+pub fn stops_leave()
+    ensures { StopsLeave }
+{}
+
+/// So they are after a turn that broke off, if what it had asked before was answered.
+pub fn breaks_leave()
+    ensures { BreaksLeave }
 {}

@@ -1,0 +1,5 @@
+use Rattle.pt_begun.proofs.Halting.{stops_leave}
+use Rattle.pt_begun.proofs.laws.stops_leave.Goals as goal
+
+pub returns : goal.returns
+returns c = stops_leave
