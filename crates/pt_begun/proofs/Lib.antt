@@ -8,6 +8,7 @@ pub mod CarriedNext
 pub mod ContentParts
 pub mod DestKeeps
 pub mod DistinctRows
+pub mod EarlyHalts
 pub mod Ending
 pub mod EndStates
 pub mod EntriesThere
@@ -54,6 +55,7 @@ pub mod SourceKeeps
 pub mod StagingFound
 pub mod StartsDest
 pub mod StartsKeep
+pub mod TargetFound
 pub mod Tests
 pub mod TrailKeeps
 pub mod Trees

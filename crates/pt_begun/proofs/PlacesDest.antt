@@ -60,7 +60,7 @@ stands_so : (job : Job) (past : Past) (start : Tree) (object : Object) (held : H
 stands_so job past start object held n now tree rows it = it.tree ∙ whole job past start (root_on_way job start past.placed object.place n) object held tree it.root.free rows
 
 -- at a path of the root it has what the root has
-at_root : (job : Job) (past : Past) (start : Tree) (object : Object) (held : Held) (n : ℕ) (now : Writing) (path : Path) → IsTree start → AreRows job past.bytes held → IsMakingObject job start past.placed object (script_of_object job object held.rows past.bytes) n now
+pub at_root : (job : Job) (past : Past) (start : Tree) (object : Object) (held : Held) (n : ℕ) (now : Writing) (path : Path) → IsTree start → AreRows job past.bytes held → IsMakingObject job start past.placed object (script_of_object job object held.rows past.bytes) n now
     → now.tree (storage_root ++ path) ≡ root_on_way job start past.placed object.place n path
 at_root job past start object held n now path tree rows it = ap (λ (t : Tree). t (storage_root ++ path)) (stands_so job past start object held n now tree rows it)
 

@@ -31,6 +31,7 @@ use Rattle.pt_begun.specs.Past.{Past, past_after}
 use Rattle.pt_begun.proofs.DestKeeps.{no_kind, or_nothing}
 use Rattle.pt_begun.proofs.InPairtree.{some_same}
 use Rattle.pt_begun.proofs.MadeItems.{made_more, tree_made}
+use Rattle.pt_begun.proofs.PlacesOnWay.{folder_kind}
 use Rattle.pt_begun.proofs.RootChecks.{file_short, peeked_whole}
 use Rattle.pt_begun.proofs.Tests.{take_one}
 use Rattle.pt_begun.proofs.Trees.{tree_moved, tree_put}
@@ -137,7 +138,7 @@ checked_next job past start held old new number path bytes line last is layout f
         (record { started = part.started; tree = part.tree; at = record { root = record { free = part.at.free; root = inr all }; came = refl; tree = part.at.tree ∙ own_root job start part.started all } })
     by false is files =
         subst (λ (w : Writing). DestPart job (past_after (phase.RootCheck number) line (phase.RootCheck (number + 1)) held past) (phase.RootCheck (number + 1)) held start w) (sym change)
-        (record { started = part.started; tree = part.tree; at = record { free = part.at.free; files = files; tree = part.at.tree } })
+        (record { started = part.started; tree = part.tree; at = record { free = part.at.free; top = part.at.top; files = files; tree = part.at.tree } })
 
 pub starts_dest : StartingKeepsDest
 unfolding Changes IsKindAt IsPeeked
@@ -152,8 +153,9 @@ starts_dest job past start old new prefix read here next held calls layout (HasN
     subst (λ (w : Writing). DestPart job (past_after here calls.line next held past) next held start w) (sym (some_same new old change.1))
     (record { started = part.started; tree = part.tree; at = record { free = part.at.1; root = free_below start (codes "ocfl") part.started none; tree = part.at.0.tree } })
 starts_dest job past start old new prefix read here next held calls layout (HasRoot was) change at part =
+    let folder = sym (ap (λ (t : Tree). t storage_root) part.at.0.tree) ∙ folder_kind (old.tree storage_root) (change.0 old refl) in
     subst (λ (w : Writing). DestPart job (past_after here calls.line next held past) next held start w) (sym (some_same new old change.1))
-    (record { started = part.started; tree = part.tree; at = record { free = part.at.1; files = λ k d h. absurd (omega (arith, h)); tree = part.at.0.tree } })
+    (record { started = part.started; tree = part.tree; at = record { free = part.at.1; top = folder; files = λ k d h. absurd (omega (arith, h)); tree = part.at.0.tree } })
 starts_dest job past start old new prefix read here next held calls layout (MakesRoot was number item is) change at part = made_next job past start held old new number item None (number == 5) refl (some_same new (after_make item old) change) is part
 starts_dest job past start old new prefix read here next held calls layout (RenamesRoot was) change at part =
     let is = some_same new (after_rename staging storage_root old) change in

@@ -63,9 +63,10 @@ pub record IsMakingRoot (start : Tree) (items : List Item) (now : Writing) : Typ
   pub root : IsFree start storage_root
   pub tree : now.tree ≡ made items start
 
--- so many files of the root that stands were found to be the layout's
+-- the root is a folder, and so many of its files were found to be the layout's
 pub record IsCheckingRoot (job : Job) (start : Tree) (number : ℕ) (now : Writing) : Type 0 where
   pub free : IsFree start staging
+  pub top : root_in start [] ≡ Some Folder
   pub files : HasRootFiles job (root_in start) number
   pub tree : now.tree ≡ start
 

@@ -1,10 +1,17 @@
--- What a run says of its source and its destination when it refuses them.
-use Rattle.std.specs.Prelude.{◌≡◌, true, false, Some, Err, is_some, ⊤}
+-- What a run says of its source and its destination when it refuses them, and what it leaves of them.
+use Rattle.std.specs.Prelude.{◌≡◌, ◌≢◌, ℕ, Bool, true, false, List, [], Some, Err, is_some, slice_get, ⊤}
+use Rattle.pt_object.specs.FilePaths.{File}
+use Rattle.pt_object.specs.Holding.{IsFree}
+use Rattle.pt_object.specs.RootFiles.{root_files_of}
 use Rattle.pt_object.specs.Scripts.{staging}
+use Rattle.pt_tree.specs.Dest.{Writing}
 use Rattle.pt_tree.specs.Forest.{Forest}
 use Rattle.pt_tree.specs.Source.{Reading}
-use Rattle.pt_tree.specs.Tree.{Tree}
+use Rattle.pt_tree.specs.Tree.{Bytes, Folder, Tree}
+use Rattle.pt_plan.specs.Carried.{Carried, is_folder_or_free, is_way_free}
+use Rattle.pt_plan.specs.Faults.{IsCarriedAs}
 use Rattle.pt_plan.specs.Job.{Job}
+use Rattle.pt_plan.specs.Roots.{root_in}
 use Rattle.pt_plan.specs.Run.{Kept, Run, turning}
 use Rattle.pt_plan.specs.Store.{has_prefix, is_store}
 use Rattle.pt_plan.specs.Turn.{Turn}
@@ -29,3 +36,48 @@ RefusesRightly =
 abbrev pub FindsStaging : Type 0
 FindsStaging =
     (job : Job) (start : Start) (old new : World) (run : Run) (after : Kept) (t : Tree) → Begun job start old run → Turn job run.phase (turning run.kept) after old new (Err halt.StagingLeft) → start.dest ≡ Some t → is_some (t staging) ≡ true
+
+-- ---- a root that can't be gone on with
+
+-- what stands at its top is no folder; or that is one, and a file of the layout isn't there with its bytes; or what stands on the way to the place of one of these objects is no folder
+pub data IsBadTarget (job : Job) (root : Tree) (objects : Carried → Type 0) : Type 0 where
+  IsNoFolder : is_folder_or_free (root []) ≡ false → IsBadTarget job root objects
+  HasOtherFile : (number : ℕ) (file : File) → root [] ≡ Some Folder → slice_get (root_files_of job.tuples) number ≡ Some file → root file.0 ≢ Some (Bytes file.1) → IsBadTarget job root objects
+  IsBarred : (object : Carried) → objects object → is_way_free job root object ≡ false → IsBadTarget job root objects
+
+-- the object is carried of the source
+abbrev pub IsCarriedOf : Job → Forest → Tree → Carried → Type 0
+IsCarriedOf job source root object = (k : ℕ) × IsCarriedAs job source root k object
+
+-- where the destination tells, a run halts for it only where nothing stood at `staging` and its root can't be gone on with
+abbrev pub FindsTarget : Type 0
+FindsTarget =
+    (job : Job) (start : Start) (old new : World) (run : Run) (after : Kept) (t : Tree) → Begun job start old run → Turn job run.phase (turning run.kept) after old new (Err halt.Target) → start.dest ≡ Some t
+    → IsFree t staging × IsBadTarget job (root_in t) (λ object. ⊤)
+
+-- where the source tells too, an object whose way is barred is one that is carried
+abbrev pub FindsTargetOf : Type 0
+FindsTargetOf =
+    (job : Job) (start : Start) (old new : World) (run : Run) (after : Kept) (s : Reading) (t : Tree) → Begun job start old run → Turn job run.phase (turning run.kept) after old new (Err halt.Target) → old.source ≡ Some s → start.dest ≡ Some t
+    → IsFree t staging × IsBadTarget job (root_in t) (IsCarriedOf job s.tree (root_in t))
+
+-- ---- what is left
+
+-- a halt for what the source is, or for what stands at `staging`
+abbrev pub is_early : Halt → Bool
+is_early halt.NotPairtree = true
+is_early halt.Prefix = true
+is_early halt.StagingLeft = true
+is_early _ = false
+
+-- where the destination tells, it is as it was at the start after such a halt
+abbrev pub EarlyLeavesDest : Type 0
+EarlyLeavesDest =
+    (job : Job) (start : Start) (old new : World) (run : Run) (after : Kept) (why : Halt) (t : Tree) (now : Writing) → Begun job start old run → Turn job run.phase (turning run.kept) after old new (Err why) → is_early why ≡ true
+    → start.dest ≡ Some t → new.dest ≡ Some now → now.tree ≡ t
+
+-- where all three tell, so is the log
+abbrev pub EarlyLeavesLog : Type 0
+EarlyLeavesLog =
+    (job : Job) (start : Start) (old new : World) (run : Run) (after : Kept) (why : Halt) (s : Reading) (t : Tree) (first last : List ℕ) → Begun job start old run → Turn job run.phase (turning run.kept) after old new (Err why) → is_early why ≡ true
+    → old.source ≡ Some s → start.dest ≡ Some t → start.log ≡ Some first → new.log ≡ Some last → last ≡ first

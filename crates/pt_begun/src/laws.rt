@@ -6,7 +6,7 @@ ghost use Rattle.pt_begun.specs.EndLaws.{BegunIsWithinBound, EndsWell, EndsWithS
 ghost use Rattle.pt_begun.specs.HaltLaws.{BreaksLeave, StopsLeave};
 ghost use Rattle.pt_begun.specs.HeldLaws.{MakingKeepsHeld, PlacingKeepsHeld, ScanningKeepsHeld, StartingKeepsHeld, WalkingKeepsHeld};
 ghost use Rattle.pt_begun.specs.ItemLaws.{MakingKeepsItems, PlacingKeepsItems, ScanningKeepsItems, StartingKeepsItems, WalkingKeepsItems};
-ghost use Rattle.pt_begun.specs.RefusalLaws.{FindsStaging, RefusesRightly};
+ghost use Rattle.pt_begun.specs.RefusalLaws.{EarlyLeavesDest, EarlyLeavesLog, FindsStaging, FindsTarget, FindsTargetOf, RefusesRightly};
 ghost use Rattle.pt_begun.specs.SourceLaws.{MakingKeepsSource, PlacingKeepsSource, ScanningKeepsSource, StartingKeepsSource, WalkingKeepsSource};
 
 /// A new run is in progress, whatever its devices tell.
@@ -169,4 +169,24 @@ pub fn stops_leave()
 /// So they are after a turn that broke off, if what it had asked before was answered.
 pub fn breaks_leave()
     ensures { BreaksLeave }
+{}
+
+/// Where the destination tells, a run halts for it only where nothing stood at `staging` and its root can't be gone on with: it is no folder, or has other files than the layout's, or something is in the way to an object's place.
+pub fn finds_target()
+    ensures { FindsTarget }
+{}
+
+/// Where the source tells too, the way that is barred is that to an object that is carried.
+pub fn finds_target_of()
+    ensures { FindsTargetOf }
+{}
+
+/// After a halt for what the source is, or for what stands at `staging`, a destination that tells is as it was at the start.
+pub fn early_leaves_dest()
+    ensures { EarlyLeavesDest }
+{}
+
+/// So is the log, where all devices tell.
+pub fn early_leaves_log()
+    ensures { EarlyLeavesLog }
 {}
