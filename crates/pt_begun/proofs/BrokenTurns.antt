@@ -20,7 +20,8 @@ use Rattle.pt_plan.specs.TurnScan.{skipped}
 use Rattle.pt_plan.specs.World.{Calls, LeavesFront}
 use Rattle.pt_plan.specs.declared.phase.Phase.{Phase}
 use Rattle.pt_begun.specs.EndLaws.{is_ended}
-use Rattle.pt_begun.specs.HaltLaws.{IsLeftByFault, WasFound, WasRead}
+use Rattle.pt_plan.specs.Turn.{WasFound, WasRead}
+use Rattle.pt_begun.specs.HaltLaws.{IsLeftByFault}
 use Rattle.pt_begun.specs.ItemLaws.{KnowsItems}
 use Rattle.pt_begun.specs.Past.{Past}
 use Rattle.pt_begun.proofs.InPairtree.{some_same}

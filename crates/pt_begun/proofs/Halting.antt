@@ -9,14 +9,14 @@ use Rattle.pt_plan.specs.Job.{Job}
 use Rattle.pt_plan.specs.Lines.{text}
 use Rattle.pt_plan.specs.Roots.{root_in}
 use Rattle.pt_plan.specs.Run.{Held, Run, turning}
-use Rattle.pt_plan.specs.Turn.{BreaksOff, Follows}
+use Rattle.pt_plan.specs.Turn.{BreaksOff, Follows, WasFound, WasRead}
 use Rattle.pt_plan.specs.World.{Calls, LeavesFront, LeavesPart, World}
 use Rattle.pt_plan.specs.declared.phase.Phase.{Phase}
 use Rattle.pt_plan.specs.declared.phase.Phase.TheVariants as phase
 use Rattle.pt_begun.specs.Begun.{Begun, HasTold, IsPast, Start}
 use Rattle.pt_begun.specs.BegunDest.{DestPart}
 use Rattle.pt_begun.specs.EndLaws.{is_ended}
-use Rattle.pt_begun.specs.HaltLaws.{BreaksLeave, HadAnswered, IsLeftByFault, StopsLeave, WasFound, WasRead}
+use Rattle.pt_begun.specs.HaltLaws.{BreaksLeave, IsLeftByFault, StopsLeave}
 use Rattle.pt_begun.specs.Past.{Past}
 use Rattle.pt_begun.proofs.BrokenPlaces.{follows_broken}
 use Rattle.pt_begun.proofs.BrokenTurns.{IsBefore, left_quiet}
@@ -79,11 +79,11 @@ module _ (job : Job) (past : Past) (start : Start) (old : World) (run : Run) (s 
       (ap (λ (w : Writing). w.tree) (some_same now had.now (dest ∙ had.dest_is))) (log ∙ had.log_told)
 
   -- and where a turn broke off
-  pub broken_leaves : (new : World) (prefix : List ℕ) (held : Held) (calls : Calls) (answer : Answer) (now : Writing) (last : List ℕ) → TellsAll → Follows job (turning run.kept).counts run.phase run.kept.prefix run.kept.held prefix held calls answer → HadAnswered calls old
+  pub broken_leaves : (new : World) (prefix : List ℕ) (held : Held) (calls : Calls) (answer : Answer) (now : Writing) (last : List ℕ) → TellsAll → Follows job (turning run.kept).counts run.phase run.kept.prefix run.kept.held prefix held calls answer
       → BreaksOff calls old new → old.source ≡ Some s → new.dest ≡ Some now → new.log ≡ Some last → IsLeftByFault job s.tree t now.tree first last
-  broken_leaves new prefix held calls answer now last had turn answered broken source_is dest_is log_is =
+  broken_leaves new prefix held calls answer now last had turn broken source_is dest_is log_is =
       follows_broken job past s t run.kept.prefix (turning run.kept).counts had.now now first had.log last run.phase run.kept.held prefix held calls answer turn had.before
-      (record { read = subst (WasRead calls.asked) source_is answered.read; found = subst (WasFound calls.line calls.change) had.dest_is answered.found })
+      (record { read = subst (WasRead calls.asked) source_is broken.had.read; found = subst (WasFound calls.line calls.change) had.dest_is broken.had.found })
       (subst (λ o. LeavesPart o (Some now) calls.change) had.dest_is (subst (λ o. LeavesPart old.dest o calls.change) dest_is broken.dest))
       (subst (λ o. LeavesFront calls.line o (Some last)) had.log_told (subst (λ o. LeavesFront calls.line old.log o) log_is broken.log))
 
@@ -95,6 +95,6 @@ stops_leave job start world run s t now first last (past, is) runs source_is sta
 -- no turn begins where the run has ended
 pub breaks_leave : BreaksLeave
 unfolding Begun
-breaks_leave job start old new run prefix held calls answer s t now first last (past, is) turn answered broken source_is start_is dest_is first_is last_is =
+breaks_leave job start old new run prefix held calls answer s t now first last (past, is) turn broken source_is start_is dest_is first_is last_is =
     broken_leaves job past start old run s t first new prefix held calls answer now last
-    (tells_all job past start old run s t first is (follows_runs job (turning run.kept).counts run.phase run.kept.prefix run.kept.held prefix held calls answer turn) source_is start_is first_is) turn answered broken source_is dest_is last_is
+    (tells_all job past start old run s t first is (follows_runs job (turning run.kept).counts run.phase run.kept.prefix run.kept.held prefix held calls answer turn) source_is start_is first_is) turn broken source_is dest_is last_is

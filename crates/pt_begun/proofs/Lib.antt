@@ -15,6 +15,7 @@ pub mod EntriesThere
 pub mod Feeding
 pub mod HaltedBound
 pub mod Halting
+pub mod HaltsLeave
 pub mod HeldKeeps
 pub mod InObject
 pub mod InPairtree

@@ -1,35 +1,18 @@
 -- What a run leaves that halts, of the destination and the log together, told against the source.
-use Rattle.std.specs.Prelude.{◌≡◌, ℕ, false, List, ◌++◌, Option, None, Some, ⊤}
-use Rattle.pt_tree.specs.Dest.{Writing, IsKindAt}
+use Rattle.std.specs.Prelude.{◌≡◌, ℕ, false, List, ◌++◌, Some, Err}
+use Rattle.pt_tree.specs.Dest.{Writing}
 use Rattle.pt_tree.specs.Forest.{Forest}
-use Rattle.pt_tree.specs.Source.{Reading, IsRead}
+use Rattle.pt_tree.specs.Source.{Reading}
 use Rattle.pt_tree.specs.Tree.{Tree}
 use Rattle.pt_plan.specs.Answer.{Answer}
 use Rattle.pt_plan.specs.Faults.{MayBeLeft}
 use Rattle.pt_plan.specs.Job.{Job}
-use Rattle.pt_plan.specs.Lines.{Line}
-use Rattle.pt_plan.specs.Run.{Held, Run, turning}
-use Rattle.pt_plan.specs.Turn.{BreaksOff, Follows}
-use Rattle.pt_plan.specs.World.{Asked, Calls, Change, Finds, Reads, World}
+use Rattle.pt_plan.specs.Run.{Held, Kept, Run, turning}
+use Rattle.pt_plan.specs.Turn.{BreaksOff, Follows, Turn}
+use Rattle.pt_plan.specs.World.{Calls, World}
+use Rattle.pt_plan.specs.declared.halt.Halt.{Halt}
 use Rattle.pt_begun.specs.Begun.{Begun, Start}
 use Rattle.pt_begun.specs.EndLaws.{is_ended}
-
--- ---- what had been answered before a turn broke off
-
--- a block that it read was the source's
-abbrev pub WasRead : Asked → Option Reading → Type 0
-WasRead (Reads block) source = IsRead source block
-WasRead _ source = ⊤
-
--- where it tells a line, what it found was what stands in the destination
-abbrev pub WasFound : Option Line → Change → Option Writing → Type 0
-WasFound None change dest = ⊤
-WasFound (Some line) (Finds path here) dest = IsKindAt dest path here
-WasFound (Some line) _ dest = ⊤
-
-pub record HadAnswered (calls : Calls) (old : World) : Type 0 where
-  pub read : WasRead calls.asked old.source
-  pub found : WasFound calls.line calls.change old.dest
 
 -- ---- what is left
 
@@ -46,10 +29,17 @@ StopsLeave =
     → world.source ≡ Some s → start.dest ≡ Some t → world.dest ≡ Some now → start.log ≡ Some first → world.log ≡ Some last
     → IsLeftByFault job s.tree t now.tree first last
 
--- and after a turn that broke off, if what it had asked before was answered
+-- and after a turn that broke off
 abbrev pub BreaksLeave : Type 0
 BreaksLeave =
     (job : Job) (start : Start) (old new : World) (run : Run) (prefix : List ℕ) (held : Held) (calls : Calls) (answer : Answer) (s : Reading) (t : Tree) (now : Writing) (first last : List ℕ) → Begun job start old run
-    → Follows job (turning run.kept).counts run.phase run.kept.prefix run.kept.held prefix held calls answer → HadAnswered calls old → BreaksOff calls old new
+    → Follows job (turning run.kept).counts run.phase run.kept.prefix run.kept.held prefix held calls answer → BreaksOff calls old new
     → old.source ≡ Some s → start.dest ≡ Some t → new.dest ≡ Some now → start.log ≡ Some first → new.log ≡ Some last
+    → IsLeftByFault job s.tree t now.tree first last
+
+-- so it is after any turn that halts the run
+abbrev pub HaltsLeave : Type 0
+HaltsLeave =
+    (job : Job) (start : Start) (old new : World) (run : Run) (after : Kept) (why : Halt) (s : Reading) (t : Tree) (now : Writing) (first last : List ℕ) → Begun job start old run → is_ended run.phase ≡ false
+    → Turn job run.phase (turning run.kept) after old new (Err why) → old.source ≡ Some s → start.dest ≡ Some t → new.dest ≡ Some now → start.log ≡ Some first → new.log ≡ Some last
     → IsLeftByFault job s.tree t now.tree first last

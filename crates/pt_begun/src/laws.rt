@@ -3,7 +3,7 @@ ghost use Rattle.pt_begun.specs.BegunLaws.{BegunPermits, NewRunIsBegun, TurnEnds
 ghost use Rattle.pt_begun.specs.BoundLaws.{HaltedIsWithinBound};
 ghost use Rattle.pt_begun.specs.DestLaws.{MakingKeepsDest, PlacingKeepsDest, ScanningKeepsDest, StartingKeepsDest, WalkingKeepsDest};
 ghost use Rattle.pt_begun.specs.EndLaws.{BegunIsWithinBound, EndsWell, EndsWithStates};
-ghost use Rattle.pt_begun.specs.HaltLaws.{BreaksLeave, StopsLeave};
+ghost use Rattle.pt_begun.specs.HaltLaws.{BreaksLeave, HaltsLeave, StopsLeave};
 ghost use Rattle.pt_begun.specs.HeldLaws.{MakingKeepsHeld, PlacingKeepsHeld, ScanningKeepsHeld, StartingKeepsHeld, WalkingKeepsHeld};
 ghost use Rattle.pt_begun.specs.ItemLaws.{MakingKeepsItems, PlacingKeepsItems, ScanningKeepsItems, StartingKeepsItems, WalkingKeepsItems};
 ghost use Rattle.pt_begun.specs.RefusalLaws.{EarlyLeavesDest, EarlyLeavesLog, FindsStaging, FindsTarget, FindsTargetOf, RefusesRightly};
@@ -169,6 +169,11 @@ pub fn stops_leave()
 /// So they are after a turn that broke off, if what it had asked before was answered.
 pub fn breaks_leave()
     ensures { BreaksLeave }
+{}
+
+/// So it is after any turn that halts the run.
+pub fn halts_leave()
+    ensures { HaltsLeave }
 {}
 
 /// Where the destination tells, a run halts for it only where nothing stood at `staging` and its root can't be gone on with: it is no folder, or has other files than the layout's, or something is in the way to an object's place.

@@ -89,11 +89,11 @@ read_gave_up object bytes (byte ∷ block) s s' r r' w g g' n n' d l l' did some
 
 pub read_gave_front : (object : Object) (bytes : ℕ) (block : List ℕ) (s s' : State) (r r' : Option Reading) (w : Option Writing) (g g' : Option (List ℕ)) (n n' d l l' : ℕ) (f : Halt) (result : Answer) → IsErrAnd result (λ h. h ≡ f) → SourceDid (Reads block) r r' n n' → 0 < length block → s.job.limits.file_bytes < bytes + length block
     → LogGotFront (Skipped (trail_path (to_site object s.trail)) cause.Limit) f g g' l l' → IsUnmoved s s' → Turned (phase.Read object bytes) s s' r r' w w g g' n n' d d l l' result
-unfolding long_calls SourceDid
+unfolding long_calls SourceDid Answers
 read_gave_front object bytes [] s s' r r' w g g' n n' d l l' f result is did some long front same = absurd (omega (arith, some))
 read_gave_front object bytes (byte ∷ block) s s' r r' w g g' n n' d l l' f result is did some long front same =
     subst (λ (k : ℕ). Turned (phase.Read object bytes) s s' r r' w w g g' n k d d l l' result) (sym did.1)
-    (turned_front (phase.Read object bytes) phase.Walk s s' r r' w w g g' n d l l' (long_calls (byte ∷ block) (Skipped (trail_path (to_site object s.trail)) cause.Limit)) (Skipped (trail_path (to_site object s.trail)) cause.Limit) _ f result is front refl
+    (turned_front (phase.Read object bytes) phase.Walk s s' r r' w w g g' n d l l' (long_calls (byte ∷ block) (Skipped (trail_path (to_site object s.trail)) cause.Limit)) (Skipped (trail_path (to_site object s.trail)) cause.Limit) _ f result is front refl (record { read = did.0.0; found = tt })
     (λ fed. Scan (phase.Read object bytes) (string_bytes s.prefix) (held_of s fed) _ _ _ (IsTooLong (held_of s fed) object bytes byte block (lt-ltb s.job.limits.file_bytes (bytes + length (byte ∷ block)) long)))
     (read_tree r r' n n' (byte ∷ block) did) refl same.prefix same.trail same.rows same.contents same.counts)
 
@@ -124,7 +124,7 @@ noted_file s s' r r' w g n n' d l object bytes block path digest did none there 
 pub noted_part : (s s' : State) (r r' : Option Reading) (w : Option Writing) (g : Option (List ℕ)) (n n' d l : ℕ) (object : Object) (bytes : ℕ) (block : List ℕ) (path : Path) (digest : List ℕ) (result : Answer) → IsErrAnd result (λ h. h ≡ halt.Memory) → SourceDid (Reads block) r r' n n' → length block ≡ 0 → path ≡ logical_path object s.trail
     → ((algorithm : Algorithm) (fed : List ℕ) → HasBeenFed algorithm s.hasher fed → digest ≡ digest_of algorithm fed) → s'.trail ≡ s.trail → s'.rows ≡ s.rows ++ row_of path digest bytes ∷ [] → s'.contents ≡ s.contents
     → s'.counts ≡ s.counts → string_bytes s'.prefix ≡ string_bytes s.prefix → Turned (phase.Read object bytes) s s' r r' w w g g n n' d d l l result
-unfolding Turned SourceDid LeavesSome
+unfolding Turned SourceDid LeavesSome Answers
 noted_part s s' r r' w g n n' d l object bytes block path digest (Ok next) is did none there digests trail rows contents counts prefix = absurd is
 noted_part s s' r r' w g n n' d l object bytes block path digest (Err f) is did none there digests trail rows contents counts prefix = λ fed was.
     let held = held_of s fed in
@@ -137,7 +137,7 @@ noted_part s s' r r' w g n n' d l object bytes block path digest (Err f) is did 
         tt,
         subst (λ (f : Halt). Turn job (phase.Read object bytes) (kept_of s fed) (kept_of s' fed) (world r w g n d l) (world r' w g n' d l) (Err f)) (sym is)
             (FailsLater (string_bytes s.prefix) new (asks (Reads [])) (Ok (phase.Scan object)) new.rows halt.Memory (Scan (phase.Read object bytes) (string_bytes s.prefix) held new _ _ (EndsFile held object bytes))
-            (record { source = read_tree r r' n n' block did; dest = Untouched ChangesNothing refl; log = refl }, ap (λ (k : ℕ). record { source = k; dest = d; log = l }) did.1) (inr (refl, subst (λ (b : List ℕ). Answers (Reads b) r r') (empty block none) did.0))
+            (record { had = record { read = (subst (λ (b : List ℕ). Answers (Reads b) r r') (empty block none) did.0).0; found = tt }; source = read_tree r r' n n' block did; dest = Untouched ChangesNothing refl; log = refl }, ap (λ (k : ℕ). record { source = k; dest = d; log = l }) did.1) (inr (refl, subst (λ (b : List ℕ). Answers (Reads b) r r') (empty block none) did.0))
             (record { prefix = prefix; trail = trail; rows_are = rows_are; contents = contents; counts = ap counts_of counts })),
       ),
     )

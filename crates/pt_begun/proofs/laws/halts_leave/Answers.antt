@@ -1,0 +1,5 @@
+use Rattle.pt_begun.proofs.HaltsLeave.{halts_leave}
+use Rattle.pt_begun.proofs.laws.halts_leave.Goals as goal
+
+pub returns : goal.returns
+returns c = halts_leave
