@@ -54,6 +54,7 @@ pub mod ScansTell
 pub mod ScriptParts
 pub mod SourceKeeps
 pub mod StagingFound
+pub mod StandingStill
 pub mod StartsDest
 pub mod StartsKeep
 pub mod TargetFound

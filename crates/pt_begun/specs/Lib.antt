@@ -13,3 +13,4 @@ pub mod PartsMade
 pub mod Past
 pub mod RefusalLaws
 pub mod SourceLaws
+pub mod StillLaws

@@ -8,6 +8,7 @@ ghost use Rattle.pt_begun.specs.HeldLaws.{MakingKeepsHeld, PlacingKeepsHeld, Sca
 ghost use Rattle.pt_begun.specs.ItemLaws.{MakingKeepsItems, PlacingKeepsItems, ScanningKeepsItems, StartingKeepsItems, WalkingKeepsItems};
 ghost use Rattle.pt_begun.specs.RefusalLaws.{EarlyLeavesDest, EarlyLeavesLog, FindsStaging, FindsTarget, FindsTargetOf, RefusesRightly};
 ghost use Rattle.pt_begun.specs.SourceLaws.{MakingKeepsSource, PlacingKeepsSource, ScanningKeepsSource, StartingKeepsSource, WalkingKeepsSource};
+ghost use Rattle.pt_begun.specs.StillLaws.{BegunStandsStill, LeftBehindStandsStill};
 
 /// A new run is in progress, whatever its devices tell.
 pub fn new_run_is_begun()
@@ -194,4 +195,14 @@ pub fn early_leaves_dest()
 /// So is the log, where all devices tell.
 pub fn early_leaves_log()
     ensures { EarlyLeavesLog }
+{}
+
+/// In whatever a run leaves of a destination that tells, what stood at the start stands with what it held, and what is new stands at `ocfl` or below it, or, if nothing stood at `staging`, there or below it.
+pub fn left_behind_stands_still()
+    ensures { LeftBehindStandsStill }
+{}
+
+/// So it does between any two turns.
+pub fn begun_stands_still()
+    ensures { BegunStandsStill }
 {}

@@ -1,0 +1,5 @@
+use Rattle.pt_begun.proofs.StandingStill.{begun_stands_still}
+use Rattle.pt_begun.proofs.laws.begun_stands_still.Goals as goal
+
+pub returns : goal.returns
+returns c = begun_stands_still
