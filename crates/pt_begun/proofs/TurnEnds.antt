@@ -134,7 +134,7 @@ answers_tree (OpensAndReads path block) None new answers = ap source_tree answer
 answers_tree (OpensAndReads path block) (Some s) new answers = ap source_tree answers.1
 
 -- the source that told tells the same tree
-same_tree : (old new : Option Reading) (v : Reading) → source_tree new ≡ source_tree old → new ≡ Some v → (s : Reading) × (old ≡ Some s) × (v.tree ≡ s.tree)
+pub same_tree : (old new : Option Reading) (v : Reading) → source_tree new ≡ source_tree old → new ≡ Some v → (s : Reading) × (old ≡ Some s) × (v.tree ≡ s.tree)
 same_tree None new v same is = absurd (let no : Some v.tree ≡ None = sym (ap source_tree is) ∙ same in cc)
 same_tree (Some s) new v same is = (s, refl, some_same v.tree s.tree (sym (ap source_tree is) ∙ same))
 

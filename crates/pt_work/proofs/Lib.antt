@@ -1,4 +1,5 @@
 pub mod Copying
+pub mod EndsWithin
 pub mod MakesLower
 pub mod PlacesLower
 pub mod ScanParts

@@ -1,5 +1,5 @@
 -- A run makes no more turns than its work, where its source and its destination tell.
-use Rattle.std.specs.Prelude.{◌≡◌, ◌≤◌, ℕ, ◌+◌, false, List, Option, Some, Ok}
+use Rattle.std.specs.Prelude.{◌≡◌, ◌≤◌, ℕ, ◌+◌, false, List, Option, Some, Ok, Err}
 use Rattle.std.specs.Option.{ForSome}
 use Rattle.pt_name.specs.Tuples.{IsLayout}
 use Rattle.pt_tree.specs.Forest.{Forest}
@@ -18,7 +18,9 @@ use Rattle.pt_plan.specs.TurnStart.{Starts}
 use Rattle.pt_plan.specs.TurnWalk.{Walks}
 use Rattle.pt_plan.specs.Work.{work}
 use Rattle.pt_plan.specs.World.{Answers, Calls, World}
+use Rattle.pt_plan.specs.declared.halt.Halt.{Halt}
 use Rattle.pt_plan.specs.declared.phase.Phase.{Phase}
+use Rattle.pt_plan.specs.declared.phase.Phase.TheVariants as phase
 use Rattle.pt_begun.specs.Begun.{Begun, IsFreeAt, IsPast, IsWorld, Start, start_of}
 use Rattle.pt_begun.specs.BegunHeld.{HeldAt}
 use Rattle.pt_begun.specs.BegunSource.{SourcePart}
@@ -56,6 +58,16 @@ abbrev pub TurnsAreWithinWork : Type 0
 TurnsAreWithinWork =
     (job : Job) (start : Start) (old new : World) (run : Run) (after : Kept) (answer : Answer) (s : Reading) (t : Tree) → BegunWithinWork job start old run → is_ended run.phase ≡ false → Turn job run.phase (turning run.kept) after old new answer
     → old.source ≡ Some s → start.dest ≡ Some t → after.counts.turns ≤ work job s.tree (root_in t)
+
+-- a turn that halts the run leaves it so, ended
+abbrev pub TurnEndsWithinWork : Type 0
+TurnEndsWithinWork =
+    (job : Job) (start : Start) (old new : World) (run : Run) (after : Kept) (why : Halt) → BegunWithinWork job start old run → is_ended run.phase ≡ false → Turn job run.phase (turning run.kept) after old new (Err why)
+    → BegunWithinWork job start new (record { phase = phase.Ended; kept = after })
+
+-- and so is a run that is ended without a turn
+abbrev pub StopsWithinWork : Type 0
+StopsWithinWork = (job : Job) (start : Start) (world : World) (run : Run) → BegunWithinWork job start world run → BegunWithinWork job start world (record { phase = phase.Ended; kept = run.kept })
 
 -- ---- the turns of each group
 

@@ -1,5 +1,5 @@
 //! Laws on the turns that a run makes. Each is the contract of a function that does nothing.
-ghost use Rattle.pt_work.specs.WorkLaws.{MakingLowers, NewRunIsWithinWork, PlacingLowers, ScanningLowers, StartingLowers, TurnKeepsWithinWork, TurnsAreWithinWork, WalkingLowers, WithinWorkIsBegun};
+ghost use Rattle.pt_work.specs.WorkLaws.{MakingLowers, NewRunIsWithinWork, PlacingLowers, ScanningLowers, StartingLowers, StopsWithinWork, TurnEndsWithinWork, TurnKeepsWithinWork, TurnsAreWithinWork, WalkingLowers, WithinWorkIsBegun};
 
 /// A new run is in progress within its work, whatever its devices tell.
 pub fn new_run_is_within_work()
@@ -19,6 +19,16 @@ pub fn turn_keeps_within_work()
 /// After any turn, whatever it answers, no more turns were made than the work, where source and destination told.
 pub fn turns_are_within_work()
     ensures { TurnsAreWithinWork }
+{}
+
+/// A turn that halts the run leaves it ended, within its work.
+pub fn turn_ends_within_work()
+    ensures { TurnEndsWithinWork }
+{}
+
+/// And so is a run that is ended without a turn, as at its limit of turns.
+pub fn stops_within_work()
+    ensures { StopsWithinWork }
 {}
 
 /// The turns of the start lower what is left.
