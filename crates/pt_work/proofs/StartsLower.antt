@@ -1,5 +1,5 @@
 -- The turns of the start lower what is left.
-use Rattle.std.proofs.Common.{◌≡◌, ◌<◌, ◌-◌, ℕ, ◌+◌, ◌==◌, Bool, true, false, refl, arith, cond}
+use Rattle.std.proofs.Common.{◌≡◌, ◌<◌, ℕ, ◌+◌, ◌==◌, Bool, true, false, refl, arith, cond}
 use Rattle.std.specs.Prelude.{None}
 use Rattle.std.proofs.lemmas.Bool.{eqb-true}
 use Rattle.pt_tree.specs.Forest.{Forest}

@@ -1,5 +1,5 @@
 -- The turns of the walk lower what is left.
-use Rattle.std.proofs.Common.{◌≡◌, ◌≤◌, ◌-◌, ℕ, zero, suc, ◌+◌, ◌&&◌, true, false, List, [], ◌∷◌, refl, ap, sym, ◌∙◌, subst, arith, drop, length}
+use Rattle.std.proofs.Common.{◌≡◌, ◌≤◌, ℕ, zero, suc, ◌+◌, ◌&&◌, true, false, List, [], ◌∷◌, refl, ap, sym, ◌∙◌, subst, arith, drop, length}
 use Rattle.std.specs.Prelude.{Option, None, Some, nat_lt, slice_get, sum_by, unwrap_or}
 use Rattle.std.specs.Option.{option_map}
 use Rattle.std.proofs.lemmas.Bool.{and_parts}
