@@ -13,6 +13,7 @@ pub mod Ending
 pub mod EndStates
 pub mod EntriesThere
 pub mod Feeding
+pub mod GoodStarts
 pub mod HaltedBound
 pub mod Halting
 pub mod HaltsLeave

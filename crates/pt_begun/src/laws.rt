@@ -3,6 +3,7 @@ ghost use Rattle.pt_begun.specs.BegunLaws.{BegunPermits, NewRunIsBegun, TurnEnds
 ghost use Rattle.pt_begun.specs.BoundLaws.{HaltedIsWithinBound};
 ghost use Rattle.pt_begun.specs.DestLaws.{MakingKeepsDest, PlacingKeepsDest, ScanningKeepsDest, StartingKeepsDest, WalkingKeepsDest};
 ghost use Rattle.pt_begun.specs.EndLaws.{BegunIsWithinBound, EndsWell, EndsWithStates};
+ghost use Rattle.pt_begun.specs.GoodStart.{NothingIsRefused};
 ghost use Rattle.pt_begun.specs.HaltLaws.{BreaksLeave, HaltsLeave, StopsLeave};
 ghost use Rattle.pt_begun.specs.HeldLaws.{MakingKeepsHeld, PlacingKeepsHeld, ScanningKeepsHeld, StartingKeepsHeld, WalkingKeepsHeld};
 ghost use Rattle.pt_begun.specs.ItemLaws.{MakingKeepsItems, PlacingKeepsItems, ScanningKeepsItems, StartingKeepsItems, WalkingKeepsItems};
@@ -49,6 +50,11 @@ pub fn begun_is_within_bound()
 /// So it is after a turn that halts the run.
 pub fn halted_is_within_bound()
     ensures { HaltedIsWithinBound }
+{}
+
+/// From a good start, where no device fails, a turn halts a run for want of memory alone, where source and destination tell.
+pub fn nothing_is_refused()
+    ensures { NothingIsRefused }
 {}
 
 /// Where the source tells, it is refused as no pairtree or for its prefix only where that is so, and never as changed.
