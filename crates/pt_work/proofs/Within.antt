@@ -21,7 +21,7 @@ use Rattle.pt_begun.specs.Past.{Past, done_after, no_past, past_after}
 use Rattle.pt_begun.proofs.NewRun.{new_past}
 use Rattle.pt_begun.proofs.SourceKeeps.{tree_kept}
 use Rattle.pt_begun.proofs.TurnKeeps.{told_source, turned}
-use Rattle.pt_work.specs.WorkLaws.{BegunWithinWork, IsWithinWork, Lowers, NewRunIsWithinWork, TurnKeepsWithinWork, TurnsAreWithinWork, WithinWorkIsBegun}
+use Rattle.pt_work.specs.WorkLaws.{BegunWithinWork, IsWithinWork, Lowers, NewRunIsWithinWork, TurnIsLeft, TurnKeepsWithinWork, TurnsAreWithinWork, WithinWorkIsBegun}
 use Rattle.pt_work.specs.WorkLeft.{left}
 use Rattle.pt_work.proofs.MakesLower.{makes_lower}
 use Rattle.pt_work.proofs.PlacesLower.{places_lower}
@@ -108,6 +108,13 @@ turn_keeps_within_work job start old new run after next (past, is, within) (Goes
         let was = (within s told.1 t some).within in
         let one = ap (λ (c : Counts). c.turns) counts ∙ same_turns calls.line (turning run.kept).counts in
         subst (λ (f : Forest). IsWithinWork job f (root_in t) later.count goes_on) (sym tree) (record { within = omega (arith, lowers, was, one) })
+
+pub turn_is_left : TurnIsLeft
+unfolding BegunWithinWork
+turn_is_left job start world run s t (past, is, within) not told some =
+    let was = (within s told t some).within in
+    let more = some_left job s.tree (root_in t) past.count run.phase run.kept.held not in
+    omega (arith, was, more)
 
 pub turns_are_within_work : TurnsAreWithinWork
 unfolding BegunWithinWork

@@ -1,5 +1,5 @@
 -- A run makes no more turns than its work, where its source and its destination tell.
-use Rattle.std.specs.Prelude.{◌≡◌, ◌≤◌, ℕ, ◌+◌, false, List, Option, Some, Ok, Err}
+use Rattle.std.specs.Prelude.{◌≡◌, ◌<◌, ◌≤◌, ℕ, ◌+◌, false, List, Option, Some, Ok, Err}
 use Rattle.std.specs.Option.{ForSome}
 use Rattle.pt_name.specs.Tuples.{IsLayout}
 use Rattle.pt_tree.specs.Forest.{Forest}
@@ -52,6 +52,11 @@ abbrev pub TurnKeepsWithinWork : Type 0
 TurnKeepsWithinWork =
     (job : Job) (start : Start) (old new : World) (run : Run) (after : Kept) (next : Phase) → BegunWithinWork job start old run → Turn job run.phase (turning run.kept) after old new (Ok next)
     → BegunWithinWork job start new (record { phase = next; kept = after })
+
+-- before its end a turn is left of the work, so that a limit of at least the work isn't reached
+abbrev pub TurnIsLeft : Type 0
+TurnIsLeft =
+    (job : Job) (start : Start) (world : World) (run : Run) (s : Reading) (t : Tree) → BegunWithinWork job start world run → is_ended run.phase ≡ false → world.source ≡ Some s → start.dest ≡ Some t → run.kept.counts.turns < work job s.tree (root_in t)
 
 -- after any turn, whatever it answers, no more turns were made than the work
 abbrev pub TurnsAreWithinWork : Type 0

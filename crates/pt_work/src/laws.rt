@@ -1,5 +1,5 @@
 //! Laws on the turns that a run makes. Each is the contract of a function that does nothing.
-ghost use Rattle.pt_work.specs.WorkLaws.{MakingLowers, NewRunIsWithinWork, PlacingLowers, ScanningLowers, StartingLowers, StopsWithinWork, TurnEndsWithinWork, TurnKeepsWithinWork, TurnsAreWithinWork, WalkingLowers, WithinWorkIsBegun};
+ghost use Rattle.pt_work.specs.WorkLaws.{MakingLowers, NewRunIsWithinWork, PlacingLowers, ScanningLowers, StartingLowers, StopsWithinWork, TurnEndsWithinWork, TurnIsLeft, TurnKeepsWithinWork, TurnsAreWithinWork, WalkingLowers, WithinWorkIsBegun};
 
 /// A new run is in progress within its work, whatever its devices tell.
 pub fn new_run_is_within_work()
@@ -14,6 +14,11 @@ pub fn within_work_is_begun()
 /// A turn that goes on leaves the run in progress within its work, at its next phase.
 pub fn turn_keeps_within_work()
     ensures { TurnKeepsWithinWork }
+{}
+
+/// Before the end of a run a turn is left of its work, where source and destination tell.
+pub fn turn_is_left()
+    ensures { TurnIsLeft }
 {}
 
 /// After any turn, whatever it answers, no more turns were made than the work, where source and destination told.
