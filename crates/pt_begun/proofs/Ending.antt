@@ -49,6 +49,7 @@ either_not false p q one two = two
 pub record IsLastTurn (counts : Counts) (here : Phase) (held after : Held) (calls : Calls) : Type 0 where
   pub phase_is : here ≡ phase.End
   pub calls_are : calls ≡ tells (last_line counts)
+  pub held_is : after ≡ held
 
 starts_go : (job : Job) (prefix read : List ℕ) (here next : Phase) (calls : Calls) → Starts job here prefix read calls (Ok next) → is_ended next ≡ false
 starts_go job prefix read here next calls (IsStore was entries is) = refl
@@ -111,7 +112,7 @@ places_last job counts here next held after calls (MakesTuple was object number)
 places_last job counts here next held after calls (FindsTuple was object number) ended = absurd (let no = either_not (nat_lt (number + 1) job.tuples.count) (phase.Tuples object (number + 1)) (phase.Rename object) refl refl in true≢false (sym ended ∙ no))
 places_last job counts here next held after calls (RenamesObject was object) ended = absurd (false≢true ended)
 places_last job counts here next held after calls (TellsDone was object) ended = absurd (false≢true ended)
-places_last job counts here next held after calls (TellsEnd was) ended = record { phase_is = refl; calls_are = refl }
+places_last job counts here next held after calls (TellsEnd was) ended = record { phase_is = refl; calls_are = refl; held_is = refl }
 
 pub last_turn : (job : Job) (counts : Counts) (here : Phase) (prefix : List ℕ) (held : Held) (read : List ℕ) (after : Held) (calls : Calls) (next : Phase) → Follows job counts here prefix held read after calls (Ok next) → is_ended next ≡ true → IsLastTurn counts here held after calls
 last_turn job counts here prefix held read after calls next (a_start h p r w c a turn) ended = absurd (true≢false (sym ended ∙ starts_go job prefix read here next calls turn))

@@ -9,8 +9,8 @@ pub mod ContentParts
 pub mod DestKeeps
 pub mod DistinctRows
 pub mod EarlyHalts
-pub mod Ending
 pub mod EndStates
+pub mod Ending
 pub mod EntriesThere
 pub mod Feeding
 pub mod GoodStarts
@@ -62,6 +62,7 @@ pub mod TargetFound
 pub mod Tests
 pub mod TrailKeeps
 pub mod Trees
+pub mod TurnBound
 pub mod TurnEnds
 pub mod TurnKeeps
 pub mod WalksKeep

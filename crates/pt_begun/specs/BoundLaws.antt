@@ -1,6 +1,7 @@
 -- What a run holds that was halted.
 use Rattle.std.specs.Prelude.{◌≡◌, false, Some, Err}
 use Rattle.pt_tree.specs.Source.{Reading}
+use Rattle.pt_plan.specs.Answer.{Answer}
 use Rattle.pt_plan.specs.Job.{Job}
 use Rattle.pt_plan.specs.Run.{Kept, Run, turning}
 use Rattle.pt_plan.specs.Turn.{Turn}
@@ -14,4 +15,10 @@ use Rattle.pt_begun.specs.EndLaws.{is_ended}
 abbrev pub HaltedIsWithinBound : Type 0
 HaltedIsWithinBound =
     (job : Job) (start : Start) (old new : World) (run : Run) (after : Kept) (why : Halt) (s : Reading) → Begun job start old run → is_ended run.phase ≡ false → Turn job run.phase (turning run.kept) after old new (Err why) → old.source ≡ Some s
+    → IsWithinBound job s.tree after.held
+
+-- so it is after any turn
+abbrev pub TurnIsWithinBound : Type 0
+TurnIsWithinBound =
+    (job : Job) (start : Start) (old new : World) (run : Run) (after : Kept) (answer : Answer) (s : Reading) → Begun job start old run → is_ended run.phase ≡ false → Turn job run.phase (turning run.kept) after old new answer → old.source ≡ Some s
     → IsWithinBound job s.tree after.held

@@ -1,6 +1,6 @@
 //! Laws on a run in progress. Each is the contract of a function that does nothing.
 ghost use Rattle.pt_begun.specs.BegunLaws.{BegunPermits, NewRunIsBegun, TurnEndsBegun, TurnKeepsBegun};
-ghost use Rattle.pt_begun.specs.BoundLaws.{HaltedIsWithinBound};
+ghost use Rattle.pt_begun.specs.BoundLaws.{HaltedIsWithinBound, TurnIsWithinBound};
 ghost use Rattle.pt_begun.specs.DestLaws.{MakingKeepsDest, PlacingKeepsDest, ScanningKeepsDest, StartingKeepsDest, WalkingKeepsDest};
 ghost use Rattle.pt_begun.specs.EndLaws.{BegunIsWithinBound, EndsWell, EndsWithStates};
 ghost use Rattle.pt_begun.specs.GoodStart.{NothingIsRefused};
@@ -50,6 +50,11 @@ pub fn begun_is_within_bound()
 /// So it is after a turn that halts the run.
 pub fn halted_is_within_bound()
     ensures { HaltedIsWithinBound }
+{}
+
+/// So it is after any turn, whatever it answers.
+pub fn turn_is_within_bound()
+    ensures { TurnIsWithinBound }
 {}
 
 /// From a good start, where no device fails, a turn halts a run for want of memory alone, where source and destination tell.
