@@ -38,15 +38,15 @@ use Rattle.pt_move.proofs.Standing.{stands}
 use Rattle.pt_begun.specs.Begun.{Begun, IsWorld, Start, TellsAsBefore, start_of}
 use Rattle.pt_begun.specs.BegunDest.{DestPart, IsLeftBehind}
 use Rattle.pt_begun.proofs.KeptNow.{kept_now}
-use Rattle.pt_begun.proofs.NewRun.{new_run_is_begun}
-use Rattle.pt_begun.proofs.TurnEnds.{turn_ends_begun}
+use Rattle.pt_work.proofs.EndsWithin.{stops_within_work}
+use Rattle.pt_work.proofs.Within.{new_run_is_within_work, within_work_is_begun}
+use Rattle.pt_work.specs.WorkLaws.{BegunWithinWork}
 use Rattle.pt_name.specs.Tuples.{IsLayout}
 use Rattle.pt_tree.specs.Tree.{Tree}
 use Rattle.pt_plan.specs.Turn.{FailsAtFirst, Stays, Turn}
 use Rattle.pt_begun.specs.BegunHeld.{HeldAt}
 use Rattle.pt_begun.specs.Past.{Past}
 use Rattle.pt_begun.proofs.Permitted.{begun_permits}
-use Rattle.pt_begun.proofs.TurnKeeps.{turn_keeps_begun}
 use Rattle.pt_plan.specs.Permits.{MayMakeContent}
 use Rattle.pt_plan.specs.declared.phase.Part.TheVariants as part
 use Rattle.pt_state.specs.States.{counts_of}
@@ -79,7 +79,7 @@ fed_going phase.Walk a h fed going was = was
 fed_going phase.End a h fed going was = was
 fed_going phase.Ended a h fed going was = absurd (going refl)
 
-fed_to_end : (here : Phase) (a : Algorithm) (h : Hasher) (fed : List ℕ) → HasBeenFed a h fed → FedUntilEnd here a h fed
+pub fed_to_end : (here : Phase) (a : Algorithm) (h : Hasher) (fed : List ℕ) → HasBeenFed a h fed → FedUntilEnd here a h fed
 fed_to_end phase.Begin a h fed was = was
 fed_to_end (phase.Prefix here) a h fed was = was
 fed_to_end phase.Staging a h fed was = was
@@ -137,7 +137,7 @@ unfolding BeganSomewhere IsBegun
 may_turn here s r w g n d l going (start, begun) =
     let is : InProgress start (world r w g n d l) (record { phase = here; state = s }) = begun in
     let was = fed_going here s.job.algorithm s.hasher is.fed going is.was in
-    permits_fed (job_of s.job) here s is.fed r w (begun_permits (job_of s.job) start (world r w g n d l) (record { phase = here; kept = kept_of s is.fed }) is.begun)
+    permits_fed (job_of s.job) here s is.fed r w (begun_permits (job_of s.job) start (world r w g n d l) (record { phase = here; kept = kept_of s is.fed }) (within_work_is_begun (job_of s.job) start (world r w g n d l) (record { phase = here; kept = kept_of s is.fed }) is.begun))
 
 held_at : (job : Job) (start : Start) (world : World) (run : Run) → Begun job start world run → (past : Past) × HeldAt job past run.phase run.kept.held
 unfolding Begun
@@ -148,7 +148,7 @@ unfolding BeganSomewhere IsBegun
 stands_there here s r w g n d l going (start, begun) =
     let is : InProgress start (world r w g n d l) (record { phase = here; state = s }) = begun in
     let was = fed_going here s.job.algorithm s.hasher is.fed going is.was in
-    let held = held_at (job_of s.job) start (world r w g n d l) (record { phase = here; kept = kept_of s is.fed }) is.begun in
+    let held = held_at (job_of s.job) start (world r w g n d l) (record { phase = here; kept = kept_of s is.fed }) (within_work_is_begun (job_of s.job) start (world r w g n d l) (record { phase = here; kept = kept_of s is.fed }) is.begun) in
     stands here s is.fed held.0 going was held.1
 
 fed_there : (here : Phase) (a : Algorithm) (h : Hasher) (fed : List ℕ) → HasBeenFed a h fed → HasFed here a h
@@ -239,36 +239,7 @@ well_after here s s' r r' w w' g g' n n' d d' l l' answer going (start, begun) w
           (turn_leaves (job_of s.job) here s s' is.fed made.0 r r' w w' g g' n n' d d' l l' answer made.1.1).turns);
     }
 
-pub begun_after : (here : Phase) (s s' : State) (r r' : Option Reading) (w w' : Option Writing) (g g' : Option (List ℕ)) (n n' d d' l l' : ℕ) (answer : Answer) → here ≢ phase.Ended → s'.job ≡ s.job → Turns here s s' r r' w w' g g' n n' d d' l l' answer
-    → (start : Start) → IsBegun start (world r w g n d l) (record { phase = here; state = s }) → IsBegun start (world r' w' g' n' d' l') (record { phase = phase_after answer; state = s' })
-unfolding IsBegun Turns
-begun_after here s s' r r' w w' g g' n n' d d' l l' (Err why) going job turned start is =
-    let made = turned is.fed (fed_going here s.job.algorithm s.hasher is.fed going is.was) in
-    record {
-      fed = made.0;
-      was = tt;
-      begun = subst (λ j. Begun (job_of j) start (world r' w' g' n' d' l') (record { phase = phase.Ended; kept = kept_of s' made.0 })) (sym job)
-          (turn_ends_begun (job_of s.job) start (world r w g n d l) (world r' w' g' n' d' l') (record { phase = here; kept = kept_of s is.fed }) (kept_of s' made.0) why is.begun made.1.1);
-    }
-begun_after here s s' r r' w w' g g' n n' d d' l l' (Ok next) going job turned start is =
-    let made = turned is.fed (fed_going here s.job.algorithm s.hasher is.fed going is.was) in
-    record {
-      fed = made.0;
-      was = fed_to_end next s'.job.algorithm s'.hasher made.0 (subst (λ j. HasBeenFed j.algorithm s'.hasher made.0) (sym job) made.1.0);
-      begun = subst (λ j. Begun (job_of j) start (world r' w' g' n' d' l') (record { phase = next; kept = kept_of s' made.0 })) (sym job)
-          (turn_keeps_begun (job_of s.job) start (world r w g n d l) (world r' w' g' n' d' l') (record { phase = here; kept = kept_of s is.fed }) (kept_of s' made.0) next is.begun made.1.1);
-    }
-
 -- ---- a run that ends without a turn
-
--- its own count has no part in it
-without_turn : (job : Job) (start : Start) (world : World) (kept : Kept) → Begun job start world (record { phase = phase.Ended; kept = turning kept }) → Begun job start world (record { phase = phase.Ended; kept = kept })
-unfolding Begun
-without_turn job start world kept (past, is) = (past, record { layout = is.layout; held = is.held; source = is.source; dest = is.dest; items = λ s e old f. record { places = (is.items s e old f).places; lines_are = record { done = (is.items s e old f).lines_are.done; present = (is.items s e old f).lines_are.present; skipped = (is.items s e old f).lines_are.skipped } }; log = is.log })
-
-no_turn : (job : Job) (here : Phase) (kept : Kept) (world : World) → Turn job here (turning kept) (turning kept) world world (Err halt.Memory)
-unfolding Stays
-no_turn job here kept world = FailsAtFirst halt.Memory (refl, refl, refl, refl) (record { prefix = refl; trail = refl; rows_are = refl; contents = refl; counts = refl })
 
 -- where the limit of turns was made, nothing was called
 pub begun_ends : (start : Start) (world : World) (r t : Running) → t.phase ≡ phase.Ended → t.state ≡ r.state → IsBegun start world r → IsBegun start world t
@@ -276,12 +247,7 @@ unfolding IsBegun
 begun_ends start world r t ended same is =
     subst (λ (p : Phase). InProgress start world (record { phase = p; state = t.state })) (sym ended)
     (subst (λ (s : State). InProgress start world (record { phase = phase.Ended; state = s })) (sym same)
-    (record {
-      fed = is.fed;
-      was = tt;
-      begun = without_turn (job_of r.state.job) start world (kept_of r.state is.fed)
-          (turn_ends_begun (job_of r.state.job) start world world (record { phase = r.phase; kept = kept_of r.state is.fed }) (turning (kept_of r.state is.fed)) halt.Memory is.begun (no_turn (job_of r.state.job) r.phase (kept_of r.state is.fed) world));
-    }))
+    (record { fed = is.fed; was = tt; begun = stops_within_work (job_of r.state.job) start world (run_of r is.fed) is.begun }))
 
 -- ---- what is left in the destination
 
@@ -291,12 +257,13 @@ left_at job None (Some now) past here held at tells = absurd tells
 left_at job (Some start) None past here held at tells = absurd tells
 left_at job (Some start) (Some now) past here held at tells = kept_now job past start here held now at tells
 
-pub leaves_behind : (start : Start) (r : Running) (reading : Option Reading) (w : Option Writing) (g : Option (List ℕ)) (n d l : ℕ) → IsBegun start (world reading w g n d l) r → LeavesBehind r.state.job start.dest w
-unfolding IsBegun Begun LeavesBehind
-leaves_behind start r reading w g n d l is =
-    let past = is.begun.0 in
-    let at = is.begun.1 in
-    left_at (job_of r.state.job) start.dest w past r.phase (kept_of r.state is.fed).held at.held at.dest
+left_in : (job : Job) (start : Start) (world : World) (run : Run) → Begun job start world run → TellsAsBefore start.dest world.dest (IsLeftBehind job)
+unfolding Begun
+left_in job start world run (past, is) = left_at job start.dest world.dest past run.phase run.kept.held is.held is.dest
+
+pub leaves_behind : (start : Start) (world : World) (r : Running) → IsBegun start world r → LeavesBehind r.state.job start.dest world.dest
+unfolding IsBegun LeavesBehind
+leaves_behind start world r is = left_in (job_of r.state.job) start world (run_of r is.fed) (within_work_is_begun (job_of r.state.job) start world (run_of r is.fed) is.begun)
 
 -- ---- how often the source was called
 
@@ -480,7 +447,7 @@ begun_somewhere r world (inl begins) well layout is = (
   record {
     fed = [];
     was = fed_to_end r.phase r.state.job.algorithm r.state.hasher [] (well.fresh begins).fed;
-    begun = subst (λ (run : Run). Begun (job_of r.state.job) (start_of world) world run) (sym run_is) (new_run_is_begun (job_of r.state.job) world layout is);
+    begun = subst (λ (run : Run). BegunWithinWork (job_of r.state.job) (start_of world) world run) (sym run_is) (new_run_is_within_work (job_of r.state.job) world layout is);
   },
 )
   where

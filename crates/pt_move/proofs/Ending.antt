@@ -10,7 +10,8 @@ use Rattle.pt_plan.specs.World.{World}
 use Rattle.pt_plan.specs.declared.phase.Phase.{Phase}
 use Rattle.pt_plan.specs.declared.phase.Phase.TheVariants as phase
 use Rattle.pt_begun.specs.Begun.{Begun, IsWorld, start_of}
-use Rattle.pt_begun.proofs.NewRun.{new_run_is_begun}
+use Rattle.pt_work.proofs.Within.{new_run_is_within_work}
+use Rattle.pt_work.specs.WorkLaws.{BegunWithinWork}
 use Rattle.pt_state.specs.States.{job_of}
 use Rattle.pt_state.specs.declared.job.Job.{Job}
 use Rattle.pt_move.specs.Running.{FedUntilEnd, IsBegun, IsNew, LeavesBehind, Running, run_of}
@@ -37,7 +38,7 @@ unfolding IsBegun
 new_is_begun job r now new layout is = record {
   fed = [];
   was = subst (λ (p : Phase). FedUntilEnd p r.state.job.algorithm r.state.hasher []) (sym new.phase) (subst (λ j. HasBeenFed j.algorithm r.state.hasher []) (sym new.job_is) new.fed);
-  begun = subst (λ j. Begun (job_of j) (start_of now) now (run_of r [])) (sym new.job_is) (subst (λ (run : Run). Begun (job_of job) (start_of now) now run) (sym run_is) (new_run_is_begun (job_of job) now layout is));
+  begun = subst (λ j. BegunWithinWork (job_of j) (start_of now) now (run_of r [])) (sym new.job_is) (subst (λ (run : Run). BegunWithinWork (job_of job) (start_of now) now run) (sym run_is) (new_run_is_within_work (job_of job) now layout is));
 }
   where
     run_is : run_of r [] ≡ new_run

@@ -1,7 +1,9 @@
 pub mod Answering
 pub mod Changes
 pub mod Ending
+pub mod Keeping
 pub mod Leaves
 pub mod Outcomes
+pub mod RunEnding
 pub mod Standing
 pub mod WholeLog

@@ -1,10 +1,11 @@
 -- What a run that ended says and leaves, where the devices tell.
-use Rattle.std.specs.Prelude.{◌≡◌, ℕ, true, false, All, List, ◌++◌, Option, Some, is_some, ⊤}
+use Rattle.std.specs.Prelude.{◌≡◌, ◌≤◌, ℕ, true, false, All, List, [], ◌++◌, Option, Some, is_some, ⊤}
+use Rattle.pt_object.specs.Holding.{IsFree}
 use Rattle.pt_object.specs.Scripts.{staging}
 use Rattle.pt_tree.specs.Dest.{Writing}
 use Rattle.pt_tree.specs.Forest.{Forest}
 use Rattle.pt_tree.specs.Tree.{Tree}
-use Rattle.pt_plan.specs.Carried.{all_carried}
+use Rattle.pt_plan.specs.Carried.{IsStart, all_carried}
 use Rattle.pt_plan.specs.Job as plan
 use Rattle.pt_plan.specs.Lines.{all_lines, end_line}
 use Rattle.pt_plan.specs.Roots.{root_in}
@@ -13,10 +14,18 @@ use Rattle.pt_plan.specs.Store.{has_prefix, is_store}
 use Rattle.pt_plan.specs.TurnPlace.{last_line}
 use Rattle.pt_plan.specs.WholeLaws.{HasItsFiles}
 use Rattle.pt_begun.specs.Begun.{Start}
+use Rattle.pt_plan.specs.Work.{work}
+use Rattle.pt_plan.specs.World.{Failures}
+use Rattle.pt_begun.specs.BegunSource.{IsWithinBound}
 use Rattle.pt_begun.specs.EndLaws.{IsEnd}
-use Rattle.pt_state.specs.States.{counts_of, job_of}
+use Rattle.pt_begun.specs.GoodStart.{NoneRose}
+use Rattle.pt_begun.specs.HaltLaws.{IsLeftByFault}
+use Rattle.pt_begun.specs.RefusalLaws.{IsBadTarget, IsCarriedOf}
+use Rattle.pt_begun.specs.StillLaws.{StandsStill}
+use Rattle.pt_state.specs.States.{counts_of, held_of, job_of}
 use Rattle.pt_state.specs.declared.job.Job.{Job}
 use Rattle.pt_state.specs.declared.job.Report.{Report}
+use Rattle.pt_state.specs.declared.state.State.{State}
 use Rattle.pt_move.specs.declared.fault.Fault.{Fault}
 use Rattle.pt_move.specs.declared.fault.Fault.TheVariants as fault
 
@@ -37,6 +46,39 @@ StatesAreFiles job source start dest log =
     (s : Forest) (t : Tree) (now : Writing) (first last : List ℕ) → source ≡ Some s → start.dest ≡ Some t → dest ≡ Some now → start.log ≡ Some first → log ≡ Some last
     → All (HasItsFiles (job_of job) now.tree) (all_carried (job_of job) s (root_in t))
 
+-- what a run leaves that a fault ended, where all three tell: destination and log such as any fault may leave
+unfoldable pub FaultLeaves : Job → Option Forest → Start → Option Writing → Option (List ℕ) → Type 0
+FaultLeaves job source start dest log =
+    (s : Forest) (t : Tree) (now : Writing) (first last : List ℕ) → source ≡ Some s → start.dest ≡ Some t → dest ≡ Some now → start.log ≡ Some first → log ≡ Some last
+    → IsLeftByFault (job_of job) s t now.tree first last
+
+-- the destination is as it was at the start, where it tells; and so is the log, where all three tell
+unfoldable pub LeavesAll : Option Forest → Start → Option Writing → Option (List ℕ) → Type 0
+LeavesAll source start dest log =
+    ((t : Tree) (now : Writing) → start.dest ≡ Some t → dest ≡ Some now → now.tree ≡ t)
+    × ((s : Forest) (t : Tree) (first last : List ℕ) → source ≡ Some s → start.dest ≡ Some t → start.log ≡ Some first → log ≡ Some last → last ≡ first)
+
+-- where the source is no store, or its prefix isn't good, or something stands at `staging`
+abbrev pub IfEarly : Fault → Type 0 → Type 0
+IfEarly fault.NotPairtree P = P
+IfEarly fault.Prefix P = P
+IfEarly fault.StagingLeft P = P
+IfEarly _ P = ⊤
+
+-- what stood in the destination at the start stands, and what is new stands only at its two places, where it tells
+unfoldable pub StandsStillIn : Option Tree → Option Writing → Type 0
+StandsStillIn start now = (t : Tree) (w : Writing) → start ≡ Some t → now ≡ Some w → StandsStill t w.tree
+
+-- no more turns were made than the work, where source and destination tell
+unfoldable pub MadeWithinWork : Job → Option Forest → Option Tree → Report → Type 0
+MadeWithinWork job source start report = (s : Forest) (t : Tree) → source ≡ Some s → start ≡ Some t → report.turns ≤ work (job_of job) s (root_in t)
+
+-- no more is held than the source's bound, where it tells
+unfoldable pub HoldsWithinBound : Job → Option Forest → State → Type 0
+HoldsWithinBound job source state = (s : Forest) → source ≡ Some s → IsWithinBound (job_of job) s (held_of state [])
+
+-- ---- refusals
+
 -- a source is refused only for what it is: it is no store; it is one, but its prefix isn't good. No file of it changes while it is read
 abbrev pub SaysOfSource : Fault → Forest → Type 0
 SaysOfSource fault.NotPairtree source = is_store source ≡ false
@@ -44,11 +86,29 @@ SaysOfSource fault.Prefix source = (is_store source ≡ true) × (has_prefix sou
 SaysOfSource fault.Changed source = ⊥
 SaysOfSource _ source = ⊤
 
--- a destination is refused for what stands at `staging` only where something stood there at the start
-abbrev pub SaysOfDest : Fault → Tree → Type 0
-SaysOfDest fault.StagingLeft start = is_some (start staging) ≡ true
-SaysOfDest _ start = ⊤
+-- a destination is refused for what stands at `staging` only where something stood there at the start, and for its root only where nothing stood there and that root can't be gone on with
+abbrev pub SaysOfDest : plan.Job → Fault → Tree → Type 0
+SaysOfDest job fault.StagingLeft start = is_some (start staging) ≡ true
+SaysOfDest job fault.Target start = IsFree start staging × IsBadTarget job (root_in start) (λ object. ⊤)
+SaysOfDest job _ start = ⊤
 
--- where it tells, a fault says so of the source, and of the destination as it was at the start
-unfoldable pub SaysRightly : Option Forest → Option Tree → Fault → Type 0
-SaysRightly source dest f = ((s : Forest) → source ≡ Some s → SaysOfSource f s) × ((t : Tree) → dest ≡ Some t → SaysOfDest f t)
+-- of both: where the way to an object's place is barred, that object is one that is carried
+abbrev pub SaysOfBoth : plan.Job → Fault → Forest → Tree → Type 0
+SaysOfBoth job fault.Target source start = IsBadTarget job (root_in start) (IsCarriedOf job source (root_in start))
+SaysOfBoth job _ source start = ⊤
+
+-- a fault says so of the source where it tells, of the destination as it was at the start where that tells, and of both
+unfoldable pub SaysRightly : Job → Option Forest → Option Tree → Fault → Type 0
+SaysRightly job source dest f =
+    ((s : Forest) → source ≡ Some s → SaysOfSource f s)
+    × ((t : Tree) → dest ≡ Some t → SaysOfDest (job_of job) f t)
+    × ((s : Forest) (t : Tree) → source ≡ Some s → dest ≡ Some t → SaysOfBoth (job_of job) f s t)
+
+-- how often each device failed
+abbrev pub failures : ℕ → ℕ → ℕ → Failures
+failures source dest log = record { source = source; dest = dest; log = log }
+
+-- over a good start, with a limit of at least the work, where no device failed: memory was wanting
+unfoldable pub WantsMemory : Job → Option Forest → Option Tree → Failures → Failures → Fault → Type 0
+WantsMemory job source dest old new f =
+    (s : Forest) (t : Tree) → source ≡ Some s → dest ≡ Some t → IsStart (job_of job) s (root_in t) → IsFree t staging → work (job_of job) s (root_in t) ≤ job.limits.turns → NoneRose old new → f ≡ fault.Memory

@@ -8,9 +8,10 @@ use Rattle.pt_tree.specs.Tree.{Tree}
 use Rattle.pt_plan.specs.Run.{Kept, Run}
 use Rattle.pt_plan.specs.declared.phase.Phase.{Phase}
 use Rattle.pt_plan.specs.declared.phase.Phase.TheVariants as phase
-use Rattle.pt_begun.specs.Begun.{Begun, Start, TellsAsBefore}
+use Rattle.pt_begun.specs.Begun.{Start, TellsAsBefore}
 use Rattle.pt_begun.specs.BegunDest.{IsLeftBehind}
 use Rattle.pt_plan.specs.World.{World}
+use Rattle.pt_work.specs.WorkLaws.{BegunWithinWork}
 use Rattle.pt_state.specs.States.{job_of, kept_of}
 use Rattle.pt_state.specs.declared.job.Job.{Job}
 use Rattle.pt_state.specs.declared.job.Report.{Report}
@@ -57,11 +58,11 @@ abbrev pub FedUntilEnd : Phase → Algorithm → Hasher → List ℕ → Type 0
 FedUntilEnd phase.Ended algorithm hasher fed = ⊤
 FedUntilEnd here algorithm hasher fed = HasBeenFed algorithm hasher fed
 
--- the run began at this start, and this is the world that it is in progress in, or has left
+-- the run began at this start, and this is the world that it is in progress in, within its work, or has left
 pub record InProgress (start : Start) (world : World) (r : Running) : Type 0 where
   pub fed : List ℕ
   pub was : FedUntilEnd r.phase r.state.job.algorithm r.state.hasher fed
-  pub begun : Begun (job_of r.state.job) start world (run_of r fed)
+  pub begun : BegunWithinWork (job_of r.state.job) start world (run_of r fed)
 
 unfoldable pub IsBegun : Start → World → Running → Type 0
 IsBegun start world r = InProgress start world r

@@ -1,4 +1,4 @@
-#![tactic(auto, using(crate::proofs::Ending::migrating, crate::proofs::Outcomes::whole, crate::proofs::WholeLog::whole_log))]
+#![tactic(auto, using(crate::proofs::Ending::migrating, crate::proofs::RunEnding::whole, crate::proofs::WholeLog::whole_log))]
 
 ghost use Rattle.std.specs.Prelude.{◌≢◌, ◌≤◌, IfErr, IfOk, OnErr};
 ghost use Rattle.pt_move.specs.Counting.{Counts};
@@ -7,7 +7,7 @@ ghost use Rattle.pt_turn.specs.Bounds.{lines_put};
 ghost use Rattle.pt_plan.specs.World.{dest_tree, source_tree};
 ghost use Rattle.pt_begun.specs.Begun.{start_of};
 ghost use Rattle.pt_state.specs.Turned.{world};
-ghost use Rattle.pt_move.specs.Outcome.{EndsWhole, SaysRightly, StatesAreFiles};
+ghost use Rattle.pt_move.specs.Outcome.{EndsWhole, FaultLeaves, IfEarly, LeavesAll, MadeWithinWork, SaysRightly, StandsStillIn, StatesAreFiles, WantsMemory, failures};
 ghost use Rattle.pt_move.specs.Running.{LeavesBehind};
 ghost use Rattle.pt_move.specs.Lines.{HasToldAll, HasToldFront};
 ghost use Rattle.pt_move.specs.declared.fault.Fault.TheVariants as fault;
@@ -32,11 +32,16 @@ pub fn migrate<S: Source, D: Dest, L: Log>(
 ) -> Result<Report, Fault>
     ensures ends { IfOk result (EndsWhole job (source_tree (S.told source.old)) (start_of (world (S.told source.old) (D.told dest.old) (L.told log.old) (S.failed source.old) (D.failed dest.old) (L.failed log.old))) (D.told dest.new) (L.told log.new)) }
     ensures states { IfOk result (λ report. StatesAreFiles job (source_tree (S.told source.old)) (start_of (world (S.told source.old) (D.told dest.old) (L.told log.old) (S.failed source.old) (D.failed dest.old) (L.failed log.old))) (D.told dest.new) (L.told log.new)) }
-    ensures says { IfErr result (SaysRightly (source_tree (S.told source.old)) (dest_tree (D.told dest.old))) }
+    ensures left { IfErr result (λ f. FaultLeaves job (source_tree (S.told source.old)) (start_of (world (S.told source.old) (D.told dest.old) (L.told log.old) (S.failed source.old) (D.failed dest.old) (L.failed log.old))) (D.told dest.new) (L.told log.new)) }
+    ensures early { IfErr result (λ f. IfEarly f (LeavesAll (source_tree (S.told source.old)) (start_of (world (S.told source.old) (D.told dest.old) (L.told log.old) (S.failed source.old) (D.failed dest.old) (L.failed log.old))) (D.told dest.new) (L.told log.new))) }
+    ensures leaves { LeavesBehind job (dest_tree (D.told dest.old)) (D.told dest.new) }
+    ensures stands { StandsStillIn (dest_tree (D.told dest.old)) (D.told dest.new) }
+    ensures says { IfErr result (SaysRightly job (source_tree (S.told source.old)) (dest_tree (D.told dest.old))) }
+    ensures good { IfErr result (WantsMemory job (source_tree (S.told source.old)) (dest_tree (D.told dest.old)) (failures (S.failed source.old) (D.failed dest.old) (L.failed log.old)) (failures (S.failed source.new) (D.failed dest.new) (L.failed log.new))) }
+    ensures work { IfOk result (MadeWithinWork job (source_tree (S.told source.old)) (dest_tree (D.told dest.old))) }
     ensures source { Counts 1 (S.failed source.old) (S.failed source.new) result }
     ensures dest { Counts 2 (D.failed dest.old) (D.failed dest.new) result }
     ensures log { Counts 3 (L.failed log.old) (L.failed log.new) result }
-    ensures leaves { LeavesBehind job (dest_tree (D.told dest.old)) (D.told dest.new) }
     ensures told { IfOk result (λ report. HasToldAll (L.told log.old) (L.told log.new) report) }
     ensures told_front { OnErr result (HasToldFront (L.told log.old) (L.told log.new)) }
     ensures turns { IfOk result (λ report. report.turns ≤ job.limits.turns) }

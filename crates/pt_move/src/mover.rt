@@ -1,4 +1,4 @@
-#![tactic(auto, using(crate::proofs::Answering::stepping, crate::proofs::Outcomes::answered, pt_state::proofs::Counting::calls))]
+#![tactic(auto, using(crate::proofs::Answering::stepping, crate::proofs::Keeping::answered, pt_state::proofs::Counting::calls))]
 // A run under way, made turn by turn.
 ghost use Rattle.std.specs.Prelude.{◌≡◌, ◌≢◌, ◌<◌, ◌≤◌, ◌+◌, Ok, Err, IfErr, IfOk, length};
 ghost use Rattle.pt_plan.specs.declared.phase.Phase.TheVariants as phase;
@@ -163,7 +163,7 @@ impl Mover {
 }
 
 // Makes the turn of a phase, and gives the next one.
-#[tactic(auto, using(crate::proofs::Answering::making_turn, crate::proofs::Outcomes::outcomes))]
+#[tactic(auto, using(crate::proofs::Answering::making_turn, crate::proofs::Keeping::outcomes))]
 fn made_turn<S: Source, D: Dest, L: Log>(
     state: &mut State,
     here: Phase,

@@ -1,7 +1,7 @@
 use Rattle.std.proofs.Common.{rules}
 use Rattle.pt_state.proofs.Counting.{calls}
 use Rattle.pt_move.proofs.Answering.{goes_on_halted, stepping}
-use Rattle.pt_move.proofs.Outcomes.{answered}
+use Rattle.pt_move.proofs.Keeping.{answered}
 use Rattle.pt_move.proofs.mover.Mover.step.Goals as goal
 
 pub returns-in_err-next : goal.returns-in_err-next

@@ -1,0 +1,230 @@
+-- That a run keeps its promises in a step, by what the step answers.
+use Rattle.std.proofs.Common.{◌≡◌, ◌≢◌, ◌<◌, ◌≤◌, ℕ, List, [], refl, sym, subst, arith}
+use Rattle.std.specs.Prelude.{Option, None, Some, Ok, Err, Result}
+use Rattle.pt_tree.specs.Dest.{Writing}
+use Rattle.pt_tree.specs.Forest.{Forest}
+use Rattle.pt_tree.specs.Source.{Reading}
+use Rattle.pt_tree.specs.Tree.{Tree}
+use Rattle.pt_plan.specs.Answer.{Answer, phase_after}
+use Rattle.pt_plan.specs.Job.{Job}
+use Rattle.pt_plan.specs.Roots.{root_in}
+use Rattle.pt_plan.specs.Run.{Run, turning}
+use Rattle.pt_plan.specs.Work.{work}
+use Rattle.pt_plan.specs.World.{World, source_tree}
+use Rattle.pt_plan.specs.declared.halt.Halt.{Halt}
+use Rattle.pt_plan.specs.declared.halt.Halt.TheVariants as halt
+use Rattle.pt_plan.specs.declared.phase.Phase.{Phase}
+use Rattle.pt_plan.specs.declared.phase.Phase.TheVariants as phase
+use Rattle.pt_begun.specs.Begun.{Begun, Start}
+use Rattle.pt_begun.specs.BegunSource.{IsWithinBound}
+use Rattle.pt_begun.specs.HaltLaws.{IsLeftByFault}
+use Rattle.pt_begun.proofs.Halting.{stops_leave}
+use Rattle.pt_begun.proofs.StandingStill.{begun_stands_still}
+use Rattle.pt_begun.proofs.WithinBound.{begun_is_within_bound}
+use Rattle.pt_work.proofs.EndsWithin.{turn_tree}
+use Rattle.pt_work.proofs.Within.{turn_is_left, within_work_is_begun}
+use Rattle.pt_work.specs.WorkLaws.{BegunWithinWork}
+use Rattle.pt_object.specs.Hasher.{HasBeenFed}
+use Rattle.pt_state.specs.States.{held_of, job_of, kept_of}
+use Rattle.pt_state.specs.Turned.{FedAfter, world}
+use Rattle.pt_state.specs.declared.job.Job as own
+use Rattle.pt_state.specs.declared.state.State.{State}
+use Rattle.pt_turn.specs.Turning.{Turns}
+use Rattle.pt_move.specs.Fault.{fault_of}
+use Rattle.pt_move.specs.Outcome.{FaultLeaves, HoldsWithinBound, IfEarly, LeavesAll, MadeWithinWork, SaysRightly, StandsStillIn, WantsMemory}
+use Rattle.pt_move.specs.Promises.{HaltPromises, IfHalted, Keeps, TurnKeeps, UnlessEnded}
+use Rattle.pt_move.specs.Running.{BeganSomewhere, FedUntilEnd, InProgress, IsBegun, LeavesBehind, Running, run_of}
+use Rattle.pt_move.specs.declared.fault.Fault.{Fault}
+use Rattle.pt_move.specs.declared.fault.Fault.TheVariants as fault
+use Rattle.pt_move.specs.declared.mover.Turn as own_turn
+use Rattle.pt_move.specs.declared.mover.Turn.TheVariants as turn
+use Rattle.pt_move.proofs.Answering.{begun_ends, fed_going, fed_to_end, leaves_behind, same_begun}
+use Rattle.pt_move.proofs.Outcomes.{bound_after, is_going, reading_of, says_after, stands_after, within_after, work_after}
+
+-- ---- the source's tree stays
+
+pub tree_stays : (here : Phase) (s s' : State) (r r' : Option Reading) (w w' : Option Writing) (g g' : Option (List ℕ)) (n n' d d' l l' : ℕ) (answer : Answer) → here ≢ phase.Ended → BeganSomewhere (world r w g n d l) (record { phase = here; state = s })
+    → Turns here s s' r r' w w' g g' n n' d d' l l' answer → source_tree r' ≡ source_tree r
+unfolding BeganSomewhere IsBegun Turns
+tree_stays here s s' r r' w w' g g' n n' d d' l l' answer going (start, begun) turned =
+    let is : InProgress start (world r w g n d l) (record { phase = here; state = s }) = begun in
+    let made = turned is.fed (fed_going here s.job.algorithm s.hasher is.fed going is.was) in
+    turn_tree (job_of s.job) here (turning (kept_of s is.fed)) (kept_of s' made.0) (world r w g n d l) (world r' w' g' n' d' l') answer made.1.1
+
+-- ---- the turn in a step
+
+fed_after : (answer : Answer) (s s' : State) (fed : List ℕ) → s'.job ≡ s.job → FedAfter answer s.job.algorithm s'.hasher fed → FedUntilEnd (phase_after answer) s'.job.algorithm s'.hasher fed
+fed_after (Ok next) s s' fed job was = fed_to_end next s'.job.algorithm s'.hasher fed (subst (λ j. HasBeenFed j.algorithm s'.hasher fed) (sym job) was)
+fed_after (Err why) s s' fed job was = tt
+
+pub keeps_after : (here : Phase) (s s' : State) (r r' : Option Reading) (w w' : Option Writing) (g g' : Option (List ℕ)) (n n' d d' l l' : ℕ) (answer : Answer) → here ≢ phase.Ended → s'.job ≡ s.job → Turns here s s' r r' w w' g g' n n' d d' l l' answer
+    → (start : Start) → IsBegun start (world r w g n d l) (record { phase = here; state = s }) → TurnKeeps start (world r w g n d l) (world r' w' g' n' d' l') s s' answer
+unfolding IsBegun Turns TurnKeeps
+keeps_after here s s' r r' w w' g g' n n' d d' l l' answer going job turned start is =
+    let old : World = world r w g n d l in
+    let new : World = world r' w' g' n' d' l' in
+    let made = turned is.fed (fed_going here s.job.algorithm s.hasher is.fed going is.was) in
+    let going_on = is_going here going in
+    let begun : IsBegun start new (record { phase = phase_after answer; state = s' }) = record {
+      fed = made.0;
+      was = fed_after answer s s' made.0 job made.1.0;
+      begun = subst (λ j. BegunWithinWork (job_of j) start new (record { phase = phase_after answer; kept = kept_of s' made.0 })) (sym job)
+          (within_after s s' here is.fed made.0 old new start is.begun going_on answer made.1.1);
+    } in
+    record {
+      begun = begun;
+      leaves = subst (λ j. LeavesBehind j start.dest w') job (leaves_behind start new (record { phase = phase_after answer; state = s' }) begun);
+      stands = stands_after s s' here is.fed made.0 old new start is.begun going_on answer made.1.1;
+      work = work_after s s' here is.fed made.0 old new start is.begun going_on answer made.1.1;
+      bound = bound_after s s' here is.fed made.0 old new start is.begun going_on answer made.1.1;
+      says = says_after s s' here is.fed made.0 old new start is.begun going_on answer made.1.1;
+    }
+
+-- ---- by the answer
+
+-- there is more to do
+pub keeps_more : (start : Start) (old new : World) (before : Running) (s' : State) (next : Phase) → TurnKeeps start old new before.state s' (Ok next) → Keeps start old new before (record { phase = next; state = s' }) (Ok turn.More)
+unfolding Keeps TurnKeeps
+keeps_more start old new before s' next kept = record { begun = kept.begun; leaves = kept.leaves; stands = kept.stands; work = kept.work; bound = kept.bound; ends = tt; states = tt; left = tt; early = tt; says = tt; good = tt }
+
+-- it was the last turn
+pub keeps_finished : (start : Start) (old new : World) (before : Running) (s' : State) (next : Phase) → next ≡ phase.Ended → TurnKeeps start old new before.state s' (Ok next) → Keeps start old new before (record { phase = phase.Ended; state = s' }) (Ok turn.Finished)
+unfolding Keeps TurnKeeps
+keeps_finished start old new before s' next ended kept = record {
+  begun = subst (λ (p : Phase). IsBegun start new (record { phase = p; state = s' })) ended kept.begun;
+  leaves = kept.leaves;
+  stands = kept.stands;
+  work = kept.work;
+  bound = kept.bound;
+  ends = (kept.says ended).ends;
+  states = (kept.says ended).states;
+  left = tt;
+  early = tt;
+  says = tt;
+  good = tt;
+}
+
+-- it halted the run
+halted : (P : Fault → Type 0) (why : Halt) → P (fault_of why) → IfHalted (Err (fault_of why)) P
+halted P halt.Source p = p
+halted P halt.Dest p = p
+halted P halt.Log p = p
+halted P halt.Memory p = p
+halted P halt.NotPairtree p = p
+halted P halt.Prefix p = p
+halted P halt.StagingLeft p = p
+halted P halt.Target p = p
+halted P halt.Changed p = p
+
+unless_ended : (P : Type 0) (why : Halt) → P → UnlessEnded (Err (fault_of why)) P
+unless_ended P halt.Source p = p
+unless_ended P halt.Dest p = p
+unless_ended P halt.Log p = p
+unless_ended P halt.Memory p = p
+unless_ended P halt.NotPairtree p = p
+unless_ended P halt.Prefix p = p
+unless_ended P halt.StagingLeft p = p
+unless_ended P halt.Target p = p
+unless_ended P halt.Changed p = p
+
+halted_so : (start : Start) (old new : World) (before : Running) (s' : State) (why : Halt) → TurnKeeps start old new before.state s' (Err why) → Keeps start old new before (record { phase = phase.Ended; state = s' }) (Err (fault_of why))
+unfolding Keeps TurnKeeps
+halted_so start old new before s' why kept = record {
+  begun = kept.begun;
+  leaves = kept.leaves;
+  stands = kept.stands;
+  work = kept.work;
+  bound = unless_ended (HoldsWithinBound before.state.job (source_tree old.source) s') why kept.bound;
+  ends = tt;
+  states = tt;
+  left = halted (λ f. FaultLeaves before.state.job (source_tree old.source) start new.dest new.log) why kept.says.left;
+  early = halted (λ f. IfEarly f (LeavesAll (source_tree old.source) start new.dest new.log)) why kept.says.early;
+  says = halted (SaysRightly before.state.job (source_tree old.source) start.dest) why kept.says.says;
+  good = halted (WantsMemory before.state.job (source_tree old.source) start.dest old.failures new.failures) why kept.says.good;
+}
+
+pub keeps_halted : (start : Start) (old new : World) (before : Running) (s' : State) (why : Halt) (f : Fault) → f ≡ fault_of why → TurnKeeps start old new before.state s' (Err why) → Keeps start old new before (record { phase = phase.Ended; state = s' }) (Err f)
+keeps_halted start old new before s' why f is kept = subst (λ f. Keeps start old new before (record { phase = phase.Ended; state = s' }) (Err f)) (sym is) (halted_so start old new before s' why kept)
+
+-- ---- no turn was made
+
+going_on : (start : Start) (now : World) (r : Running) → (is : InProgress start now r) → Begun (job_of r.state.job) start now (run_of r is.fed)
+going_on start now r is = within_work_is_begun (job_of r.state.job) start now (run_of r is.fed) is.begun
+
+stands_there : (start : Start) (now : World) (r : Running) → IsBegun start now r → StandsStillIn start.dest now.dest
+unfolding IsBegun StandsStillIn
+stands_there start now r is = λ t w start_is dest_is. begun_stands_still (job_of r.state.job) start now (run_of r is.fed) t w (going_on start now r is) start_is dest_is
+
+so_far : (job : Job) (start : Start) (now : World) (run : Run) (s : Reading) (t : Tree) → BegunWithinWork job start now run → now.source ≡ Some s → start.dest ≡ Some t → run.kept.counts.turns ≤ work job s.tree (root_in t)
+unfolding BegunWithinWork
+so_far job start now run s t (past, is, within) source_is start_is = let few = (within s source_is t start_is).within in omega (arith, few)
+
+made_there : (start : Start) (now : World) (r : Running) → IsBegun start now r → MadeWithinWork r.state.job (source_tree now.source) start.dest r.state.counts
+unfolding IsBegun MadeWithinWork
+made_there start now r is = λ f t source_is start_is.
+    let reading = reading_of now.source f source_is in
+    subst (λ (f : Forest). r.state.counts.turns ≤ work (job_of r.state.job) f (root_in t)) reading.2 (so_far (job_of r.state.job) start now (run_of r is.fed) reading.0 t is.begun reading.1 start_is)
+
+bound_there : (start : Start) (now : World) (r : Running) → r.phase ≢ phase.Ended → IsBegun start now r → HoldsWithinBound r.state.job (source_tree now.source) r.state
+unfolding IsBegun HoldsWithinBound
+bound_there start now r going is = λ f source_is.
+    let reading = reading_of now.source f source_is in
+    subst (λ (f : Forest). IsWithinBound (job_of r.state.job) f (held_of r.state [])) reading.2 (begun_is_within_bound (job_of r.state.job) start now (run_of r is.fed) reading.0 (going_on start now r is) (is_going r.phase going) reading.1)
+
+left_there : (start : Start) (now : World) (r : Running) → r.phase ≢ phase.Ended → IsBegun start now r → FaultLeaves r.state.job (source_tree now.source) start now.dest now.log
+unfolding IsBegun FaultLeaves
+left_there start now r going is = λ f t w first last source_is start_is dest_is first_is last_is.
+    let reading = reading_of now.source f source_is in
+    subst (λ (f : Forest). IsLeftByFault (job_of r.state.job) f t w.tree first last) reading.2
+    (stops_leave (job_of r.state.job) start now (run_of r is.fed) reading.0 t w first last (going_on start now r is) (is_going r.phase going) reading.1 start_is dest_is first_is last_is)
+
+-- a limit of at least the work isn't reached
+good_there : (start : Start) (now : World) (r : Running) → r.phase ≢ phase.Ended → r.state.job.limits.turns ≤ r.state.counts.turns → IsBegun start now r → WantsMemory r.state.job (source_tree now.source) start.dest now.failures now.failures fault.Turns
+unfolding IsBegun WantsMemory
+good_there start now r going made is = λ f t source_is start_is good free enough none.
+    let reading = reading_of now.source f source_is in
+    let less : r.state.counts.turns < work (job_of r.state.job) f (root_in t) =
+    subst (λ (f : Forest). r.state.counts.turns < work (job_of r.state.job) f (root_in t)) reading.2 (turn_is_left (job_of r.state.job) start now (run_of r is.fed) reading.0 t is.begun (is_going r.phase going) reading.1 start_is) in
+    absurd (omega (arith, less, enough, made))
+
+same_counts : (job : own.Job) (source : Option Forest) (start : Option Tree) (s s' : State) → s' ≡ s → MadeWithinWork job source start s.counts → MadeWithinWork job source start s'.counts
+same_counts job source start s s' same made = subst (λ (x : State). MadeWithinWork job source start x.counts) (sym same) made
+
+-- the limit of turns was made
+pub keeps_at_limit : (start : Start) (now : World) (before after : Running) → before.phase ≢ phase.Ended → before.state.job.limits.turns ≤ before.state.counts.turns → after.phase ≡ phase.Ended → after.state ≡ before.state → IsBegun start now before
+    → Keeps start now now before after (Err fault.Turns)
+unfolding Keeps SaysRightly
+keeps_at_limit start now before after going made ended same is = record {
+  begun = begun_ends start now before after ended same is;
+  leaves = leaves_behind start now before is;
+  stands = stands_there start now before is;
+  work = same_counts before.state.job (source_tree now.source) start.dest before.state after.state same (made_there start now before is);
+  bound = subst (λ (x : State). HoldsWithinBound before.state.job (source_tree now.source) x) (sym same) (bound_there start now before going is);
+  ends = tt;
+  states = tt;
+  left = left_there start now before going is;
+  early = tt;
+  says = (λ s told. tt, λ t told. tt, λ s t told some. tt);
+  good = good_there start now before going made is;
+}
+
+-- it had ended
+pub keeps_ended : (start : Start) (now : World) (before after : Running) → after ≡ before → IsBegun start now before → Keeps start now now before after (Err fault.Ended)
+unfolding Keeps
+keeps_ended start now before after same is = record {
+  begun = same_begun start now before after same is;
+  leaves = leaves_behind start now before is;
+  stands = stands_there start now before is;
+  work = subst (λ (x : Running). MadeWithinWork before.state.job (source_tree now.source) start.dest x.state.counts) (sym same) (made_there start now before is);
+  bound = tt;
+  ends = tt;
+  states = tt;
+  left = tt;
+  early = tt;
+  says = tt;
+  good = tt;
+}
+
+pub ruleset outcomes = (tree_stays, keeps_after)
+
+pub ruleset answered = (keeps_more, keeps_finished, keeps_halted, keeps_at_limit, keeps_ended)
