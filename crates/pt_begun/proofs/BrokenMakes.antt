@@ -27,7 +27,7 @@ use Rattle.pt_plan.specs.declared.phase.Phase.{Phase}
 use Rattle.pt_plan.specs.declared.phase.Phase.TheVariants as phase
 use Rattle.pt_plan.specs.declared.phase.Position.{Position}
 use Rattle.pt_begun.specs.BegunDest.{root_on_way}
-use Rattle.pt_begun.specs.HaltLaws.{IsLeftByFault}
+use Rattle.pt_begun.specs.FaultLeft.{IsLeftByFault}
 use Rattle.pt_begun.specs.PartsMade.{made_before, script_of_object}
 use Rattle.pt_begun.specs.Past.{Past}
 use Rattle.pt_begun.proofs.BrokenTurns.{WereAnswered, IsBefore, left_quiet, left_untold}

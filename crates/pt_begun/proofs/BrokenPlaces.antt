@@ -1,29 +1,25 @@
 -- What a turn leaves that places an object, or tells of it or of the end, and breaks off may be left by a fault; so for any turn.
-use Rattle.std.proofs.Common.{◌≡◌, ◌≤◌, ℕ, suc, true, List, [], ◌∷◌, ◌++◌, refl, ap, sym, ◌∙◌, append_assoc, arith, drop, length, take}
-use Rattle.std.specs.Prelude.{Option, None, Some, is_some}
-use Rattle.std.proofs.lemmas.Bool.{and_parts}
-use Rattle.std.proofs.lemmas.List.{length-map, take-append-drop}
+use Rattle.std.proofs.Common.{◌≡◌, ◌≤◌, ℕ, suc, List, ◌++◌, refl, ap, sym, ◌∙◌, append_assoc, arith, drop, length, take}
+use Rattle.std.specs.Prelude.{Some}
+use Rattle.std.proofs.lemmas.List.{take-append-drop}
 use Rattle.pt_tree.specs.Dest.{Writing}
-use Rattle.pt_tree.specs.Forest.{Forest, dir_at, file_at}
 use Rattle.pt_tree.specs.Source.{Reading}
 use Rattle.pt_tree.specs.Tree.{Tree}
-use Rattle.pt_walk.specs.Sites.{sites_in}
 use Rattle.pt_plan.proofs.Growing.{all_items_are_all}
 use Rattle.pt_plan.specs.Answer.{Answer}
 use Rattle.pt_plan.specs.Carried.{after}
-use Rattle.pt_plan.specs.Items.{item_of, items}
+use Rattle.pt_plan.specs.Items.{items}
 use Rattle.pt_plan.specs.Job.{Job}
 use Rattle.pt_plan.specs.Lines.{End, end_line, line_text, lines, text}
 use Rattle.pt_plan.specs.Roots.{root_in, with_root}
 use Rattle.pt_plan.specs.Run.{Counts, Held}
-use Rattle.pt_plan.specs.Store.{is_store, pairtree_root, prefix_of, sites_in_root, sites_of, version_file}
 use Rattle.pt_plan.specs.Turn.{Follows, Start as a_start, Walk, Scan, Make, Place}
 use Rattle.pt_plan.specs.TurnPlace.{Places, MakesTuple, FindsTuple, IsInTheWay, RenamesObject, TellsDone, TellsEnd, done_line, last_line}
 use Rattle.pt_plan.specs.World.{Calls, LeavesFront, LeavesPart}
 use Rattle.pt_plan.specs.declared.object.Object.{Object}
 use Rattle.pt_plan.specs.declared.phase.Phase.{Phase}
 use Rattle.pt_plan.specs.declared.phase.Phase.TheVariants as phase
-use Rattle.pt_begun.specs.HaltLaws.{IsLeftByFault}
+use Rattle.pt_begun.specs.FaultLeft.{IsLeftByFault}
 use Rattle.pt_begun.specs.Past.{Past}
 use Rattle.pt_begun.proofs.BrokenMakes.{makes_broken, starts_broken}
 use Rattle.pt_begun.proofs.BrokenTurns.{WereAnswered, IsBefore, ends_item, left_quiet, left_told}
@@ -31,20 +27,8 @@ use Rattle.pt_begun.proofs.BrokenWalks.{scans_broken, walks_broken}
 use Rattle.pt_begun.proofs.Ending.{all_done}
 use Rattle.pt_begun.proofs.LeavesBehind.{plain_same}
 use Rattle.pt_begun.proofs.LeftNow.{between_left, tree_between}
-use Rattle.pt_begun.proofs.LogsLeft.{end_in_part}
+use Rattle.pt_begun.proofs.LogsLeft.{end_in_part, some_items}
 use Rattle.pt_begun.proofs.PlacesTell.{places_tell}
-
--- ---- a store has an item at least: its pairtree's directory
-
-some_sites : (depth : ℕ) (top : Option Forest) → is_some top ≡ true → (n : ℕ) × (length (sites_in_root depth top) ≡ suc n)
-some_sites depth None is = absurd (cc)
-some_sites depth (Some top) is = (length (sites_in depth [] top), refl)
-
-some_items : (job : Job) (source : Forest) → is_store source ≡ true → (n : ℕ) × (length (items job source) ≡ suc n)
-some_items job source is =
-    let top = dir_at source (pairtree_root ∷ []) in
-    let it = some_sites job.limits.depth top (and_parts (is_some (file_at source (version_file ∷ []))) (is_some top) is).1 in
-    (it.0, length-map (sites_of job.limits.depth source) (item_of job (prefix_of source)) ∙ it.1)
 
 module _ (job : Job) (past : Past) (s : Reading) (start : Tree) (prefix : List ℕ) (counts : Counts) (old new : Writing) (first log last : List ℕ) where
   abbrev Before : Held → Phase → Type 0

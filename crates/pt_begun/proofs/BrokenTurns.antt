@@ -17,11 +17,10 @@ use Rattle.pt_plan.specs.Lines.{Line, line_text, text}
 use Rattle.pt_plan.specs.Roots.{root_in, with_root}
 use Rattle.pt_plan.specs.Run.{Counts, Held}
 use Rattle.pt_plan.specs.TurnScan.{skipped}
-use Rattle.pt_plan.specs.World.{Calls, LeavesFront}
+use Rattle.pt_plan.specs.World.{Calls, LeavesFront, WasFound, WasRead}
 use Rattle.pt_plan.specs.declared.phase.Phase.{Phase}
 use Rattle.pt_begun.specs.EndLaws.{is_ended}
-use Rattle.pt_plan.specs.Turn.{WasFound, WasRead}
-use Rattle.pt_begun.specs.HaltLaws.{IsLeftByFault}
+use Rattle.pt_begun.specs.FaultLeft.{IsLeftByFault}
 use Rattle.pt_begun.specs.ItemLaws.{KnowsItems}
 use Rattle.pt_begun.specs.Past.{Past}
 use Rattle.pt_begun.proofs.InPairtree.{some_same}

@@ -21,7 +21,7 @@ use Rattle.pt_plan.specs.declared.phase.Phase.{Phase}
 use Rattle.pt_plan.specs.declared.phase.Phase.TheVariants as phase
 use Rattle.pt_begun.specs.Begun.{items_placed}
 use Rattle.pt_begun.specs.BegunDest.{IsMakingObject}
-use Rattle.pt_begun.specs.HaltLaws.{IsLeftByFault}
+use Rattle.pt_begun.specs.FaultLeft.{IsLeftByFault}
 use Rattle.pt_begun.specs.Past.{Past, done_after}
 use Rattle.pt_begun.proofs.BrokenTurns.{WereAnswered, IsBefore, left_quiet, left_skipped}
 use Rattle.pt_begun.proofs.LeavesBehind.{plain_same}

@@ -1,33 +1,29 @@
 -- A halt for what the source is, or for what stands at `staging`, leaves all as it was.
-use Rattle.std.proofs.Common.{◌≡◌, ℕ, Bool, true, false, List, ◌++◌, refl, ap, sym, ◌∙◌, append-nil}
-use Rattle.std.specs.Prelude.{Option, None, Some, Err}
+use Rattle.std.proofs.Common.{◌≡◌, ℕ, Bool, true, false, List, refl, ap, sym, ◌∙◌}
+use Rattle.std.specs.Prelude.{Err}
 use Rattle.std.proofs.lemmas.Bool.{true≢false}
 use Rattle.pt_tree.specs.Dest.{Writing}
-use Rattle.pt_tree.specs.Source.{Reading}
 use Rattle.pt_tree.specs.Tree.{Tree}
 use Rattle.pt_plan.specs.Job.{Job}
-use Rattle.pt_plan.specs.Lines.{Line, text}
-use Rattle.pt_plan.specs.Roots.{root_in}
 use Rattle.pt_plan.specs.Run.{Counts, Held, turning}
 use Rattle.pt_plan.specs.Turn.{Did, FailsAtFirst, FailsLater, Follows, HasFailed, IsRefused, LeavesSome, Start as a_start, Stays, Walk, Scan, Make, Place}
 use Rattle.pt_plan.specs.TurnMake.{Makings, ReadsMore, ReadsOther}
 use Rattle.pt_plan.specs.TurnPlace.{Places, IsInTheWay}
 use Rattle.pt_plan.specs.TurnStart.{Starts, IsNoStore, IsNoPrefixFile, IsNoPrefix, HasStaging, IsNoRoot, IsNoFile, Differs}
-use Rattle.pt_plan.specs.World.{Calls, Failures, Puts}
+use Rattle.pt_plan.specs.World.{Calls, Failures}
 use Rattle.pt_plan.specs.declared.halt.Halt.{Halt}
 use Rattle.pt_plan.specs.declared.halt.Halt.TheVariants as halt
 use Rattle.pt_plan.specs.declared.phase.Phase.{Phase}
 use Rattle.pt_plan.specs.declared.phase.Phase.TheVariants as phase
-use Rattle.pt_begun.specs.Begun.{Begun, HasTold}
+use Rattle.pt_begun.specs.Begun.{Begun, IsQuiet}
 use Rattle.pt_begun.specs.BegunDest.{DestPart}
-use Rattle.pt_begun.specs.BegunSource.{SourcePart}
 use Rattle.pt_begun.specs.Past.{Past}
 use Rattle.pt_begun.specs.RefusalLaws.{EarlyLeavesDest, EarlyLeavesLog, is_early}
-use Rattle.pt_begun.proofs.Halting.{told_now}
 use Rattle.pt_begun.proofs.InPairtree.{some_same}
-use Rattle.pt_begun.proofs.QuietTurns.{follows_runs, refused_quiet}
+use Rattle.pt_begun.proofs.QuietStart.{is_start, quiet_is}
+use Rattle.pt_begun.proofs.QuietTurns.{refused_quiet}
 use Rattle.pt_begun.proofs.TurnEnds.{refused_same}
-use Rattle.pt_begun.proofs.TurnKeeps.{both_tell, log_tells}
+use Rattle.pt_begun.proofs.Telling.{both_tell, log_tells, none_put}
 
 -- ---- where such a halt comes
 
@@ -97,33 +93,27 @@ first_tree job past phase.Walk held t now first dest = absurd (cc)
 first_tree job past phase.End held t now first dest = absurd (cc)
 first_tree job past phase.Ended held t now first dest = absurd (cc)
 
-none_done : (job : Job) (past : Past) (here : Phase) (prefix : List ℕ) (held : Held) (s : Reading) → is_first here ≡ true → SourcePart job past here prefix held s → past.count ≡ 0
-none_done job past phase.Begin prefix held s first source = source.at.1
-none_done job past (phase.Prefix here) prefix held s first source = source.at.1
-none_done job past phase.Staging prefix held s first source = source.at.1
-none_done job past phase.Root prefix held s first source = absurd (cc)
-none_done job past (phase.RootMake number) prefix held s first source = absurd (cc)
-none_done job past phase.RootRename prefix held s first source = absurd (cc)
-none_done job past (phase.RootCheck number) prefix held s first source = absurd (cc)
-none_done job past phase.OpenRoot prefix held s first source = absurd (cc)
-none_done job past phase.Judge prefix held s first source = absurd (cc)
-none_done job past (phase.OpenObject object) prefix held s first source = absurd (cc)
-none_done job past (phase.Scan object) prefix held s first source = absurd (cc)
-none_done job past (phase.Read object bytes) prefix held s first source = absurd (cc)
-none_done job past (phase.Make object here) prefix held s first source = absurd (cc)
-none_done job past (phase.Copy object position left) prefix held s first source = absurd (cc)
-none_done job past (phase.Tuples object number) prefix held s first source = absurd (cc)
-none_done job past (phase.Rename object) prefix held s first source = absurd (cc)
-none_done job past (phase.Line object) prefix held s first source = absurd (cc)
-none_done job past phase.Walk prefix held s first source = absurd (cc)
-none_done job past phase.End prefix held s first source = absurd (cc)
-none_done job past phase.Ended prefix held s first source = absurd (cc)
-
--- a turn that tells nothing leaves the log
-pub none_put : (line : Option Line) (old new : Option (List ℕ)) → line ≡ None → Puts line old new → new ≡ old
-unfolding Puts
-none_put None old new none put = put
-none_put (Some line) old new none put = absurd (cc)
+first_starts : (here : Phase) → is_first here ≡ true → is_start here ≡ true
+first_starts phase.Begin first = refl
+first_starts (phase.Prefix here) first = refl
+first_starts phase.Staging first = refl
+first_starts phase.Root first = absurd (cc)
+first_starts (phase.RootMake number) first = absurd (cc)
+first_starts phase.RootRename first = absurd (cc)
+first_starts (phase.RootCheck number) first = absurd (cc)
+first_starts phase.OpenRoot first = absurd (cc)
+first_starts phase.Judge first = absurd (cc)
+first_starts (phase.OpenObject object) first = absurd (cc)
+first_starts (phase.Scan object) first = absurd (cc)
+first_starts (phase.Read object bytes) first = absurd (cc)
+first_starts (phase.Make object part) first = absurd (cc)
+first_starts (phase.Copy object position left) first = absurd (cc)
+first_starts (phase.Tuples object number) first = absurd (cc)
+first_starts (phase.Rename object) first = absurd (cc)
+first_starts (phase.Line object) first = absurd (cc)
+first_starts phase.Walk first = absurd (cc)
+first_starts phase.End first = absurd (cc)
+first_starts phase.Ended first = absurd (cc)
 
 -- ---- the laws
 
@@ -139,15 +129,11 @@ early_leaves_dest job start old new run after why t now (past, is) (FailsLater p
 
 pub early_leaves_log : EarlyLeavesLog
 unfolding Begun Did Stays LeavesSome
-early_leaves_log job start old new run after why s t first last (past, is) (IsRefused prefix held calls reason turn did halted) early source_is start_is first_is last_is =
+early_leaves_log job start old new run after why first last (past, is) (IsRefused prefix held calls reason turn did halted) early first_is last_is =
     let counts = (turning run.kept).counts in
-    let logged = log_tells (HasTold job s.tree (root_in t) past run.phase) start.log old.log first first_is (is.log s source_is t start_is) in
+    let had = log_tells (IsQuiet run.phase) start.log old.log first first_is is.quiet in
     let same = none_put calls.line old.log new.log (refused_quiet job counts run.phase run.kept.prefix run.kept.held prefix held calls why turn) did.0.log in
-    let runs = follows_runs job counts run.phase run.kept.prefix run.kept.held prefix held calls (Err why) turn in
-    let none = none_done job past run.phase run.kept.prefix run.kept.held s (follows_first job counts run.phase run.kept.prefix run.kept.held prefix held calls why turn early) (is.source s source_is) in
-    some_same last logged.0 (sym last_is ∙ same ∙ logged.1)
-    ∙ told_now job s t past run.phase first logged.0 runs logged.2
-    ∙ ap (λ k. first ++ text job s.tree (root_in t) k) none
-    ∙ append-nil first
-early_leaves_log job start old new run after why s t first last (past, is) (FailsAtFirst reason stays halted) early source_is start_is first_is last_is = absurd (true≢false (sym early ∙ failed_late why old.failures new.failures stays.3))
-early_leaves_log job start old new run after why s t first last (past, is) (FailsLater prefix held calls answer rows reason turn leaves which halted) early source_is start_is first_is last_is = absurd (true≢false (sym early ∙ failed_late why old.failures new.failures leaves.1))
+    some_same last had.0 (sym last_is ∙ same ∙ had.1)
+    ∙ quiet_is run.phase first had.0 (first_starts run.phase (follows_first job counts run.phase run.kept.prefix run.kept.held prefix held calls why turn early)) had.2
+early_leaves_log job start old new run after why first last (past, is) (FailsAtFirst reason stays halted) early first_is last_is = absurd (true≢false (sym early ∙ failed_late why old.failures new.failures stays.3))
+early_leaves_log job start old new run after why first last (past, is) (FailsLater prefix held calls answer rows reason turn leaves which halted) early first_is last_is = absurd (true≢false (sym early ∙ failed_late why old.failures new.failures leaves.1))

@@ -16,7 +16,7 @@ use Rattle.pt_begun.specs.Begun.{Begun, Start}
 use Rattle.pt_begun.specs.BegunDest.{DestPart}
 use Rattle.pt_begun.specs.EndLaws.{EndsWithStates}
 use Rattle.pt_begun.proofs.Ending.{ends_well}
-use Rattle.pt_begun.proofs.TurnKeeps.{both_tell}
+use Rattle.pt_begun.proofs.Telling.{both_tell}
 
 -- what told at the start was a tree, and the names in the source rise
 well_told : (job : Job) (start : Start) (world : World) (run : Run) (s : Reading) (t : Tree) → Begun job start world run → world.source ≡ Some s → start.dest ≡ Some t → (is_proper s.tree ≡ true) × IsTree t

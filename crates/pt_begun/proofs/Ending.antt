@@ -36,7 +36,7 @@ use Rattle.pt_begun.specs.BegunSource.{SourcePart}
 use Rattle.pt_begun.specs.EndLaws.{EndsWell, IsEnd, is_ended}
 use Rattle.pt_begun.specs.Past.{Past}
 use Rattle.pt_begun.proofs.InPairtree.{some_same}
-use Rattle.pt_begun.proofs.TurnKeeps.{both_tell, log_tells}
+use Rattle.pt_begun.proofs.Telling.{both_tell, log_tells}
 use Rattle.pt_begun.proofs.WaysLeft.{ways_left}
 
 -- ---- the turn that ends the run
@@ -197,7 +197,7 @@ unfolding Changes
 dest_same old new change = change
 
 module _ (job : Job) (past : Past) (start : Start) (old new : World) (run : Run) (after : Kept) (s : Reading) (t : Tree) (now : Writing) (first last : List ℕ) (calls : Calls) where
-  ended : IsPast job start old run past → Follows job (turning run.kept).counts run.phase run.kept.prefix run.kept.held after.prefix after.held calls (Ok phase.Ended) → Happens calls old new
+  pub ended : IsPast job start old run past → Follows job (turning run.kept).counts run.phase run.kept.prefix run.kept.held after.prefix after.held calls (Ok phase.Ended) → Happens calls old new
       → after.counts ≡ counted calls.line (turning run.kept).counts
       → old.source ≡ Some s → start.dest ≡ Some t → new.dest ≡ Some now → start.log ≡ Some first → new.log ≡ Some last
       → ((told : List ℕ) × (last ≡ first ++ told) × IsEnd job s.tree t now.tree told) × (last_line after.counts ≡ end_line (all_lines job s.tree (root_in t)))

@@ -32,7 +32,7 @@ use Rattle.pt_begun.proofs.StagingFound.{finds_staging}
 use Rattle.pt_begun.proofs.StartsDest.{root_stands}
 use Rattle.pt_begun.proofs.TargetFound.{finds_target_of}
 use Rattle.pt_begun.proofs.Tests.{all_true}
-use Rattle.pt_begun.proofs.TurnKeeps.{both_tell}
+use Rattle.pt_begun.proofs.Telling.{both_tell}
 
 -- ---- what a turn halts for
 

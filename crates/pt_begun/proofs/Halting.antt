@@ -1,5 +1,5 @@
 -- What a run leaves of the destination and the log that stops or breaks off, where all three devices tell.
-use Rattle.std.proofs.Common.{◌≡◌, ℕ, false, List, ◌++◌, ap, sym, ◌∙◌, subst}
+use Rattle.std.proofs.Common.{◌≡◌, ℕ, false, List, ◌++◌, ap, ◌∙◌, subst}
 use Rattle.std.specs.Prelude.{Some}
 use Rattle.pt_tree.specs.Dest.{Writing}
 use Rattle.pt_tree.specs.Source.{Reading}
@@ -9,20 +9,20 @@ use Rattle.pt_plan.specs.Job.{Job}
 use Rattle.pt_plan.specs.Lines.{text}
 use Rattle.pt_plan.specs.Roots.{root_in}
 use Rattle.pt_plan.specs.Run.{Held, Run, turning}
-use Rattle.pt_plan.specs.Turn.{BreaksOff, Follows, WasFound, WasRead}
-use Rattle.pt_plan.specs.World.{Calls, LeavesFront, LeavesPart, World}
+use Rattle.pt_plan.specs.Turn.{BreaksOff, Follows}
+use Rattle.pt_plan.specs.World.{Calls, LeavesFront, LeavesPart, WasFound, WasRead, World}
 use Rattle.pt_plan.specs.declared.phase.Phase.{Phase}
 use Rattle.pt_plan.specs.declared.phase.Phase.TheVariants as phase
-use Rattle.pt_begun.specs.Begun.{Begun, HasTold, IsPast, Start}
+use Rattle.pt_begun.specs.Begun.{HasTold, IsPast, Start}
 use Rattle.pt_begun.specs.BegunDest.{DestPart}
 use Rattle.pt_begun.specs.EndLaws.{is_ended}
-use Rattle.pt_begun.specs.HaltLaws.{BreaksLeave, IsLeftByFault, StopsLeave}
+use Rattle.pt_begun.specs.FaultLeft.{IsLeftByFault}
 use Rattle.pt_begun.specs.Past.{Past}
 use Rattle.pt_begun.proofs.BrokenPlaces.{follows_broken}
 use Rattle.pt_begun.proofs.BrokenTurns.{IsBefore, left_quiet}
 use Rattle.pt_begun.proofs.InPairtree.{some_same}
-use Rattle.pt_begun.proofs.QuietTurns.{follows_runs}
-use Rattle.pt_begun.proofs.TurnKeeps.{both_tell, log_tells, still_counts}
+use Rattle.pt_begun.proofs.Telling.{both_tell, log_tells}
+use Rattle.pt_begun.proofs.TurnKeeps.{still_counts}
 
 -- a run that hasn't ended has told the lines of the items done
 pub told_now : (job : Job) (s : Reading) (t : Tree) (past : Past) (here : Phase) (first now : List ℕ) → is_ended here ≡ false → HasTold job s.tree (root_in t) past here first now → now ≡ first ++ text job s.tree (root_in t) past.count
@@ -83,18 +83,6 @@ module _ (job : Job) (past : Past) (start : Start) (old : World) (run : Run) (s 
       → BreaksOff calls old new → old.source ≡ Some s → new.dest ≡ Some now → new.log ≡ Some last → IsLeftByFault job s.tree t now.tree first last
   broken_leaves new prefix held calls answer now last had turn broken source_is dest_is log_is =
       follows_broken job past s t run.kept.prefix (turning run.kept).counts had.now now first had.log last run.phase run.kept.held prefix held calls answer turn had.before
-      (record { read = subst (WasRead calls.asked) source_is broken.had.read; found = subst (WasFound calls.line calls.change) had.dest_is broken.had.found })
+      (record { read = subst (WasRead calls.asked) source_is broken.read; found = subst (WasFound calls.line calls.change) had.dest_is broken.found })
       (subst (λ o. LeavesPart o (Some now) calls.change) had.dest_is (subst (λ o. LeavesPart old.dest o calls.change) dest_is broken.dest))
       (subst (λ o. LeavesFront calls.line o (Some last)) had.log_told (subst (λ o. LeavesFront calls.line old.log o) log_is broken.log))
-
-pub stops_leave : StopsLeave
-unfolding Begun
-stops_leave job start world run s t now first last (past, is) runs source_is start_is dest_is first_is last_is =
-    same_leaves job past start world run s t first now last (tells_all job past start world run s t first is runs source_is start_is first_is) (sym dest_is) (sym last_is)
-
--- no turn begins where the run has ended
-pub breaks_leave : BreaksLeave
-unfolding Begun
-breaks_leave job start old new run prefix held calls answer s t now first last (past, is) turn broken source_is start_is dest_is first_is last_is =
-    broken_leaves job past start old run s t first new prefix held calls answer now last
-    (tells_all job past start old run s t first is (follows_runs job (turning run.kept).counts run.phase run.kept.prefix run.kept.held prefix held calls answer turn) source_is start_is first_is) turn broken source_is dest_is last_is

@@ -1,3 +1,4 @@
+pub mod BadTargets
 pub mod BehindRows
 pub mod Bounds
 pub mod BrokenMakes
@@ -9,6 +10,7 @@ pub mod ContentParts
 pub mod DestKeeps
 pub mod DistinctRows
 pub mod EarlyHalts
+pub mod EndLeft
 pub mod EndStates
 pub mod Ending
 pub mod EntriesThere
@@ -16,7 +18,6 @@ pub mod Feeding
 pub mod GoodStarts
 pub mod HaltedBound
 pub mod Halting
-pub mod HaltsLeave
 pub mod HeldKeeps
 pub mod InObject
 pub mod InPairtree
@@ -41,6 +42,7 @@ pub mod PlacesKeep
 pub mod PlacesOnWay
 pub mod PlacesTell
 pub mod Positions
+pub mod QuietStart
 pub mod QuietTurns
 pub mod ReadsOn
 pub mod Refusing
@@ -59,6 +61,7 @@ pub mod StandingStill
 pub mod StartsDest
 pub mod StartsKeep
 pub mod TargetFound
+pub mod Telling
 pub mod Tests
 pub mod TrailKeeps
 pub mod Trees

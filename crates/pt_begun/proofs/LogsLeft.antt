@@ -1,16 +1,19 @@
 -- What a log may hold after some items: their lines, and some of what comes next.
 use Rattle.std.proofs.Common.{inl, inr, ◌≡◌, ◌≤◌, ◌==◌, ℕ, zero, suc, Bool, true, false, List, [], ◌∷◌, ◌++◌, refl, ap, sym, ◌∙◌, append-nil, append_assoc, arith, cond, length}
-use Rattle.std.specs.Prelude.{Option, None, Some, flat_map, slice_get, take}
+use Rattle.std.specs.Prelude.{Option, None, Some, flat_map, is_some, slice_get, take}
 use Rattle.std.specs.Option.{option_map}
-use Rattle.std.proofs.lemmas.Bool.{cases_lt, eq-eqb, eqb-true}
-use Rattle.pt_tree.specs.Forest.{Forest}
+use Rattle.std.proofs.lemmas.Bool.{and_parts, cases_lt, eq-eqb, eqb-true}
+use Rattle.std.proofs.lemmas.List.{length-map}
+use Rattle.pt_tree.specs.Forest.{Forest, dir_at, file_at}
 use Rattle.pt_tree.specs.Tree.{Tree}
+use Rattle.pt_walk.specs.Sites.{sites_in}
 use Rattle.pt_plan.proofs.Growing.{all_items_are_all, taken_against_earlier, text_grows}
 use Rattle.pt_plan.specs.Carried.{Marked, after, is_taken, marked}
 use Rattle.pt_plan.specs.Faults.{BeginsWith, IsLogAfter, most_told}
-use Rattle.pt_plan.specs.Items.{Item, items}
+use Rattle.pt_plan.specs.Items.{Item, item_of, items}
 use Rattle.pt_plan.specs.Job.{Job}
 use Rattle.pt_plan.specs.Lines.{end_line, line_of, line_text, lines, log_of, text}
+use Rattle.pt_plan.specs.Store.{is_store, pairtree_root, prefix_of, sites_in_root, sites_of, version_file}
 use Rattle.pt_begun.proofs.ItemLines.{mark_of}
 
 -- ---- the items that there are
@@ -100,6 +103,18 @@ as_after job source root count = elim (cases_lt (length (items job source)) coun
       })
   | inr within ↦ record { k = count; within = within; root_is = refl; text_is = refl }
 ]
+
+-- ---- a store has an item at least: its pairtree's directory
+
+some_sites : (depth : ℕ) (top : Option Forest) → is_some top ≡ true → (n : ℕ) × (length (sites_in_root depth top) ≡ suc n)
+some_sites depth None is = absurd (cc)
+some_sites depth (Some top) is = (length (sites_in depth [] top), refl)
+
+pub some_items : (job : Job) (source : Forest) → is_store source ≡ true → (n : ℕ) × (length (items job source) ≡ suc n)
+some_items job source is =
+    let top = dir_at source (pairtree_root ∷ []) in
+    let it = some_sites job.limits.depth top (and_parts (is_some (file_at source (version_file ∷ []))) (is_some top) is).1 in
+    (it.0, length-map (sites_of job.limits.depth source) (item_of job (prefix_of source)) ∙ it.1)
 
 -- ---- at the end
 

@@ -7,7 +7,7 @@ use Rattle.pt_tree.specs.Dest.{Writing}
 use Rattle.pt_tree.specs.Forest.{Forest, is_proper}
 use Rattle.pt_tree.specs.Source.{Reading}
 use Rattle.pt_tree.specs.Tree.{IsTree, Tree}
-use Rattle.pt_begun.specs.Begun.{Begun, HasTold, IsPast, IsWorld, TellsAsBefore, TellsStill, start_of}
+use Rattle.pt_begun.specs.Begun.{Begun, HasTold, IsPast, IsQuiet, IsWorld, TellsAsBefore, TellsStill, start_of}
 use Rattle.pt_begun.specs.BegunDest.{DestPart}
 use Rattle.pt_begun.specs.BegunSource.{SourcePart}
 use Rattle.pt_plan.specs.Roots.{root_in}
@@ -45,6 +45,10 @@ log_new : (job : Job) (source : Forest) (root : Tree) (log : Option (List ℕ)) 
 log_new job source root None = tt
 log_new job source root (Some bytes) = sym (append-nil bytes)
 
+quiet_new : (log : Option (List ℕ)) → TellsStill log log (IsQuiet phase.Begin)
+quiet_new None = tt
+quiet_new (Some bytes) = refl
+
 -- nothing is behind it
 pub new_past : (job : Job) (world : World) → IsLayout job.tuples → IsWorld world → IsPast job (start_of world) world new_run no_past
 new_past job world layout is = record {
@@ -54,6 +58,8 @@ new_past job world layout is = record {
   dest = dest_new job world.dest is.dest;
   items = λ s e old f. record { places = record { placed = refl; next = tt }; lines_are = record { done = refl; present = refl; skipped = refl } };
   log = λ s e old f. log_new job s.tree (root_in old) world.log;
+  quiet = quiet_new world.log;
+  left = λ s e old f now g first h last i. tt;
 }
 
 pub new_run_is_begun : NewRunIsBegun

@@ -17,7 +17,7 @@ use Rattle.pt_begun.specs.Begun.{Begun, IsPast, Start}
 use Rattle.pt_begun.specs.BegunDest.{DestPart}
 use Rattle.pt_begun.specs.Past.{Past}
 use Rattle.pt_begun.specs.RefusalLaws.{FindsStaging}
-use Rattle.pt_begun.proofs.TurnKeeps.{both_tell}
+use Rattle.pt_begun.proofs.Telling.{both_tell}
 
 some_kind : (o : Option Entry) (here : Kind) → option_map kind_of_entry o ≡ Some here → is_some o ≡ true
 some_kind None here is = absurd (cc)

@@ -27,7 +27,7 @@ use Rattle.pt_begun.specs.StillLaws.{BegunStandsStill, IsForNew, LeftBehindStand
 use Rattle.pt_begun.proofs.InPairtree.{some_same}
 use Rattle.pt_begun.proofs.KeptNow.{kept_now}
 use Rattle.pt_begun.proofs.Tests.{all_drop, first_passes}
-use Rattle.pt_begun.proofs.TurnKeeps.{both_tell}
+use Rattle.pt_begun.proofs.Telling.{both_tell}
 
 -- ---- nothing was made
 

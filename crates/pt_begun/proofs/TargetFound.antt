@@ -41,7 +41,7 @@ use Rattle.pt_begun.proofs.InPairtree.{some_same}
 use Rattle.pt_begun.proofs.PlacesDest.{at_root, place_long}
 use Rattle.pt_begun.proofs.RootChecks.{file_short}
 use Rattle.pt_begun.proofs.Tests.{all_map}
-use Rattle.pt_begun.proofs.TurnKeeps.{both_tell}
+use Rattle.pt_begun.proofs.Telling.{both_tell}
 
 -- ---- what was found
 

@@ -11,7 +11,7 @@ use Rattle.pt_plan.specs.Job.{Job}
 use Rattle.pt_plan.specs.Lines.{Line}
 use Rattle.pt_plan.specs.Roots.{root_in}
 use Rattle.pt_plan.specs.Run.{Counts, Held, Kept, Run, turning}
-use Rattle.pt_plan.specs.Turn.{Did, FailsAtFirst, FailsLater, Follows, IsRefused, LeavesSome, Start as a_start, Stays, Walk, Scan, Make, Place}
+use Rattle.pt_plan.specs.Turn.{Did, FailsAtFirst, FailsLater, Follows, IsRefused, LeavesSome, Start as a_start, Stays, Turn, Walk, Scan, Make, Place}
 use Rattle.pt_plan.specs.TurnMake.{Makings, MakesStaging, MakesDeclaration, MakesVersion, PassesRow, MakesFolder, OpensCopy, CopiesOn, ReadsMore, EndsCopy, ReadsOther, MakesVersionInventory, MakesVersionSidecar, MakesInventory, MakesSidecar}
 use Rattle.pt_plan.specs.TurnPlace.{Places, MakesTuple, FindsTuple, IsInTheWay, RenamesObject, TellsDone, TellsEnd}
 use Rattle.pt_plan.specs.TurnScan.{Scans, StartsInSite, EntersObject, IsTooDeep, PassesShorty, EntersDirectory, MeetsDeep, OpensFile, MeetsLimit, MeetsOther, EndsSite, EndsObject, LeavesDirectory, ReadsOn, IsTooLong, EndsFile}
@@ -21,13 +21,19 @@ use Rattle.pt_plan.specs.World.{Answers, Asked, AsksNothing, Calls, Change, Chan
 use Rattle.pt_plan.specs.declared.halt.Halt.{Halt}
 use Rattle.pt_plan.specs.declared.phase.Phase.{Phase}
 use Rattle.pt_plan.specs.declared.phase.Phase.TheVariants as phase
-use Rattle.pt_begun.specs.Begun.{Begun, HasTold, IsPast as a_past, ItemsPart, Start, TellsAsBefore, TellsStill}
+use Rattle.pt_begun.specs.Begun.{Begun, HasTold, IsPast as a_past, IsQuiet, ItemsPart, LeftAt, Start, TellsAsBefore, TellsStill}
 use Rattle.pt_begun.specs.BegunDest.{DestPart}
 use Rattle.pt_begun.specs.BegunLaws.{TurnEndsBegun}
+use Rattle.pt_begun.specs.EndLaws.{is_ended}
+use Rattle.pt_begun.specs.FaultLeft.{IsLeftByFault}
+use Rattle.pt_begun.specs.HaltLaws.{HaltsLeave, StopsLeave}
 use Rattle.pt_begun.specs.Past.{Past}
+use Rattle.pt_begun.proofs.Halting.{broken_leaves, same_leaves, tells_all}
 use Rattle.pt_begun.proofs.InPairtree.{some_same}
 use Rattle.pt_begun.proofs.LeavesBehind.{IsLeftTree, follows_left, same_left}
-use Rattle.pt_begun.proofs.TurnKeeps.{log_tells, told_log}
+use Rattle.pt_begun.proofs.QuietTurns.{follows_runs, refused_quiet}
+use Rattle.pt_begun.proofs.Telling.{log_tells, none_put}
+use Rattle.pt_begun.proofs.TurnKeeps.{told_log}
 
 -- ---- what the answers that halt a run change
 
@@ -164,6 +170,10 @@ module _ (job : Job) (past : Past) (start : Start) (old new : World) (run : Run)
   abbrev Ended : Type 0
   Ended = TellsAsBefore start.dest new.dest (DestPart job past phase.Ended after.held)
 
+  -- where all three tell, this is left
+  abbrev pub Leaves : Type 0
+  Leaves = (s : Reading) (t : Tree) (now : Writing) (first last : List ℕ) → old.source ≡ Some s → start.dest ≡ Some t → new.dest ≡ Some now → start.log ≡ Some first → new.log ≡ Some last → IsLeftByFault job s.tree t now.tree first last
+
   -- whatever of the destination is left
   dest_ends : a_past job start old run past → ((w : Writing) (t : Tree) → start.dest ≡ Some t → old.dest ≡ Some w → DestPart job past run.phase run.kept.held t w → (v : Writing) × (new.dest ≡ Some v) × IsLeftTree job t v) → (old.dest ≡ None → new.dest ≡ None) → Ended
   dest_ends is some none = by start.dest old.dest refl refl is.dest
@@ -178,9 +188,9 @@ module _ (job : Job) (past : Past) (start : Start) (old new : World) (run : Run)
           subst (λ o. TellsAsBefore o new.dest (DestPart job past phase.Ended after.held)) (sym a)
           (subst (λ o. TellsAsBefore (Some t) o (DestPart job past phase.Ended after.held)) (sym it.1) (record { started = known.started; tree = it.2.tree; at = it.2.left }))
 
-  ends : a_past job start old run past → after.held.trail ≡ run.kept.held.trail → after.counts ≡ (turning run.kept).counts → source_tree new.source ≡ source_tree old.source → Ended → ((l : List ℕ) → old.log ≡ Some l → (now : List ℕ) × (new.log ≡ Some now))
+  ends : a_past job start old run past → after.held.trail ≡ run.kept.held.trail → after.counts ≡ (turning run.kept).counts → source_tree new.source ≡ source_tree old.source → Ended → ((l : List ℕ) → old.log ≡ Some l → (now : List ℕ) × (new.log ≡ Some now)) → Leaves
       → a_past job start new (record { phase = phase.Ended; kept = after }) past
-  ends is trail counts source dest log = record {
+  ends is trail counts source dest log leaves = record {
     layout = is.layout;
     held = record { trail = record { is_one = ap is_trail trail ∙ is.held.trail.is_one; none = tt; entry = tt }; ends = tt; rows = tt; behind = tt; numbers = tt; fed = tt };
     source = λ v same.
@@ -194,8 +204,19 @@ module _ (job : Job) (past : Past) (start : Start) (old new : World) (run : Run)
         (subst (λ c. ItemsPart job past phase.Ended c s.0.tree (root_in t)) (sym counts)
         (record { places = record { placed = tt; next = tt }; lines_are = record { done = it.lines_are.done; present = it.lines_are.present; skipped = it.lines_are.skipped } }));
     log = λ v same t some. log_at v same t some start.log refl;
+    quiet = quiet_at start.log refl;
+    left = λ v same t some now told first is_first last is_last.
+        let s = same_tree old.source new.source v source same in
+        subst (λ (f : Forest). IsLeftByFault job f t now.tree first last) (sym s.2) (leaves s.0 t now first last s.1 some told is_first is_last);
   }
     where
+      quiet_at : (o : Option (List ℕ)) → start.log ≡ o → TellsStill o new.log (IsQuiet phase.Ended)
+      quiet_at None none = tt
+      quiet_at (Some first) is_first =
+          let had = log_tells (IsQuiet run.phase) start.log old.log first is_first is.quiet in
+          let now = log had.0 had.1 in
+          subst (λ o. TellsStill (Some first) o (IsQuiet phase.Ended)) (sym now.1) tt
+
       log_at : (v : Reading) → new.source ≡ Some v → (t : Tree) → start.dest ≡ Some t → (o : Option (List ℕ)) → start.log ≡ o → TellsStill o new.log (HasTold job v.tree (root_in t) past phase.Ended)
       log_at v same t some None none = tt
       log_at v same t some (Some first) is_first =
@@ -211,16 +232,52 @@ module _ (job : Job) (past : Past) (start : Start) (old new : World) (run : Run)
       (λ w t a b known. (w, same ∙ b, same_left job past t run.phase run.kept.held w w is.held known refl))
       (λ none. same ∙ none)
 
+-- ---- what is left where all three tell
+
+module _ (job : Job) (past : Past) (start : Start) (old new : World) (run : Run) (s : Reading) (t : Tree) (now : Writing) (first last : List ℕ) where
+  -- nothing was changed
+  left_same : a_past job start old run past → old.source ≡ Some s → start.dest ≡ Some t → Some now ≡ old.dest → start.log ≡ Some first → Some last ≡ old.log → (here : Phase) → run.phase ≡ here → IsLeftByFault job s.tree t now.tree first last
+  left_same is source_is start_is dest_is first_is last_is here at = by (is_ended here) refl
+    where
+      at_end : (p : Phase) → is_ended p ≡ true → LeftAt p job s.tree t now.tree first last → IsLeftByFault job s.tree t now.tree first last
+      at_end phase.Ended over left = left
+      at_end _ over left = absurd (cc)
+
+      by : (b : Bool) → is_ended here ≡ b → IsLeftByFault job s.tree t now.tree first last
+      by false runs = same_leaves job past start old run s t first now last (tells_all job past start old run s t first is (ap is_ended at ∙ runs) source_is start_is first_is) dest_is last_is
+      by true over = at_end here over (subst (λ (p : Phase). LeftAt p job s.tree t now.tree first last) at (is.left s source_is t start_is now (sym dest_is) first first_is last (sym last_is)))
+
+  pub halted_left : (after : Kept) (why : Halt) → a_past job start old run past → Turn job run.phase (turning run.kept) after old new (Err why) → old.source ≡ Some s → start.dest ≡ Some t → new.dest ≡ Some now → start.log ≡ Some first → new.log ≡ Some last → IsLeftByFault job s.tree t now.tree first last
+  unfolding Did Stays LeavesSome
+  halted_left after why is (IsRefused prefix held calls reason turn did halted) source_is start_is dest_is first_is last_is =
+      left_same is source_is start_is (sym dest_is ∙ refused_same job (turning run.kept).counts run.phase run.kept.prefix run.kept.held prefix held calls why old.dest new.dest turn did.0.dest) first_is
+      (sym last_is ∙ none_put calls.line old.log new.log (refused_quiet job (turning run.kept).counts run.phase run.kept.prefix run.kept.held prefix held calls why turn) did.0.log) run.phase refl
+  halted_left after why is (FailsAtFirst reason stays halted) source_is start_is dest_is first_is last_is = left_same is source_is start_is (sym dest_is ∙ stays.1) first_is (sym last_is ∙ stays.2) run.phase refl
+  halted_left after why is (FailsLater prefix held calls answer rows reason turn leaves which halted) source_is start_is dest_is first_is last_is =
+      broken_leaves job past start old run s t first new prefix held calls answer now last
+      (tells_all job past start old run s t first is (follows_runs job (turning run.kept).counts run.phase run.kept.prefix run.kept.held prefix held calls answer turn) source_is start_is first_is) turn leaves.0 source_is dest_is last_is
+
+pub stops_leave : StopsLeave
+unfolding Begun
+stops_leave job start world run s t now first last (past, is) source_is start_is dest_is first_is last_is = left_same job past start world world run s t now first last is source_is start_is (sym dest_is) first_is (sym last_is) run.phase refl
+
+pub halts_leave : HaltsLeave
+unfolding Begun
+halts_leave job start old new run after why s t now first last (past, is) turn source_is start_is dest_is first_is last_is = halted_left job past start old new run s t now first last after why is turn source_is start_is dest_is first_is last_is
+
+-- ---- the law
+
 pub turn_ends_begun : TurnEndsBegun
 unfolding Begun Did Stays LeavesSome
 turn_ends_begun job start old new run after why (past, is) (IsRefused prefix held calls reason turn did halted) = (
   past,
   ends job past start old new run after is halted.trail halted.counts (answers_tree calls.asked old.source new.source did.0.source)
       (same_ends job past start old new run after is (refused_same job (turning run.kept).counts run.phase run.kept.prefix run.kept.held prefix held calls why old.dest new.dest turn did.0.dest))
-      (λ l some. told_log calls.line l new.log (subst (λ o. Puts calls.line o new.log) some did.0.log)),
+      (λ l some. told_log calls.line l new.log (subst (λ o. Puts calls.line o new.log) some did.0.log))
+      (λ s t now first last source_is start_is dest_is first_is last_is. halted_left job past start old new run s t now first last after why is (IsRefused prefix held calls reason turn did halted) source_is start_is dest_is first_is last_is),
 )
 turn_ends_begun job start old new run after why (past, is) (FailsAtFirst reason stays halted) =
-    (past, ends job past start old new run after is halted.trail halted.counts stays.0 (same_ends job past start old new run after is stays.1) (λ l some. (l, stays.2 ∙ some)))
+    (past, ends job past start old new run after is halted.trail halted.counts stays.0 (same_ends job past start old new run after is stays.1) (λ l some. (l, stays.2 ∙ some)) (λ s t now first last source_is start_is dest_is first_is last_is. halted_left job past start old new run s t now first last after why is (FailsAtFirst reason stays halted) source_is start_is dest_is first_is last_is))
 turn_ends_begun job start old new run after why (past, is) (FailsLater prefix held calls answer rows reason turn leaves which halted) = (
   past,
   ends job past start old new run after is halted.trail halted.counts leaves.0.source
@@ -230,5 +287,6 @@ turn_ends_begun job start old new run after why (past, is) (FailsLater prefix he
       let v = part_told calls.change w new.dest left in
       (v.0, v.1, follows_left job past t (turning run.kept).counts run.phase run.kept.prefix run.kept.held prefix held calls answer w v.0 turn is.held known (subst (λ o. LeavesPart (Some w) o calls.change) v.1 left)))
       (λ none. part_untold calls.change new.dest (subst (λ o. LeavesPart o new.dest calls.change) none leaves.0.dest)))
-      (λ l some. front_told calls.line l new.log (subst (λ o. LeavesFront calls.line o new.log) some leaves.0.log)),
+      (λ l some. front_told calls.line l new.log (subst (λ o. LeavesFront calls.line o new.log) some leaves.0.log))
+      (λ s t now first last source_is start_is dest_is first_is last_is. halted_left job past start old new run s t now first last after why is (FailsLater prefix held calls answer rows reason turn leaves which halted) source_is start_is dest_is first_is last_is),
 )

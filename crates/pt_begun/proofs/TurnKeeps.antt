@@ -14,24 +14,29 @@ use Rattle.pt_plan.specs.Run.{Counts, Held, Kept, Run, turning}
 use Rattle.pt_plan.specs.Turn.{Did, Follows, Happens, Start as a_start, Walk, Scan, Make, Place, GoesOn, counted}
 use Rattle.pt_plan.specs.World.{Adds, Answers, Asked, AsksNothing, Calls, Change, Changes, ChangesNothing, Creates, Finds, FindsNoneAndMakes, Finishes, Lists, Makes, Opens, OpensAndReads, Peeks, Puts, Reads, Renames, World, after_make}
 use Rattle.pt_plan.specs.declared.phase.Phase.{Phase}
-use Rattle.pt_begun.specs.Begun.{Begun, HasTold, IsPast, ItemsPart, Start, TellsAsBefore, TellsStill}
+use Rattle.pt_begun.specs.Begun.{Begun, HasTold, IsPast, IsQuiet, ItemsPart, LeftAt, Start, TellsAsBefore, TellsStill}
 use Rattle.pt_begun.specs.BegunDest.{DestPart}
 use Rattle.pt_begun.specs.BegunHeld.{HeldAt}
 use Rattle.pt_begun.specs.BegunLaws.{TurnKeepsBegun}
 use Rattle.pt_begun.specs.BegunSource.{SourcePart}
+use Rattle.pt_begun.specs.FaultLeft.{IsLeftByFault}
 use Rattle.pt_begun.specs.ItemLaws.{KeepsItems, KeepsLog, KnowsItems}
 use Rattle.pt_begun.specs.Past.{Past, past_after}
 use Rattle.pt_begun.proofs.DestKeeps.{scans_dest, walks_dest}
+use Rattle.pt_begun.proofs.EndLeft.{end_left, left_unless}
+use Rattle.pt_begun.proofs.Ending.{ended}
 use Rattle.pt_begun.proofs.HeldKeeps.{places_hold, starts_hold, walks_hold}
 use Rattle.pt_begun.proofs.InPairtree.{some_same}
 use Rattle.pt_begun.proofs.ItemsKeep.{makes_items, places_items, scans_items, starts_items, walks_items}
 use Rattle.pt_begun.proofs.MakesDest.{makes_dest}
 use Rattle.pt_begun.proofs.MakesHold.{makes_hold}
 use Rattle.pt_begun.proofs.PlacesDest.{places_dest}
+use Rattle.pt_begun.proofs.QuietStart.{follows_quietly, quiet_if, quiet_is}
 use Rattle.pt_begun.proofs.ScansHold.{scans_hold}
 use Rattle.pt_begun.proofs.ScansSource.{scans_source}
 use Rattle.pt_begun.proofs.SourceKeeps.{makes_source, places_source, starts_source, tree_kept, walks_source}
 use Rattle.pt_begun.proofs.StartsDest.{starts_dest}
+use Rattle.pt_begun.proofs.Telling.{both_tell, log_tells, none_put}
 
 -- ---- which devices tell
 
@@ -119,18 +124,6 @@ module _ (job : Job) (past : Past) where
 pub still_counts : (job : Job) (past : Past) (here : Phase) (kept : Kept) (source : Forest) (root : Tree) → ItemsPart job past here kept.counts source root → ItemsPart job past here (turning kept).counts source root
 still_counts job past here kept source root it = record { places = it.places; lines_are = record { done = it.lines_are.done; present = it.lines_are.present; skipped = it.lines_are.skipped } }
 
--- what both the start and the destination tell
-pub both_tell : {A B : Type 0} → (P : A → B → Type 0) (start : Option A) (now : Option B) (a : A) → start ≡ Some a → TellsAsBefore start now P → (b : B) × (now ≡ Some b) × P a b
-both_tell P None None a is tells = absurd (cc)
-both_tell P None (Some b) a is tells = absurd (tells)
-both_tell P (Some x) None a is tells = absurd (tells)
-both_tell P (Some x) (Some b) a is tells = (b, refl, subst (λ y. P y b) (some_same x a is) tells)
-
-pub log_tells : (P : List ℕ → List ℕ → Type 0) (start now : Option (List ℕ)) (a : List ℕ) → start ≡ Some a → TellsStill start now P → (b : List ℕ) × (now ≡ Some b) × P a b
-log_tells P None now a is tells = absurd (cc)
-log_tells P (Some x) None a is tells = absurd (tells)
-log_tells P (Some x) (Some b) a is tells = (b, refl, subst (λ y. P y b) (some_same x a is) tells)
-
 module _ (job : Job) (past : Past) (start : Start) (old new : World) (run : Run) (after : Kept) (next : Phase) (calls : Calls) where
   abbrev before : Kept
   before = turning run.kept
@@ -182,6 +175,19 @@ module _ (job : Job) (past : Past) (start : Start) (old new : World) (run : Run)
       told_again w is_some (Neither a b) = absurd (let no : None ≡ Some w = sym a ∙ is_some in cc)
       told_again w is_some (Both x v a b) = (v, b)
 
+  -- the turn that ends it leaves what is left then
+  keeps_left : Turned → Happens calls old new → after.counts ≡ counted calls.line before.counts → IsPast job start old run past → (v : Reading) → new.source ≡ Some v → (t : Tree) → start.dest ≡ Some t → (now : Writing) → new.dest ≡ Some now → (first : List ℕ) → start.log ≡ Some first
+      → (last : List ℕ) → new.log ≡ Some last → LeftAt next job v.tree t now.tree first last
+  keeps_left turn did counts is v same t some now dest first is_first last is_last =
+      left_unless next job v.tree t now.tree first last
+      (λ at_end.
+      let told = told_source calls.asked old.source v (subst (Answers calls.asked old.source) same did.source) in
+      let s = told.0 in
+      let kept = tree_kept calls.asked s v (subst (λ o. Answers calls.asked o (Some v)) told.1 (subst (Answers calls.asked old.source) same did.source)) in
+      let turn_is = subst (λ (p : Phase). Follows job before.counts run.phase run.kept.prefix run.kept.held after.prefix after.held calls (Ok p)) at_end turn in
+      let all = ended job past start old new run after s t now first last calls is turn_is did counts told.1 some dest is_first is_last in
+      subst (λ (f : Forest). IsLeftByFault job f t now.tree first last) (sym kept) (end_left job s.tree t now.tree first last all.0.0 all.0.1 all.0.2))
+
   pub turned : Turned → Happens calls old new → after.counts ≡ counted calls.line before.counts → IsPast job start old run past → IsPast job start new (record { phase = next; kept = after }) later
   turned turn did counts is = record {
     layout = is.layout;
@@ -192,8 +198,22 @@ module _ (job : Job) (past : Past) (start : Start) (old new : World) (run : Run)
         let kept = keeps_items turn did is v same t some in
         subst (λ c. ItemsPart job later next c v.tree (root_in t)) (sym counts) (subst (λ (f : Forest). ItemsPart job later next (counted calls.line before.counts) f (root_in t)) (sym kept.1) kept.3);
     log = λ v same t some. log_at v same t some start.log refl;
+    quiet = quiet_at start.log refl;
+    left = keeps_left turn did counts is;
   }
     where
+      quiet_at : (o : Option (List ℕ)) → start.log ≡ o → TellsStill o new.log (IsQuiet next)
+      quiet_at None none = tt
+      quiet_at (Some first) is_first =
+          let had = log_tells (IsQuiet run.phase) start.log old.log first is_first is.quiet in
+          let puts = subst (λ o. Puts calls.line o new.log) had.1 did.log in
+          let now = told_log calls.line had.0 new.log puts in
+          subst (λ o. TellsStill (Some first) o (IsQuiet next)) (sym now.1)
+          (quiet_if next first now.0
+          (λ starts.
+          let quietly = follows_quietly job before.counts run.phase run.kept.prefix run.kept.held after.prefix after.held calls next turn starts in
+          some_same now.0 had.0 (sym now.1 ∙ none_put calls.line (Some had.0) new.log quietly.line puts) ∙ quiet_is run.phase first had.0 quietly.start had.2))
+
       log_at : (v : Reading) → new.source ≡ Some v → (t : Tree) → start.dest ≡ Some t → (o : Option (List ℕ)) → start.log ≡ o → TellsStill o new.log (HasTold job v.tree (root_in t) later next)
       log_at v same t some None none = tt
       log_at v same t some (Some first) is_first =

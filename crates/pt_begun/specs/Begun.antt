@@ -7,6 +7,7 @@ use Rattle.pt_tree.specs.Tree.{IsTree, Tree}
 use Rattle.pt_begun.specs.BegunDest.{DestPart}
 use Rattle.pt_begun.specs.BegunHeld.{HeldAt}
 use Rattle.pt_begun.specs.BegunSource.{SourcePart}
+use Rattle.pt_begun.specs.FaultLeft.{IsLeftByFault}
 use Rattle.pt_plan.specs.Carried.{carried_among, marked}
 use Rattle.pt_plan.specs.Items.{Item}
 use Rattle.pt_plan.specs.Job.{Job}
@@ -93,9 +94,26 @@ pub record ItemsPart (job : Job) (past : Past) (here : Phase) (counts : Counts) 
   pub places : PlacesItems job source root past here
   pub lines_are : CountsLines job source root past.count counts
 
+-- before the pairtree is opened nothing is told
+abbrev pub IsQuiet : Phase → List ℕ → List ℕ → Type 0
+IsQuiet phase.Begin old now = now ≡ old
+IsQuiet (phase.Prefix here) old now = now ≡ old
+IsQuiet phase.Staging old now = now ≡ old
+IsQuiet phase.Root old now = now ≡ old
+IsQuiet (phase.RootMake number) old now = now ≡ old
+IsQuiet phase.RootRename old now = now ≡ old
+IsQuiet (phase.RootCheck number) old now = now ≡ old
+IsQuiet phase.OpenRoot old now = now ≡ old
+IsQuiet _ old now = ⊤
+
+-- of a run that has ended: what is left of the destination and of the log is such as any fault may leave of this source
+abbrev pub LeftAt : Phase → Job → Forest → Tree → Tree → List ℕ → List ℕ → Type 0
+LeftAt phase.Ended job source start now first last = IsLeftByFault job source start now first last
+LeftAt _ job source start now first last = ⊤
+
 -- ---- all of it
 
--- this past is that of the run: with one of the layouts that there are, of what it holds, of the source, of the destination, of both together, and of the log
+-- this past is that of the run: with one of the layouts that there are, of what it holds, of the source, of the destination, of both together, of the log, and of what is left once it has ended
 pub record IsPast (job : Job) (start : Start) (world : World) (run : Run) (past : Past) : Type 0 where
   pub layout : IsLayout job.tuples
   pub held : HeldAt job past run.phase run.kept.held
@@ -103,6 +121,8 @@ pub record IsPast (job : Job) (start : Start) (world : World) (run : Run) (past 
   pub dest : TellsAsBefore start.dest world.dest (DestPart job past run.phase run.kept.held)
   pub items : ForSome world.source (λ s. ForSome start.dest (λ old. ItemsPart job past run.phase run.kept.counts s.tree (root_in old)))
   pub log : ForSome world.source (λ s. ForSome start.dest (λ old. TellsStill start.log world.log (HasTold job s.tree (root_in old) past run.phase)))
+  pub quiet : TellsStill start.log world.log (IsQuiet run.phase)
+  pub left : ForSome world.source (λ s. ForSome start.dest (λ old. ForSome world.dest (λ now. ForSome start.log (λ first. ForSome world.log (LeftAt run.phase job s.tree old now.tree first)))))
 
 -- a run of this job that began at this start is now in progress
 unfoldable pub Begun : Job → Start → World → Run → Type 0

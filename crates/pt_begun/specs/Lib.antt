@@ -6,6 +6,7 @@ pub mod BegunSource
 pub mod BoundLaws
 pub mod DestLaws
 pub mod EndLaws
+pub mod FaultLeft
 pub mod GoodStart
 pub mod HaltLaws
 pub mod HeldLaws

@@ -7,10 +7,11 @@ use Rattle.pt_object.specs.Scripts.{staging}
 use Rattle.pt_tree.specs.Dest.{Writing}
 use Rattle.pt_tree.specs.Forest.{Forest}
 use Rattle.pt_tree.specs.Source.{Reading}
-use Rattle.pt_tree.specs.Tree.{Bytes, Folder, Tree}
+use Rattle.pt_tree.specs.Tree.{Bytes, Folder, IsTree, Tree}
 use Rattle.pt_plan.specs.Carried.{Carried, is_folder_or_free, is_way_free}
 use Rattle.pt_plan.specs.Faults.{IsCarriedAs}
 use Rattle.pt_plan.specs.Job.{Job}
+use Rattle.pt_plan.specs.RerunLaws.{IsTarget}
 use Rattle.pt_plan.specs.Roots.{root_in}
 use Rattle.pt_plan.specs.Run.{Kept, Run, turning}
 use Rattle.pt_plan.specs.Store.{has_prefix, is_store}
@@ -76,8 +77,14 @@ EarlyLeavesDest =
     (job : Job) (start : Start) (old new : World) (run : Run) (after : Kept) (why : Halt) (t : Tree) (now : Writing) → Begun job start old run → Turn job run.phase (turning run.kept) after old new (Err why) → is_early why ≡ true
     → start.dest ≡ Some t → new.dest ≡ Some now → now.tree ≡ t
 
--- where all three tell, so is the log
+-- and so is a log that tells
 abbrev pub EarlyLeavesLog : Type 0
 EarlyLeavesLog =
-    (job : Job) (start : Start) (old new : World) (run : Run) (after : Kept) (why : Halt) (s : Reading) (t : Tree) (first last : List ℕ) → Begun job start old run → Turn job run.phase (turning run.kept) after old new (Err why) → is_early why ≡ true
-    → old.source ≡ Some s → start.dest ≡ Some t → start.log ≡ Some first → new.log ≡ Some last → last ≡ first
+    (job : Job) (start : Start) (old new : World) (run : Run) (after : Kept) (why : Halt) (first last : List ℕ) → Begun job start old run → Turn job run.phase (turning run.kept) after old new (Err why) → is_early why ≡ true
+    → start.log ≡ Some first → new.log ≡ Some last → last ≡ first
+
+-- ---- so it can't end well
+
+-- over a root that can't be gone on with, where an object is meant that is carried, no run of this source can end well
+abbrev pub BadTargetIsNone : Type 0
+BadTargetIsNone = (job : Job) (source : Forest) (t : Tree) → IsTree t → IsBadTarget job (root_in t) (IsCarriedOf job source (root_in t)) → IsTarget job source (root_in t) → ⊥

@@ -4,10 +4,10 @@ ghost use Rattle.pt_begun.specs.BoundLaws.{HaltedIsWithinBound, TurnIsWithinBoun
 ghost use Rattle.pt_begun.specs.DestLaws.{MakingKeepsDest, PlacingKeepsDest, ScanningKeepsDest, StartingKeepsDest, WalkingKeepsDest};
 ghost use Rattle.pt_begun.specs.EndLaws.{BegunIsWithinBound, EndsWell, EndsWithStates};
 ghost use Rattle.pt_begun.specs.GoodStart.{NothingIsRefused};
-ghost use Rattle.pt_begun.specs.HaltLaws.{BreaksLeave, HaltsLeave, StopsLeave};
+ghost use Rattle.pt_begun.specs.HaltLaws.{HaltsLeave, StopsLeave};
 ghost use Rattle.pt_begun.specs.HeldLaws.{MakingKeepsHeld, PlacingKeepsHeld, ScanningKeepsHeld, StartingKeepsHeld, WalkingKeepsHeld};
 ghost use Rattle.pt_begun.specs.ItemLaws.{MakingKeepsItems, PlacingKeepsItems, ScanningKeepsItems, StartingKeepsItems, WalkingKeepsItems};
-ghost use Rattle.pt_begun.specs.RefusalLaws.{EarlyLeavesDest, EarlyLeavesLog, FindsStaging, FindsTarget, FindsTargetOf, RefusesRightly};
+ghost use Rattle.pt_begun.specs.RefusalLaws.{BadTargetIsNone, EarlyLeavesDest, EarlyLeavesLog, FindsStaging, FindsTarget, FindsTargetOf, RefusesRightly};
 ghost use Rattle.pt_begun.specs.SourceLaws.{MakingKeepsSource, PlacingKeepsSource, ScanningKeepsSource, StartingKeepsSource, WalkingKeepsSource};
 ghost use Rattle.pt_begun.specs.StillLaws.{BegunStandsStill, LeftBehindStandsStill};
 
@@ -178,12 +178,7 @@ pub fn stops_leave()
     ensures { StopsLeave }
 {}
 
-/// So they are after a turn that broke off, if what it had asked before was answered.
-pub fn breaks_leave()
-    ensures { BreaksLeave }
-{}
-
-/// So it is after any turn that halts the run.
+/// So they are after a turn that halts the run.
 pub fn halts_leave()
     ensures { HaltsLeave }
 {}
@@ -203,7 +198,7 @@ pub fn early_leaves_dest()
     ensures { EarlyLeavesDest }
 {}
 
-/// So is the log, where all devices tell.
+/// So is a log that tells.
 pub fn early_leaves_log()
     ensures { EarlyLeavesLog }
 {}
@@ -216,4 +211,9 @@ pub fn left_behind_stands_still()
 /// So it does between any two turns.
 pub fn begun_stands_still()
     ensures { BegunStandsStill }
+{}
+
+/// Over such a root no run of the source can end well.
+pub fn bad_target_is_none()
+    ensures { BadTargetIsNone }
 {}

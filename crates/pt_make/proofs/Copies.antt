@@ -15,7 +15,7 @@ use Rattle.pt_tree.specs.Source.{Reading}
 use Rattle.pt_plan.specs.Answer.{Answer}
 use Rattle.pt_plan.specs.Turn.{Did, HasFailed, LeavesSome, Make, Stays}
 use Rattle.pt_plan.specs.TurnMake.{CopiesOn, EndsCopy, ReadsMore, ReadsOther, behind_stored, content_at, is_as_read}
-use Rattle.pt_plan.specs.World.{Answers, Adds, Calls, Change, Finishes, Puts, Reads, asks}
+use Rattle.pt_plan.specs.World.{Adds, Answers, Calls, Change, Finishes, Puts, Reads, asks}
 use Rattle.pt_plan.specs.declared.halt.Halt.{Halt}
 use Rattle.pt_plan.specs.declared.halt.Halt.TheVariants as halt
 use Rattle.pt_plan.specs.declared.object.Object.{Object}
@@ -66,7 +66,7 @@ dest_failed_later f n n' d d' l fails same = subst (λ (k : ℕ). HasFailed f (r
 
 left_piece : (block : List ℕ) (f : Halt) (r r' : Option Reading) (w w' : Option Writing) (g : Option (List ℕ)) (n n' d d' l : ℕ) → SourceDid (Reads block) r r' n n' → DestKeepsPart (Adds block) f w w' d d' → LeavesSome (reads_and block (Adds block)) f (world r w g n d l) (world r' w' g n' d' l)
 unfolding SourceDid DestKeepsPart LeavesSome Answers
-left_piece block f r r' w w' g n n' d d' l read some = (record { had = record { read = read.0.0; found = tt }; source = read_tree r r' n n' block read; dest = some.0; log = refl }, dest_failed_later f n n' d d' l some.1 read.1)
+left_piece block f r r' w w' g n n' d d' l read some = (record { read = read.0.0; found = tt; source = read_tree r r' n n' block read; dest = some.0; log = refl }, dest_failed_later f n n' d d' l some.1 read.1)
 
 pub reads_more : (s s' : State) (r r' : Option Reading) (w : Option Writing) (g : Option (List ℕ)) (n n' d l : ℕ) (object : Object) (position : Position) (left : ℕ) (block : List ℕ) → SourceDid (Reads block) r r' n n' → 0 < length block → left < length block
     → string_bytes s'.prefix ≡ string_bytes s.prefix → s'.trail ≡ s.trail → s'.rows ≡ s.rows → s'.contents ≡ s.contents → s'.counts ≡ s.counts → Turned (phase.Copy object position left) s s' r r' w w g g n n' d d l l (Err halt.Changed)

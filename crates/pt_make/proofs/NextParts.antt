@@ -119,7 +119,7 @@ source_failed_later f n n' d d' l fails same = subst (λ (k : ℕ). HasFailed f 
 left_new : (to from : Path) (f : Halt) (r r' : Option Reading) (w w' : Option Writing) (g : Option (List ℕ)) (n n' d d' l : ℕ) → DestDid (Creates to) w w' d d' → SourceStays f r r' n n' → LeavesSome (opens_copy to from) f (world r w g n d l) (world r' w' g n' d' l)
 unfolding DestDid SourceStays LeavesSome Changes
 left_new to from f r r' w w' g n n' d d' l created stays =
-    (record { had = record { read = tt; found = tt }; source = stays.0; dest = NewFile to (ap dest_tree created.0 ∙ created_tree w to); log = refl }, source_failed_later f n n' d d' l stays.1 created.1)
+    (record { read = tt; found = tt; source = stays.0; dest = NewFile to (ap dest_tree created.0 ∙ created_tree w to); log = refl }, source_failed_later f n n' d d' l stays.1 created.1)
 
 pub copy_unopened : (s s' : State) (r r' : Option Reading) (w w' : Option Writing) (g : Option (List ℕ)) (n n' d d' l : ℕ) (object : Object) (position : Position) (copied : Copied) (f : Halt) (result : Answer) → IsErrAnd result (λ h. h ≡ f) → DestDid (Creates copied.to) w w' d d' → SourceStays f r r' n n' → IsNextCopy s object position copied
     → string_bytes s'.prefix ≡ string_bytes s.prefix → s'.trail ≡ s.trail → s'.rows ≡ s.rows → s'.contents ≡ s.contents → s'.counts ≡ s.counts → Turned (phase.Make object (part.Content position)) s s' r r' w w' g g n n' d d' l l result

@@ -71,8 +71,8 @@ told_done s s' object at bytes r w g g' n d l l' got is sum trail rows contents 
 pub told_front : (s s' : State) (object : Object) (at : Path) (bytes : ℕ) (r : Option Reading) (w : Option Writing) (g g' : Option (List ℕ)) (n d l l' : ℕ) (f : Halt) (result : Answer) → IsErrAnd result (λ h. h ≡ f) → LogGotFront (Done at bytes object.empty (length s.rows) object.id object.place) f g g' l l' → at ≡ path_of_source object s.trail → bytes ≡ bytes_in_rows s.rows
     → string_bytes s'.prefix ≡ string_bytes s.prefix → s'.trail ≡ s.trail → s'.rows ≡ s.rows → s'.contents ≡ s.contents → s'.counts ≡ s.counts → Turned (phase.Line object) s s' r r w w g g' n n d d l l' result
 told_front s s' object at bytes r w g g' n d l l' f result is front there sum prefix trail rows contents counts =
-    turned_front (phase.Line object) phase.Walk s s' r r w w g g' n d l l' (tells (done_line object (held_of s []))) (done_line object (held_of s [])) _ f result is (subst (λ (line : Line). LogGotFront line f g g' l l') (line_of s object at bytes there sum) front) refl (record { read = tt; found = tt })
-    (λ fed. follows_done s object fed) refl refl prefix trail rows contents counts
+    turned_front (phase.Line object) phase.Walk s s' r r w w g g' n d l l' (tells (done_line object (held_of s []))) (done_line object (held_of s [])) _ f result is (subst (λ (line : Line). LogGotFront line f g g' l l') (line_of s object at bytes there sum) front) refl
+    (λ fed. follows_done s object fed) refl refl tt tt prefix trail rows contents counts
 
 pub told_end : (s : State) (r : Option Reading) (w : Option Writing) (g g' : Option (List ℕ)) (n d l l' : ℕ) → LogGot (End s.counts.done s.counts.present s.counts.skipped) g g' l l' → Turned phase.End s s r r w w g g' n n d d l l' (Ok phase.Ended)
 told_end s r w g g' n d l l' got =
@@ -81,7 +81,7 @@ told_end s r w g g' n d l l' got =
 
 pub end_front : (s : State) (r : Option Reading) (w : Option Writing) (g g' : Option (List ℕ)) (n d l l' : ℕ) (f : Halt) (result : Answer) → IsErrAnd result (λ h. h ≡ f) → LogGotFront (End s.counts.done s.counts.present s.counts.skipped) f g g' l l' → Turned phase.End s s r r w w g g' n n d d l l' result
 end_front s r w g g' n d l l' f result is front =
-    turned_front phase.End phase.Ended s s r r w w g g' n d l l' (tells (last_line (counts_of s.counts))) (last_line (counts_of s.counts)) _ f result is front refl (record { read = tt; found = tt })
-    (λ fed. Place phase.End (string_bytes s.prefix) (held_of s fed) _ _ _ (TellsEnd (held_of s fed))) refl refl refl refl refl refl refl
+    turned_front phase.End phase.Ended s s r r w w g g' n d l l' (tells (last_line (counts_of s.counts))) (last_line (counts_of s.counts)) _ f result is front refl
+    (λ fed. Place phase.End (string_bytes s.prefix) (held_of s fed) _ _ _ (TellsEnd (held_of s fed))) refl refl tt tt refl refl refl refl refl
 
 pub ruleset telling = (one_row_more, row_fits, all_rows, told_done, told_front, told_end, end_front)

@@ -89,4 +89,4 @@ pub left_part : (here next : Phase) (s s' : State) (r : Option Reading) (w w' : 
 unfolding DestKeepsPart LeavesSome
 left_part here next s s' r w w' g n d d' l change now f result is makes part =
     left_some here next s s' r r w w' g n n d d' l (does change) now f result is (λ fed. Make here (string_bytes s.prefix) (held_of s fed) (held_of s (now fed)) (does change) (Ok next) (makes fed))
-    (record { had = record { read = tt; found = tt }; source = refl; dest = part.0; log = refl }, dest_failed f n d d' l part.1)
+    (record { read = tt; found = tt; source = refl; dest = part.0; log = refl }, dest_failed f n d d' l part.1)

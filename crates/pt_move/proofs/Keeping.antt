@@ -17,8 +17,8 @@ use Rattle.pt_plan.specs.declared.phase.Phase.{Phase}
 use Rattle.pt_plan.specs.declared.phase.Phase.TheVariants as phase
 use Rattle.pt_begun.specs.Begun.{Begun, Start}
 use Rattle.pt_begun.specs.BegunSource.{IsWithinBound}
-use Rattle.pt_begun.specs.HaltLaws.{IsLeftByFault}
-use Rattle.pt_begun.proofs.Halting.{stops_leave}
+use Rattle.pt_begun.specs.FaultLeft.{IsLeftByFault}
+use Rattle.pt_begun.proofs.TurnEnds.{stops_leave}
 use Rattle.pt_begun.proofs.StandingStill.{begun_stands_still}
 use Rattle.pt_begun.proofs.WithinBound.{begun_is_within_bound}
 use Rattle.pt_work.proofs.EndsWithin.{turn_tree}
@@ -39,7 +39,7 @@ use Rattle.pt_move.specs.declared.fault.Fault.TheVariants as fault
 use Rattle.pt_move.specs.declared.mover.Turn as own_turn
 use Rattle.pt_move.specs.declared.mover.Turn.TheVariants as turn
 use Rattle.pt_move.proofs.Answering.{begun_ends, fed_going, fed_to_end, leaves_behind, same_begun}
-use Rattle.pt_move.proofs.Outcomes.{bound_after, is_going, reading_of, says_after, stands_after, within_after, work_after}
+use Rattle.pt_move.proofs.Outcomes.{bound_after, is_going, left_after, reading_of, says_after, stands_after, within_after, work_after}
 
 -- ---- the source's tree stays
 
@@ -77,6 +77,7 @@ keeps_after here s s' r r' w w' g g' n n' d d' l l' answer going job turned star
       stands = stands_after s s' here is.fed made.0 old new start is.begun going_on answer made.1.1;
       work = work_after s s' here is.fed made.0 old new start is.begun going_on answer made.1.1;
       bound = bound_after s s' here is.fed made.0 old new start is.begun going_on answer made.1.1;
+      left = left_after s s' here is.fed made.0 old new start is.begun going_on answer made.1.1;
       says = says_after s s' here is.fed made.0 old new start is.begun going_on answer made.1.1;
     }
 
@@ -85,7 +86,7 @@ keeps_after here s s' r r' w w' g g' n n' d d' l l' answer going job turned star
 -- there is more to do
 pub keeps_more : (start : Start) (old new : World) (before : Running) (s' : State) (next : Phase) → TurnKeeps start old new before.state s' (Ok next) → Keeps start old new before (record { phase = next; state = s' }) (Ok turn.More)
 unfolding Keeps TurnKeeps
-keeps_more start old new before s' next kept = record { begun = kept.begun; leaves = kept.leaves; stands = kept.stands; work = kept.work; bound = kept.bound; ends = tt; states = tt; left = tt; early = tt; says = tt; good = tt }
+keeps_more start old new before s' next kept = record { begun = kept.begun; leaves = kept.leaves; stands = kept.stands; work = kept.work; bound = kept.bound; left = kept.left; ends = tt; states = tt; early = tt; says = tt; good = tt }
 
 -- it was the last turn
 pub keeps_finished : (start : Start) (old new : World) (before : Running) (s' : State) (next : Phase) → next ≡ phase.Ended → TurnKeeps start old new before.state s' (Ok next) → Keeps start old new before (record { phase = phase.Ended; state = s' }) (Ok turn.Finished)
@@ -96,9 +97,9 @@ keeps_finished start old new before s' next ended kept = record {
   stands = kept.stands;
   work = kept.work;
   bound = kept.bound;
+  left = kept.left;
   ends = (kept.says ended).ends;
   states = (kept.says ended).states;
-  left = tt;
   early = tt;
   says = tt;
   good = tt;
@@ -135,10 +136,10 @@ halted_so start old new before s' why kept = record {
   stands = kept.stands;
   work = kept.work;
   bound = unless_ended (HoldsWithinBound before.state.job (source_tree old.source) s') why kept.bound;
+  left = kept.left;
   ends = tt;
   states = tt;
-  left = halted (λ f. FaultLeaves before.state.job (source_tree old.source) start new.dest new.log) why kept.says.left;
-  early = halted (λ f. IfEarly f (LeavesAll (source_tree old.source) start new.dest new.log)) why kept.says.early;
+  early = halted (λ f. IfEarly f (LeavesAll start new.dest new.log)) why kept.says.early;
   says = halted (SaysRightly before.state.job (source_tree old.source) start.dest) why kept.says.says;
   good = halted (WantsMemory before.state.job (source_tree old.source) start.dest old.failures new.failures) why kept.says.good;
 }
@@ -171,12 +172,12 @@ bound_there start now r going is = λ f source_is.
     let reading = reading_of now.source f source_is in
     subst (λ (f : Forest). IsWithinBound (job_of r.state.job) f (held_of r.state [])) reading.2 (begun_is_within_bound (job_of r.state.job) start now (run_of r is.fed) reading.0 (going_on start now r is) (is_going r.phase going) reading.1)
 
-left_there : (start : Start) (now : World) (r : Running) → r.phase ≢ phase.Ended → IsBegun start now r → FaultLeaves r.state.job (source_tree now.source) start now.dest now.log
+left_there : (start : Start) (now : World) (r : Running) → IsBegun start now r → FaultLeaves r.state.job (source_tree now.source) start now.dest now.log
 unfolding IsBegun FaultLeaves
-left_there start now r going is = λ f t w first last source_is start_is dest_is first_is last_is.
+left_there start now r is = λ f t w first last source_is start_is dest_is first_is last_is.
     let reading = reading_of now.source f source_is in
     subst (λ (f : Forest). IsLeftByFault (job_of r.state.job) f t w.tree first last) reading.2
-    (stops_leave (job_of r.state.job) start now (run_of r is.fed) reading.0 t w first last (going_on start now r is) (is_going r.phase going) reading.1 start_is dest_is first_is last_is)
+    (stops_leave (job_of r.state.job) start now (run_of r is.fed) reading.0 t w first last (going_on start now r is) reading.1 start_is dest_is first_is last_is)
 
 -- a limit of at least the work isn't reached
 good_there : (start : Start) (now : World) (r : Running) → r.phase ≢ phase.Ended → r.state.job.limits.turns ≤ r.state.counts.turns → IsBegun start now r → WantsMemory r.state.job (source_tree now.source) start.dest now.failures now.failures fault.Turns
@@ -200,9 +201,9 @@ keeps_at_limit start now before after going made ended same is = record {
   stands = stands_there start now before is;
   work = same_counts before.state.job (source_tree now.source) start.dest before.state after.state same (made_there start now before is);
   bound = subst (λ (x : State). HoldsWithinBound before.state.job (source_tree now.source) x) (sym same) (bound_there start now before going is);
+  left = left_there start now before is;
   ends = tt;
   states = tt;
-  left = left_there start now before going is;
   early = tt;
   says = (λ s told. tt, λ t told. tt, λ s t told some. tt);
   good = good_there start now before going made is;
@@ -217,9 +218,9 @@ keeps_ended start now before after same is = record {
   stands = stands_there start now before is;
   work = subst (λ (x : Running). MadeWithinWork before.state.job (source_tree now.source) start.dest x.state.counts) (sym same) (made_there start now before is);
   bound = tt;
+  left = left_there start now before is;
   ends = tt;
   states = tt;
-  left = tt;
   early = tt;
   says = tt;
   good = tt;

@@ -1,5 +1,5 @@
 -- What a turn of a run leaves and says, from what it is of the definitions.
-use Rattle.std.proofs.Common.{◌≡◌, ◌≢◌, ◌≤◌, ℕ, List, [], false, true, refl, sym, subst, ap}
+use Rattle.std.proofs.Common.{◌≡◌, ◌≢◌, ◌≤◌, ℕ, List, [], false, true, refl, sym, subst, ap, ◌∙◌}
 use Rattle.std.specs.Prelude.{All, Option, None, Some, Ok, Err}
 use Rattle.pt_object.specs.Holding.{IsFree}
 use Rattle.pt_tree.specs.Dest.{Writing}
@@ -22,20 +22,20 @@ use Rattle.pt_plan.specs.declared.phase.Phase.TheVariants as phase
 use Rattle.pt_begun.specs.Begun.{Begun, Start}
 use Rattle.pt_begun.specs.BegunSource.{IsWithinBound}
 use Rattle.pt_begun.specs.EndLaws.{is_ended}
-use Rattle.pt_begun.specs.HaltLaws.{IsLeftByFault}
+use Rattle.pt_begun.specs.FaultLeft.{IsLeftByFault}
 use Rattle.pt_begun.specs.RefusalLaws as law
 use Rattle.pt_begun.proofs.EarlyHalts.{early_leaves_dest, early_leaves_log}
 use Rattle.pt_begun.proofs.Ending.{ends_well}
 use Rattle.pt_begun.proofs.EndStates.{ends_with_states}
 use Rattle.pt_begun.proofs.GoodStarts.{nothing_is_refused}
-use Rattle.pt_begun.proofs.HaltsLeave.{halts_leave}
 use Rattle.pt_begun.proofs.InPairtree.{some_same}
 use Rattle.pt_begun.proofs.Refusing.{refuses_rightly}
 use Rattle.pt_begun.proofs.StagingFound.{finds_staging}
 use Rattle.pt_begun.proofs.StandingStill.{begun_stands_still}
 use Rattle.pt_begun.proofs.TargetFound.{finds_target, finds_target_of}
+use Rattle.pt_begun.proofs.TurnEnds.{stops_leave}
 use Rattle.pt_begun.proofs.TurnBound.{turn_is_within_bound}
-use Rattle.pt_work.proofs.EndsWithin.{turn_ends_within_work}
+use Rattle.pt_work.proofs.EndsWithin.{turn_ends_within_work, turn_tree}
 use Rattle.pt_work.proofs.Within.{turn_keeps_within_work, turns_are_within_work, within_work_is_begun}
 use Rattle.pt_work.specs.WorkLaws.{BegunWithinWork}
 use Rattle.pt_state.specs.States.{counts_of, held_of, job_of, kept_of}
@@ -161,6 +161,14 @@ module _ (s s' : State) (here : Phase) (fed fed' : List ℕ) (old new : World) (
       let reading = reading_of old.source f source_is in
       subst (λ (f : Forest). IsWithinBound job f (held_of s' [])) reading.2 (turn_is_within_bound job start old new run after answer reading.0 begun going turn reading.1)
 
+  pub left_after : (answer : Answer) → MadeTurn answer → FaultLeaves s.job (source_tree old.source) start new.dest new.log
+  unfolding FaultLeaves
+  left_after answer turn = λ f t now first last source_is start_is dest_is first_is last_is.
+      let reading = reading_of new.source f (turn_tree job here (turning (kept_of s fed)) after old new answer turn ∙ source_is) in
+      let later : Run = record { phase = phase_after answer; kept = after } in
+      subst (λ (f : Forest). IsLeftByFault job f t now.tree first last) reading.2
+      (stops_leave job start new later reading.0 t now first last (within_work_is_begun job start new later (within_after answer turn)) reading.1 start_is dest_is first_is last_is)
+
   -- the turn that ends the run
   end_whole : MadeTurn (Ok phase.Ended) → EndsWhole s.job (source_tree old.source) start new.dest new.log s'.counts
   unfolding EndsWhole
@@ -177,20 +185,11 @@ module _ (s s' : State) (here : Phase) (fed fed' : List ℕ) (old new : World) (
       (ends_with_states job start old new run after reading.0 t now first last begun turn reading.1 start_is dest_is first_is last_is)
 
   -- a turn that halts it
-  halt_left : (why : Halt) → MadeTurn (Err why) → FaultLeaves s.job (source_tree old.source) start new.dest new.log
-  unfolding FaultLeaves
-  halt_left why turn = λ f t now first last source_is start_is dest_is first_is last_is.
-      let reading = reading_of old.source f source_is in
-      subst (λ (f : Forest). IsLeftByFault job f t now.tree first last) reading.2
-      (halts_leave job start old new run after why reading.0 t now first last begun going turn reading.1 start_is dest_is first_is last_is)
-
-  leaves_all : (why : Halt) → MadeTurn (Err why) → law.is_early why ≡ true → LeavesAll (source_tree old.source) start new.dest new.log
+  leaves_all : (why : Halt) → MadeTurn (Err why) → law.is_early why ≡ true → LeavesAll start new.dest new.log
   unfolding LeavesAll
   leaves_all why turn early = (
     λ t now start_is dest_is. early_leaves_dest job start old new run after why t now begun turn early start_is dest_is,
-    λ f t first last source_is start_is first_is last_is.
-        let reading = reading_of old.source f source_is in
-        early_leaves_log job start old new run after why reading.0 t first last begun turn early reading.1 start_is first_is last_is,
+    λ first last first_is last_is. early_leaves_log job start old new run after why first last begun turn early first_is last_is,
   )
 
   halt_says : (why : Halt) → MadeTurn (Err why) → SaysRightly s.job (source_tree old.source) start.dest (fault_of why)
@@ -221,4 +220,4 @@ module _ (s s' : State) (here : Phase) (fed fed' : List ℕ) (old new : World) (
   says_after (Ok next) turn = λ ended.
       let last : MadeTurn (Ok phase.Ended) = subst (λ (p : Phase). MadeTurn (Ok p)) ended turn in
       record { ends = end_whole last; states = end_states last }
-  says_after (Err why) turn = record { left = halt_left why turn; early = if_early why (LeavesAll (source_tree old.source) start new.dest new.log) (leaves_all why turn); says = halt_says why turn; good = halt_good why turn }
+  says_after (Err why) turn = record { early = if_early why (LeavesAll start new.dest new.log) (leaves_all why turn); says = halt_says why turn; good = halt_good why turn }

@@ -55,6 +55,10 @@ module _ (start : Start) (before after : Running) (r r' : Option Reading) (w w' 
   unfolding Keeps
   run_stands answer keeps = (keeps start is).stands
 
+  pub run_left : (answer : Result Turn Fault) → StepKeeps at_start at_end before after answer → FaultLeaves job source start w' g'
+  unfolding Keeps
+  run_left answer keeps = subst (λ x. FaultLeaves job x start w' g') tree (subst (λ j. FaultLeaves j (source_tree r) start w' g') same (keeps start is).left)
+
   -- of the last one
   module _ (last : Turn) (finished : last ≡ turn.Finished) (keeps : StepKeeps at_start at_end before after (Ok last)) where
     kept : Keeps start at_start at_end before after (Ok turn.Finished)
@@ -76,17 +80,9 @@ module _ (start : Start) (before after : Running) (r r' : Option Reading) (w w' 
 
   -- of one that met a fault
   module _ (f : Fault) (going : f ≡ fault.Ended → ⊥) (keeps : StepKeeps at_start at_end before after (Err f)) where
-    pub run_left : FaultLeaves job source start w' g'
+    pub run_early : IfEarly f (LeavesAll start w' g')
     unfolding Keeps
-    run_left =
-        let left = not_ended (λ f. FaultLeaves before.state.job (source_tree r) start w' g') f going (keeps start is).left in
-        subst (λ x. FaultLeaves job x start w' g') tree (subst (λ j. FaultLeaves j (source_tree r) start w' g') same left)
-
-    pub run_early : IfEarly f (LeavesAll source start w' g')
-    unfolding Keeps
-    run_early =
-        let early = not_ended (λ f. IfEarly f (LeavesAll (source_tree r) start w' g')) f going (keeps start is).early in
-        subst (λ x. IfEarly f (LeavesAll x start w' g')) tree early
+    run_early = not_ended (λ f. IfEarly f (LeavesAll start w' g')) f going (keeps start is).early
 
     pub run_says : SaysRightly job source start.dest f
     unfolding Keeps

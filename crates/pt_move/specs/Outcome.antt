@@ -19,7 +19,7 @@ use Rattle.pt_plan.specs.World.{Failures}
 use Rattle.pt_begun.specs.BegunSource.{IsWithinBound}
 use Rattle.pt_begun.specs.EndLaws.{IsEnd}
 use Rattle.pt_begun.specs.GoodStart.{NoneRose}
-use Rattle.pt_begun.specs.HaltLaws.{IsLeftByFault}
+use Rattle.pt_begun.specs.FaultLeft.{IsLeftByFault}
 use Rattle.pt_begun.specs.RefusalLaws.{IsBadTarget, IsCarriedOf}
 use Rattle.pt_begun.specs.StillLaws.{StandsStill}
 use Rattle.pt_state.specs.States.{counts_of, held_of, job_of}
@@ -52,11 +52,9 @@ FaultLeaves job source start dest log =
     (s : Forest) (t : Tree) (now : Writing) (first last : List ℕ) → source ≡ Some s → start.dest ≡ Some t → dest ≡ Some now → start.log ≡ Some first → log ≡ Some last
     → IsLeftByFault (job_of job) s t now.tree first last
 
--- the destination is as it was at the start, where it tells; and so is the log, where all three tell
-unfoldable pub LeavesAll : Option Forest → Start → Option Writing → Option (List ℕ) → Type 0
-LeavesAll source start dest log =
-    ((t : Tree) (now : Writing) → start.dest ≡ Some t → dest ≡ Some now → now.tree ≡ t)
-    × ((s : Forest) (t : Tree) (first last : List ℕ) → source ≡ Some s → start.dest ≡ Some t → start.log ≡ Some first → log ≡ Some last → last ≡ first)
+-- the destination is as it was at the start, where it tells, and so is the log
+unfoldable pub LeavesAll : Start → Option Writing → Option (List ℕ) → Type 0
+LeavesAll start dest log = ((t : Tree) (now : Writing) → start.dest ≡ Some t → dest ≡ Some now → now.tree ≡ t) × ((first last : List ℕ) → start.log ≡ Some first → log ≡ Some last → last ≡ first)
 
 -- where the source is no store, or its prefix isn't good, or something stands at `staging`
 abbrev pub IfEarly : Fault → Type 0 → Type 0

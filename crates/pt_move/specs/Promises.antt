@@ -50,10 +50,10 @@ pub record StepPromises (start : Start) (old new : World) (before after : Runnin
   pub ends : IfFinished answer (EndsWhole before.state.job (source_tree old.source) start new.dest new.log after.state.counts)
   -- and the state of the version of each object that is carried is its files
   pub states : IfFinished answer (StatesAreFiles before.state.job (source_tree old.source) start new.dest new.log)
-  -- after a fault, destination and log are such as a fault may leave
-  pub left : IfHalted answer (λ f. FaultLeaves before.state.job (source_tree old.source) start new.dest new.log)
-  -- and after an early one as they were at the start
-  pub early : IfHalted answer (λ f. IfEarly f (LeavesAll (source_tree old.source) start new.dest new.log))
+  -- destination and log are such as a fault may leave
+  pub left : FaultLeaves before.state.job (source_tree old.source) start new.dest new.log
+  -- and as they were at the start after an early fault
+  pub early : IfHalted answer (λ f. IfEarly f (LeavesAll start new.dest new.log))
   -- a source or destination is refused only for what it is
   pub says : IfHalted answer (SaysRightly before.state.job (source_tree old.source) start.dest)
   -- and over a good start none is
@@ -72,8 +72,7 @@ pub record EndPromises (start : Start) (old new : World) (s s' : State) : Type 0
 
 -- what one leaves and says that halted the run
 pub record HaltPromises (start : Start) (old new : World) (s : State) (f : Fault) : Type 0 where
-  pub left : FaultLeaves s.job (source_tree old.source) start new.dest new.log
-  pub early : IfEarly f (LeavesAll (source_tree old.source) start new.dest new.log)
+  pub early : IfEarly f (LeavesAll start new.dest new.log)
   pub says : SaysRightly s.job (source_tree old.source) start.dest f
   pub good : WantsMemory s.job (source_tree old.source) start.dest old.failures new.failures f
 
@@ -87,6 +86,7 @@ pub record TurnPromises (start : Start) (old new : World) (s s' : State) (answer
   pub stands : StandsStillIn start.dest new.dest
   pub work : MadeWithinWork s.job (source_tree old.source) start.dest s'.counts
   pub bound : HoldsWithinBound s.job (source_tree old.source) s'
+  pub left : FaultLeaves s.job (source_tree old.source) start new.dest new.log
   pub says : AnswerSays old start new s s' answer
 
 unfoldable pub TurnKeeps : Start → World → World → State → State → Answer → Type 0

@@ -32,8 +32,8 @@ pub fn migrate<S: Source, D: Dest, L: Log>(
 ) -> Result<Report, Fault>
     ensures ends { IfOk result (EndsWhole job (source_tree (S.told source.old)) (start_of (world (S.told source.old) (D.told dest.old) (L.told log.old) (S.failed source.old) (D.failed dest.old) (L.failed log.old))) (D.told dest.new) (L.told log.new)) }
     ensures states { IfOk result (λ report. StatesAreFiles job (source_tree (S.told source.old)) (start_of (world (S.told source.old) (D.told dest.old) (L.told log.old) (S.failed source.old) (D.failed dest.old) (L.failed log.old))) (D.told dest.new) (L.told log.new)) }
-    ensures left { IfErr result (λ f. FaultLeaves job (source_tree (S.told source.old)) (start_of (world (S.told source.old) (D.told dest.old) (L.told log.old) (S.failed source.old) (D.failed dest.old) (L.failed log.old))) (D.told dest.new) (L.told log.new)) }
-    ensures early { IfErr result (λ f. IfEarly f (LeavesAll (source_tree (S.told source.old)) (start_of (world (S.told source.old) (D.told dest.old) (L.told log.old) (S.failed source.old) (D.failed dest.old) (L.failed log.old))) (D.told dest.new) (L.told log.new))) }
+    ensures left { FaultLeaves job (source_tree (S.told source.old)) (start_of (world (S.told source.old) (D.told dest.old) (L.told log.old) (S.failed source.old) (D.failed dest.old) (L.failed log.old))) (D.told dest.new) (L.told log.new) }
+    ensures early { IfErr result (λ f. IfEarly f (LeavesAll (start_of (world (S.told source.old) (D.told dest.old) (L.told log.old) (S.failed source.old) (D.failed dest.old) (L.failed log.old))) (D.told dest.new) (L.told log.new))) }
     ensures leaves { LeavesBehind job (dest_tree (D.told dest.old)) (D.told dest.new) }
     ensures stands { StandsStillIn (dest_tree (D.told dest.old)) (D.told dest.new) }
     ensures says { IfErr result (SaysRightly job (source_tree (S.told source.old)) (dest_tree (D.told dest.old))) }

@@ -1,9 +1,7 @@
 -- One turn of a run: what it does where all calls succeed, and what it leaves where it breaks off. Faults of devices and want of memory apart, what is held and what the devices tell leave it no choice.
-use Rattle.std.specs.Prelude.{◌≡◌, ◌⊎◌, ℕ, ◌+◌, List, Option, None, Some, Ok, Err, ⊤}
+use Rattle.std.specs.Prelude.{◌≡◌, ◌⊎◌, ℕ, ◌+◌, List, Option, None, Some, Ok, Err}
 use Rattle.pt_object.specs.declared.rows.Row.{Row}
-use Rattle.pt_tree.specs.Dest.{Writing, IsKindAt}
 use Rattle.pt_tree.specs.Failures.{HasRisen}
-use Rattle.pt_tree.specs.Source.{Reading, IsRead}
 use Rattle.pt_plan.specs.Answer.{Answer}
 use Rattle.pt_plan.specs.declared.halt.Halt.{Halt}
 use Rattle.pt_plan.specs.declared.halt.Halt.TheVariants as halt
@@ -15,7 +13,7 @@ use Rattle.pt_plan.specs.TurnPlace.{Places}
 use Rattle.pt_plan.specs.TurnScan.{Scans}
 use Rattle.pt_plan.specs.TurnStart.{Starts}
 use Rattle.pt_plan.specs.TurnWalk.{Walks}
-use Rattle.pt_plan.specs.World.{Answers, Asked, Calls, Change, Changes, Finds, Reads, Failures, LeavesFront, LeavesPart, Puts, World, source_tree}
+use Rattle.pt_plan.specs.World.{Answers, Calls, Changes, Failures, LeavesFront, LeavesPart, Puts, WasFound, WasRead, World, source_tree}
 use Rattle.pt_plan.specs.declared.phase.Phase.{Phase}
 
 -- ---- what a turn does with what is held
@@ -46,25 +44,10 @@ pub record Happens (calls : Calls) (old new : World) : Type 0 where
   pub dest : Changes calls.change old.dest new.dest
   pub log : Puts calls.line old.log new.log
 
--- a block that it read was the source's
-abbrev pub WasRead : Asked → Option Reading → Type 0
-WasRead (Reads block) source = IsRead source block
-WasRead _ source = ⊤
-
--- where it tells a line, what it found was what stands in the destination
-abbrev pub WasFound : Option Line → Change → Option Writing → Type 0
-WasFound None change dest = ⊤
-WasFound (Some line) (Finds path here) dest = IsKindAt dest path here
-WasFound (Some line) _ dest = ⊤
-
--- what was answered before the call that failed
-pub record HadAnswered (calls : Calls) (old : World) : Type 0 where
+-- the source's tree stays, and the others are left with a part of what the calls change; what the calls asked before that was answered
+pub record BreaksOff (calls : Calls) (old new : World) : Type 0 where
   pub read : WasRead calls.asked old.source
   pub found : WasFound calls.line calls.change old.dest
-
--- what had been answered was so, the source's tree stays, and the others are left with a part of what the calls change
-pub record BreaksOff (calls : Calls) (old new : World) : Type 0 where
-  pub had : HadAnswered calls old
   pub source : source_tree new.source ≡ source_tree old.source
   pub dest : LeavesPart old.dest new.dest calls.change
   pub log : LeavesFront calls.line old.log new.log

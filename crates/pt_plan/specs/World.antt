@@ -1,5 +1,5 @@
 -- What stands outside a run, as far as its devices tell, and how one turn finds and leaves it.
-use Rattle.std.specs.Prelude.{◌≡◌, ℕ, true, List, [], take, Option, None, Some}
+use Rattle.std.specs.Prelude.{◌≡◌, ℕ, true, List, [], take, Option, None, Some, ⊤}
 use Rattle.std.specs.Io.KnownBytes.{Appends}
 use Rattle.std.specs.Option.{option_map}
 use Rattle.pt_object.specs.Script.{Item, MakeFolder, MakeFile, done}
@@ -108,6 +108,17 @@ source_tree told = option_map (λ s. s.tree) told
 -- the destination's tree, if it tells
 abbrev pub dest_tree : Option Writing → Option Tree
 dest_tree told = option_map (λ s. s.tree) told
+
+-- a block that it read was the source's
+abbrev pub WasRead : Asked → Option Reading → Type 0
+WasRead (Reads block) source = IsRead source block
+WasRead _ source = ⊤
+
+-- where it tells a line, what it found stands in the destination
+abbrev pub WasFound : Option Line → Change → Option Writing → Type 0
+WasFound None change dest = ⊤
+WasFound (Some line) (Finds path here) dest = IsKindAt dest path here
+WasFound (Some line) _ dest = ⊤
 
 -- of what it does in the destination: nothing; of a file some bytes, from its start; or of a piece
 pub data LeavesPart (old new : Option Writing) : Change → Type 0 where

@@ -11,7 +11,7 @@ use Rattle.pt_object.specs.declared.algorithm.Algorithm.{Algorithm}
 use Rattle.pt_object.specs.declared.hasher.Hasher.{Hasher}
 use Rattle.pt_tree.specs.Dest.{Writing}
 use Rattle.pt_tree.specs.Path.{Path}
-use Rattle.pt_tree.specs.Source.{Reading}
+use Rattle.pt_tree.specs.Source.{IsRead, Reading}
 use Rattle.pt_walk.specs.Trail.{advanced, sought, trail_path}
 use Rattle.pt_walk.specs.declared.cause.Cause.TheVariants as cause
 use Rattle.pt_plan.specs.Answer.{Answer}
@@ -93,9 +93,9 @@ unfolding long_calls SourceDid Answers
 read_gave_front object bytes [] s s' r r' w g g' n n' d l l' f result is did some long front same = absurd (omega (arith, some))
 read_gave_front object bytes (byte ∷ block) s s' r r' w g g' n n' d l l' f result is did some long front same =
     subst (λ (k : ℕ). Turned (phase.Read object bytes) s s' r r' w w g g' n k d d l l' result) (sym did.1)
-    (turned_front (phase.Read object bytes) phase.Walk s s' r r' w w g g' n d l l' (long_calls (byte ∷ block) (Skipped (trail_path (to_site object s.trail)) cause.Limit)) (Skipped (trail_path (to_site object s.trail)) cause.Limit) _ f result is front refl (record { read = did.0.0; found = tt })
+    (turned_front (phase.Read object bytes) phase.Walk s s' r r' w w g g' n d l l' (long_calls (byte ∷ block) (Skipped (trail_path (to_site object s.trail)) cause.Limit)) (Skipped (trail_path (to_site object s.trail)) cause.Limit) _ f result is front refl
     (λ fed. Scan (phase.Read object bytes) (string_bytes s.prefix) (held_of s fed) _ _ _ (IsTooLong (held_of s fed) object bytes byte block (lt-ltb s.job.limits.file_bytes (bytes + length (byte ∷ block)) long)))
-    (read_tree r r' n n' (byte ∷ block) did) refl same.prefix same.trail same.rows same.contents same.counts)
+    (read_tree r r' n n' (byte ∷ block) did) refl did.0.0 tt same.prefix same.trail same.rows same.contents same.counts)
 
 -- ---- a file that was read to its end
 
@@ -137,7 +137,7 @@ noted_part s s' r r' w g n n' d l object bytes block path digest (Err f) is did 
         tt,
         subst (λ (f : Halt). Turn job (phase.Read object bytes) (kept_of s fed) (kept_of s' fed) (world r w g n d l) (world r' w g n' d l) (Err f)) (sym is)
             (FailsLater (string_bytes s.prefix) new (asks (Reads [])) (Ok (phase.Scan object)) new.rows halt.Memory (Scan (phase.Read object bytes) (string_bytes s.prefix) held new _ _ (EndsFile held object bytes))
-            (record { had = record { read = (subst (λ (b : List ℕ). Answers (Reads b) r r') (empty block none) did.0).0; found = tt }; source = read_tree r r' n n' block did; dest = Untouched ChangesNothing refl; log = refl }, ap (λ (k : ℕ). record { source = k; dest = d; log = l }) did.1) (inr (refl, subst (λ (b : List ℕ). Answers (Reads b) r r') (empty block none) did.0))
+            (record { read = subst (λ (b : List ℕ). IsRead r b) (empty block none) did.0.0; found = tt; source = read_tree r r' n n' block did; dest = Untouched ChangesNothing refl; log = refl }, ap (λ (k : ℕ). record { source = k; dest = d; log = l }) did.1) (inr (refl, subst (λ (b : List ℕ). Answers (Reads b) r r') (empty block none) did.0))
             (record { prefix = prefix; trail = trail; rows_are = rows_are; contents = contents; counts = ap counts_of counts })),
       ),
     )

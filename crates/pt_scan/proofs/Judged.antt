@@ -13,7 +13,7 @@ use Rattle.pt_name.specs.Place.{place_of}
 use Rattle.pt_name.specs.Tuples.{Tuples}
 use Rattle.pt_name.specs.Reading.{GivesReading, before, hex_value, read_character, reading_of}
 use Rattle.pt_name.specs.declared.reading.UncleanFault.TheVariants as unclean
-use Rattle.pt_tree.specs.Dest.{Writing}
+use Rattle.pt_tree.specs.Dest.{IsKindAt, Writing}
 use Rattle.pt_tree.specs.Listing.{Item}
 use Rattle.pt_tree.specs.Name.{is_name}
 use Rattle.pt_tree.specs.Path.{Path, same_path}
@@ -89,8 +89,8 @@ pub passed_site_front : (s s' : State) (r : Option Reading) (w : Option Writing)
     → string_bytes s'.prefix ≡ string_bytes s.prefix → s'.trail ≡ s.trail → s'.rows ≡ s.rows → s'.contents ≡ s.contents → s'.counts ≡ s.counts → Turned phase.Judge s s' r r w w g g' n n d d l l' result
 unfolding PassesSite
 passed_site_front s s' r w g g' n d l l' path why f result is line front there prefix trail rows contents counts =
-    turned_front phase.Judge phase.Walk s s' r r w w g g' n d l l' (tells (Skipped (trail_path s.trail) why)) (Skipped (trail_path s.trail) why) _ f result is (subst (λ (p : Path). LogGotFront (Skipped p why) f g g' l l') there front) refl (record { read = tt; found = tt })
-    (λ fed. Walk phase.Judge (string_bytes s.prefix) (held_of s fed) _ _ _ (line fed)) refl refl prefix trail rows contents counts
+    turned_front phase.Judge phase.Walk s s' r r w w g g' n d l l' (tells (Skipped (trail_path s.trail) why)) (Skipped (trail_path s.trail) why) _ f result is (subst (λ (p : Path). LogGotFront (Skipped p why) f g g' l l') there front) refl
+    (λ fed. Walk phase.Judge (string_bytes s.prefix) (held_of s fed) _ _ _ (line fed)) refl refl tt tt prefix trail rows contents counts
 
 -- ---- identifiers
 
@@ -281,8 +281,7 @@ told_present_front s s' r w w' g g' n d d' l l' path at here it index candidate 
     subst (λ (k : ℕ). Turned phase.Judge s s' r r w w' g g' n n d k l l' result) (sym did.1)
     (turned_front phase.Judge phase.Walk s s' r r w w' g g' n d l l' (present_calls (in_root candidate.place) it (path_of_object index s.trail) candidate.id candidate.place) (Present (path_of_object index s.trail) candidate.id candidate.place) _ f result error
     (subst (λ (p : Path). LogGotFront (Present p candidate.id candidate.place) f g g' l l') place front) refl
-    (record { read = tt; found = (subst (λ o. DestDid (Finds (in_root candidate.place) o) w w' d d') is (found_at_place path (in_root candidate.place) here w w' d d' there did)).0.0 })
-    (λ fed. Walk phase.Judge (string_bytes s.prefix) (held_of s fed) _ _ _ (present_follows s index candidate it found named fed)) refl (same_after path here w w' d d' did) prefix trail rows contents counts)
+    (λ fed. Walk phase.Judge (string_bytes s.prefix) (held_of s fed) _ _ _ (present_follows s index candidate it found named fed)) refl (same_after path here w w' d d' did) tt (subst (λ o. IsKindAt w (in_root candidate.place) o) is (subst (λ (p : Path). IsKindAt w p here) there did.0.0)) prefix trail rows contents counts)
 
 length-object : (index : Option ℕ) (trail : List Frame) → length (at_object index trail) ≡ length trail
 length-object None trail = refl

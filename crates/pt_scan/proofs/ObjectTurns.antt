@@ -85,8 +85,8 @@ pub gave_front : (here : Phase) (object : Object) (why : Cause) (s s' : State) (
     → Turned here s s' r r w w g g' n n d d l l' result
 unfolding GivesUp
 gave_front here object why s s' r w g g' n d l l' f result is line front same =
-    turned_front here phase.Walk s s' r r w w g g' n d l l' (tells (Skipped (trail_path (to_site object s.trail)) why)) (Skipped (trail_path (to_site object s.trail)) why) _ f result is front refl (record { read = tt; found = tt })
-    (λ fed. Scan here (string_bytes s.prefix) (held_of s fed) _ _ _ (line fed)) refl refl same.prefix same.trail same.rows same.contents same.counts
+    turned_front here phase.Walk s s' r r w w g g' n d l l' (tells (Skipped (trail_path (to_site object s.trail)) why)) (Skipped (trail_path (to_site object s.trail)) why) _ f result is front refl
+    (λ fed. Scan here (string_bytes s.prefix) (held_of s fed) _ _ _ (line fed)) refl refl tt tt same.prefix same.trail same.rows same.contents same.counts
 
 -- ---- a directory
 

@@ -130,8 +130,8 @@ pub passed_front : (s s' : State) (r : Option Reading) (w : Option Writing) (g g
     → string_bytes s'.prefix ≡ string_bytes s.prefix → s'.trail ≡ s.trail → s'.rows ≡ s.rows → s'.contents ≡ s.contents → s'.counts ≡ s.counts → Turned phase.Walk s s' r r w w g g' n n d d l l' result
 unfolding PassesShorty
 passed_front s s' r w g g' n d l l' path why f result is line front there prefix trail rows contents counts =
-    turned_front phase.Walk phase.Walk s s' r r w w g g' n d l l' (tells (Skipped (names_to s.trail) why)) (Skipped (names_to s.trail) why) _ f result is (subst (λ (p : Path). LogGotFront (Skipped p why) f g g' l l') there front) refl (record { read = tt; found = tt })
-    (λ fed. Walk phase.Walk (string_bytes s.prefix) (held_of s fed) _ _ _ (line fed)) refl refl prefix trail rows contents counts
+    turned_front phase.Walk phase.Walk s s' r r w w g g' n d l l' (tells (Skipped (names_to s.trail) why)) (Skipped (names_to s.trail) why) _ f result is (subst (λ (p : Path). LogGotFront (Skipped p why) f g g' l l') there front) refl
+    (λ fed. Walk phase.Walk (string_bytes s.prefix) (held_of s fed) _ _ _ (line fed)) refl refl tt tt prefix trail rows contents counts
 
 pub entered_site : (s s' : State) (r r' : Option Reading) (w : Option Writing) (g : Option (List ℕ)) (n n' d l : ℕ) (path : Path) (items : List Item) → EntersSite s → SourceDid (Lists path items) r r' n n' → path ≡ in_pairtree (names_to s.trail) → s'.trail ≡ entered items s.trail
     → s'.rows ≡ s.rows → s'.contents ≡ s.contents → s'.counts ≡ s.counts → string_bytes s'.prefix ≡ string_bytes s.prefix → s'.hasher ≡ s.hasher → Turned phase.Walk s s' r r' w w g g n n' d d l l (Ok phase.Judge)

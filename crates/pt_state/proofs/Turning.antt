@@ -63,7 +63,7 @@ dest_stays f old new source log s n n' l stays = (refl, stays.0, refl, dest_fail
 
 dest_keeps_part : (change : Change) (f : Halt) (old new : Option Writing) (source : Option Reading) (log : Option (List ℕ)) (s n n' l : ℕ) → DestKeepsPart change f old new n n' → LeavesSome (does change) f (world source old log s n l) (world source new log s n' l)
 unfolding DestKeepsPart LeavesSome
-dest_keeps_part change f old new source log s n n' l part = (record { had = record { read = tt; found = tt }; source = refl; dest = part.0; log = refl }, dest_failed f s n n' l part.1)
+dest_keeps_part change f old new source log s n n' l part = (record { read = tt; found = tt; source = refl; dest = part.0; log = refl }, dest_failed f s n n' l part.1)
 
 pub halted_same : (kept : Kept) → IsHalted kept.held.rows kept kept
 halted_same kept = record { prefix = refl; trail = refl; rows_are = refl; contents = refl; counts = refl }

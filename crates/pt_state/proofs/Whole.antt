@@ -16,8 +16,8 @@ use Rattle.pt_walk.specs.declared.frame.Frame.{Frame}
 use Rattle.pt_plan.specs.Answer.{Answer}
 use Rattle.pt_plan.specs.Lines.{Line}
 use Rattle.pt_plan.specs.Run.{Held, Kept}
-use Rattle.pt_plan.specs.Turn.{Did, FailsAtFirst, FailsLater, Follows, GoesOn, HadAnswered, HasFailed, IsHalted, LeavesSome, Stays, Turn, counted}
-use Rattle.pt_plan.specs.World.{Answers, Asked, Calls, Changes, Finds, LeavesFront, Lists, Puts, Reads, Untouched, dest_tree, source_tree, tells}
+use Rattle.pt_plan.specs.Turn.{Did, FailsAtFirst, FailsLater, Follows, GoesOn, HasFailed, IsHalted, LeavesSome, Stays, Turn, counted}
+use Rattle.pt_plan.specs.World.{Answers, Asked, Calls, Changes, Finds, LeavesFront, Lists, Puts, Reads, Untouched, WasFound, WasRead, dest_tree, source_tree, tells}
 use Rattle.pt_plan.specs.declared.halt.Halt.{Halt}
 use Rattle.pt_plan.specs.declared.halt.Halt.TheVariants as halt
 use Rattle.pt_plan.specs.declared.phase.Phase.{Phase}
@@ -175,18 +175,18 @@ log_failed halt.Target n d l l' fails = absurd fails
 log_failed halt.Changed n d l l' fails = absurd fails
 
 -- a part of it was put, after calls that left the source's tree and the destination as they were
-pub turned_front : (here next : Phase) (s s' : State) (r r' : Option Reading) (w w' : Option Writing) (g g' : Option (List ℕ)) (n d l l' : ℕ) (calls : Calls) (line : Line) (held : List ℕ → Held) (f : Halt) (result : Answer) → IsErrAnd result (λ h. h ≡ f) → LogGotFront line f g g' l l' → calls.line ≡ Some line → HadAnswered calls (world r w g n d l)
-    → ((fed : List ℕ) → Follows (job_of s.job) (counts_of s.counts) here (string_bytes s.prefix) (held_of s fed) (string_bytes s.prefix) (held fed) calls (Ok next)) → source_tree r' ≡ source_tree r → w' ≡ w
+pub turned_front : (here next : Phase) (s s' : State) (r r' : Option Reading) (w w' : Option Writing) (g g' : Option (List ℕ)) (n d l l' : ℕ) (calls : Calls) (line : Line) (held : List ℕ → Held) (f : Halt) (result : Answer) → IsErrAnd result (λ h. h ≡ f) → LogGotFront line f g g' l l' → calls.line ≡ Some line
+    → ((fed : List ℕ) → Follows (job_of s.job) (counts_of s.counts) here (string_bytes s.prefix) (held_of s fed) (string_bytes s.prefix) (held fed) calls (Ok next)) → source_tree r' ≡ source_tree r → w' ≡ w → WasRead calls.asked r → WasFound calls.line calls.change w
     → string_bytes s'.prefix ≡ string_bytes s.prefix → s'.trail ≡ s.trail → s'.rows ≡ s.rows → s'.contents ≡ s.contents → s'.counts ≡ s.counts → Turned here s s' r r' w w' g g' n n d d l l' result
 unfolding Turned LogGotFront LeavesSome
-turned_front here next s s' r r' w w' g g' n d l l' calls line held f (Ok x) is front told had follows tree same prefix trail rows contents counts = absurd is
-turned_front here next s s' r r' w w' g g' n d l l' calls line held f (Err h) is front told had follows tree same prefix trail rows contents counts = λ fed was. (
+turned_front here next s s' r r' w w' g g' n d l l' calls line held f (Ok x) is front told follows tree same read found prefix trail rows contents counts = absurd is
+turned_front here next s s' r r' w w' g g' n d l l' calls line held f (Err h) is front told follows tree same read found prefix trail rows contents counts = λ fed was. (
   fed,
   (
     tt,
     subst (λ (h : Halt). Turn (job_of s.job) here (kept_of s fed) (kept_of s' fed) (world r w g n d l) (world r' w' g' n d l') (Err h)) (sym is)
         (FailsLater (string_bytes s.prefix) (held fed) calls (Ok next) s.rows f (follows fed)
-        (record { had = had; source = tree; dest = Untouched calls.change (ap dest_tree same); log = subst (λ (o : Option Line). LeavesFront o g g') (sym told) front.0 }, log_failed f n d l l' front.1) (inl refl) (halted_as s s' fed fed prefix trail rows contents counts)),
+        (record { read = read; found = found; source = tree; dest = Untouched calls.change (ap dest_tree same); log = subst (λ (o : Option Line). LeavesFront o g g') (sym told) front.0 }, log_failed f n d l l' front.1) (inl refl) (halted_as s s' fed fed prefix trail rows contents counts)),
   ),
 )
 

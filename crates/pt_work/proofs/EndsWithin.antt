@@ -47,7 +47,7 @@ turn_ends_within_work job start old new run after why (past, is, within) going t
 -- its own count has no part in what a run that ended is
 without_turn : (job : Job) (start : Start) (world : World) (kept : Kept) → Begun job start world (record { phase = phase.Ended; kept = turning kept }) → Begun job start world (record { phase = phase.Ended; kept = kept })
 unfolding Begun
-without_turn job start world kept (past, is) = (past, record { layout = is.layout; held = is.held; source = is.source; dest = is.dest; items = λ s e old f. record { places = (is.items s e old f).places; lines_are = record { done = (is.items s e old f).lines_are.done; present = (is.items s e old f).lines_are.present; skipped = (is.items s e old f).lines_are.skipped } }; log = is.log })
+without_turn job start world kept (past, is) = (past, record { layout = is.layout; held = is.held; source = is.source; dest = is.dest; items = λ s e old f. record { places = (is.items s e old f).places; lines_are = record { done = (is.items s e old f).lines_are.done; present = (is.items s e old f).lines_are.present; skipped = (is.items s e old f).lines_are.skipped } }; log = is.log; quiet = is.quiet; left = is.left })
 
 no_turn : (job : Job) (here : Phase) (kept : Kept) (world : World) → Turn job here (turning kept) (turning kept) world world (Err halt.Memory)
 unfolding Stays

@@ -32,9 +32,7 @@ loop-mover-preserved g c = (
 -- ---- a step met a fault
 
 pub returns-in_err-step-clause-left : goal.returns-in_err-step-clause-left
-returns-in_err-step-clause-left g c =
-    let left = run_left _ c.loop-mover.mover c.step.new.self _ _ _ _ _ _ _ _ _ _ _ _ c.args.job _ c.loop-mover.invariant.0 c.loop-mover.invariant.5 c.loop-mover.invariant.1 c.in_err-step.field-0.0 (search (rules, migrating)) c.in_err-step.ensures.keeps in
-    search (rules, left)
+returns-in_err-step-clause-left g c = run_left _ c.loop-mover.mover c.step.new.self _ _ _ _ _ _ _ _ _ _ _ _ c.args.job _ c.loop-mover.invariant.0 c.loop-mover.invariant.5 c.loop-mover.invariant.1 _ c.step.ensures.keeps
 
 pub returns-in_err-step-clause-early : goal.returns-in_err-step-clause-early
 returns-in_err-step-clause-early g c =
@@ -61,6 +59,9 @@ returns-in_err-step-clause-stands g c = run_stands _ c.loop-mover.mover c.step.n
 
 pub returns-clause-leaves : goal.returns-clause-leaves
 returns-clause-leaves g c = run_leaves _ c.loop-mover.mover c.step.new.self _ _ _ _ _ _ _ _ _ _ _ _ c.args.job _ c.loop-mover.invariant.0 c.loop-mover.invariant.5 c.loop-mover.invariant.1 _ c.step.ensures.keeps
+
+pub returns-clause-left : goal.returns-clause-left
+returns-clause-left g c = run_left _ c.loop-mover.mover c.step.new.self _ _ _ _ _ _ _ _ _ _ _ _ c.args.job _ c.loop-mover.invariant.0 c.loop-mover.invariant.5 c.loop-mover.invariant.1 _ c.step.ensures.keeps
 
 pub returns-clause-stands : goal.returns-clause-stands
 returns-clause-stands g c = run_stands _ c.loop-mover.mover c.step.new.self _ _ _ _ _ _ _ _ _ _ _ _ c.args.job _ c.loop-mover.invariant.0 c.loop-mover.invariant.5 c.loop-mover.invariant.1 _ c.step.ensures.keeps
