@@ -9,7 +9,7 @@ use Rattle.pt_tree.specs.Source.{Reading}
 use Rattle.pt_plan.specs.Answer.{Answer, phase_after}
 use Rattle.pt_plan.specs.Job.{Job}
 use Rattle.pt_plan.specs.Permits.{Permits}
-use Rattle.pt_plan.specs.Run.{Held, Kept, Run, new_run, turning}
+use Rattle.pt_plan.specs.Run.{Held, Kept, Run, new_run}
 use Rattle.pt_plan.specs.World.{Failures, World}
 use Rattle.pt_plan.specs.declared.halt.Halt.{Halt}
 use Rattle.pt_plan.specs.declared.halt.Halt.TheVariants as halt
@@ -43,7 +43,6 @@ use Rattle.pt_work.proofs.Within.{new_run_is_within_work, within_work_is_begun}
 use Rattle.pt_work.specs.WorkLaws.{BegunWithinWork}
 use Rattle.pt_name.specs.Tuples.{IsLayout}
 use Rattle.pt_tree.specs.Tree.{Tree}
-use Rattle.pt_plan.specs.Turn.{FailsAtFirst, Stays, Turn}
 use Rattle.pt_begun.specs.BegunHeld.{HeldAt}
 use Rattle.pt_begun.specs.Past.{Past}
 use Rattle.pt_begun.proofs.Permitted.{begun_permits}

@@ -1,22 +1,19 @@
 -- What the steps of a run say of the whole.
-use Rattle.std.proofs.Common.{◌≡◌, ℕ, List, [], sym, ◌∙◌, subst}
-use Rattle.std.specs.Prelude.{Err, ◌≢◌, Option}
+use Rattle.std.proofs.Common.{◌≡◌, [], sym, ◌∙◌, subst}
+use Rattle.std.specs.Prelude.{Err, ◌≢◌}
 use Rattle.pt_name.specs.Tuples.{IsLayout}
 use Rattle.pt_object.specs.Hasher.{HasBeenFed}
-use Rattle.pt_tree.specs.Dest.{Writing}
-use Rattle.pt_tree.specs.Source.{Reading}
 use Rattle.pt_plan.specs.Run.{Run, new_run}
 use Rattle.pt_plan.specs.World.{World}
 use Rattle.pt_plan.specs.declared.phase.Phase.{Phase}
 use Rattle.pt_plan.specs.declared.phase.Phase.TheVariants as phase
-use Rattle.pt_begun.specs.Begun.{Begun, IsWorld, start_of}
+use Rattle.pt_begun.specs.Begun.{IsWorld, start_of}
 use Rattle.pt_work.proofs.Within.{new_run_is_within_work}
 use Rattle.pt_work.specs.WorkLaws.{BegunWithinWork}
 use Rattle.pt_state.specs.States.{job_of}
 use Rattle.pt_state.specs.declared.job.Job.{Job}
-use Rattle.pt_move.specs.Running.{FedUntilEnd, IsBegun, IsNew, LeavesBehind, Running, run_of}
+use Rattle.pt_move.specs.Running.{FedUntilEnd, IsBegun, IsNew, Running, run_of}
 use Rattle.pt_move.proofs.Answering.{has_begun, leaves_behind}
-use Rattle.pt_state.specs.Turned.{world}
 use Rattle.pt_move.specs.Stepping.{EndsAs}
 use Rattle.pt_move.specs.declared.fault.Fault.{Fault}
 use Rattle.pt_move.specs.declared.fault.Fault.TheVariants as fault

@@ -1,6 +1,6 @@
 -- That a run keeps its promises in a step, by what the step answers.
-use Rattle.std.proofs.Common.{◌≡◌, ◌≢◌, ◌<◌, ◌≤◌, ℕ, List, [], refl, sym, subst, arith}
-use Rattle.std.specs.Prelude.{Option, None, Some, Ok, Err, Result}
+use Rattle.std.proofs.Common.{◌≡◌, ◌≢◌, ◌<◌, ◌≤◌, ℕ, List, [], sym, subst, arith}
+use Rattle.std.specs.Prelude.{Option, Some, Ok, Err}
 use Rattle.pt_tree.specs.Dest.{Writing}
 use Rattle.pt_tree.specs.Forest.{Forest}
 use Rattle.pt_tree.specs.Source.{Reading}
@@ -32,11 +32,10 @@ use Rattle.pt_state.specs.declared.state.State.{State}
 use Rattle.pt_turn.specs.Turning.{Turns}
 use Rattle.pt_move.specs.Fault.{fault_of}
 use Rattle.pt_move.specs.Outcome.{FaultLeaves, HoldsWithinBound, IfEarly, LeavesAll, MadeWithinWork, SaysRightly, StandsStillIn, WantsMemory}
-use Rattle.pt_move.specs.Promises.{HaltPromises, IfHalted, Keeps, TurnKeeps, UnlessEnded}
+use Rattle.pt_move.specs.Promises.{IfHalted, Keeps, TurnKeeps, UnlessEnded}
 use Rattle.pt_move.specs.Running.{BeganSomewhere, FedUntilEnd, InProgress, IsBegun, LeavesBehind, Running, run_of}
 use Rattle.pt_move.specs.declared.fault.Fault.{Fault}
 use Rattle.pt_move.specs.declared.fault.Fault.TheVariants as fault
-use Rattle.pt_move.specs.declared.mover.Turn as own_turn
 use Rattle.pt_move.specs.declared.mover.Turn.TheVariants as turn
 use Rattle.pt_move.proofs.Answering.{begun_ends, fed_going, fed_to_end, leaves_behind, same_begun}
 use Rattle.pt_move.proofs.Outcomes.{bound_after, is_going, left_after, reading_of, says_after, stands_after, within_after, work_after}

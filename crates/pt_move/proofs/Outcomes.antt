@@ -1,8 +1,6 @@
 -- What a turn of a run leaves and says, from what it is of the definitions.
 use Rattle.std.proofs.Common.{◌≡◌, ◌≢◌, ◌≤◌, ℕ, List, [], false, true, refl, sym, subst, ap, ◌∙◌}
 use Rattle.std.specs.Prelude.{All, Option, None, Some, Ok, Err}
-use Rattle.pt_object.specs.Holding.{IsFree}
-use Rattle.pt_tree.specs.Dest.{Writing}
 use Rattle.pt_tree.specs.Forest.{Forest}
 use Rattle.pt_tree.specs.Source.{Reading}
 use Rattle.pt_tree.specs.Tree.{Tree}
@@ -42,7 +40,7 @@ use Rattle.pt_state.specs.States.{counts_of, held_of, job_of, kept_of}
 use Rattle.pt_state.specs.declared.state.State.{State}
 use Rattle.pt_move.specs.Fault.{fault_of}
 use Rattle.pt_move.specs.Outcome.{EndsWhole, FaultLeaves, HoldsWithinBound, IfEarly, IsWhole, LeavesAll, MadeWithinWork, SaysOfBoth, SaysOfDest, SaysOfSource, SaysRightly, StandsStillIn, StatesAreFiles, WantsMemory}
-use Rattle.pt_move.specs.Promises.{AnswerSays, EndPromises, HaltPromises}
+use Rattle.pt_move.specs.Promises.{AnswerSays}
 use Rattle.pt_move.specs.declared.fault.Fault.TheVariants as fault
 
 -- ---- what is told

@@ -10,7 +10,7 @@ use Rattle.pt_plan.specs.declared.phase.Phase.{Phase}
 use Rattle.pt_plan.specs.declared.phase.Phase.TheVariants as phase
 use Rattle.pt_begun.specs.Begun.{Start, TellsAsBefore}
 use Rattle.pt_begun.specs.BegunDest.{IsLeftBehind}
-use Rattle.pt_plan.specs.World.{World}
+use Rattle.pt_plan.specs.World.{World, dest_tree}
 use Rattle.pt_work.specs.WorkLaws.{BegunWithinWork}
 use Rattle.pt_state.specs.States.{job_of, kept_of}
 use Rattle.pt_state.specs.declared.job.Job.{Job}
@@ -57,6 +57,10 @@ run_of r fed = record { phase = r.phase; kept = kept_of r.state fed }
 abbrev pub FedUntilEnd : Phase → Algorithm → Hasher → List ℕ → Type 0
 FedUntilEnd phase.Ended algorithm hasher fed = ⊤
 FedUntilEnd here algorithm hasher fed = HasBeenFed algorithm hasher fed
+
+-- the start where the devices tell this
+abbrev pub start_with : Option Writing → Option (List ℕ) → Start
+start_with dest log = record { dest = dest_tree dest; log = log }
 
 -- the run began at this start, and this is the world that it is in progress in, within its work, or has left
 pub record InProgress (start : Start) (world : World) (r : Running) : Type 0 where

@@ -5,10 +5,8 @@ ghost use Rattle.pt_move.specs.Counting.{Counts};
 ghost use Rattle.pt_state.specs.States.{counts_of};
 ghost use Rattle.pt_turn.specs.Bounds.{lines_put};
 ghost use Rattle.pt_plan.specs.World.{dest_tree, source_tree};
-ghost use Rattle.pt_begun.specs.Begun.{start_of};
-ghost use Rattle.pt_state.specs.Turned.{world};
 ghost use Rattle.pt_move.specs.Outcome.{EndsWhole, FaultLeaves, IfEarly, LeavesAll, MadeWithinWork, SaysRightly, StandsStillIn, StatesAreFiles, WantsMemory, failures};
-ghost use Rattle.pt_move.specs.Running.{LeavesBehind};
+ghost use Rattle.pt_move.specs.Running.{LeavesBehind, start_with};
 ghost use Rattle.pt_move.specs.Lines.{HasToldAll, HasToldFront};
 ghost use Rattle.pt_move.specs.declared.fault.Fault.TheVariants as fault;
 
@@ -21,6 +19,11 @@ use std::alloc::Global;
 /// of each in the log. The run goes on to its end or to its first fault, whatever the three hold, and makes at most as
 /// many turns as its limit allows.
 ///
+/// What it leaves and says is promised where the devices tell what they hold: at its end the root with all objects that
+/// are carried, each whole, and the log of all items (`ends`, `states`); however it ends, destination and log such as a
+/// fault may leave, and what stood stands (`left`, `early`, `leaves`, `stands`); that each refusal is true, and over a
+/// good start none comes (`says`, `good`); turns within the store's work (`work`).
+///
 /// `Source`, `Dest` and `Log` are answered only where that device's count of failures rose, or stood at its greatest
 /// value, and then no other answer is given; `Ended` is never answered.
 pub fn migrate<S: Source, D: Dest, L: Log>(
@@ -30,10 +33,10 @@ pub fn migrate<S: Source, D: Dest, L: Log>(
     log: &mut L,
     job: Job,
 ) -> Result<Report, Fault>
-    ensures ends { IfOk result (EndsWhole job (source_tree (S.told source.old)) (start_of (world (S.told source.old) (D.told dest.old) (L.told log.old) (S.failed source.old) (D.failed dest.old) (L.failed log.old))) (D.told dest.new) (L.told log.new)) }
-    ensures states { IfOk result (λ report. StatesAreFiles job (source_tree (S.told source.old)) (start_of (world (S.told source.old) (D.told dest.old) (L.told log.old) (S.failed source.old) (D.failed dest.old) (L.failed log.old))) (D.told dest.new) (L.told log.new)) }
-    ensures left { FaultLeaves job (source_tree (S.told source.old)) (start_of (world (S.told source.old) (D.told dest.old) (L.told log.old) (S.failed source.old) (D.failed dest.old) (L.failed log.old))) (D.told dest.new) (L.told log.new) }
-    ensures early { IfErr result (λ f. IfEarly f (LeavesAll (start_of (world (S.told source.old) (D.told dest.old) (L.told log.old) (S.failed source.old) (D.failed dest.old) (L.failed log.old))) (D.told dest.new) (L.told log.new))) }
+    ensures ends { IfOk result (EndsWhole job (source_tree (S.told source.old)) (start_with (D.told dest.old) (L.told log.old)) (D.told dest.new) (L.told log.new)) }
+    ensures states { IfOk result (λ report. StatesAreFiles job (source_tree (S.told source.old)) (start_with (D.told dest.old) (L.told log.old)) (D.told dest.new) (L.told log.new)) }
+    ensures left { FaultLeaves job (source_tree (S.told source.old)) (start_with (D.told dest.old) (L.told log.old)) (D.told dest.new) (L.told log.new) }
+    ensures early { IfErr result (λ f. IfEarly f (LeavesAll (start_with (D.told dest.old) (L.told log.old)) (D.told dest.new) (L.told log.new))) }
     ensures leaves { LeavesBehind job (dest_tree (D.told dest.old)) (D.told dest.new) }
     ensures stands { StandsStillIn (dest_tree (D.told dest.old)) (D.told dest.new) }
     ensures says { IfErr result (SaysRightly job (source_tree (S.told source.old)) (dest_tree (D.told dest.old))) }

@@ -1,8 +1,7 @@
 -- A run that has ended made no more turns than its work.
-use Rattle.std.proofs.Common.{◌≡◌, ◌≤◌, ℕ, false, refl, sym, subst, arith}
-use Rattle.std.specs.Prelude.{Option, None, Some, Err}
+use Rattle.std.proofs.Common.{◌≡◌, ◌≤◌, ℕ, refl, sym, subst, arith}
+use Rattle.std.specs.Prelude.{Err}
 use Rattle.pt_tree.specs.Forest.{Forest}
-use Rattle.pt_tree.specs.Source.{Reading}
 use Rattle.pt_tree.specs.Tree.{Tree}
 use Rattle.pt_plan.specs.Answer.{Answer}
 use Rattle.pt_plan.specs.Job.{Job}
@@ -11,7 +10,6 @@ use Rattle.pt_plan.specs.Run.{Kept, Run, turning}
 use Rattle.pt_plan.specs.Turn.{Did, FailsAtFirst, FailsLater, GoesOn, IsRefused, LeavesSome, Stays, Turn}
 use Rattle.pt_plan.specs.Work.{work}
 use Rattle.pt_plan.specs.World.{World, source_tree}
-use Rattle.pt_plan.specs.declared.halt.Halt.{Halt}
 use Rattle.pt_plan.specs.declared.halt.Halt.TheVariants as halt
 use Rattle.pt_plan.specs.declared.phase.Phase.{Phase}
 use Rattle.pt_plan.specs.declared.phase.Phase.TheVariants as phase
