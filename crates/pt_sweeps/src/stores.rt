@@ -1,0 +1,149 @@
+//! The stores that are swept, and devices in memory made from texts.
+use pt_memory::{MemDest, MemLog, MemSource};
+use pt_move::{Fault, Job, Report, migrate};
+use pt_name::Layout;
+use pt_object::{Algorithm, Meta};
+use pt_tree::{Name, NamePath};
+use pt_walk::Limits;
+use std::alloc::Global;
+
+/// A store, and what stands in the destination before the run.
+#[derive(Clone, Copy)]
+pub struct Case {
+    pub name: &'static str,
+    /// What stands below `pairtree_root`, with spaces between: `a/b=abc` is a file that holds `abc`, `a/b/` a directory,
+    /// and `a/b?` neither. What begins with `pairtree_` stands at the top.
+    pub entries: &'static str,
+    /// The store that an earlier run carried into the destination.
+    pub earlier: Option<&'static str>,
+    /// The places of the objects that are carried, in their order, with spaces between.
+    pub places: &'static str,
+}
+
+pub const CASES: [Case; 4] = [
+    Case {
+        name: "one object of one file",
+        entries: "ab/c/obj/a.txt=abc",
+        earlier: None,
+        places: "ba7/816/bf8/abc",
+    },
+    Case {
+        name: "an object among six causes",
+        entries: "a/bc/obj/ a^/2/obj/x= ab/c/obj/a.txt=abc ab/cd/f= ab/cd/obj/f= de/ readme= xy/z/obj/m?",
+        earlier: None,
+        places: "ba7/816/bf8/abc",
+    },
+    Case {
+        name: "two objects, one with equal files and an empty folder",
+        entries: "ab/c/obj/a.txt=abc ab/cd/obj/a/x=abc ab/cd/obj/a.txt=abc ab/cd/obj/c= ab/cd/obj/e/",
+        earlier: None,
+        places: "ba7/816/bf8/abc 88d/426/6fd/abcd",
+    },
+    Case {
+        name: "a prefix and a taken place",
+        entries: "pairtree_prefix=a\n bc/abc/a.txt=abc bc/d/abcd/f=xyz",
+        earlier: Some("ab/c/obj/a.txt=abc"),
+        places: "88d/426/6fd/abcd",
+    },
+];
+
+/// A path, from its text.
+pub fn path(alloc: Global, text: &str) -> Option<NamePath> {
+    let mut path = NamePath::new(alloc);
+    for name in text.split('/') {
+        path.push(Name::of(alloc, name.as_bytes()).ok()?).ok()?;
+    }
+    Some(path)
+}
+
+/// The store of a text.
+pub fn store(alloc: Global, entries: &str) -> Option<MemSource> {
+    let mut source = MemSource::new(alloc);
+    for entry in "pairtree_version0_1= pairtree_root/".split(' ') {
+        plant(alloc, &mut source, entry)?;
+    }
+    for entry in entries.split(' ') {
+        plant(alloc, &mut source, entry)?;
+    }
+    Some(source)
+}
+
+fn plant(alloc: Global, source: &mut MemSource, entry: &str) -> Option<()> {
+    if let Some((at, bytes)) = entry.split_once('=') {
+        let at = way(alloc, source, at)?;
+        source.plant_file(&at, bytes.as_bytes()).ok()
+    } else if let Some(at) = entry.strip_suffix('?') {
+        let at = way(alloc, source, at)?;
+        source.plant_other(&at).ok()
+    } else {
+        way(alloc, source, entry)?;
+        Some(())
+    }
+}
+
+// The path of an entry. Each directory that it names is planted where it isn't there.
+fn way(alloc: Global, source: &mut MemSource, text: &str) -> Option<NamePath> {
+    let mut at = NamePath::new(alloc);
+    if !text.starts_with("pairtree_") {
+        at.push(Name::of(alloc, b"pairtree_root").ok()?).ok()?;
+    }
+    for name in text.split('/') {
+        let _ = source.plant_dir(&at);
+        if !name.is_empty() {
+            at.push(Name::of(alloc, name.as_bytes()).ok()?).ok()?;
+        }
+    }
+    Some(at)
+}
+
+/// A run with the greatest limits and three tuples of three digits.
+pub fn run(
+    alloc: Global,
+    source: &mut MemSource,
+    dest: &mut MemDest,
+    log: &mut MemLog,
+) -> Option<Result<Report, Fault>> {
+    let meta = Meta::of(
+        alloc,
+        "2024-05-01T12:00:00Z",
+        "Ada",
+        None,
+        "Migrated from Pairtree",
+    );
+    let job = Job {
+        meta: meta.ok()?,
+        layout: Layout::default_form(),
+        algorithm: Algorithm::Sha512,
+        limits: Limits::of(1_000_000, 4_000, 600, 1 << 43, 1 << 40).ok()?,
+        gather: false,
+    };
+    Some(migrate(alloc, source, dest, log, job))
+}
+
+/// The destination before the run.
+pub fn before(alloc: Global, case: &Case) -> Option<MemDest> {
+    let mut dest = MemDest::new(alloc);
+    if let Some(entries) = case.earlier {
+        run(
+            alloc,
+            &mut store(alloc, entries)?,
+            &mut dest,
+            &mut MemLog::new(alloc),
+        )?
+        .ok()?;
+    }
+    Some(dest)
+}
+
+/// The destination after a run that nothing stops.
+pub fn whole(alloc: Global, case: &Case) -> Option<MemDest> {
+    let mut dest = before(alloc, case)?;
+    run(
+        alloc,
+        &mut store(alloc, case.entries)?,
+        &mut dest,
+        &mut MemLog::new(alloc),
+    )?
+    .ok()?;
+    Some(dest)
+}
