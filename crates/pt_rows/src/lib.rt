@@ -3,9 +3,17 @@
 #![tactic(auto)]
 
 #[cfg(test)]
+mod ends;
+#[cfg(test)]
 mod identifiers;
 #[cfg(test)]
-mod runs;
+mod lines;
+#[cfg(test)]
+mod starts;
+#[cfg(test)]
+mod stores;
+#[cfg(test)]
+mod trees;
 #[cfg(test)]
 mod worked_faults;
 #[cfg(test)]
