@@ -8,7 +8,7 @@ PROGRAM := bin/pairtree2ocfl
 BUILT := crates/pairtree2ocfl/out/pairtree2ocfl
 
 .DEFAULT_GOAL := build
-.PHONY: help build try demo test bench install uninstall dist deb clean toolchain
+.PHONY: help build try demo test allocations bench install uninstall dist deb clean toolchain
 
 help: ## list the targets
 	@sed -n 's/^\([a-z]*\):.*## \(.*\)/make \1\t\2/p' $(MAKEFILE_LIST)
@@ -26,6 +26,9 @@ demo: build ## build the program and carry the store in demo/ into a temporary f
 
 test: toolchain ## every test: the toolchain's gate, then the tests of the program that it built
 	@$(PYTHON) tests/all.py $(RT) $(BUILT)
+
+allocations: build ## refuse each request for memory of the program in turn, where a C compiler is
+	@$(PYTHON) tests/allocations.py $(PROGRAM)
 
 bench: build ## hold a run against sha512sum, cp and, where rustc is, plain Rust over the same store
 	@$(PYTHON) bench/bench.py $(PROGRAM)
