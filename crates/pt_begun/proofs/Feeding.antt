@@ -80,7 +80,7 @@ makes_feed job here held after calls next (OpensCopy was object position row is 
 makes_feed job here held after calls next (CopiesOn was object position left byte block fits) = tt
 makes_feed job here held after calls next (EndsCopy was object position row left is same) = fed_content job object was.rows (behind_stored was.contents position row.path) (with_fed was [])
 makes_feed job here held after calls next (MakesVersionInventory was object) = refl
-makes_feed job here held after calls next (MakesVersionSidecar was object) = tt
+makes_feed job here held after calls next (MakesVersionSidecar was object) = refl
 makes_feed job here held after calls next (MakesInventory was object) = refl
 makes_feed job here held after calls next (MakesSidecar was object) = fed_either job (job.tuples.count == 0) (phase.Rename object) (phase.Tuples object 0) (with_fed was []) tt tt
 

@@ -181,22 +181,22 @@ kept_now job past start phase.Staging held now at dest = record { kept = as_it_w
 kept_now job past start phase.Root held now at dest = record { kept = as_it_was job start now dest.at.0.tree; stood = inr dest.at.0.tree }
 kept_now job past start (phase.RootMake number) held now at dest = record {
   kept = root_kept job start now.tree (take number (root_script job.tuples)) now dest.at (stands_whole (root_script job.tuples) number start now.tree dest.at.tree);
-  stood = inl dest.at.free;
+  stood = inl (record { free = dest.at.free; root = inl dest.at.root });
 }
-kept_now job past start phase.RootRename held now at dest = record { kept = root_kept job start now.tree (root_script job.tuples) now dest.at (stands_whole (root_script job.tuples) 6 start now.tree dest.at.tree); stood = inl dest.at.free }
+kept_now job past start phase.RootRename held now at dest = record { kept = root_kept job start now.tree (root_script job.tuples) now dest.at (stands_whole (root_script job.tuples) 6 start now.tree dest.at.tree); stood = inl (record { free = dest.at.free; root = inl dest.at.root }) }
 kept_now job past start (phase.RootCheck number) held now at dest = record { kept = as_it_was job start now dest.at.tree; stood = inr dest.at.tree }
-kept_now job past start phase.OpenRoot held now at dest = record { kept = held_so job start past.placed now dest.at; stood = inl dest.at.root.free }
-kept_now job past start phase.Judge held now at dest = record { kept = held_so job start past.placed now dest.at; stood = inl dest.at.root.free }
-kept_now job past start (phase.OpenObject object) held now at dest = record { kept = not_begun job past start object held now dest.at; stood = inl dest.at.root.free }
-kept_now job past start (phase.Scan object) held now at dest = record { kept = not_begun job past start object held now dest.at; stood = inl dest.at.root.free }
-kept_now job past start (phase.Read object count) held now at dest = record { kept = not_begun job past start object held now dest.at; stood = inl dest.at.root.free }
-kept_now job past start (phase.Make object here) held now at dest = record { kept = part_kept job past start object here held now at dest; stood = inl dest.at.root.free }
-kept_now job past start (phase.Copy object position left) held now at dest = record { kept = copying_kept job past start object position left held now at dest; stood = inl dest.at.making.root.free }
+kept_now job past start phase.OpenRoot held now at dest = record { kept = held_so job start past.placed now dest.at; stood = inl dest.at.root }
+kept_now job past start phase.Judge held now at dest = record { kept = held_so job start past.placed now dest.at; stood = inl dest.at.root }
+kept_now job past start (phase.OpenObject object) held now at dest = record { kept = not_begun job past start object held now dest.at; stood = inl dest.at.root }
+kept_now job past start (phase.Scan object) held now at dest = record { kept = not_begun job past start object held now dest.at; stood = inl dest.at.root }
+kept_now job past start (phase.Read object count) held now at dest = record { kept = not_begun job past start object held now dest.at; stood = inl dest.at.root }
+kept_now job past start (phase.Make object here) held now at dest = record { kept = part_kept job past start object here held now at dest; stood = inl dest.at.root }
+kept_now job past start (phase.Copy object position left) held now at dest = record { kept = copying_kept job past start object position left held now at dest; stood = inl dest.at.making.root }
 kept_now job past start (phase.Tuples object number) held now at dest =
     let few = at.numbers in
-    record { kept = whole_kept job past start object held number now dest.started at.ends.0 at.rows (omega (arith, few)) dest.at.0; stood = inl dest.at.0.root.free }
-kept_now job past start (phase.Rename object) held now at dest = record { kept = whole_kept job past start object held job.tuples.count now dest.started at.ends.0 at.rows (omega arith) dest.at.0; stood = inl dest.at.0.root.free }
-kept_now job past start (phase.Line object) held now at dest = record { kept = held_so job start past.placed now dest.at; stood = inl dest.at.root.free }
-kept_now job past start phase.Walk held now at dest = record { kept = held_so job start past.placed now dest.at; stood = inl dest.at.root.free }
-kept_now job past start phase.End held now at dest = record { kept = held_so job start past.placed now dest.at; stood = inl dest.at.root.free }
+    record { kept = whole_kept job past start object held number now dest.started at.ends.0 at.rows (omega (arith, few)) dest.at.0; stood = inl dest.at.0.root }
+kept_now job past start (phase.Rename object) held now at dest = record { kept = whole_kept job past start object held job.tuples.count now dest.started at.ends.0 at.rows (omega arith) dest.at.0; stood = inl dest.at.0.root }
+kept_now job past start (phase.Line object) held now at dest = record { kept = held_so job start past.placed now dest.at; stood = inl dest.at.root }
+kept_now job past start phase.Walk held now at dest = record { kept = held_so job start past.placed now dest.at; stood = inl dest.at.root }
+kept_now job past start phase.End held now at dest = record { kept = held_so job start past.placed now dest.at; stood = inl dest.at.root }
 kept_now job past start phase.Ended held now at dest = dest.at

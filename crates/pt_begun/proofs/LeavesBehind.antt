@@ -29,7 +29,7 @@ use Rattle.pt_plan.specs.declared.phase.Part.TheVariants as a_part
 use Rattle.pt_plan.specs.declared.phase.Phase.{Phase}
 use Rattle.pt_plan.specs.declared.phase.Phase.TheVariants as phase
 use Rattle.pt_plan.specs.declared.phase.Position.{Position}
-use Rattle.pt_begun.specs.BegunDest.{DestPart, IsLeftBehind, root_on_way}
+use Rattle.pt_begun.specs.BegunDest.{DestPart, IsLeftBehind, IsRootOfStart, root_on_way}
 use Rattle.pt_begun.specs.BegunHeld.{HeldAt}
 use Rattle.pt_begun.specs.PartsMade.{made_before, script_of_object}
 use Rattle.pt_begun.specs.Past.{Past}
@@ -56,8 +56,8 @@ same_left job past start here held old new at dest same =
     let left = kept_now job past start here held old at dest in
     record { tree = subst IsTree (sym same) dest.tree; left = record { kept = subst (IsKept job start) (sym same) left.kept; stood = either left.stood } }
   where
-    either : IsFree start staging ⊎ (old.tree ≡ start) → IsFree start staging ⊎ (new.tree ≡ start)
-    either (inl free) = inl free
+    either : IsRootOfStart job start ⊎ (old.tree ≡ start) → IsRootOfStart job start ⊎ (new.tree ≡ start)
+    either (inl root) = inl root
     either (inr untouched) = inr (same ∙ untouched)
 
 -- of these changes nothing can be left
@@ -93,7 +93,7 @@ root_left job past start number (MakeFile path bytes) held old new at dest is (O
       left = record {
         kept = root_kept job start new.tree (take number (root_script job.tuples)) old dest.at
             (stands_cut (root_script job.tuples) (take number (root_script job.tuples)) path bytes count start new.tree next (tree_is ∙ ap (done (MakeFile path (take count bytes))) dest.at.tree));
-        stood = inl dest.at.free;
+        stood = inl (record { free = dest.at.free; root = inl dest.at.root });
       };
     }
 
@@ -111,7 +111,7 @@ part_left job past start object here path bytes held old new at dest next (OfFil
       left = record {
         kept = made_kept job past start object held 0 front new.tree dest.started at.ends.0 at.rows (omega arith) old dest.at
             (stands_cut (script_of_object job object held.rows past.bytes) front path bytes count (with_root start (root_on_way job start past.placed object.place 0)) new.tree next (tree_is ∙ ap (done (MakeFile path (take count bytes))) dest.at.tree));
-        stood = inl dest.at.root.free;
+        stood = inl dest.at.root;
       };
     }
 
@@ -127,7 +127,7 @@ opened_left job past start object position held row old new at dest next (NewFil
       tree = subst IsTree (sym tree_is) (tree_put old.tree (in_content row.path) (Bytes []) dest.tree may);
       left = record {
         kept = copy_kept job past start object held front row.path (past.bytes row.path) [] new.tree dest.started at.ends.0 at.rows new (with_item job start past.placed object front item old new tree_is dest.at) next [] (tree_is ∙ ap (done item) dest.at.tree);
-        stood = inl dest.at.root.free;
+        stood = inl dest.at.root;
       };
     }
 

@@ -236,7 +236,7 @@ makes_dest job past start old new here held after calls next (MakesVersionInvent
     part_made job past start object a_part.VersionInventory was (with_fed was (text_of_inventory job object was.rows)) old new (inventory_file job object was.rows (in_version [])) None a_part.VersionSidecar at refl (some_same new (after_make (inventory_file job object was.rows (in_version [])) old) change)
     (next_first job object was.rows past.bytes) (sym (after_first job object was.rows past.bytes)) dest
 makes_dest job past start old new here held after calls next (MakesVersionSidecar was object) change at dest =
-    part_made job past start object a_part.VersionSidecar was (with_fed was []) old new (sidecar_file job object was.rows (in_version [])) None a_part.Inventory at refl (some_same new (after_make (sidecar_file job object was.rows (in_version [])) old) change)
+    part_made job past start object a_part.VersionSidecar was (with_fed was (text_of_inventory job object was.rows)) old new (sidecar_file job object was.rows (in_version [])) None a_part.Inventory at refl (some_same new (after_make (sidecar_file job object was.rows (in_version [])) old) change)
     (next_second job object was.rows past.bytes) (sym (after_second job object was.rows past.bytes)) dest
 makes_dest job past start old new here held after calls next (MakesInventory was object) change at dest =
     part_made job past start object a_part.Inventory was (with_fed was (text_of_inventory job object was.rows)) old new (inventory_file job object was.rows staging) None a_part.Sidecar at refl (some_same new (after_make (inventory_file job object was.rows staging) old) change)

@@ -140,7 +140,7 @@ makes_hold job past here held after calls next (MakesVersionSidecar was object) 
     record {
       trail = trail.makes_keep job here held after calls next (MakesVersionSidecar was object) at.trail;
       ends = at.ends;
-      rows = fed_rows job past.bytes was [] at.rows;
+      rows = fed_rows job past.bytes was (text_of_inventory job object was.rows) at.rows;
       behind = tt;
       numbers = tt;
       fed = makes_feed job here held after calls next (MakesVersionSidecar was object);

@@ -98,6 +98,6 @@ makes_keep job s new prefix count here held after calls next proper (EndsCopy wa
     let same : new ≡ after_next s = some_same new (after_next s) answers.1 in
     subst (λ (r : Reading). Scanned job r prefix object (with_fed was []) count) (sym same) (fed_scanned job s prefix object was [] count (at.0, at.1))
 makes_keep job s new prefix count here held after calls next proper (MakesVersionInventory was object) at answers = fed_scanned job new prefix object was (text_of_inventory job object was.rows) count (stays job s new prefix object was count answers at)
-makes_keep job s new prefix count here held after calls next proper (MakesVersionSidecar was object) at answers = fed_scanned job new prefix object was [] count (stays job s new prefix object was count answers at)
+makes_keep job s new prefix count here held after calls next proper (MakesVersionSidecar was object) at answers = fed_scanned job new prefix object was (text_of_inventory job object was.rows) count (stays job s new prefix object was count answers at)
 makes_keep job s new prefix count here held after calls next proper (MakesInventory was object) at answers = fed_scanned job new prefix object was (text_of_inventory job object was.rows) count (stays job s new prefix object was count answers at)
 makes_keep job s new prefix count here held after calls next proper (MakesSidecar was object) at answers = after_sidecar job new prefix object (with_fed was []) count (job.tuples.count == 0) (fed_scanned job new prefix object was [] count (stays job s new prefix object was count answers at))

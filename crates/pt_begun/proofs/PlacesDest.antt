@@ -263,4 +263,4 @@ places_dest job counts past start old new here next held after calls (RenamesObj
 places_dest job counts past start old new here next held after calls (TellsDone was object) change at part =
     subst (λ (w : Writing). DestPart job (past_after here calls.line next was past) next (restarted was) start w) (sym (some_same new old change)) (record { started = part.started; tree = part.tree; at = record { root = part.at.root; came = part.at.came; tree = part.at.tree } })
 places_dest job counts past start old new here next held after calls (TellsEnd was) change at part =
-    subst (λ (w : Writing). DestPart job (past_after here calls.line next was past) next was start w) (sym (some_same new old change)) (record { started = part.started; tree = part.tree; at = record { kept = held_so job start past.placed old part.at; stood = inl part.at.root.free } })
+    subst (λ (w : Writing). DestPart job (past_after here calls.line next was past) next was start w) (sym (some_same new old change)) (record { started = part.started; tree = part.tree; at = record { kept = held_so job start past.placed old part.at; stood = inl part.at.root } })

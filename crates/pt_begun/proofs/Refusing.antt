@@ -113,10 +113,10 @@ starts_refuse job s new prefix read count here held calls why (IsNoStore was ent
 starts_refuse job s new prefix read count here held calls why (IsNoPrefixFile was kind some is) at answers = (at.2, no_file (find s.tree prefix_file) kind some is at.3)
 starts_refuse job s new prefix read count here held calls why (IsNoPrefix was block reason is) at answers =
     (at.2, bad_prefix (find s.tree prefix_file) block reason at.3 (answers.0 (after_open (prefix_file ∷ []) s) refl) is)
-starts_refuse job s new prefix read count here held calls why (HasStaging was kind) at answers = tt
-starts_refuse job s new prefix read count here held calls why (IsNoRoot was kind is) at answers = tt
-starts_refuse job s new prefix read count here held calls why (IsNoFile was number path bytes kind is other) at answers = tt
-starts_refuse job s new prefix read count here held calls why (Differs was number path bytes block is other) at answers = tt
+starts_refuse job s new prefix read count here held calls why (HasStaging was kind) at answers = (at.2.store, at.2.good)
+starts_refuse job s new prefix read count here held calls why (IsNoRoot was kind is) at answers = (at.2.store, at.2.good)
+starts_refuse job s new prefix read count here held calls why (IsNoFile was number path bytes kind is other) at answers = (at.2.store, at.2.good)
+starts_refuse job s new prefix read count here held calls why (Differs was number path bytes block is other) at answers = (at.2.store, at.2.good)
 
 makes_refuse : (job : Job) (s : Reading) (new : Option Reading) (prefix : List ℕ) (count : ℕ) (here : Phase) (held after : Held) (calls : Calls) (why : Halt)
     → is_proper s.tree ≡ true → Makings job here held after calls (Err why) → SourceAt job s prefix count here held → Answers calls.asked (Some s) new → SaysOfSource why s.tree
@@ -127,8 +127,8 @@ makes_refuse job s new prefix count here held after calls why proper (ReadsOther
     absurd (let same = some_same row at.2.row (sym is ∙ at.2.is_row) in
     true≢false (sym (ap (λ (r : Row). is_as_read job r left was.fed) same ∙ as_read job s prefix count object was position left proper at (answers.0 s refl)) ∙ other))
 
-places_refuse : (job : Job) (counts : Counts) (source : Forest) (here : Phase) (held after : Held) (calls : Calls) (why : Halt) → Places job counts here held after calls (Err why) → SaysOfSource why source
-places_refuse job counts source here held after calls why (IsInTheWay was object number kind is) = tt
+places_refuse : (job : Job) (s : Reading) (counts : Counts) (prefix : List ℕ) (count : ℕ) (here : Phase) (held after : Held) (calls : Calls) (why : Halt) → Places job counts here held after calls (Err why) → SourceAt job s prefix count here held → SaysOfSource why s.tree
+places_refuse job s counts prefix count here held after calls why (IsInTheWay was object number kind is) at = (at.0.store, at.0.good)
 
 follows_refuse : (job : Job) (s : Reading) (new : Option Reading) (counts : Counts) (count : ℕ) (here : Phase) (prefix : List ℕ) (held : Held) (read : List ℕ) (after : Held) (calls : Calls) (why : Halt)
     → is_proper s.tree ≡ true → Follows job counts here prefix held read after calls (Err why) → SourceAt job s prefix count here held → Answers calls.asked (Some s) new → SaysOfSource why s.tree
@@ -136,7 +136,7 @@ follows_refuse job s new counts count here prefix held read after calls why prop
 follows_refuse job s new counts count here prefix held read after calls why proper (Walk h p w n c a turn) at answers = elim turn [ ]
 follows_refuse job s new counts count here prefix held read after calls why proper (Scan h p w n c a turn) at answers = elim turn [ ]
 follows_refuse job s new counts count here prefix held read after calls why proper (Make h p w n c a turn) at answers = makes_refuse job s new prefix count here held after calls why proper turn at answers
-follows_refuse job s new counts count here prefix held read after calls why proper (Place h p w n c a turn) at answers = places_refuse job counts s.tree here held after calls why turn
+follows_refuse job s new counts count here prefix held read after calls why proper (Place h p w n c a turn) at answers = places_refuse job s counts prefix count here held after calls why turn at
 
 -- a fault says nothing of the source
 failed : (why : Halt) (old new : Failures) (source : Forest) → HasFailed why old new → SaysOfSource why source

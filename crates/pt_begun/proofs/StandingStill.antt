@@ -22,7 +22,7 @@ use Rattle.pt_plan.specs.Fixity.{AsItWas, Holding, IsKept, Making, MakingRoot, S
 use Rattle.pt_plan.specs.Job.{Job}
 use Rattle.pt_plan.specs.Roots.{root_in, storage_root, tuple_folders, with_folders, with_root}
 use Rattle.pt_begun.specs.Begun.{Begun}
-use Rattle.pt_begun.specs.BegunDest.{DestPart}
+use Rattle.pt_begun.specs.BegunDest.{DestPart, IsRootOfStart}
 use Rattle.pt_begun.specs.StillLaws.{BegunStandsStill, IsForNew, LeftBehindStandsStill, StandsStill}
 use Rattle.pt_begun.proofs.InPairtree.{some_same}
 use Rattle.pt_begun.proofs.KeptNow.{kept_now}
@@ -143,8 +143,8 @@ kept_still job start _ tree free (Making objects next tuples now come at) =
 pub left_behind_stands_still : LeftBehindStandsStill
 left_behind_stands_still job start now tree left = by left.stood
   where
-    by : IsFree start staging ⊎ (now.tree ≡ start) → StandsStill start now.tree
-    by (inl free) = kept_still job start now.tree tree free left.kept
+    by : IsRootOfStart job start ⊎ (now.tree ≡ start) → StandsStill start now.tree
+    by (inl root) = kept_still job start now.tree tree root.free left.kept
     by (inr same) = subst (StandsStill start) (sym same) (all_still start)
 
 pub begun_stands_still : BegunStandsStill

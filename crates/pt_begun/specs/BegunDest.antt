@@ -98,10 +98,10 @@ pub record IsCopying (job : Job) (start : Tree) (past : Past) (object : Object) 
   pub writes : IsWriting held position now
   pub making : IsMakingObject job start past.placed object (made_with_copy job object held past.bytes position writes.row.path) 0 now
 
--- what a run left that has ended: what may be kept, and all as it was where something stood at `staging`
+-- what a run left that has ended: what may be kept, and all as it was unless nothing stood at `staging`, and there was no root or one with the layout's files
 pub record IsLeftBehind (job : Job) (start : Tree) (now : Writing) : Type 0 where
   pub kept : IsKept job start now.tree
-  pub stood : IsFree start staging ⊎ (now.tree ≡ start)
+  pub stood : IsRootOfStart job start ⊎ (now.tree ≡ start)
 
 -- what holds at a phase, of the tree at the start and what the destination tells now
 abbrev pub DestAt : Job → Tree → Past → Phase → Held → Writing → Type 0

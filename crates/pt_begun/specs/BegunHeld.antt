@@ -135,9 +135,10 @@ NumbersAt job _ held = ⊤
 
 -- ---- the hasher
 
--- where the sidecar of an inventory is to be made, the inventory's text was fed
+-- from the inventory in the version's folder on, its text was fed
 abbrev pub IsFedBefore : Job → Object → Part → Held → Type 0
 IsFedBefore job object part.VersionSidecar held = held.fed ≡ text_of_inventory job object held.rows
+IsFedBefore job object part.Inventory held = held.fed ≡ text_of_inventory job object held.rows
 IsFedBefore job object part.Sidecar held = held.fed ≡ text_of_inventory job object held.rows
 IsFedBefore job object _ held = ⊤
 

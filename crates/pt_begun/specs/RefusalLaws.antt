@@ -21,10 +21,12 @@ use Rattle.pt_plan.specs.declared.halt.Halt.{Halt}
 use Rattle.pt_plan.specs.declared.halt.Halt.TheVariants as halt
 use Rattle.pt_begun.specs.Begun.{Begun, Start}
 
--- it is no store; it is one, but its prefix isn't good; no file of it changes while it is read, so for that none is refused
+-- it is no store; it is one, but its prefix isn't good; a destination is refused only after it was found to be one with a good prefix; no file of it changes while it is read, so for that none is refused
 abbrev pub SaysOfSource : Halt → Forest → Type 0
 SaysOfSource halt.NotPairtree source = is_store source ≡ false
 SaysOfSource halt.Prefix source = (is_store source ≡ true) × (has_prefix source ≡ false)
+SaysOfSource halt.StagingLeft source = (is_store source ≡ true) × (has_prefix source ≡ true)
+SaysOfSource halt.Target source = (is_store source ≡ true) × (has_prefix source ≡ true)
 SaysOfSource halt.Changed source = ⊥
 SaysOfSource _ source = ⊤
 

@@ -63,12 +63,13 @@ where
     }
 }
 
-// Writes a text that was asked for.
+// Writes a text that was asked for. Nobody may read it any more: that is no failure.
 fn tell<R: Print + Eprint>(rt: &R, text: &Text) -> u8
     ensures { (result ≡ 0) ⊎ (result ≡ 3) }
 {
     match print!(rt; "{text}") {
         Ok(()) => DONE,
+        Err(error) if error.kind() == io::ErrorKind::BrokenPipe => DONE,
         Err(_) => failed(rt, NamesFault::Write),
     }
 }

@@ -1,6 +1,6 @@
 //! Folders over a system of which one call fails, and which reads and writes by short pieces.
 use crate::folder_fakes::{Fake, LEN, World, byte_at};
-use crate::folder_steps::{Step, listed, opened, take};
+use crate::folder_steps::{Step, listed, next, opened, take};
 use pt_folder::{HostDest, HostSource};
 use pt_tree::{Block, Dest, Source, TreeFault};
 use std::alloc::Global;
@@ -27,7 +27,7 @@ fn short_reads_are_not_the_end(rt: HostRuntime) -> Result<(), Fail> {
         let mut block = Block::new();
         assert_eq!(rt; opened(&mut source, rt.alloc(), &["a"])?, Ok(()));
         for (start, len) in [(0, 8192), (8192, 8192), (16_384, 3616), (LEN, 0), (LEN, 0)] {
-            source.next(&mut block)?;
+            next(&mut source, &mut block)?;
             assert!(rt; is_part(&block, start, len), "{at_a_time} {start}");
         }
         let mut dest = HostDest::new(&fake, rt.alloc(), "f");
@@ -172,14 +172,14 @@ fn a_failed_next_reads_on_from_its_place(rt: HostRuntime) -> Result<(), Fail> {
         let mut source = HostSource::new(&fake, rt.alloc(), "f");
         let mut block = Block::new();
         assert_eq!(rt; opened(&mut source, rt.alloc(), &["a"])?, Ok(()));
-        source.next(&mut block)?;
+        next(&mut source, &mut block)?;
         // the second read of a block fails, then an open
         world.failing.set(2);
-        assert!(rt; source.next(&mut block).is_err());
+        assert!(rt; next(&mut source, &mut block).is_err());
         assert_eq!(rt; block.len(), 0);
         world.failing.set(1);
         assert!(rt; opened(&mut source, rt.alloc(), &["b"])?.is_err());
-        source.next(&mut block)?;
+        next(&mut source, &mut block)?;
         assert!(rt; is_part(&block, 8192, 8192));
         let wanted = if error == ErrorKind::OutOfMemory {
             0
@@ -192,19 +192,39 @@ fn a_failed_next_reads_on_from_its_place(rt: HostRuntime) -> Result<(), Fail> {
 }
 
 #[test]
-fn where_the_place_is_lost_the_file_is_closed(rt: HostRuntime) -> Result<(), Fail> {
+fn where_going_back_fails_it_is_tried_again(rt: HostRuntime) -> Result<(), Fail> {
     let world = World::new(4096, ErrorKind::Other, b"");
     let broken = Fake { world: &world };
     let mut source = HostSource::new(&broken, rt.alloc(), "f");
     let mut block = Block::new();
     assert_eq!(rt; opened(&mut source, rt.alloc(), &["a"])?, Ok(()));
+    next(&mut source, &mut block)?;
     world.lost.set(true);
     world.failing.set(2);
-    assert_eq!(rt; source.next(&mut block), Err(TreeFault::Device));
-    assert_eq!(rt; source.next(&mut block), Err(TreeFault::Device));
+    assert_eq!(rt; next(&mut source, &mut block), Err(TreeFault::Device));
+    assert_eq!(rt; next(&mut source, &mut block), Err(TreeFault::Device));
     assert_eq!(rt; block.len(), 0);
     assert_eq!(rt; source.failures(), 2);
-    assert_eq!(rt; world.calls.get(), 4);
+    // a look, an opening, two reads, two reads, and going back
+    assert_eq!(rt; world.calls.get(), 7);
+    world.lost.set(false);
+    next(&mut source, &mut block)?;
+    assert!(rt; is_part(&block, 8192, 8192));
+    assert_eq!(rt; world.calls.get(), 10);
+    Ok(())
+}
+
+#[test]
+fn what_is_no_file_is_not_opened(rt: HostRuntime) -> Result<(), Fail> {
+    for name in ["ad", "al"] {
+        let world = World::new(4096, ErrorKind::Other, b"");
+        let fake = Fake { world: &world };
+        let mut source = HostSource::new(&fake, rt.alloc(), "f");
+        let answer = opened(&mut source, rt.alloc(), &[name])?;
+        assert_eq!(rt; answer, Err(TreeFault::Device));
+        assert_eq!(rt; source.failures(), 1);
+        assert_eq!(rt; world.calls.get(), 1);
+    }
     Ok(())
 }
 

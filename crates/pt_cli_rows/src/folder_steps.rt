@@ -1,7 +1,8 @@
 //! Calls of a destination and a source as data, for tests.
-use pt_folder::{HostDest, HostSource, System};
+use pt_folder::{HostDest, HostSource};
 use pt_tree::{Block, Dest, Kind, Listing, Name, NamePath, Source, TreeFault};
 use std::alloc::Global;
+use std::rt::Files;
 use std::test::Fail;
 
 /// A call of a destination.
@@ -17,8 +18,9 @@ pub enum Step<'a> {
 }
 
 /// Makes the call; an `Append` adds so many letters.
-pub fn take<S: System>(
-    dest: &mut HostDest<'_, S>,
+#[tactic(auto, using(pt_folder::specs::DestHeld::untold_can_peek, pt_folder::specs::DestHeld::untold_may_make, pt_folder::specs::DestHeld::untold_can_write, pt_folder::specs::DestHeld::untold_may_move))]
+pub fn take<R: Files>(
+    dest: &mut HostDest<'_, &R>,
     block: &mut Block,
     alloc: Global,
     step: Step<'_>,
@@ -36,17 +38,24 @@ pub fn take<S: System>(
 }
 
 /// The kind of what is at a path.
-pub fn kind<S: System>(
-    dest: &mut HostDest<'_, S>,
+pub fn kind<R: Files>(
+    dest: &mut HostDest<'_, &R>,
     alloc: Global,
     names: &[&str],
 ) -> Result<Result<Option<Kind>, TreeFault>, Fail> {
     Ok(dest.kind(&path(alloc, names)?))
 }
 
+/// Reads the next block of the open file.
+#[tactic(auto, unfolding(pt_tree::specs::Source::CanRead))]
+pub fn next<R: Files>(source: &mut HostSource<'_, &R>, block: &mut Block) -> Result<(), TreeFault> {
+    source.next(block)
+}
+
 /// What `list` answers: the names and kinds, a line each, or the fault's number.
-pub fn listed<S: System>(
-    source: &mut HostSource<'_, S>,
+#[tactic(auto, unfolding(pt_tree::specs::Source::CanList))]
+pub fn listed<R: Files>(
+    source: &mut HostSource<'_, &R>,
     alloc: Global,
     names: &[&str],
 ) -> Result<String, Fail> {
@@ -60,8 +69,9 @@ pub fn listed<S: System>(
 }
 
 /// What `open` answers.
-pub fn opened<S: System>(
-    source: &mut HostSource<'_, S>,
+#[tactic(auto, unfolding(pt_tree::specs::Source::CanOpen))]
+pub fn opened<R: Files>(
+    source: &mut HostSource<'_, &R>,
     alloc: Global,
     names: &[&str],
 ) -> Result<Result<(), TreeFault>, Fail> {

@@ -1,7 +1,12 @@
 -- What is kept of a directory whose names aren't had.
 use Rattle.std.proofs.Common.{ℕ, List, sym, subst}
 use Rattle.std.specs.Prelude.{Option, Some, None, IfSome}
-use Rattle.pt_folder.specs.Failure.{IsAt, IsNamesCause, IsOfName, IsOfNames}
+use Rattle.std.specs.Prelude.{Result, Ok, Err}
+use Rattle.std.specs.declared.io.Error.{Error}
+use Rattle.pt_tree.specs.declared.faults.TreeFault.{TreeFault}
+use Rattle.pt_tree.specs.declared.faults.TreeFault.TheVariants.{Device, Memory}
+use Rattle.pt_folder.specs.Failure.{HasError, IsAt, IsNamesCause, IsOfCall, IsOfName, IsOfNames, OnDevice}
+use Rattle.pt_folder.specs.declared.failure.Cause.TheVariants as cause
 use Rattle.pt_folder.specs.declared.failure.Cause.{Cause}
 use Rattle.pt_folder.specs.declared.failure.Failure.{Failure}
 
@@ -13,3 +18,13 @@ pub kept_name : (last : Option Failure) (text : List ℕ) (why : Cause) (most : 
     → IsOfName most names name why → IfSome last (λ f. IsOfName most names name f.cause)
 kept_name None text why most names name kept is = tt
 kept_name (Some f) text why most names name kept is = subst (IsOfName most names name) (sym kept.1) is
+
+-- an error of a call that is kept at its path
+pub kept_call : {T : Type 0} (last : Option Failure) (text : List ℕ) (e : Error) (Q : Error → Type 0) (r : Result T TreeFault) → IfSome last (IsAt text (cause.System e)) → Q e → OnDevice r (IfSome last (IsOfCall text Q))
+kept_call last text e Q (Ok x) kept is = tt
+kept_call last text e Q (Err Memory) kept is = tt
+kept_call last text e Q (Err Device) kept is = by last kept
+  where
+    by : (o : Option Failure) → IfSome o (IsAt text (cause.System e)) → IfSome o (IsOfCall text Q)
+    by None kept = tt
+    by (Some f) kept = (kept.0, subst (HasError Q) (sym kept.1) is)

@@ -28,7 +28,7 @@ pub reads_name : {T E : Type 0} (r : Result T E) (bytes name : List ℕ) (P : T 
 reads_name (Ok s) bytes name P Q same h reads = refl
 reads_name (Err e) bytes name P Q same h reads = absurd (reads.0 (IsUtf8-from_is_utf8 bytes (ap is_utf8 same ∙ is_utf8-name name h)))
 
-joined-push : (x : List ℕ) (names : Path) (n : List ℕ) → joined ((x ∷ names) ++ n ∷ []) ≡ joined (x ∷ names) ++ 47 ∷ n
+pub joined-push : (x : List ℕ) (names : Path) (n : List ℕ) → joined ((x ∷ names) ++ n ∷ []) ≡ joined (x ∷ names) ++ 47 ∷ n
 joined-push x [] n = refl
 joined-push x (y ∷ names) n = ap (λ (l : List ℕ). x ++ 47 ∷ l) (joined-push y names n) ∙ sym (append_assoc x (47 ∷ joined (y ∷ names)) (47 ∷ n))
 

@@ -1,11 +1,13 @@
 -- Reads and writes, one after another.
-use Rattle.std.proofs.Common.{◌≡◌, ℕ, ◌+◌, ◌-◌, ◌^◌, ◌<◌, ◌≤◌, List, [], ◌∷◌, ◌++◌, arith, length, take, drop, refl, sym, ap, ◌∙◌, subst, length-take-le, le_refl, inl, inr}
+use Rattle.std.proofs.Common.{◌≡◌, ℕ, ◌+◌, ◌-◌, ◌^◌, ◌<◌, ◌≤◌, List, [], ◌∷◌, ◌++◌, ◌⊎◌, arith, length, length-drop, take, drop, refl, sym, ap, ◌∙◌, subst, length-take-le, le_refl, inl, inr}
 use Rattle.std.proofs.lemmas.List.{drop-drop, take_rest, length_push}
 use Rattle.std.proofs.lemmas.Fn.{FoldsTo-push}
 use Rattle.std.specs.List.{FoldsTo}
 use Rattle.std.specs.Prelude.{Result, Ok, Err}
 use Rattle.std.specs.declared.io.Error.{Error}
-use Rattle.pt_folder.specs.Runs.{GivesPiece, ReadsBlock, ReadsMore, WritesMore}
+use Rattle.std.specs.IoError.{error_kind}
+use Rattle.std.specs.declared.io.ErrorKind.TheVariants.{WriteZero}
+use Rattle.pt_folder.specs.Runs.{FailsToWrite, GivesPiece, ReadsBlock, ReadsMore, WritesMore}
 use Rattle.pt_tree.specs.declared.faults.TreeFault.{TreeFault}
 use Rattle.pt_tree.specs.declared.faults.TreeFault.TheVariants.{Device, Memory}
 use Rattle.pt_folder.specs.Calls.{IsDueTo, fault_of}
@@ -29,6 +31,20 @@ writes_more writes old mid new bytes done taken (counts, chain) some written =
   where
     positive : (n : ℕ) → (n ≡ 0 → ⊥) → 0 < n
     positive n some = grind (arith, some)
+
+-- why writing ends: a write of what was left answered so
+pub write_fails : {F : Type 0} (writes : F → List ℕ → Result ℕ Error → F → Type 0) (old mid new : F) (bytes : List ℕ) (done : ℕ) (e : Error)
+    → ((counts : List ℕ) × FoldsTo (WritesMore writes) (old, bytes) counts (mid, drop done bytes)) → done < length bytes
+    → writes mid (take (length bytes - done) (drop done bytes)) (Err e) new ⊎ (writes mid (take (length bytes - done) (drop done bytes)) (Ok 0) new × (error_kind e ≡ WriteZero))
+    → FailsToWrite writes bytes old e new
+write_fails {F} writes old mid new bytes done e (counts, chain) short failed = record {
+  counts = counts;
+  left = drop done bytes;
+  last = mid;
+  written = chain;
+  some = omega (arith, short, length-drop done bytes);
+  failed = subst (λ (b : List ℕ). writes mid b (Err e) new ⊎ (writes mid b (Ok 0) new × (error_kind e ≡ WriteZero))) (take_rest bytes done) failed;
+}
 
 -- what a read of a part of a buffer gave
 pub gives_piece : {F : Type 0} (reads : F → List ℕ → Result ℕ Error → F → Type 0) (room : ℕ) (old new : F) (part : List ℕ) (count : ℕ) → length part ≡ room → count ≤ length part

@@ -1,6 +1,6 @@
 -- What folders ask of the system, and what becomes of the answers.
 use Rattle.std.specs.Prelude.{◌≡◌, ◌≢◌, ◌⊎◌, ◌<◌, ◌≤◌, ⊤, ℕ, true, List, length, Option, None, Some, Result, Ok, Err}
-use Rattle.std.specs.Fs.{file_type, new_options, with_read, with_write, with_create_new}
+use Rattle.std.specs.Fs.{file_type, new_options, with_read, with_append, with_create_new}
 use Rattle.std.specs.IoError.{error_kind}
 use Rattle.std.specs.declared.fs.Metadata.{Metadata}
 use Rattle.std.specs.declared.fs.OpenOptions.{OpenOptions}
@@ -10,14 +10,15 @@ use Rattle.pt_tree.specs.declared.faults.TreeFault.TheVariants.{Device, Memory}
 use Rattle.pt_tree.specs.declared.kind.Kind.{Kind}
 use Rattle.pt_tree.specs.Path.{Path}
 use Rattle.pt_folder.specs.Folder.{entry_text, IsAbsent, IsKind, fault_of_kind}
+use Rattle.pt_folder.specs.Laws.{IsPath}
 
 -- how a file is opened for reading
 abbrev pub for_reading : OpenOptions
 for_reading = with_read new_options true
 
--- how a file is made: for writing, and only where nothing stands
+-- how a file is made: each write goes to its end, and only where nothing stands
 abbrev pub for_making : OpenOptions
-for_making = with_create_new (with_write new_options true) true
+for_making = with_create_new (with_append new_options true) true
 
 -- an error of the system, as a folder answers it
 abbrev pub fault_of : Error → TreeFault
@@ -43,6 +44,7 @@ IsRefused folder (Err Memory) = ⊤
 pub record IsAsked {S A T : Type 0} (call : S → List ℕ → A → S → Type 0) (leads : A → Result T TreeFault → Type 0) (folder : List ℕ) (p : Path) (old new : S) (result : Result T TreeFault) : Type 0 where
   pub reply : A
   pub filled : length folder ≢ 0
+  pub named : IsPath p
   pub made : call old (entry_text folder p) reply new
   pub gives : leads reply result
 
@@ -73,6 +75,7 @@ IsNotMade longest folder p (Err Memory) = ⊤
 pub record IsAskedToMake {S A T : Type 0} (longest : ℕ) (call : S → List ℕ → A → S → Type 0) (leads : A → Result T TreeFault → Type 0) (folder : List ℕ) (p : Path) (old new : S) (result : Result T TreeFault) : Type 0 where
   pub reply : A
   pub filled : length folder ≢ 0
+  pub named : IsPath p
   pub fits : length (entry_text folder p) ≤ longest
   pub made : call old (entry_text folder p) reply new
   pub gives : leads reply result

@@ -7,6 +7,7 @@ use Rattle.pt_tree.specs.Path.{Path}
 use Rattle.pt_folder.specs.Calls.{IsAnswer, IsRefused, fault_of, for_reading}
 use Rattle.pt_folder.specs.Failure.{IsOfCall, IsUnasked}
 use Rattle.pt_folder.specs.Folder.{entry_text}
+use Rattle.pt_folder.specs.Laws.{IsPath}
 use Rattle.pt_folder.specs.declared.failure.Failure.{Failure}
 
 -- the path of the directory that holds a directory
@@ -32,6 +33,7 @@ pub record IsMovedBy {S F : Type 0} (renames : S → List ℕ → List ℕ → R
   pub reply : Result (Unit {0}) Error
   pub mid : S
   pub filled : length folder ≢ 0
+  pub named : IsPath from × IsPath to
   pub made : renames old (entry_text folder from) (entry_text folder to) reply mid
   pub gives : MatchResult reply (λ _. AfterMove opens syncs synced (entry_text folder to) mid new result) (λ e. (new ≡ mid) × (result ≡ Err (fault_of e)))
 

@@ -1,60 +1,97 @@
 -- The open file of a folder that is read.
-use Rattle.std.specs.Prelude.{◌≡◌, ℕ, ◌==◌, ◌+◌, ◌-◌, ◌^◌, min, not, true, false, length, List, [], Option, Some, None, Result, Ok, Err, MatchBool}
+use Rattle.std.specs.Prelude.{◌≡◌, ◌⊎◌, ◌<◌, ℕ, ◌==◌, ◌+◌, ◌-◌, ◌^◌, not, true, false, length, take, drop, List, [], Option, Some, None, Result, Ok, Err, MatchBool}
+use Rattle.std.specs.Fs.{IsFile, file_type}
+use Rattle.std.specs.IoError.{error_kind}
+use Rattle.std.specs.Option.{option_map, option_and_then, ForSome}
+use Rattle.std.specs.declared.fs.Metadata.{Metadata}
 use Rattle.std.specs.declared.io.Error.{Error}
+use Rattle.std.specs.declared.io.ErrorKind.TheVariants.{FileTooLarge}
+use Rattle.pt_tree.specs.Path.{Path}
 use Rattle.pt_tree.specs.declared.faults.TreeFault.{TreeFault}
 use Rattle.pt_tree.specs.declared.faults.TreeFault.TheVariants.{Device}
 use Rattle.pt_folder.specs.declared.reading.Reading.{Reading}
-use Rattle.pt_folder.specs.Bytes.{TakesBlock}
-use Rattle.pt_folder.specs.Calls.{fault_of}
-use Rattle.pt_folder.specs.Failure.{IsAt, IsOfCall}
+use Rattle.pt_folder.specs.Calls.{AsksOnce, IsRefused, fault_of}
+use Rattle.pt_folder.specs.Failure.{IsAt, IsOfCall, IsUnasked}
+use Rattle.pt_folder.specs.Folder.{entry_text}
+use Rattle.pt_folder.specs.Laws.{IsPath}
 use Rattle.pt_folder.specs.declared.failure.Failure.{Failure}
 use Rattle.pt_folder.specs.declared.failure.Cause.TheVariants as cause
-use Rattle.pt_folder.specs.Runs.{FailsToRead, GoesTo, ReadsBlock}
+use Rattle.pt_folder.specs.Runs.{FailsToRead, ReadsBlock}
+
+-- what of a file isn't read yet, where its bytes are known
+abbrev pub unread_of : {F : Type 0} → (F → Option (List ℕ)) → Reading F → Option (List ℕ)
+unread_of bytes r = option_map (drop r.place) (bytes r.file)
+
+-- the same of the open file, if there is one
+abbrev pub unread_open : {F : Type 0} → (F → Option (List ℕ)) → Option (Reading F) → Option (List ℕ)
+unread_open bytes reading = option_and_then (unread_of bytes) reading
+
+-- where the bytes of a file are known, it stands at its place unless it is lost; and nothing is left once its end was met
+pub record Stands {F : Type 0} (bytes left : F → Option (List ℕ)) (r : Reading F) : Type 0 where
+  pub at_place : r.lost ≡ false → ForSome (bytes r.file) (λ xs. left r.file ≡ Some (drop r.place xs))
+  pub at_end : r.ended ≡ true → ForSome (bytes r.file) (λ xs. drop r.place xs ≡ [])
+
+abbrev pub StandsOpen : {F : Type 0} → (F → Option (List ℕ)) → (F → Option (List ℕ)) → Option (Reading F) → Type 0
+StandsOpen bytes left reading = ForSome reading (Stands bytes left)
+
+-- the block is the next bytes, as many as it holds
+abbrev pub IsNext : Option (List ℕ) → List ℕ → Type 0
+IsNext unread block = ForSome unread (λ xs. block ≡ take 8192 xs)
 
 -- a file is open, and is read from its start
 abbrev pub IsAtStart : {F : Type 0} → Option (Reading F) → Type 0
 IsAtStart None = ⊥
-IsAtStart (Some r) = r ≡ record { file = r.file; place = 0; ended = false }
+IsAtStart (Some r) = r ≡ record { file = r.file; place = 0; ended = false; lost = false }
 
 -- the open file, by the system's reply: it is the open one from its start, or after a fault the one that was
 abbrev pub OpensAt : {F : Type 0} → Option (Reading F) → Option (Reading F) → Result F Error → Result (Unit {0}) TreeFault → Type 0
-OpensAt old new (Ok file) result = (result ≡ Ok tt) × (new ≡ Some (record { file = file; place = 0; ended = false }))
+OpensAt old new (Ok file) result = (result ≡ Ok tt) × (new ≡ Some (record { file = file; place = 0; ended = false; lost = false }))
 OpensAt old new (Err e) result = (result ≡ Err (fault_of e)) × (new ≡ old)
 
--- Behind the end the block is empty and nothing changes. Before it the block is what the file's reads gave, one after
--- another, and where the file says which bytes are left, the next of them; the place moves on behind it, and the end was
--- met where the block isn't full.
-abbrev pub ReadsNext : {F : Type 0} → (F → Option (List ℕ)) → (F → List ℕ → Result ℕ Error → F → Type 0) → Reading F → Reading F → List ℕ → Type 0
-ReadsNext left reads old new block = MatchBool old.ended ((block ≡ []) × (new ≡ old))
-    (TakesBlock (left old.file) (left new.file) block × ReadsBlock reads 8192 old.file block new.file × (new.place ≡ min (old.place + length block) (2 ^ 64 - 1)) × (new.ended ≡ not (length block == 8192)))
+-- a file that may stand elsewhere was asked to go to its place, and did; another is as it was
+abbrev pub GoesFirst : {F : Type 0} → (F → ℕ → Result ℕ Error → F → Type 0) → Reading F → F → Type 0
+GoesFirst goes old mid = MatchBool old.lost ((at : ℕ) × goes old.file old.place (Ok at) mid) (mid ≡ old.file)
+
+-- Behind the end the block is empty and nothing changes. Before it the file goes to its place, if it may stand elsewhere;
+-- then the block is what its reads gave, one after another; the place moves on behind it, and the end was met where the
+-- block isn't full.
+abbrev pub ReadsNext : {F : Type 0} → (F → List ℕ → Result ℕ Error → F → Type 0) → (F → ℕ → Result ℕ Error → F → Type 0) → Reading F → Reading F → List ℕ → Type 0
+ReadsNext {F} reads goes old new block = MatchBool old.ended ((block ≡ []) × (new ≡ old))
+    ((mid : F) × GoesFirst goes old mid × ReadsBlock reads 8192 mid block new.file × (new.place ≡ old.place + length block) × (new.ended ≡ not (length block == 8192)) × (new.lost ≡ false))
 
 -- a file stays open and is read on
-abbrev pub ReadsOn : {F : Type 0} → (F → Option (List ℕ)) → (F → List ℕ → Result ℕ Error → F → Type 0) → Option (Reading F) → Option (Reading F) → List ℕ → Type 0
-ReadsOn left reads None new block = ⊥
-ReadsOn left reads (Some old) None block = ⊥
-ReadsOn left reads (Some old) (Some new) block = ReadsNext left reads old new block
+abbrev pub ReadsOn : {F : Type 0} → (F → List ℕ → Result ℕ Error → F → Type 0) → (F → ℕ → Result ℕ Error → F → Type 0) → Option (Reading F) → Option (Reading F) → List ℕ → Type 0
+ReadsOn reads goes None new block = ⊥
+ReadsOn reads goes (Some old) None block = ⊥
+ReadsOn reads goes (Some old) (Some new) block = ReadsNext reads goes old new block
 
--- before the end, after some reads or none, one answered so
-abbrev pub FailsToReadOn : {F : Type 0} → (F → List ℕ → Result ℕ Error → F → Type 0) → Reading F → Error → F → Type 0
-FailsToReadOn reads old e new = (old.ended ≡ false) × FailsToRead reads 8192 old.file e new
+-- the file was asked to go to its place, and answered so; it may still stand elsewhere
+abbrev pub FailsToGoBack : {F : Type 0} → (F → ℕ → Result ℕ Error → F → Type 0) → Reading F → Error → Reading F → Type 0
+FailsToGoBack goes old e new = (old.lost ≡ true) × goes old.file old.place (Err e) new.file × (new.lost ≡ true)
 
--- a file that stays open is read on from the same place
-abbrev pub StaysAtPlace : {F : Type 0} → Option (Reading F) → Option (Reading F) → Type 0
-StaysAtPlace old None = Unit {0}
-StaysAtPlace None (Some new) = ⊥
-StaysAtPlace (Some old) (Some new) = (new.place ≡ old.place) × (new.ended ≡ old.ended)
+-- the file went to its place, if it may have stood elsewhere; after some reads or none, one answered so
+abbrev pub FailsAtRead : {F : Type 0} → (F → List ℕ → Result ℕ Error → F → Type 0) → (F → ℕ → Result ℕ Error → F → Type 0) → Reading F → Error → Reading F → Type 0
+FailsAtRead {F} reads goes old e new = (mid : F) × GoesFirst goes old mid × FailsToRead reads 8192 mid e new.file × (new.lost ≡ true)
 
--- the file goes back to a place and stays open, or it can't and is closed
-abbrev pub GoesBack : {F : Type 0} → (F → ℕ → Result ℕ Error → F → Type 0) → F → ℕ → Option (Reading F) → Type 0
-GoesBack {F} goes before place None = (after : F) × GoesTo goes before place after false
-GoesBack {F} goes before place (Some new) = GoesTo goes before place new.file true
+-- no place behind the next block can be counted, so nothing is asked
+abbrev pub IsTooFar : {F : Type 0} → Reading F → Error → Reading F → Type 0
+IsTooFar old e new = (2 ^ 64 - 1 - 8192 < old.place) × (error_kind e ≡ FileTooLarge) × (new ≡ old)
 
--- after a failed read of the open file it goes, from where that left it, back to where the block began
-abbrev pub FailsBack : {F : Type 0} → (F → List ℕ → Result ℕ Error → F → Type 0) → (F → ℕ → Result ℕ Error → F → Type 0) → Option (Reading F) → Option (Reading F) → TreeFault → Type 0
-FailsBack reads goes None new fault = (fault ≡ Device) × (new ≡ None)
-FailsBack {F} reads goes (Some old) new fault = (e : Error) × (before : F) × FailsToReadOn reads old e before × (fault ≡ fault_of e) × GoesBack goes before old.place new
+-- Before the end, why reading on fails. The place and whether the end was met stay; the file stays open, and where one of
+-- its calls failed it may stand elsewhere.
+pub record FailsToReadOn {F : Type 0} (reads : F → List ℕ → Result ℕ Error → F → Type 0) (goes : F → ℕ → Result ℕ Error → F → Type 0) (old : Reading F) (e : Error) (new : Reading F) : Type 0 where
+  pub place : new.place ≡ old.place
+  pub before : old.ended ≡ false
+  pub ended : new.ended ≡ false
+  pub failed : IsTooFar old e new ⊎ (FailsToGoBack goes old e new ⊎ FailsAtRead reads goes old e new)
 
--- a failed `next`, at the open file's path: no file is open, or one of its reads answered so
-abbrev pub IsOfReading : {F : Type 0} → (F → List ℕ → Result ℕ Error → F → Type 0) → List ℕ → Option (Reading F) → Failure → Type 0
-IsOfReading reads path None f = IsAt path cause.Closed f
-IsOfReading {F} reads path (Some old) f = IsOfCall path (λ e. (after : F) × FailsToReadOn reads old e after) f
+-- the open file stays open, and this is why it isn't read on; or none is open
+abbrev pub FailsOn : {F : Type 0} → (F → List ℕ → Result ℕ Error → F → Type 0) → (F → ℕ → Result ℕ Error → F → Type 0) → Option (Reading F) → Option (Reading F) → TreeFault → Type 0
+FailsOn reads goes None new fault = (fault ≡ Device) × (new ≡ None)
+FailsOn reads goes (Some old) None fault = ⊥
+FailsOn reads goes (Some old) (Some new) fault = (e : Error) × FailsToReadOn reads goes old e new × (fault ≡ fault_of e)
+
+-- a failed `next`, at the open file's path: no file is open, or it isn't read on
+abbrev pub IsOfReading : {F : Type 0} → (F → List ℕ → Result ℕ Error → F → Type 0) → (F → ℕ → Result ℕ Error → F → Type 0) → List ℕ → Option (Reading F) → Failure → Type 0
+IsOfReading reads goes path None f = IsAt path cause.Closed f
+IsOfReading {F} reads goes path (Some old) f = IsOfCall path (λ e. (after : Reading F) × FailsToReadOn reads goes old e after) f

@@ -1,5 +1,5 @@
 -- The reads and writes of an open file, one after another.
-use Rattle.std.specs.Prelude.{◌≡◌, ◌⊎◌, ◌<◌, ◌-◌, ◌++◌, ℕ, Bool, true, false, List, [], length, take, drop, Option, Result, Ok, Err}
+use Rattle.std.specs.Prelude.{◌≡◌, ◌⊎◌, ◌<◌, ◌-◌, ◌++◌, ℕ, List, [], length, take, drop, Option, Result, Ok, Err}
 use Rattle.std.specs.IoError.{error_kind}
 use Rattle.std.specs.List.{FoldsTo}
 use Rattle.std.specs.declared.io.Error.{Error}
@@ -41,6 +41,10 @@ pub record FailsToRead {F : Type 0} (reads : F → List ℕ → Result ℕ Error
   pub short : length block < room
   pub failed : Reads reads (room - length block) last (Err e) new
 
+-- the writes of a system, as one of a system with an open file
+abbrev pub on_pairs : {S F : Type 0} → (S → F → List ℕ → Result ℕ Error → S → F → Type 0) → S × F → List ℕ → Result ℕ Error → S × F → Type 0
+on_pairs writes old piece reply new = writes old.0 old.1 piece reply new.0 new.1
+
 -- a write of all the bytes that are left took so many of them, and some
 abbrev pub WritesMore : {F : Type 0} → (F → List ℕ → Result ℕ Error → F → Type 0) → F × List ℕ → ℕ → F × List ℕ → Type 0
 WritesMore writes old taken new = (0 < taken) × writes old.0 old.1 (Ok taken) new.0 × (new.1 ≡ drop taken old.1)
@@ -57,11 +61,6 @@ pub record FailsToWrite {F : Type 0} (writes : F → List ℕ → Result ℕ Err
   pub written : FoldsTo (WritesMore writes) (old, bytes) counts (last, left)
   pub some : 0 < length left
   pub failed : writes last left (Err e) new ⊎ (writes last left (Ok 0) new × (error_kind e ≡ WriteZero))
-
--- the file was asked to go to a place, and did or didn't
-abbrev pub GoesTo : {F : Type 0} → (F → ℕ → Result ℕ Error → F → Type 0) → F → ℕ → F → Bool → Type 0
-GoesTo goes old place new true = (at : ℕ) × goes old place (Ok at) new
-GoesTo goes old place new false = (e : Error) × goes old place (Err e) new
 
 -- the first bytes of a file, by the system's reply and the file's reads
 abbrev pub PeeksAt : {F : Type 0} → (F → Option (List ℕ)) → (F → List ℕ → Result ℕ Error → F → Type 0) → List ℕ → Result F Error → Result (Unit {0}) TreeFault → Type 0

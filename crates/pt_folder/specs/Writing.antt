@@ -1,18 +1,16 @@
 -- The open file of a folder that is written.
 use Rattle.std.specs.Prelude.{◌≡◌, ℕ, Bool, true, false, cond, is_some, List, [], Option, Some, None, Result, Ok, Err, MatchResult}
-use Rattle.std.specs.Io.KnownBytes.{Appends}
 use Rattle.std.specs.declared.io.Error.{Error}
-use Rattle.pt_tree.specs.Log.{AppendsFront}
 use Rattle.pt_tree.specs.Path.{Path, rest_below}
 use Rattle.pt_tree.specs.declared.faults.TreeFault.{TreeFault}
 use Rattle.pt_tree.specs.declared.faults.TreeFault.TheVariants.{Device}
-use Rattle.pt_folder.specs.declared.dest.Writing.{Writing}
+use Rattle.pt_folder.specs.declared.writing.Writing.{Writing}
 use Rattle.pt_folder.specs.Calls.{IsAnswer, fault_of}
 use Rattle.pt_folder.specs.Failure.{IsAt, IsOfCall}
 use Rattle.pt_folder.specs.Folder.{entry_text}
 use Rattle.pt_folder.specs.declared.failure.Failure.{Failure}
 use Rattle.pt_folder.specs.declared.failure.Cause.TheVariants as cause
-use Rattle.pt_folder.specs.Runs.{FailsToWrite, WritesAll}
+use Rattle.pt_folder.specs.Runs.{FailsToWrite, WritesAll, on_pairs}
 
 -- the file at this path is the open one
 abbrev pub IsMadeAt : {F : Type 0} → Path → Option (Writing F) → Type 0
@@ -29,18 +27,16 @@ abbrev pub open_unless_within : {F : Type 0} → Path → Option (Writing F) →
 open_unless_within p None = None
 open_unless_within p (Some w) = cond (is_some (rest_below p w.path)) None (Some w)
 
--- a file stays open, and what it is known to hold grows by the piece; by a part of it, from its start, after a fault
-abbrev pub AddsTo : {F : Type 0} → (F → Option (List ℕ)) → Option (Writing F) → Option (Writing F) → List ℕ → Result (Unit {0}) TreeFault → Type 0
-AddsTo holds None None piece result = Unit {0}
-AddsTo holds None (Some new) piece result = ⊥
-AddsTo holds (Some old) None piece result = ⊥
-AddsTo holds (Some old) (Some new) piece result = (new.path ≡ old.path) × MatchResult result (λ _. Appends (holds old.file) (holds new.file) piece) (λ _. AppendsFront (holds old.file) (holds new.file) piece)
-
 -- which writes the open file is asked for, and why adding to it fails: one of them did, or no file is open
-abbrev pub WritesTo : {F : Type 0} → (F → List ℕ → Result ℕ Error → F → Type 0) → Option (Writing F) → Option (Writing F) → List ℕ → Result (Unit {0}) TreeFault → Type 0
-WritesTo writes None new piece result = (result ≡ Err Device) × (new ≡ None)
-WritesTo writes (Some old) None piece result = ⊥
-WritesTo writes (Some old) (Some new) piece result = MatchResult result (λ _. WritesAll writes piece old.file new.file) (λ fault. (e : Error) × FailsToWrite writes piece old.file e new.file × (fault ≡ fault_of e))
+abbrev pub WritesTo : {S F : Type 0} → (S → F → List ℕ → Result ℕ Error → S → F → Type 0) → S → Option (Writing F) → S → Option (Writing F) → List ℕ → Result (Unit {0}) TreeFault → Type 0
+WritesTo writes s None new_s new piece result = (result ≡ Err Device) × (new ≡ None) × (new_s ≡ s)
+WritesTo writes s (Some old) new_s None piece result = ⊥
+WritesTo writes s (Some old) new_s (Some new) piece result = (new.path ≡ old.path) × MatchResult result (λ _. WritesAll (on_pairs writes) piece (s, old.file) (new_s, new.file))
+    (λ fault. (e : Error) × FailsToWrite (on_pairs writes) piece (s, old.file) e (new_s, new.file) × (fault ≡ fault_of e))
+
+-- writes of a piece to a file ended with this error
+abbrev pub FailsToAdd : {S F : Type 0} → (S → F → List ℕ → Result ℕ Error → S → F → Type 0) → List ℕ → S → F → Error → Type 0
+FailsToAdd {S} {F} writes piece s file e = (after : S × F) × FailsToWrite (on_pairs writes) piece (s, file) e after
 
 -- how the open file is closed: at once, or put onto the disk before, and so it was answered
 abbrev pub FinishesBy : {F : Type 0} → (F → Result (Unit {0}) Error → F → Type 0) → Bool → F → Result (Unit {0}) TreeFault → Type 0

@@ -6,19 +6,22 @@ ghost use Rattle.pt_folder.specs.Folder.{entry_text};
 ghost use Rattle.pt_folder.specs.Calls.{AsksOnce, CannotMake, IsAnswer, IsThere, LeadsToKind, MakesOnce, for_making, for_reading};
 ghost use Rattle.pt_folder.specs.Failure.{FailsToPeek, IsOfCall, KeepsCall, KeepsMaking, OnDevice};
 ghost use Rattle.pt_folder.specs.Moving.{FailsToSync, IsOfMove, IsSynced, MovesOnce, holder_text};
-ghost use Rattle.pt_folder.specs.Runs.{FailsToWrite, PeeksAt};
+ghost use Rattle.pt_folder.specs.DestHeld.{IsPlaced, told_of, unless_synced};
+ghost use Rattle.pt_folder.specs.Runs.{PeeksAt};
 ghost use Rattle.pt_folder.specs.Settings.{IsSetAs, greatest_length};
-ghost use Rattle.pt_folder.specs.Writing.{AddsTo, FinishesBy, IsMadeAt, IsOfWriting, MakesAt, WritesTo, open_unless_within};
+ghost use Rattle.pt_folder.specs.Writing.{FailsToAdd, FinishesBy, IsMadeAt, IsOfWriting, MakesAt, WritesTo, open_unless_within};
 
 use crate::bytes::{read_block, write_out};
 use crate::failure::{Cause, Failure, heard, keep};
 use crate::folder::{Folder, counted, heard_at, is_there, kind_at, make_dir, reading};
-use crate::system::{Handle, System};
+use crate::system::{Handle, Input, System};
+use crate::writing::Writing;
 use pt_tree::{Block, Dest, Kind, NamePath, TreeFault};
 use std::alloc::{AllocError, Global};
 use std::fs::OpenOptions;
 
-/// A folder of the system as a destination. It tells nothing.
+/// A folder of the system as a destination. It tells the tree that the system keeps there, where it keeps one, and where files
+/// aren't put onto the disk: a move stands though its directory then couldn't be put there.
 #[derive(Drop)]
 pub struct HostDest<'a, S: System> {
     system: S,
@@ -29,13 +32,7 @@ pub struct HostDest<'a, S: System> {
     at: String,
     last: Option<Failure>,
     failures: u64,
-}
-
-// The open file, and its path.
-#[derive(Drop)]
-struct Writing<F> {
-    file: F,
-    path: NamePath,
+    ghost placed: { IsPlaced (unless_synced synced (S.kept system folder.path.now)) writing },
 }
 
 impl<'a, S: System> HostDest<'a, S> {
@@ -63,17 +60,32 @@ impl<'a, S: System> HostDest<'a, S> {
 
     /// The same destination, in which no directory or file is made whose path, the folder's before it, has more bytes.
     pub fn with_longest(mut self, longest: usize) -> HostDest<'a, S>
-        ensures { result ≡ record self.entry { longest = longest } }
+        ensures longest { result.longest ≡ longest }
+        ensures writing { result.writing ≡ self.entry.writing }
+        ensures system { result.system ≡ self.entry.system }
+        ensures folder { result.folder ≡ self.entry.folder }
+        ensures synced { result.synced ≡ self.entry.synced }
+        ensures at { result.at ≡ self.entry.at }
+        ensures last { result.last ≡ self.entry.last }
+        ensures failures { result.failures ≡ self.entry.failures }
     {
         self.longest = longest;
         self
     }
 
-    /// The same destination, whose files are put onto the disk before they are closed, and so is, after a rename, the
-    /// directory that holds what was moved.
+    /// The same destination, with no open file, whose files are put onto the disk before they are closed, and so is, after
+    /// a rename, the directory that holds what was moved.
     pub fn with_sync(mut self, synced: bool) -> HostDest<'a, S>
-        ensures { result ≡ record self.entry { synced = synced } }
+        ensures synced { result.synced ≡ synced }
+        ensures writing { result.writing ≡ None }
+        ensures system { result.system ≡ self.entry.system }
+        ensures folder { result.folder ≡ self.entry.folder }
+        ensures longest { result.longest ≡ self.entry.longest }
+        ensures at { result.at ≡ self.entry.at }
+        ensures last { result.last ≡ self.entry.last }
+        ensures failures { result.failures ≡ self.entry.failures }
     {
+        self.writing = None;
         self.synced = synced;
         self
     }
@@ -99,7 +111,7 @@ impl<'a, S: System> HostDest<'a, S> {
         ensures refused { OnDevice result (CannotMake self.old.longest self.old.folder.path.now path.now) }
         ensures system { self.new.system ≡ self.old.system }
         ensures folder { self.new.folder ≡ self.old.folder }
-        ensures settings { IsSetAs self.old self.new }
+        ensures settings { IsSetAs self.old.longest self.old.synced self.new.longest self.new.synced }
         ensures writing { self.new.writing ≡ self.old.writing }
         ensures failures { IsCounted self.old.failures self.new.failures result }
     {
@@ -115,7 +127,7 @@ impl<'a, S: System> HostDest<'a, S> {
         ensures asked { AsksOnce S.looks IsThere self.old.folder.path.now [] self.old.system self.new.system result }
         ensures kept { OnDevice result (KeepsCall self.old.folder.path.now [] (λ e. S.looks self.old.system (entry_text self.old.folder.path.now []) (Err e) self.new.system) self.new.last) }
         ensures folder { self.new.folder ≡ self.old.folder }
-        ensures settings { IsSetAs self.old self.new }
+        ensures settings { IsSetAs self.old.longest self.old.synced self.new.longest self.new.synced }
         ensures writing { self.new.writing ≡ self.old.writing }
         ensures failures { IsCounted self.old.failures self.new.failures result }
     {
@@ -123,31 +135,45 @@ impl<'a, S: System> HostDest<'a, S> {
         let there = is_there(&mut self.system, &self.folder, &top, &mut self.last);
         counted(&mut self.failures, there)
     }
+
+    /// The block becomes the first bytes of what stands at a path, up to 8,192, whatever that is. On a fault the block is
+    /// empty.
+    pub fn first_bytes(&mut self, path: &NamePath, block: &mut Block) -> Result<(), TreeFault>
+        ensures empty { OnErr result (block.new.items ≡ []) }
+        ensures asked { AsksOnce (λ s. S.opens s for_reading) (PeeksAt S.File.Input.left S.File.Input.reads block.new.items) self.old.folder.path.now path.now self.old.system self.new.system result }
+        ensures kept { OnDevice result (KeepsCall self.old.folder.path.now path.now (FailsToPeek (λ s. S.opens s for_reading) S.File.Input.reads (entry_text self.old.folder.path.now path.now) self.old.system self.new.system) self.new.last) }
+        ensures writing { self.new.writing ≡ self.old.writing }
+        ensures settings { IsSetAs self.old.longest self.old.synced self.new.longest self.new.synced }
+        ensures folder { self.new.folder ≡ self.old.folder }
+        ensures failures { IsCounted self.old.failures self.new.failures result }
+    {
+        let peeked = peek(&mut self.system, &self.folder, path, block, &mut self.last);
+        counted(&mut self.failures, peeked)
+    }
 }
 
 impl<'a, S: System> Dest for HostDest<'a, S> {
-    ghost use Rattle.pt_tree.specs.Dest.{IsKindAt, IsPeeked, LeavesPart, after_mkdir, after_create, after_append, after_finish, after_rename};
-    ghost use Rattle.pt_folder.specs.Devices.{no_dest, tree_untold};
+    ghost use Rattle.pt_tree.specs.Dest.{CanPeek, CanWrite, IsKindAt, IsPeeked, LeavesPart, MayMake, MayMove, after_mkdir, after_create, after_append, after_finish, after_rename};
+    ghost use Rattle.pt_folder.specs.DestHeld.{tree_held, tree_unless};
 
-    ghost told = { no_dest };
+    ghost told = { λ d. told_of (unless_synced d.synced (S.kept d.system d.folder.path.now)) d.writing };
 
     ghost failed = { λ d. d.failures };
 
-    ghost is_tree = { tree_untold };
+    ghost is_tree = { λ d state is. tree_held (unless_synced d.synced (S.kept d.system d.folder.path.now)) d.writing state (tree_unless d.synced (S.kept d.system d.folder.path.now) (S.tree_law d.system d.folder.path.now)) is };
 
     fn failures(&self) -> u64 {
         self.failures
     }
 
-    #[tactic(auto, unfolding(pt_tree::specs::Dest::IsKindAt))]
     fn kind(&mut self, path: &NamePath) -> Result<Option<Kind>, TreeFault>
-        ensures kind { IfOk result (λ kind. IsKindAt (no_dest self.old) path.now kind) }
-        ensures same { no_dest self.new ≡ no_dest self.old }
+        ensures kind { IfOk result (λ kind. IsKindAt (told_of (unless_synced self.old.synced (S.kept self.old.system self.old.folder.path.now)) self.old.writing) path.now kind) }
+        ensures same { told_of (unless_synced self.new.synced (S.kept self.new.system self.new.folder.path.now)) self.new.writing ≡ told_of (unless_synced self.old.synced (S.kept self.old.system self.old.folder.path.now)) self.old.writing }
         ensures writing { self.new.writing ≡ self.old.writing }
         ensures asked { AsksOnce S.looks LeadsToKind self.old.folder.path.now path.now self.old.system self.new.system result }
         ensures kept { OnDevice result (KeepsCall self.old.folder.path.now path.now (λ e. S.looks self.old.system (entry_text self.old.folder.path.now path.now) (Err e) self.new.system) self.new.last) }
         ensures at { OnOk result (string_bytes self.new.at ≡ entry_text self.old.folder.path.now path.now) }
-        ensures settings { IsSetAs self.old self.new }
+        ensures settings { IsSetAs self.old.longest self.old.synced self.new.longest self.new.synced }
         ensures folder { self.new.folder ≡ self.old.folder }
         ensures failures { IsCounted self.old.failures self.new.failures result }
     {
@@ -161,29 +187,29 @@ impl<'a, S: System> Dest for HostDest<'a, S> {
         counted(&mut self.failures, kind)
     }
 
-    #[tactic(auto, unfolding(pt_tree::specs::Dest::IsPeeked))]
     fn peek(&mut self, path: &NamePath, block: &mut Block) -> Result<(), TreeFault>
-        ensures block { OnOk result (IsPeeked (no_dest self.old) path.now block.new.items) }
+        requires { CanPeek (told_of (unless_synced self.old.synced (S.kept self.old.system self.old.folder.path.now)) self.old.writing) path.now }
+        ensures block { OnOk result (IsPeeked (told_of (unless_synced self.old.synced (S.kept self.old.system self.old.folder.path.now)) self.old.writing) path.now block.new.items) }
         ensures empty { OnErr result (block.new.items ≡ []) }
-        ensures same { no_dest self.new ≡ no_dest self.old }
+        ensures same { told_of (unless_synced self.new.synced (S.kept self.new.system self.new.folder.path.now)) self.new.writing ≡ told_of (unless_synced self.old.synced (S.kept self.old.system self.old.folder.path.now)) self.old.writing }
         ensures writing { self.new.writing ≡ self.old.writing }
-        ensures asked { AsksOnce (λ s. S.opens s for_reading) (PeeksAt ⟦<S::File as Handle>⟧.remaining ⟦<S::File as Handle>⟧.reads block.new.items) self.old.folder.path.now path.now self.old.system self.new.system result }
-        ensures kept { OnDevice result (KeepsCall self.old.folder.path.now path.now (FailsToPeek (λ s. S.opens s for_reading) ⟦<S::File as Handle>⟧.reads (entry_text self.old.folder.path.now path.now) self.old.system self.new.system) self.new.last) }
-        ensures settings { IsSetAs self.old self.new }
+        ensures asked { AsksOnce (λ s. S.opens s for_reading) (PeeksAt ⟦<S::File as Input>⟧.left ⟦<S::File as Input>⟧.reads block.new.items) self.old.folder.path.now path.now self.old.system self.new.system result }
+        ensures kept { OnDevice result (KeepsCall self.old.folder.path.now path.now (FailsToPeek (λ s. S.opens s for_reading) ⟦<S::File as Input>⟧.reads (entry_text self.old.folder.path.now path.now) self.old.system self.new.system) self.new.last) }
+        ensures settings { IsSetAs self.old.longest self.old.synced self.new.longest self.new.synced }
         ensures folder { self.new.folder ≡ self.old.folder }
         ensures failures { IsCounted self.old.failures self.new.failures result }
     {
-        let peeked = peek(&mut self.system, &self.folder, path, block, &mut self.last);
-        counted(&mut self.failures, peeked)
+        self.first_bytes(path, block)
     }
 
     fn mkdir(&mut self, path: &NamePath) -> Result<(), TreeFault>
-        ensures made { OnOk result (no_dest self.new ≡ option_map (after_mkdir path.now) (no_dest self.old)) }
-        ensures same { OnErr result (no_dest self.new ≡ no_dest self.old) }
+        requires { MayMake (told_of (unless_synced self.old.synced (S.kept self.old.system self.old.folder.path.now)) self.old.writing) path.now }
+        ensures made { OnOk result (told_of (unless_synced self.new.synced (S.kept self.new.system self.new.folder.path.now)) self.new.writing ≡ option_map (after_mkdir path.now) (told_of (unless_synced self.old.synced (S.kept self.old.system self.old.folder.path.now)) self.old.writing)) }
+        ensures same { OnErr result (told_of (unless_synced self.new.synced (S.kept self.new.system self.new.folder.path.now)) self.new.writing ≡ told_of (unless_synced self.old.synced (S.kept self.old.system self.old.folder.path.now)) self.old.writing) }
         ensures writing { self.new.writing ≡ self.old.writing }
         ensures asked { MakesOnce self.old.longest S.makes_dir IsAnswer self.old.folder.path.now path.now self.old.system self.new.system result }
         ensures kept { OnDevice result (KeepsMaking self.old.longest self.old.folder.path.now path.now (λ e. S.makes_dir self.old.system (entry_text self.old.folder.path.now path.now) (Err e) self.new.system) self.new.last) }
-        ensures settings { IsSetAs self.old self.new }
+        ensures settings { IsSetAs self.old.longest self.old.synced self.new.longest self.new.synced }
         ensures folder { self.new.folder ≡ self.old.folder }
         ensures failures { IsCounted self.old.failures self.new.failures result }
     {
@@ -198,13 +224,14 @@ impl<'a, S: System> Dest for HostDest<'a, S> {
     }
 
     fn create(&mut self, path: &NamePath) -> Result<(), TreeFault>
-        ensures made { OnOk result (no_dest self.new ≡ option_map (after_create path.now) (no_dest self.old)) }
-        ensures same { OnErr result (no_dest self.new ≡ no_dest self.old) }
+        requires { MayMake (told_of (unless_synced self.old.synced (S.kept self.old.system self.old.folder.path.now)) self.old.writing) path.now }
+        ensures made { OnOk result (told_of (unless_synced self.new.synced (S.kept self.new.system self.new.folder.path.now)) self.new.writing ≡ option_map (after_create path.now) (told_of (unless_synced self.old.synced (S.kept self.old.system self.old.folder.path.now)) self.old.writing)) }
+        ensures same { OnErr result (told_of (unless_synced self.new.synced (S.kept self.new.system self.new.folder.path.now)) self.new.writing ≡ told_of (unless_synced self.old.synced (S.kept self.old.system self.old.folder.path.now)) self.old.writing) }
         ensures opened { OnOk result (IsMadeAt path.now self.new.writing) }
         ensures writing { OnErr result (self.new.writing ≡ self.old.writing) }
         ensures asked { MakesOnce self.old.longest (λ s. S.opens s for_making) (MakesAt path.now self.old.writing self.new.writing) self.old.folder.path.now path.now self.old.system self.new.system result }
         ensures kept { OnDevice result (KeepsMaking self.old.longest self.old.folder.path.now path.now (λ e. S.opens self.old.system for_making (entry_text self.old.folder.path.now path.now) (Err e) self.new.system) self.new.last) }
-        ensures settings { IsSetAs self.old self.new }
+        ensures settings { IsSetAs self.old.longest self.old.synced self.new.longest self.new.synced }
         ensures folder { self.new.folder ≡ self.old.folder }
         ensures failures { IsCounted self.old.failures self.new.failures result }
     {
@@ -219,30 +246,35 @@ impl<'a, S: System> Dest for HostDest<'a, S> {
         counted(&mut self.failures, made)
     }
 
-    #[tactic(auto, using(crate::proofs::Untold::leaves_nothing))]
     fn append(&mut self, piece: &[u8]) -> Result<(), TreeFault>
-        ensures added { OnOk result (no_dest self.new ≡ option_map (after_append piece.now) (no_dest self.old)) }
-        ensures part { OnErr result (LeavesPart (no_dest self.old) (no_dest self.new) piece.now) }
+        requires { CanWrite (told_of (unless_synced self.old.synced (S.kept self.old.system self.old.folder.path.now)) self.old.writing) }
+        ensures added { OnOk result (told_of (unless_synced self.new.synced (S.kept self.new.system self.new.folder.path.now)) self.new.writing ≡ option_map (after_append piece.now) (told_of (unless_synced self.old.synced (S.kept self.old.system self.old.folder.path.now)) self.old.writing)) }
+        ensures part { OnErr result (LeavesPart (told_of (unless_synced self.old.synced (S.kept self.old.system self.old.folder.path.now)) self.old.writing) (told_of (unless_synced self.new.synced (S.kept self.new.system self.new.folder.path.now)) self.new.writing) piece.now) }
         ensures closed { IfNone self.old.writing (result ≡ Err Device) }
-        ensures written { AddsTo ⟦<S::File as Handle>⟧.contents self.old.writing self.new.writing piece.now result }
-        ensures writes { WritesTo ⟦<S::File as Handle>⟧.writes self.old.writing self.new.writing piece.now result }
-        ensures kept { OnDevice result (IfSome self.new.last (IsOfWriting self.old.folder.path.now (λ w e. (after : _) × FailsToWrite ⟦<S::File as Handle>⟧.writes piece.now w e after) self.old.writing)) }
-        ensures settings { IsSetAs self.old self.new }
-        ensures system { self.new.system ≡ self.old.system }
+        ensures writes { WritesTo S.writes self.old.system self.old.writing self.new.system self.new.writing piece.now result }
+        ensures kept { OnDevice result (IfSome self.new.last (IsOfWriting self.old.folder.path.now (FailsToAdd S.writes piece.now self.old.system) self.old.writing)) }
+        ensures settings { IsSetAs self.old.longest self.old.synced self.new.longest self.new.synced }
         ensures folder { self.new.folder ≡ self.old.folder }
         ensures failures { IsCounted self.old.failures self.new.failures result }
     {
-        let added = add(&mut self.writing, piece, &self.folder, &mut self.last);
+        let added = add(
+            &mut self.system,
+            &mut self.writing,
+            piece,
+            &self.folder,
+            &mut self.last,
+        );
         counted(&mut self.failures, added)
     }
 
     fn finish(&mut self) -> Result<(), TreeFault>
-        ensures finished { OnOk result (no_dest self.new ≡ option_map after_finish (no_dest self.old)) }
-        ensures same { OnErr result (no_dest self.new ≡ no_dest self.old) }
+        requires { CanWrite (told_of (unless_synced self.old.synced (S.kept self.old.system self.old.folder.path.now)) self.old.writing) }
+        ensures finished { OnOk result (told_of (unless_synced self.new.synced (S.kept self.new.system self.new.folder.path.now)) self.new.writing ≡ option_map after_finish (told_of (unless_synced self.old.synced (S.kept self.old.system self.old.folder.path.now)) self.old.writing)) }
+        ensures same { OnErr result (told_of (unless_synced self.new.synced (S.kept self.new.system self.new.folder.path.now)) self.new.writing ≡ told_of (unless_synced self.old.synced (S.kept self.old.system self.old.folder.path.now)) self.old.writing) }
         ensures closed { IfNone self.old.writing (result ≡ Err Device) }
         ensures open { IfSome self.old.writing (λ w. FinishesBy ⟦<S::File as Handle>⟧.syncs self.old.synced w.file result) }
         ensures kept { OnDevice result (IfSome self.new.last (IsOfWriting self.old.folder.path.now (λ w e. (after : _) × ⟦<S::File as Handle>⟧.syncs w (Err e) after) self.old.writing)) }
-        ensures settings { IsSetAs self.old self.new }
+        ensures settings { IsSetAs self.old.longest self.old.synced self.new.longest self.new.synced }
         ensures writing { self.new.writing ≡ None }
         ensures system { self.new.system ≡ self.old.system }
         ensures folder { self.new.folder ≡ self.old.folder }
@@ -253,49 +285,56 @@ impl<'a, S: System> Dest for HostDest<'a, S> {
     }
 
     fn rename(&mut self, from: &NamePath, to: &NamePath) -> Result<(), TreeFault>
-        ensures moved { OnOk result (no_dest self.new ≡ option_map (after_rename from.now to.now) (no_dest self.old)) }
-        ensures same { OnErr result (no_dest self.new ≡ no_dest self.old) }
+        requires { MayMove (told_of (unless_synced self.old.synced (S.kept self.old.system self.old.folder.path.now)) self.old.writing) from.now to.now }
+        ensures moved { OnOk result (told_of (unless_synced self.new.synced (S.kept self.new.system self.new.folder.path.now)) self.new.writing ≡ option_map (after_rename from.now to.now) (told_of (unless_synced self.old.synced (S.kept self.old.system self.old.folder.path.now)) self.old.writing)) }
+        ensures same { OnErr result (told_of (unless_synced self.new.synced (S.kept self.new.system self.new.folder.path.now)) self.new.writing ≡ told_of (unless_synced self.old.synced (S.kept self.old.system self.old.folder.path.now)) self.old.writing) }
         ensures writing { OnErr result (self.new.writing ≡ self.old.writing) }
         ensures left { OnOk result (self.new.writing ≡ open_unless_within from.now self.old.writing) }
         ensures asked { MovesOnce S.renames S.opens ⟦<S::File as Handle>⟧.syncs self.old.synced self.old.folder.path.now from.now to.now self.old.system self.new.system result }
         ensures kept { OnDevice result (IfSome self.new.last (IsOfMove S.renames S.opens ⟦<S::File as Handle>⟧.syncs self.old.folder.path.now from.now to.now self.old.system self.new.system)) }
-        ensures settings { IsSetAs self.old self.new }
+        ensures settings { IsSetAs self.old.longest self.old.synced self.new.longest self.new.synced }
         ensures folder { self.new.folder ≡ self.old.folder }
         ensures failures { IsCounted self.old.failures self.new.failures result }
     {
-        let moved = self.moved(from, to);
+        let moved = moved(
+            &mut self.system,
+            &self.folder,
+            &mut self.writing,
+            self.synced,
+            from,
+            to,
+            &mut self.last,
+        );
         counted(&mut self.failures, moved)
     }
 }
 
-impl<'a, S: System> HostDest<'a, S> {
-    // Moves what stands at a path, and closes the file that is open there or below.
-    fn moved(&mut self, from: &NamePath, to: &NamePath) -> Result<(), TreeFault>
-        ensures same { OnErr result (self.new.writing ≡ self.old.writing) }
-        ensures left { OnOk result (self.new.writing ≡ open_unless_within from.now self.old.writing) }
-        ensures asked { MovesOnce S.renames S.opens S.File.Handle.syncs self.old.synced self.old.folder.path.now from.now to.now self.old.system self.new.system result }
-        ensures kept { OnDevice result (IfSome self.new.last (IsOfMove S.renames S.opens S.File.Handle.syncs self.old.folder.path.now from.now to.now self.old.system self.new.system)) }
-        ensures settings { IsSetAs self.old self.new }
-        ensures folder { self.new.folder ≡ self.old.folder }
-        ensures failures { self.new.failures ≡ self.old.failures }
-    {
-        let old = self.folder.text(from, &mut self.last)?;
-        let new = self.folder.text(to, &mut self.last)?;
-        let above = holder(self.folder.alloc, new.as_str())?;
-        if let Err(error) = self.system.move_to(old.as_str(), new.as_str()) {
-            return Err(heard(&mut self.last, self.folder.alloc, new.as_str(), error));
-        }
-        if self.synced {
-            sync_dir(
-                &mut self.system,
-                self.folder.alloc,
-                above.as_str(),
-                &mut self.last,
-            )?;
-        }
-        close_within(&mut self.writing, from);
-        Ok(())
+// Moves what stands at the first path to the second, and closes the file that is open there or below.
+fn moved<S: System>(
+    system: &mut S,
+    folder: &Folder<'_>,
+    writing: &mut Option<Writing<S::File>>,
+    synced: bool,
+    from: &NamePath,
+    to: &NamePath,
+    last: &mut Option<Failure>,
+) -> Result<(), TreeFault>
+    ensures same { OnErr result (writing.new ≡ writing.old) }
+    ensures left { OnOk result (writing.new ≡ open_unless_within from.now writing.old) }
+    ensures asked { MovesOnce S.renames S.opens S.File.Handle.syncs synced folder.now.path.now from.now to.now system.old system.new result }
+    ensures kept { OnDevice result (IfSome last.new (IsOfMove S.renames S.opens S.File.Handle.syncs folder.now.path.now from.now to.now system.old system.new)) }
+{
+    let old = folder.text(from, last)?;
+    let new = folder.text(to, last)?;
+    let above = holder(folder.alloc, new.as_str())?;
+    if let Err(error) = system.move_to(old.as_str(), new.as_str()) {
+        return Err(heard(last, folder.alloc, new.as_str(), error));
     }
+    if synced {
+        sync_dir(system, folder.alloc, above.as_str(), last)?;
+    }
+    close_within(writing, from);
+    Ok(())
 }
 
 // The path of the directory that holds an entry, by the entry's own path.
@@ -335,8 +374,8 @@ fn peek<S: System>(
     last: &mut Option<Failure>,
 ) -> Result<(), TreeFault>
     ensures empty { OnErr result (block.new.items ≡ []) }
-    ensures asked { AsksOnce (λ s. S.opens s for_reading) (PeeksAt S.File.Handle.remaining S.File.Handle.reads block.new.items) folder.now.path.now path.now system.old system.new result }
-    ensures kept { OnDevice result (KeepsCall folder.now.path.now path.now (FailsToPeek (λ s. S.opens s for_reading) S.File.Handle.reads (entry_text folder.now.path.now path.now) system.old system.new) last.new) }
+    ensures asked { AsksOnce (λ s. S.opens s for_reading) (PeeksAt S.File.Input.left S.File.Input.reads block.new.items) folder.now.path.now path.now system.old system.new result }
+    ensures kept { OnDevice result (KeepsCall folder.now.path.now path.now (FailsToPeek (λ s. S.opens s for_reading) S.File.Input.reads (entry_text folder.now.path.now path.now) system.old system.new) last.new) }
 {
     block.clear();
     let text = folder.text(path, last)?;
@@ -374,29 +413,29 @@ fn create<S: System>(
     }
 }
 
-// How a file is made: for writing, and only where nothing stands.
+// How a file is made: each write goes to its end, and only where nothing stands.
 fn making() -> OpenOptions
     ensures { result ≡ for_making }
 {
     let mut options = OpenOptions::new();
-    options.write(true).create_new(true);
+    options.append(true).create_new(true);
     options
 }
 
 // Adds a piece to the open file, which stays open; where none is open, it is a failure.
-fn add<F: Handle>(
-    writing: &mut Option<Writing<F>>,
+fn add<S: System>(
+    system: &mut S,
+    writing: &mut Option<Writing<S::File>>,
     piece: &[u8],
     folder: &Folder<'_>,
     last: &mut Option<Failure>,
 ) -> Result<(), TreeFault>
     ensures closed { IfNone writing.old (result ≡ Err Device) }
-    ensures written { AddsTo F.contents writing.old writing.new piece.now result }
-    ensures writes { WritesTo F.writes writing.old writing.new piece.now result }
-    ensures kept { OnDevice result (IfSome last.new (IsOfWriting folder.now.path.now (λ w e. (after : F) × FailsToWrite F.writes piece.now w e after) writing.old)) }
+    ensures writes { WritesTo S.writes system.old writing.old system.new writing.new piece.now result }
+    ensures kept { OnDevice result (IfSome last.new (IsOfWriting folder.now.path.now (FailsToAdd S.writes piece.now system.old) writing.old)) }
 {
     match writing {
-        Some(open) => match write_out(&mut open.file, piece) {
+        Some(open) => match write_out(system, &mut open.file, piece) {
             Ok(()) => Ok(()),
             Err(error) => Err(heard_at(last, folder, &open.path, error)),
         },

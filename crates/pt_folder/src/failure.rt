@@ -28,6 +28,8 @@ pub enum Cause {
     Twice,
     /// No file is open.
     Closed,
+    /// What should be read is no file any more, so it wasn't opened.
+    NotFile,
 }
 
 impl fmt::Display for Cause {
@@ -41,6 +43,7 @@ impl fmt::Display for Cause {
             Cause::Endless => f.write_str("its names do not end"),
             Cause::Twice => f.write_str("it gives a name twice"),
             Cause::Closed => f.write_str("no file is open"),
+            Cause::NotFile => f.write_str("it is no longer a file"),
         }
     }
 }

@@ -1,5 +1,7 @@
 //! What the folders of a run share: texts of paths, kinds, and how the system's errors are answered and counted.
-ghost use Rattle.std.specs.Prelude.{◌≡◌, ◌≢◌, ◌⊎◌, ◌↔◌, ◌≤◌, Err, IfOk, IfSome, OnOk, IsErrOf, IsTrue, length, string_bytes};
+ghost use Rattle.std.specs.Prelude.{◌≡◌, ◌≢◌, ◌⊎◌, ◌↔◌, ◌≤◌, Err, IfOk, IfSome, OnOk, IsErrOf, IsTrue, length, string_bytes, true};
+ghost use Rattle.pt_tree.specs.Name.{is_name};
+ghost use Rattle.pt_folder.specs.Laws.{IsPath};
 ghost use Rattle.std.specs.Fs.{file_type as type_of};
 ghost use Rattle.std.specs.IoError.{error_kind};
 ghost use Rattle.pt_tree.specs.Failures.{IsCounted};
@@ -27,6 +29,7 @@ impl<'a> Folder<'a> {
     /// where a growth was refused.
     pub fn text(&self, path: &NamePath, last: &mut Option<Failure>) -> Result<String, TreeFault>
         ensures text { IfOk result (λ text. string_bytes text ≡ entry_text self.now.path.now path.now) }
+        ensures named { OnOk result (IsPath path.now) }
         ensures empty { IsErrOf result TreeFault.Device ↔ (length self.now.path.now ≡ 0) }
         ensures kept { OnDevice result (IfSome last.new (IsUnasked self.now.path.now)) }
     {
@@ -45,6 +48,7 @@ impl<'a> Folder<'a> {
         last: &mut Option<Failure>,
     ) -> Result<String, TreeFault>
         ensures text { IfOk result (λ text. string_bytes text ≡ entry_text self.now.path.now path.now) }
+        ensures named { OnOk result (IsPath path.now) }
         ensures fits { IfOk result (λ text. length (entry_text self.now.path.now path.now) ≤ longest) }
         ensures filled { IfOk result (λ _. length self.now.path.now ≢ 0) }
         ensures refused { IsErrOf result TreeFault.Device → CannotMake longest self.now.path.now path.now }
@@ -78,7 +82,8 @@ pub fn heard_at(
 }
 
 fn path_text(alloc: Global, folder: &str, path: &NamePath) -> Result<String, AllocError>
-    ensures { IfOk result (λ text. string_bytes text ≡ entry_text folder.now path.now) }
+    ensures text { IfOk result (λ text. string_bytes text ≡ entry_text folder.now path.now) }
+    ensures named { OnOk result (IsPath path.now) }
 {
     let mut text = String::with_capacity(alloc, text_len(folder, path))?;
     text.push_str(folder)?;
@@ -107,7 +112,8 @@ fn text_len(folder: &str, path: &NamePath) -> usize {
 
 /// A name as a text.
 pub fn name_text(name: &Name) -> &str
-    ensures { result.now ≡ name.now }
+    ensures same { result.now ≡ name.now }
+    ensures named { is_name name.now ≡ true }
 {
     str::from_utf8(name.bytes()).unwrap()
 }

@@ -1,5 +1,9 @@
 //! Listing a directory of a folder.
-ghost use Rattle.std.specs.Prelude.{◌≡◌, ◌==◌, ◌≤◌, ◌++◌, ◌∷◌, [], false, if◌then◌else◌, map, position, IfErr, IfOk, IfSome, OnOk, Err, MatchResult, length, string_bytes, vec_len};
+ghost use Rattle.std.specs.Prelude.{◌≡◌, ◌==◌, ◌≤◌, ◌++◌, ◌∷◌, [], false, if◌then◌else◌, map, position, IfErr, IfOk, IfSome, IsSome, IsTrue, OnErr, OnOk, Some, Err, MatchResult, length, string_bytes, vec_len};
+ghost use Rattle.std.specs.Option.{ForSome};
+ghost use Rattle.pt_tree.specs.Forest.{dir_at, listing_at};
+ghost use Rattle.pt_tree.specs.Listing.{names_rise};
+ghost use Rattle.pt_folder.specs.Seeing.{SeesAt};
 ghost use Rattle.std.specs.List.{FoldsTo};
 ghost use Rattle.pt_folder.specs.Failure.{FailsLook, IsAt, IsOfCall, IsOfEntry, IsOfName, IsOfNames, KeepsListing, OnDevice};
 ghost use Rattle.pt_folder.specs.Folder.{entry_text};
@@ -32,8 +36,11 @@ pub fn list<S: System>(
     path: &NamePath,
     last: &mut Option<Failure>,
 ) -> Result<Listing, TreeFault>
+    requires { ForSome (S.forest system.old folder.now.path.now) (λ f. IsSome (dir_at f path.now)) }
+    ensures same { S.forest system.new folder.now.path.now ≡ S.forest system.old folder.now.path.now }
+    ensures told { IfOk result (λ listing. ForSome (S.forest system.old folder.now.path.now) (λ f. listing_at f path.now ≡ Some listing)) }
     ensures most { IfOk result (λ listing. length listing ≤ most_entries) }
-    ensures listed { IfOk result (λ listing. IsListedBy S.opens_dir S.looks S.Dir.Input.reads S.Dir.Input.remaining (entry_text folder.now.path.now path.now) (dir_front folder.now.path.now path.now) system.old system.new listing) }
+    ensures listed { IfOk result (λ listing. IsListedBy S.opens_dir S.looks S.Dir.Input.reads S.Dir.Input.left (entry_text folder.now.path.now path.now) (dir_front folder.now.path.now path.now) system.old system.new listing) }
     ensures fault { IfErr result (λ fault. IsDueTo fault (FailsToList S.opens_dir S.looks S.Dir.Input.reads folder.now.path.now path.now system.old system.new)) }
     ensures kept { OnDevice result (KeepsListing S.looks folder.now.path.now path.now last.new) }
 {
@@ -55,7 +62,7 @@ fn names_in<S: System>(
 ) -> Result<Vec<Name>, TreeFault>
     ensures most { IfOk result (λ names. vec_len names ≤ most_entries) }
     ensures asked { (reply : _) × S.opens_dir system.old text.now reply system.new
-        × MatchResult reply (λ dir. (after : _) × MatchResult result (λ names. GetsNames S.Dir.Input.reads dir names.items after × IfSome (S.Dir.Input.remaining dir) (λ bytes. GivesNames bytes names.items))
+        × MatchResult reply (λ dir. (after : _) × MatchResult result (λ names. GetsNames S.Dir.Input.reads dir names.items after × IfSome (S.Dir.Input.left dir) (λ bytes. GivesNames bytes names.items))
         (λ fault. IsDueTo fault (FailsToGet S.Dir.Input.reads most_entries dir after))) (λ e. result ≡ Err (fault_for e)) }
     ensures kept { OnDevice result (IfSome last.new (IsOfNames text.now)) }
 {
@@ -85,7 +92,7 @@ pub fn read_names<D: Input>(
     ensures most { IfOk result (λ names. vec_len names ≤ most) }
     ensures read { IfOk result (λ names. GetsNames D.reads dir.old names.items dir.new) }
     ensures fault { IfErr result (λ fault. IsDueTo fault (FailsToGet D.reads most dir.old dir.new)) }
-    ensures names { IfOk result (λ names. IfSome (D.remaining dir.old) (λ bytes. GivesNames bytes names.items)) }
+    ensures names { IfOk result (λ names. IfSome (D.left dir.old) (λ bytes. GivesNames bytes names.items)) }
     ensures kept { OnDevice result (IfSome last.new (IsOfNames text.now)) }
 {
     let mut names = Vec::new(alloc);
@@ -180,6 +187,9 @@ fn with_kinds<S: System>(
     last: &mut Option<Failure>,
 ) -> Result<Listing, TreeFault>
     ensures names { IfOk result (λ listing. map (λ item. item.0) listing ≡ names.items) }
+    ensures rise { IfOk result (λ listing. IsTrue (names_rise listing)) }
+    ensures seen { IfOk result (SeesAt S.forest (string_bytes text) system.old system.new) }
+    ensures same { OnErr result (SeesAt S.forest (string_bytes text) system.old system.new []) }
     ensures looked { IfOk result (λ listing. FoldsTo (LooksAt S.looks (string_bytes text)) system.old listing system.new) }
     ensures fault { IfErr result (λ fault. IsDueTo fault (FailsToLook S.looks (string_bytes text) names.items system.old system.new)) }
     ensures kept { OnDevice result (IfSome last.new (IsOfEntry S.looks (string_bytes text))) }
@@ -194,6 +204,7 @@ fn with_kinds<S: System>(
         text.truncate(end);
         add_entry(&mut listing, name, kind, alloc, text.as_str(), last)?;
     }
+    let _count = listing.len();
     Ok(listing)
 }
 

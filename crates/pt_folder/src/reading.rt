@@ -1,65 +1,87 @@
 //! The open file of a folder that is read.
 ghost use Rattle.std.specs.Prelude.{◌≡◌, [], false, IfErr, OnOk, OnErr};
-ghost use Rattle.pt_folder.specs.Reading.{FailsToReadOn, ReadsNext};
-ghost use Rattle.pt_folder.specs.Runs.{GoesTo};
+ghost use Rattle.std.specs.Prelude.{drop as drop_items};
+ghost use Rattle.std.specs.Option.{option_map};
+ghost use Rattle.pt_folder.specs.Reading.{FailsToGoBack, FailsToReadOn, GoesFirst, IsNext, ReadsNext, Stands, unread_of};
 
 use crate::bytes::read_block;
 use crate::system::{Handle, Input};
 use pt_tree::Block;
 use std::io;
 
-/// A file, the place where its next block begins, and whether its end was met.
+// Behind this place no whole block can be counted.
+const LAST: u64 = u64::MAX - 8192;
+
+/// A file, the place where its next block begins, whether its end was met, and whether it may stand elsewhere.
 #[derive(Drop)]
 pub struct Reading<F> {
-    file: F,
-    place: u64,
-    ended: bool,
+    pub file: F,
+    pub place: u64,
+    pub ended: bool,
+    pub lost: bool,
 }
 
-impl<F> Reading<F> {
+impl<F: Handle> Reading<F> {
     /// A file that was just opened.
     pub fn at_start(file: F) -> Reading<F>
-        ensures { result ≡ record { file = file; place = 0; ended = false } }
+        ensures { result ≡ record { file = file; place = 0; ended = false; lost = false } }
     {
         Reading {
             file,
             place: 0,
             ended: false,
+            lost: false,
         }
     }
 
-    /// The block becomes the next bytes; behind the end the system isn't asked again. On an error the block is empty.
+    /// The block becomes the next bytes; behind the end the system isn't asked again. On an error the block is empty,
+    /// and the next call goes back to where this one began.
     pub fn read(&mut self, block: &mut Block) -> io::Result<()>
-    where
-        F: Input,
-        ensures bytes { OnOk result (ReadsNext F.remaining F.reads self.old self.new block.new.items) }
+        requires { Stands F.bytes F.left self.old }
+        ensures stands { Stands F.bytes F.left self.new }
+        ensures block { OnOk result (IsNext (unread_of F.bytes self.old) block.new.items) }
+        ensures moved { OnOk result (unread_of F.bytes self.new ≡ option_map (drop_items 8192) (unread_of F.bytes self.old)) }
         ensures empty { OnErr result (block.new.items ≡ []) }
-        ensures place { OnErr result (self.new.place ≡ self.old.place) }
-        ensures ended { OnErr result (self.new.ended ≡ self.old.ended) }
-        ensures error { IfErr result (λ e. FailsToReadOn F.reads self.old e self.new.file) }
+        ensures same { OnErr result (unread_of F.bytes self.new ≡ unread_of F.bytes self.old) }
+        ensures reads { OnOk result (ReadsNext F.reads F.goes self.old self.new block.new.items) }
+        ensures error { IfErr result (λ e. FailsToReadOn F.reads F.goes self.old e self.new) }
     {
+        block.clear();
         if self.ended {
-            block.clear();
             return Ok(());
         }
-        read_block(&mut self.file, block)?;
-        self.place = self.place.saturating_add(block.len() as u64);
-        self.ended = !block.is_full();
-        Ok(())
+        if self.place > LAST {
+            return Err(io::Error::from(io::ErrorKind::FileTooLarge));
+        }
+        self.go_back()?;
+        match read_block(&mut self.file, block) {
+            Ok(()) => {
+                self.place += block.len() as u64;
+                self.ended = !block.is_full();
+                Ok(())
+            }
+            Err(error) => {
+                self.lost = true;
+                Err(error)
+            }
+        }
     }
 
-    /// Goes back to where the next block begins, after an error; false where the system can't.
-    pub fn go_back(&mut self) -> bool
-    where
-        F: Handle,
+    // Goes to where the next block begins, if it may stand elsewhere.
+    fn go_back(&mut self) -> io::Result<()>
+        requires { Stands F.bytes F.left self.old }
+        ensures stands { Stands F.bytes F.left self.new }
+        ensures there { OnOk result (self.new.lost ≡ false) }
         ensures place { self.new.place ≡ self.old.place }
         ensures ended { self.new.ended ≡ self.old.ended }
-        ensures gone { GoesTo F.goes self.old.file self.old.place self.new.file result }
+        ensures same { F.bytes self.new.file ≡ F.bytes self.old.file }
+        ensures gone { OnOk result (GoesFirst F.goes self.old self.new.file) }
+        ensures error { IfErr result (λ e. FailsToGoBack F.goes self.old e self.new) }
     {
-        let place = self.place;
-        match self.file.go_to(place) {
-            Ok(_) => true,
-            Err(_) => false,
+        if self.lost {
+            self.file.go_to(self.place)?;
+            self.lost = false;
         }
+        Ok(())
     }
 }

@@ -8,7 +8,7 @@ ghost use Rattle.pt_folder.specs.Rehearsal.{IsFromMemory, Remembers, is_known};
 ghost use Rattle.pt_folder.specs.Runs.{PeeksAt};
 
 use crate::HostDest;
-use crate::system::{Handle, System};
+use crate::system::{Input, System};
 use pt_tree::{Block, Dest, Kind, NamePath, TreeFault};
 use std::alloc::Global;
 use std::collections::BTreeSet;
@@ -84,11 +84,11 @@ impl<'a, S: System> Dest for Rehearsal<'a, S> {
         ensures block { OnOk result (IsPeeked (no_dest self.old) path.now block.new.items) }
         ensures empty { OnErr result (block.new.items ≡ []) }
         ensures same { no_dest self.new ≡ no_dest self.old }
-        ensures asked { AsksOnce (λ s. S.opens s for_reading) (PeeksAt ⟦<S::File as Handle>⟧.remaining ⟦<S::File as Handle>⟧.reads block.new.items) self.old.dest.folder.path.now path.now self.old.dest.system self.new.dest.system result }
+        ensures asked { AsksOnce (λ s. S.opens s for_reading) (PeeksAt ⟦<S::File as Input>⟧.left ⟦<S::File as Input>⟧.reads block.new.items) self.old.dest.folder.path.now path.now self.old.dest.system self.new.dest.system result }
         ensures moved { self.new.moved ≡ self.old.moved }
         ensures failures { IsCounted self.old.dest.failures self.new.dest.failures result }
     {
-        self.dest.peek(path, block)
+        self.dest.first_bytes(path, block)
     }
 
     fn mkdir(&mut self, path: &NamePath) -> Result<(), TreeFault>

@@ -1,11 +1,14 @@
 ghost use Rattle.std.specs.Prelude.{◌≡◌, ◌≤◌, [], Some, None, Err, IfErr, IfOk, IfNone, IfSome, OnOk, OnErr, length, string_bytes};
+ghost use Rattle.std.specs.Prelude.{drop as drop_items};
 ghost use Rattle.std.specs.Option.{option_map};
 ghost use Rattle.pt_tree.specs.declared.faults.TreeFault.TheVariants.{Device};
-ghost use Rattle.pt_folder.specs.Calls.{AsksOnce, IsDueTo, for_reading};
-ghost use Rattle.pt_folder.specs.Failure.{KeepsCall, KeepsListing, OnDevice};
+ghost use Rattle.pt_folder.specs.Calls.{IsDueTo, for_reading};
+ghost use Rattle.pt_folder.specs.Failure.{KeepsListing, OnDevice};
 ghost use Rattle.pt_folder.specs.Folder.{entry_text};
 ghost use Rattle.pt_folder.specs.Listing.{FailsToList, IsListedBy, dir_front, most_entries};
-ghost use Rattle.pt_folder.specs.Reading.{FailsBack, IsAtStart, IsOfReading, OpensAt, ReadsOn, StaysAtPlace};
+ghost use Rattle.pt_folder.specs.Opening.{IsOfFile, KeepsOpening, LeadsToFile, OpensOnce};
+ghost use Rattle.pt_folder.specs.Reading.{FailsOn, IsAtStart, IsNext, IsOfReading, ReadsOn, StandsOpen, unread_open};
+ghost use Rattle.pt_folder.specs.SourceHeld.{told_of};
 
 use crate::failure::{Cause, Failure, heard, keep};
 use crate::folder::{Folder, counted, reading};
@@ -15,7 +18,7 @@ use crate::system::{Handle, Input, System};
 use pt_tree::{Block, Listing, NamePath, Source, TreeFault};
 use std::alloc::Global;
 
-/// A folder of the system as a source. It tells nothing.
+/// A folder of the system as a source. It tells the tree that the system keeps there, where it keeps one.
 #[derive(Drop)]
 pub struct HostSource<'a, S: System> {
     system: S,
@@ -25,6 +28,7 @@ pub struct HostSource<'a, S: System> {
     last: Option<Failure>,
     failures: u64,
     calls: u64,
+    ghost stands: { StandsOpen ⟦<S::File as Input>⟧.bytes ⟦<S::File as Input>⟧.left reading },
 }
 
 impl<'a, S: System> HostSource<'a, S> {
@@ -65,29 +69,30 @@ impl<'a, S: System> HostSource<'a, S> {
 
 impl<'a, S: System> Source for HostSource<'a, S> {
     ghost use Rattle.std.specs.Prelude.{Option};
-    ghost use Rattle.pt_tree.specs.Source.{Reading, CanList, IsListed, CanOpen, CanRead, IsRead, after_open, after_next};
+    ghost use Rattle.pt_tree.specs.Source.{CanList, IsListed, CanOpen, CanRead, IsRead, after_open, after_next};
     ghost use Rattle.pt_tree.specs.Failures.{IsCounted, IsOneMoreCall};
-    ghost use Rattle.pt_folder.specs.Devices.{no_source, was_called, proper_untold};
+    ghost use Rattle.pt_folder.specs.Devices.{was_called};
+    ghost use Rattle.pt_folder.specs.SourceHeld.{proper_held};
 
-    ghost told = { no_source };
+    ghost told = { λ s. told_of (S.forest s.system s.folder.path.now) (unread_open ⟦<S::File as Input>⟧.bytes s.reading) };
 
     ghost failed = { λ s. s.failures };
 
     ghost called = { λ s. was_called s.calls };
 
-    ghost proper = { proper_untold };
+    ghost proper = { λ s state is. proper_held (S.forest s.system s.folder.path.now) (unread_open ⟦<S::File as Input>⟧.bytes s.reading) state (S.proper_law s.system s.folder.path.now) is };
 
     fn failures(&self) -> u64 {
         self.failures
     }
 
-    #[tactic(auto, unfolding(pt_tree::specs::Source::IsListed))]
     fn list(&mut self, path: &NamePath) -> Result<Listing, TreeFault>
-        ensures listing { IfOk result (λ listing. IsListed (no_source self.old) path.now listing) }
+        requires { CanList (told_of (S.forest self.old.system self.old.folder.path.now) (unread_open ⟦<S::File as Input>⟧.bytes self.old.reading)) path.now }
+        ensures listing { IfOk result (λ listing. IsListed (told_of (S.forest self.old.system self.old.folder.path.now) (unread_open ⟦<S::File as Input>⟧.bytes self.old.reading)) path.now listing) }
         ensures most { IfOk result (λ listing. length listing ≤ most_entries) }
-        ensures listed { IfOk result (λ listing. IsListedBy S.opens_dir S.looks ⟦<S::Dir as Input>⟧.reads ⟦<S::Dir as Input>⟧.remaining (entry_text self.old.folder.path.now path.now) (dir_front self.old.folder.path.now path.now) self.old.system self.new.system listing) }
+        ensures listed { IfOk result (λ listing. IsListedBy S.opens_dir S.looks ⟦<S::Dir as Input>⟧.reads ⟦<S::Dir as Input>⟧.left (entry_text self.old.folder.path.now path.now) (dir_front self.old.folder.path.now path.now) self.old.system self.new.system listing) }
         ensures fault { IfErr result (λ fault. IsDueTo fault (FailsToList S.opens_dir S.looks ⟦<S::Dir as Input>⟧.reads self.old.folder.path.now path.now self.old.system self.new.system)) }
-        ensures same { no_source self.new ≡ no_source self.old }
+        ensures same { told_of (S.forest self.new.system self.new.folder.path.now) (unread_open ⟦<S::File as Input>⟧.bytes self.new.reading) ≡ told_of (S.forest self.old.system self.old.folder.path.now) (unread_open ⟦<S::File as Input>⟧.bytes self.old.reading) }
         ensures kept { OnDevice result (KeepsListing S.looks self.old.folder.path.now path.now self.new.last) }
         ensures reading { self.new.reading ≡ self.old.reading }
         ensures folder { self.new.folder ≡ self.old.folder }
@@ -100,13 +105,14 @@ impl<'a, S: System> Source for HostSource<'a, S> {
     }
 
     fn open(&mut self, path: &NamePath) -> Result<(), TreeFault>
-        ensures opened { OnOk result (no_source self.new ≡ option_map (after_open path.now) (no_source self.old)) }
-        ensures same { OnErr result (no_source self.new ≡ no_source self.old) }
+        requires { CanOpen (told_of (S.forest self.old.system self.old.folder.path.now) (unread_open ⟦<S::File as Input>⟧.bytes self.old.reading)) path.now }
+        ensures opened { OnOk result (told_of (S.forest self.new.system self.new.folder.path.now) (unread_open ⟦<S::File as Input>⟧.bytes self.new.reading) ≡ option_map (after_open path.now) (told_of (S.forest self.old.system self.old.folder.path.now) (unread_open ⟦<S::File as Input>⟧.bytes self.old.reading))) }
+        ensures same { OnErr result (told_of (S.forest self.new.system self.new.folder.path.now) (unread_open ⟦<S::File as Input>⟧.bytes self.new.reading) ≡ told_of (S.forest self.old.system self.old.folder.path.now) (unread_open ⟦<S::File as Input>⟧.bytes self.old.reading)) }
         ensures started { OnOk result (IsAtStart self.new.reading) }
         ensures reading { OnErr result (self.new.reading ≡ self.old.reading) }
-        ensures asked { AsksOnce (λ s. S.opens s for_reading) (OpensAt self.old.reading self.new.reading) self.old.folder.path.now path.now self.old.system self.new.system result }
+        ensures asked { OpensOnce S.looks (λ s. S.opens s for_reading) self.old.folder.path.now path.now self.old.reading self.new.reading self.old.system self.new.system result }
         ensures at { OnOk result (string_bytes self.new.at ≡ entry_text self.old.folder.path.now path.now) }
-        ensures kept { OnDevice result (KeepsCall self.old.folder.path.now path.now (λ e. S.opens self.old.system for_reading (entry_text self.old.folder.path.now path.now) (Err e) self.new.system) self.new.last) }
+        ensures kept { OnDevice result (KeepsOpening S.looks (λ s. S.opens s for_reading) self.old.folder.path.now path.now self.old.system self.new.system self.new.last) }
         ensures folder { self.new.folder ≡ self.old.folder }
         ensures failures { IsCounted self.old.failures self.new.failures result }
         ensures calls { IsOneMoreCall (was_called self.old.calls) (was_called self.new.calls) }
@@ -123,17 +129,16 @@ impl<'a, S: System> Source for HostSource<'a, S> {
         counted(&mut self.failures, opened)
     }
 
-    #[tactic(auto, unfolding(pt_tree::specs::Source::IsRead))]
     fn next(&mut self, block: &mut Block) -> Result<(), TreeFault>
-        ensures block { OnOk result (IsRead (no_source self.old) block.new.items) }
-        ensures moved { OnOk result (no_source self.new ≡ option_map after_next (no_source self.old)) }
+        requires { CanRead (told_of (S.forest self.old.system self.old.folder.path.now) (unread_open ⟦<S::File as Input>⟧.bytes self.old.reading)) }
+        ensures block { OnOk result (IsRead (told_of (S.forest self.old.system self.old.folder.path.now) (unread_open ⟦<S::File as Input>⟧.bytes self.old.reading)) block.new.items) }
+        ensures moved { OnOk result (told_of (S.forest self.new.system self.new.folder.path.now) (unread_open ⟦<S::File as Input>⟧.bytes self.new.reading) ≡ option_map after_next (told_of (S.forest self.old.system self.old.folder.path.now) (unread_open ⟦<S::File as Input>⟧.bytes self.old.reading))) }
         ensures empty { OnErr result (block.new.items ≡ []) }
-        ensures same { OnErr result (no_source self.new ≡ no_source self.old) }
-        ensures bytes { OnOk result (ReadsOn ⟦<S::File as Handle>⟧.remaining ⟦<S::File as Handle>⟧.reads self.old.reading self.new.reading block.new.items) }
+        ensures same { OnErr result (told_of (S.forest self.new.system self.new.folder.path.now) (unread_open ⟦<S::File as Input>⟧.bytes self.new.reading) ≡ told_of (S.forest self.old.system self.old.folder.path.now) (unread_open ⟦<S::File as Input>⟧.bytes self.old.reading)) }
+        ensures bytes { OnOk result (ReadsOn ⟦<S::File as Input>⟧.reads ⟦<S::File as Handle>⟧.goes self.old.reading self.new.reading block.new.items) }
         ensures closed { IfNone self.old.reading (result ≡ Err Device) }
-        ensures place { OnErr result (StaysAtPlace self.old.reading self.new.reading) }
-        ensures back { IfErr result (FailsBack ⟦<S::File as Handle>⟧.reads ⟦<S::File as Handle>⟧.goes self.old.reading self.new.reading) }
-        ensures kept { OnDevice result (IfSome self.new.last (IsOfReading ⟦<S::File as Handle>⟧.reads (string_bytes self.old.at) self.old.reading)) }
+        ensures fails { IfErr result (FailsOn ⟦<S::File as Input>⟧.reads ⟦<S::File as Handle>⟧.goes self.old.reading self.new.reading) }
+        ensures kept { OnDevice result (IfSome self.new.last (IsOfReading ⟦<S::File as Input>⟧.reads ⟦<S::File as Handle>⟧.goes (string_bytes self.old.at) self.old.reading)) }
         ensures at { self.new.at ≡ self.old.at }
         ensures system { self.new.system ≡ self.old.system }
         ensures folder { self.new.folder ≡ self.old.folder }
@@ -152,7 +157,8 @@ impl<'a, S: System> Source for HostSource<'a, S> {
     }
 }
 
-// Opens an entry for reading, and makes it the open file.
+// Opens an entry for reading, and makes it the open file. It is looked at first: what is no file now isn't opened, since
+// opening a pipe waits for its writer.
 fn open<S: System>(
     system: &mut S,
     folder: &Folder<'_>,
@@ -163,11 +169,12 @@ fn open<S: System>(
 ) -> Result<(), TreeFault>
     ensures started { OnOk result (IsAtStart opened.new) }
     ensures same { OnErr result (opened.new ≡ opened.old) }
-    ensures asked { AsksOnce (λ s. S.opens s for_reading) (OpensAt opened.old opened.new) folder.now.path.now path.now system.old system.new result }
+    ensures asked { OpensOnce S.looks (λ s. S.opens s for_reading) folder.now.path.now path.now opened.old opened.new system.old system.new result }
     ensures at { OnOk result (string_bytes at.new ≡ entry_text folder.now.path.now path.now) }
-    ensures kept { OnDevice result (KeepsCall folder.now.path.now path.now (λ e. S.opens system.old for_reading (entry_text folder.now.path.now path.now) (Err e) system.new) last.new) }
+    ensures kept { OnDevice result (KeepsOpening S.looks (λ s. S.opens s for_reading) folder.now.path.now path.now system.old system.new last.new) }
 {
     let text = folder.text(path, last)?;
+    look_at_file(system, folder.alloc, text.as_str(), last)?;
     match system.open_as(&reading(), text.as_str()) {
         Ok(file) => {
             *opened = Some(Reading::at_start(file));
@@ -178,9 +185,29 @@ fn open<S: System>(
     }
 }
 
+// Whether a file stands at a path, links not followed: that none does is a failure.
+fn look_at_file<S: System>(
+    system: &mut S,
+    alloc: Global,
+    text: &str,
+    last: &mut Option<Failure>,
+) -> Result<(), TreeFault>
+    ensures asked { (reply : _) × S.looks system.old text.now reply system.new × LeadsToFile reply result }
+    ensures kept { OnDevice result (IfSome last.new (IsOfFile S.looks text.now system.old system.new)) }
+{
+    match system.look(text) {
+        Ok(metadata) if metadata.is_file() => Ok(()),
+        Ok(_) => {
+            keep(last, alloc, text, Cause::NotFile);
+            Err(TreeFault::Device)
+        }
+        Err(error) => Err(heard(last, alloc, text, error)),
+    }
+}
+
 // The block becomes the next bytes of the open file; behind its end the system isn't asked again. Where no file is
-// open, it is a failure. After an error of the system the file is read on from where it was, or is closed where the
-// system can't go back there. On a fault the block is empty. `at` is the file's path, with which a failure is kept.
+// open, it is a failure. After an error of the system the file stays open, and is read on from where it was. On a fault
+// the block is empty. `at` is the file's path, with which a failure is kept.
 fn read_on<F: Handle + Drop>(
     reading: &mut Option<Reading<F>>,
     block: &mut Block,
@@ -188,28 +215,26 @@ fn read_on<F: Handle + Drop>(
     at: &str,
     last: &mut Option<Failure>,
 ) -> Result<(), TreeFault>
-    ensures bytes { OnOk result (ReadsOn F.remaining F.reads reading.old reading.new block.new.items) }
+    requires { StandsOpen F.bytes F.left reading.old }
+    ensures stands { StandsOpen F.bytes F.left reading.new }
+    ensures block { OnOk result (IsNext (unread_open F.bytes reading.old) block.new.items) }
+    ensures moved { OnOk result (unread_open F.bytes reading.new ≡ option_map (drop_items 8192) (unread_open F.bytes reading.old)) }
+    ensures same { OnErr result (unread_open F.bytes reading.new ≡ unread_open F.bytes reading.old) }
+    ensures bytes { OnOk result (ReadsOn F.reads F.goes reading.old reading.new block.new.items) }
     ensures closed { IfNone reading.old (result ≡ Err Device) }
     ensures empty { OnErr result (block.new.items ≡ []) }
-    ensures place { OnErr result (StaysAtPlace reading.old reading.new) }
-    ensures back { IfErr result (FailsBack F.reads F.goes reading.old reading.new) }
-    ensures kept { OnDevice result (IfSome last.new (IsOfReading F.reads at.now reading.old)) }
+    ensures fails { IfErr result (FailsOn F.reads F.goes reading.old reading.new) }
+    ensures kept { OnDevice result (IfSome last.new (IsOfReading F.reads F.goes at.now reading.old)) }
 {
-    let Some(mut open) = reading.take() else {
-        block.clear();
-        keep(last, alloc, at, Cause::Closed);
-        return Err(TreeFault::Device);
-    };
-    match open.read(block) {
-        Ok(()) => {
-            *reading = Some(open);
-            Ok(())
-        }
-        Err(error) => {
-            if open.go_back() {
-                *reading = Some(open);
-            }
-            Err(heard(last, alloc, at, error))
+    match reading {
+        Some(open) => match open.read(block) {
+            Ok(()) => Ok(()),
+            Err(error) => Err(heard(last, alloc, at, error)),
+        },
+        None => {
+            block.clear();
+            keep(last, alloc, at, Cause::Closed);
+            Err(TreeFault::Device)
         }
     }
 }

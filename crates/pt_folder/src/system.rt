@@ -1,57 +1,52 @@
 //! The calls of the system that folders make. Each trait says of each call, by a ghost word, what it may answer and
-//! leave; a contract over them then says which calls are made, in which order, and what becomes of their answers.
-ghost use Rattle.std.specs.Prelude.{⊤, ℕ, List};
+//! leave; a contract over them then says which calls are made, in which order, and what becomes of their answers. A system
+//! may also keep trees: then its calls keep to laws, as POSIX has them, from which follows what folders over it hold.
+ghost use Rattle.std.specs.Prelude.{◌≡◌, ℕ, List, Option, IfOk, OnOk};
 ghost use Rattle.std.specs.declared.result.Result.{Result};
 ghost use Rattle.std.specs.declared.fs.Metadata.{Metadata};
 ghost use Rattle.std.specs.declared.fs.OpenOptions.{OpenOptions};
 ghost use Rattle.std.specs.declared.io.Error.{Error};
 ghost use Rattle.std.specs.Io.{ReadsAtMost, WritesAtMost};
-ghost use Rattle.std.specs.Io.KnownBytes.{ReadConsumes, WriteAppends};
+ghost use Rattle.pt_tree.specs.Forest.{Forest};
+ghost use Rattle.pt_folder.specs.Calls.{for_making, for_reading};
+ghost use Rattle.pt_folder.specs.Laws.{Gives, GoesRight};
+ghost use Rattle.pt_folder.specs.DestLaws.{DirLaw, FileLaw, Kept, KindLaw, MoveLaw, PeekLaw, TreeLaw, WriteLaw};
+ghost use Rattle.pt_folder.specs.SourceLaws.{LookLaw, NamesLaw, OpenLaw, ProperLaw};
 
-use std::fs::{Metadata, OpenFile, OpenOptions};
+use std::fs::{Metadata, OpenOptions};
 use std::io;
-use std::io::{Read, Seek, SeekFrom, Write};
-use std::rt::Files;
 
 /// What is read by pieces: an open file, or the names in a directory.
-pub trait Input: Read {
+pub trait Input {
+    /// All its bytes, from its start, where it tells them. No call changes them.
+    ghost bytes: { Self → Option (List ℕ) };
+
+    /// Those behind the place where it stands, where that is known: after an error it isn't.
+    ghost left: { Self → Option (List ℕ) };
+
     /// A read of so many bytes may answer so, leave these in the buffer, and leave it so.
     ghost reads: { Self → List ℕ → Result ℕ Error → Self → Type 0 };
 
-    /// One read.
+    /// One read: some of the next bytes, none only at the end.
     fn read_piece(&mut self, buffer: &mut [u8]) -> io::Result<usize>
         ensures bound { ReadsAtMost result buffer.new }
-        ensures bytes { ReadConsumes (Self.remaining self.old) (Self.remaining self.new) result buffer.new }
+        ensures same { bytes self.new ≡ bytes self.old }
+        ensures given { IfOk result (λ n. Gives (left self.old) (left self.new) n buffer.new) }
         ensures read { reads self.old buffer.new result self.new };
 }
 
-impl<F: Read> Input for F {
-    ghost reads = { λ _ _ _ _. ⊤ };
-
-    fn read_piece(&mut self, buffer: &mut [u8]) -> io::Result<usize> {
-        self.read(buffer)
-    }
-}
-
 /// An open file.
-pub trait Handle: Input + Write + Seek {
-    /// A write of these bytes may answer so, and leave it so.
-    ghost writes: { Self → List ℕ → Result ℕ Error → Self → Type 0 };
-
+pub trait Handle: Input {
     /// Going to a place may answer so, and leave it so.
     ghost goes: { Self → ℕ → Result ℕ Error → Self → Type 0 };
 
     /// Having all that was written put onto the disk may answer so, and leave it so.
     ghost syncs: { Self → Result (Unit {0}) Error → Self → Type 0 };
 
-    /// One write.
-    fn write_piece(&mut self, piece: &[u8]) -> io::Result<usize>
-        ensures bound { WritesAtMost result piece.now }
-        ensures bytes { WriteAppends (Self.contents self.old) (Self.contents self.new) result piece.now }
-        ensures written { writes self.old piece.now result self.new };
-
     /// Goes to a place, counted from the file's start.
     fn go_to(&mut self, place: u64) -> io::Result<u64>
+        ensures same { Self.bytes self.new ≡ Self.bytes self.old }
+        ensures there { OnOk result (GoesRight (Self.bytes self.new) (Self.left self.new) place) }
         ensures gone { goes self.old place result self.new };
 
     /// Has all that was written to it put onto its disk.
@@ -59,31 +54,17 @@ pub trait Handle: Input + Write + Seek {
         ensures synced { syncs self.old result self.new };
 }
 
-impl<F: Read + Write + Seek + OpenFile> Handle for F {
-    ghost writes = { λ _ _ _ _. ⊤ };
-
-    ghost goes = { λ _ _ _ _. ⊤ };
-
-    ghost syncs = { λ _ _ _. ⊤ };
-
-    fn write_piece(&mut self, piece: &[u8]) -> io::Result<usize> {
-        self.write(piece)
-    }
-
-    fn go_to(&mut self, place: u64) -> io::Result<u64> {
-        self.seek(SeekFrom::Start(place))
-    }
-
-    fn sync(&mut self) -> io::Result<()> {
-        self.sync_all()
-    }
-}
-
-/// The system, by the calls on paths.
+/// The system, by the calls on paths, and the writes, which change what it keeps.
 pub trait System {
     type File: Handle + Drop;
 
     type Dir: Input + Drop;
+
+    /// What it keeps below the path of a folder that is only read, where it tells that. No call of reading changes it.
+    ghost forest: { Self → List ℕ → Option Forest };
+
+    /// What it keeps below the path of a folder that is written, where it tells that.
+    ghost kept: { Self → List ℕ → Kept Self.File };
 
     /// What is at a path may be told to be this, links not followed.
     ghost looks: { Self → List ℕ → Result Metadata Error → Self → Type 0 };
@@ -99,6 +80,9 @@ pub trait System {
 
     /// Moving what is at the first path to the second may be answered so.
     ghost renames: { Self → List ℕ → List ℕ → Result (Unit {0}) Error → Self → Type 0 };
+
+    /// A write of these bytes to an open file may answer so, and leave system and file so.
+    ghost writes: { Self → Self.File → List ℕ → Result ℕ Error → Self → Self.File → Type 0 };
 
     /// What is at a path itself; links aren't followed.
     fn look(&mut self, path: &str) -> io::Result<Metadata>
@@ -119,40 +103,42 @@ pub trait System {
     /// Moves what is at a path.
     fn move_to(&mut self, from: &str, to: &str) -> io::Result<()>
         ensures { renames self.old from.now to.now result self.new };
-}
 
-impl<'a, R: Files> System for &'a R {
-    type File = R::File;
+    /// One write to an open file.
+    fn write_piece(&mut self, file: &mut Self::File, piece: &[u8]) -> io::Result<usize>
+        ensures bound { WritesAtMost result piece.now }
+        ensures written { writes self.old file.old piece.now result self.new file.new };
 
-    type Dir = R::Dir;
+    /// A look below a folder that is read.
+    ghost look_law: { LookLaw forest looks };
 
-    ghost looks = { λ _ _ _ _. ⊤ };
+    /// A file of a folder that is read, opened for reading.
+    ghost open_law: { OpenLaw forest Self.File.Input.bytes Self.File.Input.left (λ s. opens s for_reading) };
 
-    ghost opens = { λ _ _ _ _ _. ⊤ };
+    /// A directory of a folder that is read, opened.
+    ghost names_law: { NamesLaw forest Self.Dir.left opens_dir };
 
-    ghost opens_dir = { λ _ _ _ _. ⊤ };
+    /// Names rise in what is kept.
+    ghost proper_law: { ProperLaw forest };
 
-    ghost makes_dir = { λ _ _ _ _. ⊤ };
+    /// A look below a folder that is written.
+    ghost kind_law: { KindLaw kept looks };
 
-    ghost renames = { λ _ _ _ _ _. ⊤ };
+    /// A file of a folder that is written, opened for reading.
+    ghost peek_law: { PeekLaw kept Self.File.Input.left (λ s. opens s for_reading) };
 
-    fn look(&mut self, path: &str) -> io::Result<Metadata> {
-        self.symlink_metadata(path)
-    }
+    /// A directory is made.
+    ghost dir_law: { DirLaw kept makes_dir };
 
-    fn open_as(&mut self, how: &OpenOptions, path: &str) -> io::Result<R::File> {
-        self.open_file(how, path)
-    }
+    /// An entry is moved.
+    ghost move_law: { MoveLaw kept renames };
 
-    fn open_names(&mut self, path: &str) -> io::Result<R::Dir> {
-        self.open_dir(path)
-    }
+    /// A file is made.
+    ghost file_law: { FileLaw kept (λ s. opens s for_making) };
 
-    fn make_dir(&mut self, path: &str) -> io::Result<()> {
-        self.create_dir(path)
-    }
+    /// An open file is written to.
+    ghost write_law: { WriteLaw kept writes };
 
-    fn move_to(&mut self, from: &str, to: &str) -> io::Result<()> {
-        self.rename(from, to)
-    }
+    /// What is kept is a tree.
+    ghost tree_law: { TreeLaw kept };
 }

@@ -1,43 +1,153 @@
-//! Whether one folder lies in another, links resolved.
+//! Whether one folder lies in another: by where their paths lead, links resolved, and by what the folders are, whatever leads to them.
 ghost use Rattle.std.specs.Prelude.{◌≡◌, ◌++◌, IfOk, string_bytes};
-ghost use Rattle.pt_guard.specs.Apart.{IsInside, Overlaps};
+ghost use Rattle.std.specs.Path.{path_buf_bytes};
+ghost use Rattle.pt_guard.specs.Apart.{Climbs, Finds, InEither, IsHeld, LiesIn, Overlaps, Stands};
 
-use crate::places::Places;
+use crate::places::{Folder, Places};
 use std::alloc::{AllocError, Global};
+use std::path::PathBuf;
+
+const TREE: &str = "/pairtree_root";
 
 const ROOT: &str = "/ocfl";
 
 const STAGING: &str = "/staging";
 
-/// Whether what a path leads to is what another leads to, or lies in it. It isn't where either leads nowhere.
-pub(crate) fn is_inside<S: Places>(system: &mut S, alloc: Global, inner: &str, outer: &str) -> bool
-    ensures { IsInside S.resolves inner.now outer.now system.old system.new result }
+/// How one folder lies to another.
+#[derive(Clone, Copy, Debug, PartialEq, Eq)]
+pub(crate) enum Lie {
+    /// It is not in it, or one of the two isn't there.
+    Apart,
+    /// It is the other, or lies in it.
+    Inside,
+    /// One of them stands, and where can't be found out.
+    Unknown,
+}
+
+// Whether a path leads to a folder, or to something that lies in it; asked of the path and of each folder above, at most `left` of them.
+fn climb<S: Places>(system: &mut S, path: PathBuf, target: Folder, left: usize) -> Lie
+    ensures { Climbs S.identifies target left (path_buf_bytes path) system.old system.new result }
 {
-    match system.resolve(alloc, inner) {
-        Ok(inner) => match system.resolve(alloc, outer) {
-            Ok(outer) => inner.starts_with(outer.as_str()),
-            Err(_) => false,
-        },
-        Err(_) => false,
+    if left == 0 {
+        return Lie::Unknown;
+    }
+    match system.identify(path.as_str()) {
+        Ok(found) => {
+            if found == target {
+                return Lie::Inside;
+            }
+            let mut above = path;
+            if above.pop() {
+                climb(system, above, target, left - 1)
+            } else {
+                Lie::Apart
+            }
+        }
+        Err(_) => Lie::Unknown,
     }
 }
 
-/// Whether a destination lies in a store, or the store in what the destination is to hold.
+// The same of a resolved path and the folder at another path, which was resolved too.
+fn held_against<S: Places>(system: &mut S, inner: PathBuf, outer: &str) -> Lie
+    ensures { IsHeld S.identifies outer.now (path_buf_bytes inner) system.old system.new result }
+{
+    match system.identify(outer) {
+        Ok(target) => {
+            let left = inner.as_str().len();
+            climb(system, inner, target, left)
+        }
+        Err(_) => Lie::Unknown,
+    }
+}
+
+// What is said of a path that can't be resolved: nothing lies there, or it isn't known where it is.
+fn unresolved<S: Places>(system: &mut S, path: &str) -> Lie
+    ensures { Stands S.identifies path.now system.old system.new result }
+{
+    match system.identify(path) {
+        Ok(_) => Lie::Unknown,
+        Err(_) => Lie::Apart,
+    }
+}
+
+// How what a path leads to lies to what another leads to.
+fn lies_in<S: Places>(system: &mut S, alloc: Global, inner: &str, outer: &str) -> Lie
+    ensures { LiesIn S.resolves S.identifies inner.now outer.now system.old system.new result }
+{
+    match system.resolve(alloc, inner) {
+        Ok(place) => match system.resolve(alloc, outer) {
+            Ok(other) => {
+                if place.starts_with(other.as_str()) {
+                    Lie::Inside
+                } else {
+                    held_against(system, place, outer)
+                }
+            }
+            Err(_) => unresolved(system, outer),
+        },
+        Err(_) => unresolved(system, inner),
+    }
+}
+
+/// How a destination lies to a store and to its `pairtree_root`, and these two to what the destination is to hold; the first answer that
+/// isn't `Apart`.
 pub(crate) fn overlap<S: Places>(
     system: &mut S,
     alloc: Global,
     source: &str,
     dest: &str,
-) -> Result<bool, AllocError>
-    ensures { IfOk result (λ found. Overlaps S.resolves source.now dest.now system.old system.new found) }
+) -> Result<Lie, AllocError>
+    ensures { IfOk result (λ lie.
+        Overlaps S.resolves S.identifies source.now dest.now system.old system.new lie) }
 {
+    let tree = below(alloc, source, TREE)?;
     let root = below(alloc, dest, ROOT)?;
     let staging = below(alloc, dest, STAGING)?;
-    Ok(
-        is_inside(system, alloc, dest, source)
-            || is_inside(system, alloc, source, root.as_str())
-            || is_inside(system, alloc, source, staging.as_str()),
-    )
+    Ok(first_found(
+        system,
+        alloc,
+        source,
+        tree.as_str(),
+        dest,
+        root.as_str(),
+        staging.as_str(),
+    ))
+}
+
+// The same of the paths of a store and its `pairtree_root`, and of a destination and what it is to hold.
+fn first_found<S: Places>(
+    system: &mut S,
+    alloc: Global,
+    source: &str,
+    tree: &str,
+    dest: &str,
+    root: &str,
+    staging: &str,
+) -> Lie
+    ensures { Finds S.resolves S.identifies source.now tree.now dest.now root.now staging.now
+        system.old system.new result }
+{
+    match in_either(system, alloc, dest, source, tree) {
+        Lie::Apart => match in_either(system, alloc, source, root, staging) {
+            Lie::Apart => in_either(system, alloc, tree, root, staging),
+            Lie::Inside => Lie::Inside,
+            Lie::Unknown => Lie::Unknown,
+        },
+        Lie::Inside => Lie::Inside,
+        Lie::Unknown => Lie::Unknown,
+    }
+}
+
+// How what a path leads to lies to one folder, and where it is apart from that, to another.
+fn in_either<S: Places>(system: &mut S, alloc: Global, inner: &str, one: &str, other: &str) -> Lie
+    ensures { InEither S.resolves S.identifies inner.now one.now other.now
+        system.old system.new result }
+{
+    match lies_in(system, alloc, inner, one) {
+        Lie::Apart => lies_in(system, alloc, inner, other),
+        Lie::Inside => Lie::Inside,
+        Lie::Unknown => Lie::Unknown,
+    }
 }
 
 // A folder's path with a name behind it.

@@ -2,9 +2,10 @@
 ghost use Rattle.std.specs.Prelude.{◌≡◌};
 ghost use Rattle.pt_guard.specs.Guard.{Begins};
 
-use crate::apart::overlap;
+use crate::apart::{Lie, overlap};
 use crate::places::{Hold, Places};
 use std::alloc::{AllocError, Global};
+use std::io;
 use thiserror::Error;
 
 /// Why a run may not begin. Nothing was read or made.
@@ -13,6 +14,9 @@ pub enum GuardFault {
     /// The destination is the store or lies in it, or the store lies in `ocfl` or `staging` of the destination.
     #[error("SOURCE and DEST lie in one another")]
     Overlap,
+    /// One of the two stands, and the system can't tell where.
+    #[error("the system cannot tell where SOURCE and DEST lie")]
+    Hidden,
     /// Another run holds the destination.
     #[error("another run has the destination")]
     Taken,
@@ -33,24 +37,27 @@ impl From<AllocError> for GuardFault {
 }
 
 /// Sees to it that a run may begin: its folders lie apart, and no other run holds the destination. What it gives holds the
-/// destination's folder until it is dropped; None where that can't be locked.
+/// destination's folder until it is dropped, or says why that can't be locked.
 ///
-/// `Overlap` where the folders, links resolved, lie in one another, which is asked first; `Taken` where another holds the
+/// `Overlap` where the folders, links resolved, lie in one another, or are so by what the system knows them by, whatever leads to them
+/// (as a second mount); `Hidden` where one stands and that can't be found out. This is asked first. `Taken` where another holds the
 /// lock; `Memory` where a growth was refused.
 pub fn begin<S: Places>(
     system: &mut S,
     alloc: Global,
     source: &str,
     dest: &str,
-) -> Result<Option<S::Lock>, GuardFault>
-    ensures { Begins S.resolves S.holds source.now dest.now system.old system.new result }
+) -> Result<io::Result<S::Lock>, GuardFault>
+    ensures { Begins S.resolves S.identifies S.holds source.now dest.now
+        system.old system.new result }
 {
-    if overlap(system, alloc, source, dest)? {
-        return Err(GuardFault::Overlap);
-    }
-    match system.hold(dest) {
-        Hold::Held(lock) => Ok(Some(lock)),
-        Hold::Taken => Err(GuardFault::Taken),
-        Hold::Unknown => Ok(None),
+    match overlap(system, alloc, source, dest)? {
+        Lie::Inside => Err(GuardFault::Overlap),
+        Lie::Unknown => Err(GuardFault::Hidden),
+        Lie::Apart => match system.hold(dest) {
+            Hold::Held(lock) => Ok(Ok(lock)),
+            Hold::Taken => Err(GuardFault::Taken),
+            Hold::Unknown(error) => Ok(Err(error)),
+        },
     }
 }

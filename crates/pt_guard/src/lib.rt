@@ -6,4 +6,4 @@ mod guard;
 mod places;
 
 pub use guard::{GuardFault, begin};
-pub use places::{Hold, Lockable, Places};
+pub use places::{Folder, Hold, Lockable, Places};

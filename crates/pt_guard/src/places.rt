@@ -4,11 +4,13 @@ ghost use Rattle.std.specs.Prelude.{⊤, ℕ, List};
 ghost use Rattle.std.specs.declared.io.Error.{Error};
 ghost use Rattle.pt_guard.specs.Paths.{Place};
 ghost use Rattle.std.specs.declared.result.Result.{Result};
+ghost use Rattle.pt_guard.specs.declared.places.Folder.{Folder};
 ghost use Rattle.pt_guard.specs.declared.places.Hold.{Hold};
 
 use std::alloc::Global;
 use std::fs::{File, OpenOptions, TryLockError};
 use std::io;
+use std::os::unix::fs::MetadataExt;
 use std::path::PathBuf;
 use std::rt::Files;
 
@@ -19,8 +21,17 @@ pub enum Hold<L> {
     Held(L),
     /// Another holds it.
     Taken,
-    /// It can't be asked for: the folder can't be opened, or its file system has no locks.
-    Unknown,
+    /// It can't be asked for, for this reason: the folder can't be opened, or its file system has no locks.
+    Unknown(io::Error),
+}
+
+/// What the system knows a file or folder by, whatever path leads to it: its device, and its number there.
+#[derive(Clone, Copy, Debug, PartialEq, Eq)]
+pub struct Folder {
+    /// The number of the device.
+    pub device: u64,
+    /// The number of the inode on it.
+    pub inode: u64,
 }
 
 /// A file that can be locked.
@@ -47,12 +58,19 @@ pub trait Places {
     /// Where a path leads, links resolved, may be this.
     ghost resolves: { Self → List ℕ → Result Place Error → Self → Type 0 };
 
+    /// What a path leads to may be told to be this.
+    ghost identifies: { Self → List ℕ → Result Folder Error → Self → Type 0 };
+
     /// Asking for the lock of the folder at a path may come to this.
     ghost holds: { Self → List ℕ → Hold Self.Lock → Self → Type 0 };
 
     /// Where a path leads, from the top, links resolved.
     fn resolve(&mut self, alloc: Global, path: &str) -> io::Result<PathBuf>
         ensures { resolves self.old path.now result self.new };
+
+    /// What a path leads to, links followed.
+    fn identify(&mut self, path: &str) -> io::Result<Folder>
+        ensures { identifies self.old path.now result self.new };
 
     /// Asks for the lock of the folder at a path.
     fn hold(&mut self, path: &str) -> Hold<Self::Lock>
@@ -67,10 +85,20 @@ where
 
     ghost resolves = { λ _ _ _ _. ⊤ };
 
+    ghost identifies = { λ _ _ _ _. ⊤ };
+
     ghost holds = { λ _ _ _ _. ⊤ };
 
     fn resolve(&mut self, alloc: Global, path: &str) -> io::Result<PathBuf> {
         self.canonicalize(alloc, path)
+    }
+
+    fn identify(&mut self, path: &str) -> io::Result<Folder> {
+        let metadata = self.metadata(path)?;
+        Ok(Folder {
+            device: metadata.dev(),
+            inode: metadata.ino(),
+        })
     }
 
     fn hold(&mut self, path: &str) -> Hold<R::File> {
@@ -78,7 +106,7 @@ where
         options.read(true);
         match self.open_file(&options, path) {
             Ok(folder) => asked(folder),
-            Err(_) => Hold::Unknown,
+            Err(error) => Hold::Unknown(error),
         }
     }
 }
@@ -88,6 +116,6 @@ fn asked<F: Lockable + Drop>(folder: F) -> Hold<F> {
     match folder.ask_lock() {
         Ok(true) => Hold::Held(folder),
         Ok(false) => Hold::Taken,
-        Err(_) => Hold::Unknown,
+        Err(error) => Hold::Unknown(error),
     }
 }

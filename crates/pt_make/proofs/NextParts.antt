@@ -1,8 +1,7 @@
 -- The turns that make an object's contents, from their calls.
-use Rattle.std.proofs.Common.{◌≡◌, ◌<◌, ◌≤◌, ◌-◌, ◌^◌, ℕ, List, [], ◌++◌, refl, sym, subst, ap, ◌∙◌, true, false, take, length, arith}
+use Rattle.std.proofs.Common.{◌≡◌, ◌<◌, ◌≤◌, ◌-◌, ◌^◌, ℕ, [], ◌++◌, refl, sym, subst, ap, ◌∙◌, true, false, take, length, arith}
 use Rattle.std.specs.Prelude.{Option, None, Some, Ok, IsErrAnd, slice_get}
 use Rattle.std.specs.Option.{option_map}
-use Rattle.std.specs.String.{string_bytes}
 use Rattle.std.proofs.lemmas.Bool.{le-ltb, lt-ltb}
 use Rattle.std.proofs.lemmas.List.{take_all}
 use Rattle.pt_object.specs.Hasher.{HasBeenFed}
@@ -10,26 +9,26 @@ use Rattle.pt_object.specs.Script.{MakeFolder}
 use Rattle.pt_object.specs.declared.rows.Row.{Row}
 use Rattle.pt_tree.specs.Dest.{Writing, MayMake, after_create}
 use Rattle.pt_tree.specs.Path.{Path}
-use Rattle.pt_tree.specs.Source.{Reading, CanOpen}
+use Rattle.pt_tree.specs.Source.{Reading, CanOpen, after_open}
 use Rattle.pt_tree.specs.Tree.{Bytes, put}
 use Rattle.pt_plan.specs.Answer.{Answer}
 use Rattle.pt_plan.specs.Permits.{MayMakeContent, MayOpenRow}
-use Rattle.pt_plan.specs.Turn.{Did, HasFailed, LeavesSome, Make}
+use Rattle.pt_plan.specs.Turn.{Did, HasFailed, LeavesSome, Make, Stays}
 use Rattle.pt_plan.specs.TurnMake.{MakesFolder, OpensCopy, PassesRow, behind, content_at, in_content, is_stored, path_of_source, with_folder}
 use Rattle.pt_plan.specs.TurnWalk.{in_pairtree}
-use Rattle.pt_plan.specs.World.{Calls, Changes, Creates, Makes, NewFile, Opens, Puts, dest_tree, no_calls}
+use Rattle.pt_plan.specs.World.{Answers, Calls, Changes, Creates, Failures, Makes, NewFile, Opens, Puts, World, asks, dest_tree, does, no_calls, source_tree}
 use Rattle.pt_plan.specs.declared.halt.Halt.{Halt}
 use Rattle.pt_plan.specs.declared.object.Object.{Object}
 use Rattle.pt_plan.specs.declared.phase.Part.{Part}
 use Rattle.pt_plan.specs.declared.phase.Part.TheVariants as part
 use Rattle.pt_plan.specs.declared.phase.Phase.TheVariants as phase
 use Rattle.pt_plan.specs.declared.phase.Position.{Position}
-use Rattle.pt_state.proofs.Turning.{did_nothing, source_failed}
-use Rattle.pt_state.specs.Calls.{DestDid, SourceDid, SourceFails, SourceStays}
 use Rattle.pt_state.specs.States.{held_of}
-use Rattle.pt_state.specs.Turned.{Turned, world}
+use Rattle.pt_state.specs.Outside.{Turned}
 use Rattle.pt_state.specs.declared.state.State.{State}
-use Rattle.pt_make.proofs.Turns.{left_some, made, went}
+use Rattle.pt_state.proofs.Together.{did_nothing}
+use Rattle.pt_state.proofs.Turns.{KeepsAll, keeps_same, left_some, went}
+use Rattle.pt_make.proofs.Turns.{made}
 use Rattle.pt_make.specs.Making.{IsNextCopy, IsNextFolder, IsPassed}
 use Rattle.pt_make.specs.declared.contents.Copied.{Copied}
 
@@ -57,12 +56,12 @@ pub ruleset next_steps = (is_passed, is_next_folder, is_next_copy)
 
 -- ---- a row that is passed
 
-pub passed_row : (s : State) (r : Option Reading) (w : Option Writing) (g : Option (List ℕ)) (n d l : ℕ) (object : Object) (position : Position) (next : Part) → IsPassed s position next → Turned (phase.Make object (part.Content position)) s s r r w w g g n n d d l l (Ok (phase.Make object next))
+pub passed_row : (s : State) (w : World) (object : Object) (position : Position) (next : Part) → IsPassed s position next → Turned (phase.Make object (part.Content position)) s s w w (Ok (phase.Make object next))
 unfolding IsPassed
-passed_row s r w g n d l object position next (row, (at, other, then)) =
-    subst (λ (p : Part). Turned (phase.Make object (part.Content position)) s s r r w w g g n n d d l l (Ok (phase.Make object p))) (sym then)
-    (went (phase.Make object (part.Content position)) (phase.Make object (content_at s.rows (behind position))) s s r r w w g n n d d l no_calls (λ fed. fed)
-    (λ fed _. Make (phase.Make object (part.Content position)) _ (held_of s fed) (held_of s fed) _ _ (PassesRow (held_of s fed) object position row at other)) (did_nothing (world r w g n d l)) refl (λ fed was. was) refl refl refl refl refl)
+passed_row s w object position next (row, (at, other, then)) =
+    subst (λ (p : Part). Turned (phase.Make object (part.Content position)) s s w w (Ok (phase.Make object p))) (sym then)
+    (went (phase.Make object (part.Content position)) (phase.Make object (content_at s.rows (behind position))) s s w w no_calls (λ fed. fed)
+    (λ fed _. Make (phase.Make object (part.Content position)) _ (held_of s fed) (held_of s fed) _ _ (PassesRow (held_of s fed) object position row at other)) (did_nothing w) refl (λ fed was. was) (keeps_same s))
 
 -- ---- a folder
 
@@ -74,12 +73,11 @@ pub may_folder : (s : State) (reading : Option Reading) (writing : Option Writin
 unfolding MayMakeContent IsNextFolder
 may_folder s reading writing object position path may (row, (at, stored, less, few, is)) = subst (λ (p : Path). MayMake writing p) (sym is) ((may row at stored).0 less)
 
-pub made_folder : (s : State) (r : Option Reading) (w w' : Option Writing) (g : Option (List ℕ)) (n d d' l : ℕ) (object : Object) (position : Position) (path : Path) → DestDid (Makes (MakeFolder path)) w w' d d' → IsNextFolder s position path
-    → Turned (phase.Make object (part.Content position)) s s r r w w' g g n n d d' l l (Ok (phase.Make object (part.Content (with_folder position))))
+pub made_folder : (s : State) (a b : World) (object : Object) (position : Position) (path : Path) → Did (does (Makes (MakeFolder path))) a b → IsNextFolder s position path → Turned (phase.Make object (part.Content position)) s s a b (Ok (phase.Make object (part.Content (with_folder position))))
 unfolding IsNextFolder
-made_folder s r w w' g n d d' l object position path did (row, (at, stored, less, few, is)) =
-    made (phase.Make object (part.Content position)) (phase.Make object (part.Content (with_folder position))) s s r w w' g n d d' l (Makes (MakeFolder (in_content (take position.directories row.path)))) (λ fed. fed) (λ fed. MakesFolder (held_of s fed) object position row at stored less)
-    (subst (λ (p : Path). DestDid (Makes (MakeFolder p)) w w' d d') is did) (λ fed was. was) refl refl refl refl refl
+made_folder s a b object position path did (row, (at, stored, less, few, is)) =
+    made (phase.Make object (part.Content position)) (phase.Make object (part.Content (with_folder position))) s s a b (Makes (MakeFolder (in_content (take position.directories row.path)))) (λ fed. fed) (λ fed. MakesFolder (held_of s fed) object position row at stored less)
+    (subst (λ (p : Path). Did (does (Makes (MakeFolder p))) a b) is did) (λ fed was. was) (keeps_same s)
 
 -- ---- a file, and the one that it is copied from
 
@@ -87,46 +85,62 @@ pub may_create : (s : State) (reading : Option Reading) (writing : Option Writin
 unfolding MayMakeContent IsNextCopy
 may_create s reading writing object position copied may (row, (at, stored, most, there, here, same)) = subst (λ (p : Path). MayMake writing p) (sym there) ((may row at stored).1 most).0
 
-pub may_open : (s : State) (reading : Option Reading) (writing : Option Writing) (object : Object) (position : Position) (copied : Copied) → MayMakeContent reading writing object (held_of s []) position → IsNextCopy s object position copied → CanOpen reading copied.from
-unfolding MayMakeContent MayOpenRow IsNextCopy
-may_open s reading writing object position copied may (row, (at, stored, most, there, here, same)) = subst (λ (p : Path). CanOpen reading p) (sym here) ((may row at stored).1 most).1
+pub can_open_still : (a b : World) (to from : Path) → CanOpen a.source from → Did (does (Creates to)) a b → CanOpen b.source from
+unfolding Did Answers
+can_open_still a b to from can did = subst (λ (o : Option Reading). CanOpen o from) (sym did.0.source) can
 
 -- a file is made, and another opened
 abbrev opens_copy : Path → Path → Calls
 opens_copy to from = record { asked = Opens from; change = Creates to; line = None }
 
-both_did : (to from : Path) (r r' : Option Reading) (w w' : Option Writing) (g : Option (List ℕ)) (n n' d d' l : ℕ) → DestDid (Creates to) w w' d d' → SourceDid (Opens from) r r' n n' → Did (opens_copy to from) (world r w g n d l) (world r' w' g n' d' l)
-unfolding DestDid SourceDid Did Puts
-both_did to from r r' w w' g n n' d d' l made opened = (record { source = opened.0; dest = made.0; log = refl }, λ i. record { source = opened.1 i; dest = made.1 i; log = l })
+both_did : (to from : Path) (a b c : World) → Did (does (Creates to)) a b → Did (asks (Opens from)) b c → Did (opens_copy to from) a c
+unfolding Did Answers Changes Puts
+both_did to from a b c made opened = (
+  record {
+    source = opened.0.source ∙ ap (option_map (after_open from)) made.0.source;
+    dest = opened.0.dest ∙ made.0.dest;
+    log = opened.0.log ∙ made.0.log;
+  },
+  opened.1 ∙ made.1,
+)
 
-pub copy_opened : (s s' : State) (r r' : Option Reading) (w w' : Option Writing) (g : Option (List ℕ)) (n n' d d' l : ℕ) (object : Object) (position : Position) (copied : Copied) → DestDid (Creates copied.to) w w' d d' → SourceDid (Opens copied.from) r r' n n' → IsNextCopy s object position copied → HasBeenFed s.job.algorithm s'.hasher []
-    → string_bytes s'.prefix ≡ string_bytes s.prefix → s'.trail ≡ s.trail → s'.rows ≡ s.rows → s'.contents ≡ s.contents → s'.counts ≡ s.counts → Turned (phase.Make object (part.Content position)) s s' r r' w w' g g n n' d d' l l (Ok (phase.Copy object position copied.length))
+pub copy_opened : (s s' : State) (a b c : World) (object : Object) (position : Position) (copied : Copied) → Did (does (Creates copied.to)) a b → Did (asks (Opens copied.from)) b c → IsNextCopy s object position copied → HasBeenFed s.job.algorithm s'.hasher [] → KeepsAll s s'
+    → Turned (phase.Make object (part.Content position)) s s' a c (Ok (phase.Copy object position copied.length))
 unfolding IsNextCopy
-copy_opened s s' r r' w w' g n n' d d' l object position copied created opened (row, (at, stored, most, there, here, same)) started prefix trail rows contents counts =
-    subst (λ (k : ℕ). Turned (phase.Make object (part.Content position)) s s' r r' w w' g g n n' d d' l l (Ok (phase.Copy object position k))) (sym same)
-    (went (phase.Make object (part.Content position)) (phase.Copy object position row.length) s s' r r' w w' g n n' d d' l (opens_copy (in_content row.path) (in_pairtree (path_of_source object s.trail ++ row.path))) (λ _. [])
+copy_opened s s' a b c object position copied created opened (row, (at, stored, most, there, here, same)) started keeps =
+    subst (λ (k : ℕ). Turned (phase.Make object (part.Content position)) s s' a c (Ok (phase.Copy object position k))) (sym same)
+    (went (phase.Make object (part.Content position)) (phase.Copy object position row.length) s s' a c (opens_copy (in_content row.path) (in_pairtree (path_of_source object s.trail ++ row.path))) (λ _. [])
     (λ fed _. Make (phase.Make object (part.Content position)) _ (held_of s fed) (held_of s []) _ _ (OpensCopy (held_of s fed) object position row at stored most))
-    (both_did _ _ r r' w w' g n n' d d' l (subst (λ (p : Path). DestDid (Creates p) w w' d d') there created) (subst (λ (p : Path). SourceDid (Opens p) r r' n n') here opened)) refl (λ _ _. started) prefix trail rows contents counts)
+    (both_did _ _ a b c (subst (λ (p : Path). Did (does (Creates p)) a b) there created) (subst (λ (p : Path). Did (asks (Opens p)) b c) here opened)) refl (λ _ _. started) keeps)
 
 created_tree : (o : Option Writing) (p : Path) → dest_tree (option_map (after_create p) o) ≡ option_map (λ t. put t p (Bytes [])) (dest_tree o)
 created_tree None p = refl
 created_tree (Some s) p = refl
 
 -- the file was made, and the other not opened
-source_failed_later : (f : Halt) (n n' d d' l : ℕ) → SourceFails f n n' → d' ≡ d → HasFailed f (record { source = n; dest = d; log = l }) (record { source = n'; dest = d'; log = l })
-source_failed_later f n n' d d' l fails same = subst (λ (k : ℕ). HasFailed f (record { source = n; dest = d; log = l }) (record { source = n'; dest = k; log = l })) (sym same) (source_failed f n n' d l fails)
+left_new : (to from : Path) (f : Halt) (a b c : World) → Did (does (Creates to)) a b → Stays f b c → LeavesSome (opens_copy to from) f a c
+unfolding Did Stays LeavesSome Answers Changes Puts
+left_new to from f a b c created stays = (
+  record {
+    read = tt;
+    found = tt;
+    source = stays.0 ∙ ap source_tree created.0.source;
+    dest = NewFile to (ap dest_tree (stays.1 ∙ created.0.dest) ∙ created_tree a.dest to);
+    log = stays.2 ∙ created.0.log;
+  },
+  subst (λ (x : Failures). HasFailed f x c.failures) created.1 stays.3,
+)
 
-left_new : (to from : Path) (f : Halt) (r r' : Option Reading) (w w' : Option Writing) (g : Option (List ℕ)) (n n' d d' l : ℕ) → DestDid (Creates to) w w' d d' → SourceStays f r r' n n' → LeavesSome (opens_copy to from) f (world r w g n d l) (world r' w' g n' d' l)
-unfolding DestDid SourceStays LeavesSome Changes
-left_new to from f r r' w w' g n n' d d' l created stays =
-    (record { read = tt; found = tt; source = stays.0; dest = NewFile to (ap dest_tree created.0 ∙ created_tree w to); log = refl }, source_failed_later f n n' d d' l stays.1 created.1)
-
-pub copy_unopened : (s s' : State) (r r' : Option Reading) (w w' : Option Writing) (g : Option (List ℕ)) (n n' d d' l : ℕ) (object : Object) (position : Position) (copied : Copied) (f : Halt) (result : Answer) → IsErrAnd result (λ h. h ≡ f) → DestDid (Creates copied.to) w w' d d' → SourceStays f r r' n n' → IsNextCopy s object position copied
-    → string_bytes s'.prefix ≡ string_bytes s.prefix → s'.trail ≡ s.trail → s'.rows ≡ s.rows → s'.contents ≡ s.contents → s'.counts ≡ s.counts → Turned (phase.Make object (part.Content position)) s s' r r' w w' g g n n' d d' l l result
+pub copy_unopened : (s s' : State) (a b c : World) (object : Object) (position : Position) (copied : Copied) (f : Halt) (result : Answer) → IsErrAnd result (λ h. h ≡ f) → Did (does (Creates copied.to)) a b → Stays f b c → IsNextCopy s object position copied → KeepsAll s s'
+    → Turned (phase.Make object (part.Content position)) s s' a c result
 unfolding IsNextCopy
-copy_unopened s s' r r' w w' g n n' d d' l object position copied f result is created stays (row, (at, stored, most, there, here, same)) =
-    left_some (phase.Make object (part.Content position)) (phase.Copy object position row.length) s s' r r' w w' g n n' d d' l (opens_copy (in_content row.path) (in_pairtree (path_of_source object s.trail ++ row.path))) (λ _. []) f result is
+copy_unopened s s' a b c object position copied f result is created stays (row, (at, stored, most, there, here, same)) keeps =
+    left_some (phase.Make object (part.Content position)) s s' a c (opens_copy (in_content row.path) (in_pairtree (path_of_source object s.trail ++ row.path))) _ f (λ _. []) result is
     (λ fed. Make (phase.Make object (part.Content position)) _ (held_of s fed) (held_of s []) _ _ (OpensCopy (held_of s fed) object position row at stored most))
-    (left_new _ _ f r r' w w' g n n' d d' l (subst (λ (p : Path). DestDid (Creates p) w w' d d') there created) stays)
+    (left_new _ _ f a b c (subst (λ (p : Path). Did (does (Creates p)) a b) there created) stays) keeps
 
-pub ruleset next_parts = (passed_row, few_folders, may_folder, made_folder, may_create, may_open, copy_opened, copy_unopened)
+pub may_open_copy : (s : State) (w : World) (object : Object) (position : Position) (copied : Copied) → MayMakeContent w.source w.dest object (held_of s []) position → IsNextCopy s object position copied → CanOpen w.source copied.from
+unfolding MayMakeContent MayOpenRow IsNextCopy
+may_open_copy s w object position copied may (row, (at, stored, most, there, here, same)) = subst (λ (p : Path). CanOpen w.source p) (sym here) ((may row at stored).1 most).1
+
+pub ruleset next_parts = (passed_row, few_folders, may_folder, made_folder, may_create, may_open_copy, can_open_still, copy_opened, copy_unopened)

@@ -1,28 +1,25 @@
 -- The turns that tell of an object and of the end, from what the log got.
 use Rattle.std.proofs.Common.{◌≡◌, ◌<◌, ◌≤◌, ◌+◌, ◌^◌, ℕ, List, [], ◌∷◌, refl, subst, ap, ◌∙◌, length, take, arith, zero, suc, Fits, w64}
-use Rattle.std.specs.Prelude.{Option, Some, Ok, IsErrAnd, slice_get}
+use Rattle.std.specs.Prelude.{Some, Ok, IsErrAnd, slice_get}
 use Rattle.std.specs.String.{string_bytes}
 use Rattle.std.proofs.lemmas.List.{take_all}
 use Rattle.std.proofs.lemmas.List.Sums.{sum_by-cons, sum_by-take-le}
 use Rattle.pt_object.specs.declared.rows.Row.{Row}
-use Rattle.pt_tree.specs.Dest.{Writing}
 use Rattle.pt_tree.specs.Path.{Path}
-use Rattle.pt_tree.specs.Source.{Reading}
 use Rattle.pt_walk.specs.Trail.{sought}
 use Rattle.pt_plan.specs.Answer.{Answer}
 use Rattle.pt_plan.specs.Lines.{Done, End, Line}
-use Rattle.pt_plan.specs.Turn.{Follows, Place}
+use Rattle.pt_plan.specs.Turn.{Did, Follows, LeavesSome, Place}
 use Rattle.pt_plan.specs.TurnMake.{path_of_source}
 use Rattle.pt_plan.specs.TurnPlace.{TellsDone, TellsEnd, bytes_in_rows, done_line, last_line, restarted}
-use Rattle.pt_plan.specs.World.{tells}
+use Rattle.pt_plan.specs.World.{World, tells}
 use Rattle.pt_plan.specs.declared.halt.Halt.{Halt}
 use Rattle.pt_plan.specs.declared.object.Object.{Object}
 use Rattle.pt_plan.specs.declared.phase.Phase.TheVariants as phase
-use Rattle.pt_state.proofs.Whole.{told_whole, turned_front, turned_on}
-use Rattle.pt_state.specs.Calls.{LogGot, LogGotFront}
+use Rattle.pt_state.proofs.Turns.{KeepsAll, keeps_same, left_told, turned_on}
 use Rattle.pt_state.specs.Lines.{with_done}
 use Rattle.pt_state.specs.States.{counts_of, held_of, job_of}
-use Rattle.pt_state.specs.Turned.{Turned}
+use Rattle.pt_state.specs.Outside.{Turned}
 use Rattle.pt_state.specs.declared.state.State.{State}
 
 -- ---- the lengths of rows
@@ -62,26 +59,25 @@ line_of s object at bytes is sum = λ i. Done (is i) (sum i) object.empty (lengt
 follows_done : (s : State) (object : Object) (fed : List ℕ) → Follows (job_of s.job) (counts_of s.counts) (phase.Line object) (string_bytes s.prefix) (held_of s fed) (string_bytes s.prefix) (restarted (held_of s fed)) (tells (done_line object (held_of s []))) (Ok phase.Walk)
 follows_done s object fed = Place (phase.Line object) (string_bytes s.prefix) (held_of s fed) _ _ _ (TellsDone (held_of s fed) object)
 
-pub told_done : (s s' : State) (object : Object) (at : Path) (bytes : ℕ) (r : Option Reading) (w : Option Writing) (g g' : Option (List ℕ)) (n d l l' : ℕ) → LogGot (Done at bytes object.empty (length s.rows) object.id object.place) g g' l l' → at ≡ path_of_source object s.trail → bytes ≡ bytes_in_rows s.rows
-    → s'.trail ≡ sought 0 s.trail → s'.rows ≡ [] → s'.contents ≡ [] → s'.counts ≡ with_done s.counts → string_bytes s'.prefix ≡ string_bytes s.prefix → s'.hasher ≡ s.hasher → Turned (phase.Line object) s s' r r w w g g' n n d d l l' (Ok phase.Walk)
-told_done s s' object at bytes r w g g' n d l l' got is sum trail rows contents counts prefix hasher =
-    turned_on (phase.Line object) phase.Walk s s' r r w w g g' n n d d l l' (tells (done_line object (held_of s []))) (sought 0 s.trail) [] [] (λ fed. follows_done s object fed)
-    (told_whole (done_line object (held_of s [])) r w g g' n d l l' (subst (λ (line : Line). LogGot line g g' l l') (line_of s object at bytes is sum) got)) trail rows contents (ap counts_of counts) prefix hasher
+pub told_done : (s s' : State) (object : Object) (at : Path) (bytes : ℕ) (a b : World) → Did (tells (Done at bytes object.empty (length s.rows) object.id object.place)) a b → at ≡ path_of_source object s.trail → bytes ≡ bytes_in_rows s.rows
+    → s'.trail ≡ sought 0 s.trail → s'.rows ≡ [] → s'.contents ≡ [] → s'.counts ≡ with_done s.counts → string_bytes s'.prefix ≡ string_bytes s.prefix → s'.hasher ≡ s.hasher → s'.job ≡ s.job → Turned (phase.Line object) s s' a b (Ok phase.Walk)
+told_done s s' object at bytes a b did is sum trail rows contents counts prefix hasher job =
+    turned_on (phase.Line object) phase.Walk s s' a b (tells (done_line object (held_of s []))) (sought 0 s.trail) [] [] (λ fed. follows_done s object fed)
+    (subst (λ (line : Line). Did (tells line) a b) (line_of s object at bytes is sum) did) trail rows contents (ap counts_of counts) prefix hasher job
 
-pub told_front : (s s' : State) (object : Object) (at : Path) (bytes : ℕ) (r : Option Reading) (w : Option Writing) (g g' : Option (List ℕ)) (n d l l' : ℕ) (f : Halt) (result : Answer) → IsErrAnd result (λ h. h ≡ f) → LogGotFront (Done at bytes object.empty (length s.rows) object.id object.place) f g g' l l' → at ≡ path_of_source object s.trail → bytes ≡ bytes_in_rows s.rows
-    → string_bytes s'.prefix ≡ string_bytes s.prefix → s'.trail ≡ s.trail → s'.rows ≡ s.rows → s'.contents ≡ s.contents → s'.counts ≡ s.counts → Turned (phase.Line object) s s' r r w w g g' n n d d l l' result
-told_front s s' object at bytes r w g g' n d l l' f result is front there sum prefix trail rows contents counts =
-    turned_front (phase.Line object) phase.Walk s s' r r w w g g' n d l l' (tells (done_line object (held_of s []))) (done_line object (held_of s [])) _ f result is (subst (λ (line : Line). LogGotFront line f g g' l l') (line_of s object at bytes there sum) front) refl
-    (λ fed. follows_done s object fed) refl refl tt tt prefix trail rows contents counts
+pub told_front : (s s' : State) (object : Object) (at : Path) (bytes : ℕ) (a b : World) (f : Halt) (result : Answer) → IsErrAnd result (λ h. h ≡ f) → LeavesSome (tells (Done at bytes object.empty (length s.rows) object.id object.place)) f a b → at ≡ path_of_source object s.trail → bytes ≡ bytes_in_rows s.rows → KeepsAll s s'
+    → Turned (phase.Line object) s s' a b result
+told_front s s' object at bytes a b f result is front there sum keeps =
+    left_told (phase.Line object) s s' a b (tells (done_line object (held_of s []))) (Ok phase.Walk) f _ result is (λ fed. follows_done s object fed)
+    (subst (λ (line : Line). LeavesSome (tells line) f a b) (line_of s object at bytes there sum) front) keeps
 
-pub told_end : (s : State) (r : Option Reading) (w : Option Writing) (g g' : Option (List ℕ)) (n d l l' : ℕ) → LogGot (End s.counts.done s.counts.present s.counts.skipped) g g' l l' → Turned phase.End s s r r w w g g' n n d d l l' (Ok phase.Ended)
-told_end s r w g g' n d l l' got =
-    turned_on phase.End phase.Ended s s r r w w g g' n n d d l l' (tells (last_line (counts_of s.counts))) s.trail s.rows s.contents
-    (λ fed. Place phase.End (string_bytes s.prefix) (held_of s fed) _ _ _ (TellsEnd (held_of s fed))) (told_whole (last_line (counts_of s.counts)) r w g g' n d l l' got) refl refl refl refl refl refl
+pub told_end : (s : State) (a b : World) → Did (tells (End s.counts.done s.counts.present s.counts.skipped)) a b → Turned phase.End s s a b (Ok phase.Ended)
+told_end s a b did =
+    turned_on phase.End phase.Ended s s a b (tells (last_line (counts_of s.counts))) s.trail s.rows s.contents
+    (λ fed. Place phase.End (string_bytes s.prefix) (held_of s fed) _ _ _ (TellsEnd (held_of s fed))) did refl refl refl refl refl refl refl
 
-pub end_front : (s : State) (r : Option Reading) (w : Option Writing) (g g' : Option (List ℕ)) (n d l l' : ℕ) (f : Halt) (result : Answer) → IsErrAnd result (λ h. h ≡ f) → LogGotFront (End s.counts.done s.counts.present s.counts.skipped) f g g' l l' → Turned phase.End s s r r w w g g' n n d d l l' result
-end_front s r w g g' n d l l' f result is front =
-    turned_front phase.End phase.Ended s s r r w w g g' n d l l' (tells (last_line (counts_of s.counts))) (last_line (counts_of s.counts)) _ f result is front refl
-    (λ fed. Place phase.End (string_bytes s.prefix) (held_of s fed) _ _ _ (TellsEnd (held_of s fed))) refl refl tt tt refl refl refl refl refl
+pub end_front : (s : State) (a b : World) (f : Halt) (result : Answer) → IsErrAnd result (λ h. h ≡ f) → LeavesSome (tells (End s.counts.done s.counts.present s.counts.skipped)) f a b → Turned phase.End s s a b result
+end_front s a b f result is front =
+    left_told phase.End s s a b (tells (last_line (counts_of s.counts))) (Ok phase.Ended) f _ result is (λ fed. Place phase.End (string_bytes s.prefix) (held_of s fed) _ _ _ (TellsEnd (held_of s fed))) front (keeps_same s)
 
 pub ruleset telling = (one_row_more, row_fits, all_rows, told_done, told_front, told_end, end_front)

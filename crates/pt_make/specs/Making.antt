@@ -4,7 +4,9 @@ use Rattle.std.specs.Str.{bytes_eq}
 use Rattle.pt_object.specs.declared.contents.Content.{Content}
 use Rattle.pt_object.specs.Distinct.{content_of_row, distinct}
 use Rattle.pt_object.specs.Hasher.{HasBeenFed}
-use Rattle.pt_plan.specs.TurnMake.{behind, behind_stored, content_at, in_content, is_stored, path_of_source, text_of_inventory}
+use Rattle.pt_object.specs.Script.{MakeFile}
+use Rattle.pt_object.specs.Scripts.{staging}
+use Rattle.pt_plan.specs.TurnMake.{behind, behind_stored, content_at, in_content, in_version, is_stored, path_of_source, text_of_inventory}
 use Rattle.pt_plan.specs.TurnWalk.{in_pairtree}
 use Rattle.pt_object.specs.declared.rows.Row.{Row}
 use Rattle.pt_tree.specs.Path.{Path}
@@ -12,9 +14,12 @@ use Rattle.pt_plan.specs.declared.object.Object.{Object}
 use Rattle.pt_plan.specs.declared.phase.Part.{Part}
 use Rattle.pt_plan.specs.declared.phase.Part.TheVariants as part
 use Rattle.pt_plan.specs.declared.phase.Position.{Position}
+use Rattle.pt_plan.specs.World.{Calls, Makes, does}
 use Rattle.pt_make.specs.declared.contents.Copied.{Copied}
 use Rattle.pt_make.specs.declared.contents.Step.{Step}
 use Rattle.pt_make.specs.declared.contents.Step.TheVariants as step
+use Rattle.pt_make.specs.declared.inventories.Folder.{Folder}
+use Rattle.pt_make.specs.declared.inventories.Folder.TheVariants as folder
 use Rattle.pt_state.specs.States.{job_of}
 use Rattle.pt_state.specs.declared.state.State.{State}
 
@@ -59,9 +64,39 @@ EndsAs rows contents position left digest None = IsOther rows position left dige
 unfoldable pub HasContentsOfRows : State → Type 0
 HasContentsOfRows s = s.contents ≡ map content_of_row (distinct s.rows)
 
+-- ---- inventories
+
+-- the text of the inventory of an object whose rows are held
+abbrev pub inventory_held : State → Object → List ℕ
+inventory_held s object = text_of_inventory (job_of s.job) object s.rows
+
+-- a file is made with these bytes
+abbrev pub makes_file : Path → List ℕ → Calls
+makes_file path bytes = does (Makes (MakeFile path bytes))
+
+-- below a folder, in `staging`
+abbrev pub in_folder : Folder → Path → Path
+in_folder folder.Version names = in_version names
+in_folder folder.Top names = staging ++ names
+
+-- the part that makes its inventory
+abbrev pub inventory_part : Folder → Part
+inventory_part folder.Version = part.VersionInventory
+inventory_part folder.Top = part.Inventory
+
+-- the part that makes its sidecar
+abbrev pub sidecar_part : Folder → Part
+sidecar_part folder.Version = part.VersionSidecar
+sidecar_part folder.Top = part.Sidecar
+
 -- the hasher has been fed the text of the object's inventory
 unfoldable pub HasFedInventory : State → Object → Type 0
-HasFedInventory s object = HasBeenFed s.job.algorithm s.hasher (text_of_inventory (job_of s.job) object s.rows)
+HasFedInventory s object = HasBeenFed s.job.algorithm s.hasher (inventory_held s object)
+
+-- so it has where the one at the top is to be made
+abbrev pub IsFedFor : Folder → State → Object → Type 0
+IsFedFor folder.Version s object = ⊤
+IsFedFor folder.Top s object = HasFedInventory s object
 
 -- what the turn of a part needs of what is held
 abbrev pub IsReadyFor : Part → Object → State → Type 0
@@ -71,5 +106,5 @@ IsReadyFor part.Version object s = ⊤
 IsReadyFor (part.Content position) object s = position.row < length s.rows
 IsReadyFor part.VersionInventory object s = HasContentsOfRows s
 IsReadyFor part.VersionSidecar object s = HasFedInventory s object
-IsReadyFor part.Inventory object s = HasContentsOfRows s
+IsReadyFor part.Inventory object s = HasContentsOfRows s × HasFedInventory s object
 IsReadyFor part.Sidecar object s = HasFedInventory s object

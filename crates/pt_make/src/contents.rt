@@ -1,23 +1,22 @@
-#![tactic(auto, using(crate::proofs::NextParts::next_steps, crate::proofs::NextParts::next_parts, pt_state::proofs::Counting::calls, pt_state::proofs::Whole::whole))]
+#![tactic(auto, using(crate::proofs::NextParts::next_steps, crate::proofs::NextParts::next_parts, pt_state::proofs::Turns::turns))]
 //! The turns that make an object's contents: a row whose content is stored is passed; of any other the folders on the
 //! way are made, one a turn, and then its file, for which the source's is opened.
-ghost use Rattle.std.specs.Prelude.{◌≡◌, ◌<◌, ◌≤◌, ◌++◌, ◌-◌, ◌^◌, [], IfOk, ℕ, List, Option, length};
+ghost use Rattle.std.specs.Prelude.{◌≡◌, ◌<◌, [], IfOk, length};
 ghost use Rattle.pt_plan.specs.Permits.{MayMakeContent};
 ghost use Rattle.pt_plan.specs.TurnMake.{content_at, is_stored as is_stored_of};
 ghost use Rattle.pt_plan.specs.declared.phase.Part.TheVariants as part;
 ghost use Rattle.pt_plan.specs.declared.phase.Phase.TheVariants as phase;
-ghost use Rattle.pt_state.specs.Counting.{AtMostCalls};
 ghost use Rattle.pt_state.specs.States.{held_of};
-ghost use Rattle.pt_state.specs.Turned.{Turned};
+ghost use Rattle.pt_state.specs.Outside.{Turned};
 ghost use Rattle.pt_tree.specs.Dest.{MayMake};
-ghost use Rattle.pt_tree.specs.Source.{Reading, CanOpen};
+ghost use Rattle.pt_tree.specs.Source.{CanOpen};
 ghost use Rattle.pt_make.specs.Making.{IsNextCopy, IsNextFolder, IsStep};
 
 use pt_object::{Contents, Hasher, Rows};
 use pt_plan::{Halt, Object, Part, Phase, Position};
 use pt_state::paths::{content_path, source_path};
-use pt_state::{State, calls};
-use pt_tree::{Dest, MemoryFault, NamePath, Source};
+use pt_state::{Outside, State};
+use pt_tree::{MemoryFault, NamePath};
 
 // The file of a content that is next to be made, with the one that it is copied from.
 #[derive(Drop)]
@@ -39,23 +38,23 @@ enum Step {
 }
 
 /// Passes a row whose content is stored already; else makes the next folder of its content path, or its file.
-pub(crate) fn make_content<S: Source, D: Dest>(
+pub(crate) fn make_content<O: Outside>(
     state: &mut State,
     object: Object,
     position: Position,
-    source: &mut S,
-    dest: &mut D,
+    out: &mut O,
 ) -> Result<Phase, Halt>
     requires row { position.row < length state.old.rows }
-    requires may { MayMakeContent (S.told source.old) (D.told dest.old) object (held_of state.old []) position }
-    ensures job { state.new.job ≡ state.old.job }
-    ensures turn { (log : Option (List ℕ)) (l : ℕ) → Turned (phase.Make object (part.Content position)) state.old state.new (S.told source.old) (S.told source.new) (D.told dest.old) (D.told dest.new) log log (S.failed source.old) (S.failed source.new) (D.failed dest.old) (D.failed dest.new) l l result }
-    ensures calls { AtMostCalls 1 (S.called source.old) (S.called source.new) }
+    requires may { MayMakeContent (O.world out.old).source (O.world out.old).dest object
+        (held_of state.old []) position }
+    ensures turn { Turned (phase.Make object (part.Content position)) state.old state.new
+        (O.world out.old) (O.world out.new) result }
+    ensures calls { O.within 1 out.old out.new }
 {
     match next_step(state, &object, position)? {
         Step::Pass(next) => Ok(Phase::Make(object, next)),
-        Step::Folder(path) => make_folder(state, object, position, &path, dest),
-        Step::File(copied) => open_copy(state, object, position, &copied, source, dest),
+        Step::Folder(path) => make_folder(state, object, position, &path, out),
+        Step::File(copied) => open_copy(state, object, position, &copied, out),
     }
 }
 
@@ -106,18 +105,20 @@ fn is_stored(contents: &Contents, stored: usize, path: &NamePath) -> bool
 }
 
 // Makes the folder of this path, which is next on the way to a content.
-fn make_folder<D: Dest>(
+fn make_folder<O: Outside>(
     state: &State,
     object: Object,
     position: Position,
     path: &NamePath,
-    dest: &mut D,
+    out: &mut O,
 ) -> Result<Phase, Halt>
     requires next { IsNextFolder state.now position path.now }
-    requires may { MayMake (D.told dest.old) path.now }
-    ensures turn { (reading : Option Reading) (log : Option (List ℕ)) (n l : ℕ) → Turned (phase.Make object (part.Content position)) state.now state.now reading reading (D.told dest.old) (D.told dest.new) log log n n (D.failed dest.old) (D.failed dest.new) l l result }
+    requires may { MayMake (O.world out.old).dest path.now }
+    ensures turn { Turned (phase.Make object (part.Content position)) state.now state.now
+        (O.world out.old) (O.world out.new) result }
+    ensures calls { O.within 0 out.old out.new }
 {
-    calls::mkdir(dest, path)?;
+    out.mkdir(path)?;
     let directories = position.directories + 1;
     let next = Position {
         directories,
@@ -127,23 +128,22 @@ fn make_folder<D: Dest>(
 }
 
 // Makes the file of a content, and opens the one that it is copied from.
-fn open_copy<S: Source, D: Dest>(
+fn open_copy<O: Outside>(
     state: &mut State,
     object: Object,
     position: Position,
     copied: &Copied,
-    source: &mut S,
-    dest: &mut D,
+    out: &mut O,
 ) -> Result<Phase, Halt>
     requires next { IsNextCopy state.old object position copied.now }
-    requires make { MayMake (D.told dest.old) copied.now.to }
-    requires open { CanOpen (S.told source.old) copied.now.from }
-    ensures job { state.new.job ≡ state.old.job }
-    ensures turn { (log : Option (List ℕ)) (l : ℕ) → Turned (phase.Make object (part.Content position)) state.old state.new (S.told source.old) (S.told source.new) (D.told dest.old) (D.told dest.new) log log (S.failed source.old) (S.failed source.new) (D.failed dest.old) (D.failed dest.new) l l result }
-    ensures calls { AtMostCalls 1 (S.called source.old) (S.called source.new) }
+    requires make { MayMake (O.world out.old).dest copied.now.to }
+    requires open { CanOpen (O.world out.old).source copied.now.from }
+    ensures turn { Turned (phase.Make object (part.Content position)) state.old state.new
+        (O.world out.old) (O.world out.new) result }
+    ensures calls { O.within 1 out.old out.new }
 {
-    calls::create(dest, &copied.to)?;
-    calls::open(source, &copied.from)?;
+    out.create(&copied.to)?;
+    out.open(&copied.from)?;
     state.hasher = Hasher::start(state.job.algorithm);
     Ok(Phase::Copy(object, position, copied.length))
 }

@@ -1,85 +1,86 @@
-#![tactic(auto, using(crate::proofs::Parts::parts, pt_state::proofs::Counting::calls, pt_state::proofs::Filing::filing, pt_state::proofs::Whole::whole))]
+#![tactic(auto, using(crate::proofs::Parts::parts, pt_state::proofs::Turns::turns))]
 //! The turns that make an object in `staging`, one part each.
-ghost use Rattle.std.specs.Prelude.{◌≡◌, ◌++◌, ◌∷◌, [], ℕ, List, Option};
+ghost use Rattle.std.specs.Prelude.{◌++◌, ◌∷◌, []};
 ghost use Rattle.pt_object.specs.Object.{object_declaration_name};
 ghost use Rattle.pt_object.specs.Scripts.{staging};
 ghost use Rattle.pt_plan.specs.Permits.{MayMakePart};
 ghost use Rattle.pt_plan.specs.TurnMake.{in_version};
 ghost use Rattle.pt_plan.specs.declared.phase.Part.TheVariants as part;
 ghost use Rattle.pt_plan.specs.declared.phase.Phase.TheVariants as phase;
-ghost use Rattle.pt_state.specs.Counting.{AtMostCalls};
 ghost use Rattle.pt_state.specs.States.{held_of, job_of};
-ghost use Rattle.pt_state.specs.Turned.{Turned};
+ghost use Rattle.pt_state.specs.Outside.{Turned};
 ghost use Rattle.pt_tree.specs.Dest.{MayMake};
-ghost use Rattle.pt_tree.specs.Source.{Reading};
 ghost use Rattle.pt_make.specs.Making.{IsReadyFor};
 
 use crate::contents::{make_content, next_content};
-use crate::inventories::{
-    make_inventory, make_sidecar, make_version_inventory, make_version_sidecar,
-};
+use crate::inventories::{Folder, make_inventory, make_sidecar};
 use pt_object::object_declaration;
 use pt_plan::{Halt, Object, Part, Phase, Position};
 use pt_state::files::put_file;
 use pt_state::paths::{STAGING, path_of};
-use pt_state::{State, calls};
-use pt_tree::{Dest, Source};
+use pt_state::{Outside, State};
 
 /// Makes a part of an object: its folder in `staging`, the declaration, the version's folder, the contents one after
 /// another, and the inventory with its sidecar, first in the version's folder and then at the top (OCFL 1.1, "Object
 /// Structure").
-pub fn make<S: Source, D: Dest>(
+pub fn make<O: Outside>(
     state: &mut State,
     object: Object,
     part: Part,
-    source: &mut S,
-    dest: &mut D,
+    out: &mut O,
 ) -> Result<Phase, Halt>
-    requires may { MayMakePart (job_of state.old.job) object part (held_of state.old []) (S.told source.old) (D.told dest.old) }
+    requires may { MayMakePart (job_of state.old.job) object part (held_of state.old [])
+        (O.world out.old).source (O.world out.old).dest }
     requires ready { IsReadyFor part object state.old }
-    ensures job { state.new.job ≡ state.old.job }
-    ensures turn { (log : Option (List ℕ)) (l : ℕ) → Turned (phase.Make object part) state.old state.new (S.told source.old) (S.told source.new) (D.told dest.old) (D.told dest.new) log log (S.failed source.old) (S.failed source.new) (D.failed dest.old) (D.failed dest.new) l l result }
-    ensures calls { AtMostCalls 1 (S.called source.old) (S.called source.new) }
+    ensures turn { Turned (phase.Make object part) state.old state.new
+        (O.world out.old) (O.world out.new) result }
+    ensures calls { O.within 1 out.old out.new }
 {
     match part {
-        Part::Staging => make_staging(state, object, dest),
-        Part::Declaration => make_declaration(state, object, dest),
-        Part::Version => make_version(state, object, dest),
-        Part::Content(position) => make_content(state, object, position, source, dest),
-        Part::VersionInventory => make_version_inventory(state, object, dest),
-        Part::VersionSidecar => make_version_sidecar(state, object, dest),
-        Part::Inventory => make_inventory(state, object, dest),
-        Part::Sidecar => make_sidecar(state, object, dest),
+        Part::Staging => make_staging(state, object, out),
+        Part::Declaration => make_declaration(state, object, out),
+        Part::Version => make_version(state, object, out),
+        Part::Content(position) => make_content(state, object, position, out),
+        Part::VersionInventory => make_inventory(state, object, Folder::Version, out),
+        Part::VersionSidecar => make_sidecar(state, object, Folder::Version, out),
+        Part::Inventory => make_inventory(state, object, Folder::Top, out),
+        Part::Sidecar => make_sidecar(state, object, Folder::Top, out),
     }
 }
 
 // Makes `staging`.
-fn make_staging<D: Dest>(state: &State, object: Object, dest: &mut D) -> Result<Phase, Halt>
-    requires may { MayMake (D.told dest.old) staging }
-    ensures turn { (reading : Option Reading) (log : Option (List ℕ)) (n l : ℕ) → Turned (phase.Make object part.Staging) state.now state.now reading reading (D.told dest.old) (D.told dest.new) log log n n (D.failed dest.old) (D.failed dest.new) l l result }
+fn make_staging<O: Outside>(state: &State, object: Object, out: &mut O) -> Result<Phase, Halt>
+    requires may { MayMake (O.world out.old).dest staging }
+    ensures turn { Turned (phase.Make object part.Staging) state.now state.now
+        (O.world out.old) (O.world out.new) result }
+    ensures calls { O.within 0 out.old out.new }
 {
     let path = path_of(state.alloc, &[STAGING])?;
-    calls::mkdir(dest, &path)?;
+    out.mkdir(&path)?;
     Ok(Phase::Make(object, Part::Declaration))
 }
 
 // Makes the object's declaration (OCFL 1.1, "Object Conformance Declaration").
-fn make_declaration<D: Dest>(state: &State, object: Object, dest: &mut D) -> Result<Phase, Halt>
-    requires may { MayMake (D.told dest.old) (staging ++ object_declaration_name ∷ []) }
-    ensures turn { (reading : Option Reading) (log : Option (List ℕ)) (n l : ℕ) → Turned (phase.Make object part.Declaration) state.now state.now reading reading (D.told dest.old) (D.told dest.new) log log n n (D.failed dest.old) (D.failed dest.new) l l result }
+fn make_declaration<O: Outside>(state: &State, object: Object, out: &mut O) -> Result<Phase, Halt>
+    requires may { MayMake (O.world out.old).dest (staging ++ object_declaration_name ∷ []) }
+    ensures turn { Turned (phase.Make object part.Declaration) state.now state.now
+        (O.world out.old) (O.world out.new) result }
+    ensures calls { O.within 0 out.old out.new }
 {
     let path = path_of(state.alloc, &[STAGING, "0=ocfl_object_1.1"])?;
-    put_file(dest, &path, object_declaration())?;
+    put_file(out, &path, object_declaration())?;
     Ok(Phase::Make(object, Part::Version))
 }
 
 // Makes the version's folder (OCFL 1.1, "Version Directories").
-fn make_version<D: Dest>(state: &State, object: Object, dest: &mut D) -> Result<Phase, Halt>
-    requires may { MayMake (D.told dest.old) (in_version []) }
-    ensures turn { (reading : Option Reading) (log : Option (List ℕ)) (n l : ℕ) → Turned (phase.Make object part.Version) state.now state.now reading reading (D.told dest.old) (D.told dest.new) log log n n (D.failed dest.old) (D.failed dest.new) l l result }
+fn make_version<O: Outside>(state: &State, object: Object, out: &mut O) -> Result<Phase, Halt>
+    requires may { MayMake (O.world out.old).dest (in_version []) }
+    ensures turn { Turned (phase.Make object part.Version) state.now state.now
+        (O.world out.old) (O.world out.new) result }
+    ensures calls { O.within 0 out.old out.new }
 {
     let path = path_of(state.alloc, &[STAGING, "v1"])?;
-    calls::mkdir(dest, &path)?;
+    out.mkdir(&path)?;
     let first = Position {
         row: 0,
         stored: 0,

@@ -1,5 +1,6 @@
 -- What a step answers, and what it leaves, from the turn that it made.
-use Rattle.std.proofs.Common.{◌≡◌, ◌≢◌, ◌<◌, ◌≤◌, ◌+◌, ℕ, List, [], refl, sym, subst, ap, ◌∙◌, arith, inl, inr}
+use Rattle.std.proofs.Common.{◌≡◌, ◌≢◌, ◌<◌, ◌≤◌, ◌+◌, ◌==◌, Bool, cond, false, true, ℕ, List, [], refl, sym, subst, ap, ◌∙◌, arith, inl, inr}
+use Rattle.std.proofs.lemmas.Bool.{OnFalse_at, OnFalse_from}
 use Rattle.std.specs.Prelude.{Option, None, Some, Ok, Err}
 use Rattle.pt_object.specs.Hasher.{HasBeenFed}
 use Rattle.pt_object.specs.declared.algorithm.Algorithm.{Algorithm}
@@ -10,27 +11,27 @@ use Rattle.pt_plan.specs.Answer.{Answer, phase_after}
 use Rattle.pt_plan.specs.Job.{Job}
 use Rattle.pt_plan.specs.Permits.{Permits}
 use Rattle.pt_plan.specs.Run.{Held, Kept, Run, new_run}
-use Rattle.pt_plan.specs.World.{Failures, World}
+use Rattle.pt_plan.specs.World.{Failures, World, source_tree}
 use Rattle.pt_plan.specs.declared.halt.Halt.{Halt}
 use Rattle.pt_plan.specs.declared.halt.Halt.TheVariants as halt
 use Rattle.pt_plan.specs.declared.phase.Phase.{Phase}
 use Rattle.pt_plan.specs.declared.phase.Phase.TheVariants as phase
-use Rattle.pt_state.specs.Counting.{AtMostCalls}
 use Rattle.pt_state.specs.States.{held_of, job_of, kept_of}
-use Rattle.pt_state.specs.Turned.{world}
 use Rattle.pt_state.specs.declared.state.State.{State}
-use Rattle.pt_turn.specs.Bounds.{IsBounded, IsWithin, most_calls}
-use Rattle.pt_turn.specs.Stands.{Stands}
-use Rattle.pt_turn.specs.Turning.{HasFed, Turns}
-use Rattle.pt_turn.proofs.Bounding.{turn_keeps_bounds}
-use Rattle.pt_move.specs.Counting.{Counts}
-use Rattle.pt_move.specs.Fault.{fault_of}
+use Rattle.pt_move.specs.Bounds.{IsBounded, IsWithin, most_calls}
+use Rattle.pt_move.specs.Stands.{Stands}
+use Rattle.pt_move.specs.Turning.{HasFed, CountedTurn}
+use Rattle.pt_move.proofs.Bounding.{turn_keeps_bounds}
+use Rattle.pt_move.specs.Counting.{Rose}
+use Rattle.pt_move.specs.Fault.{fault_number, fault_of}
 use Rattle.pt_move.specs.Leaving.{TurnLeaves}
 use Rattle.pt_move.specs.Lines.{TellsFront}
 use Rattle.pt_move.specs.Promises.{TurnKeeps}
 use Rattle.pt_move.specs.Running.{BeganSomewhere, FedUntilEnd, HasBegun, InProgress, IsBegun, IsNew, IsWell, LeavesBehind, Running, fresh_kept, run_of}
-use Rattle.pt_move.specs.Stepping.{EndsAs, IsCounted, IsTurn, Stays as StaysAs}
+use Rattle.pt_move.specs.Stepping.{BlamesRightly, EndsAs, IsCounted, IsTurn, MakesTurn, StepLeaves, Stays as StaysAs, most_calls_at}
 use Rattle.pt_move.specs.declared.fault.Fault.{Fault}
+use Rattle.pt_move.specs.declared.fault.Fault.TheVariants as fault
+use Rattle.pt_move.proofs.Going.{is_going}
 use Rattle.pt_move.proofs.Changes.{gains_same, moves_to}
 use Rattle.pt_move.proofs.Leaves.{turn_leaves}
 use Rattle.pt_state.specs.declared.job.Report.{Report}
@@ -44,61 +45,25 @@ use Rattle.pt_work.specs.WorkLaws.{BegunWithinWork}
 use Rattle.pt_name.specs.Tuples.{IsLayout}
 use Rattle.pt_tree.specs.Tree.{Tree}
 use Rattle.pt_begun.specs.BegunHeld.{HeldAt}
+use Rattle.pt_begun.specs.EndLaws.{is_ended}
 use Rattle.pt_begun.specs.Past.{Past}
 use Rattle.pt_begun.proofs.Permitted.{begun_permits}
 use Rattle.pt_plan.specs.Permits.{MayMakeContent}
 use Rattle.pt_plan.specs.declared.phase.Part.TheVariants as part
 use Rattle.pt_state.specs.States.{counts_of}
 use Rattle.pt_state.specs.declared.job.Job as own
-use Rattle.pt_turn.specs.Bounds.{lines_put}
+use Rattle.pt_move.specs.Bounds.{lines_put}
 use Rattle.pt_move.specs.Leaving.{Blames}
 use Rattle.pt_move.specs.declared.mover.Turn as own_turn
+use Rattle.pt_move.specs.declared.mover.Turn.TheVariants as turn
 
 -- ---- what a turn needs
 
 pub fed_going : (here : Phase) (a : Algorithm) (h : Hasher) (fed : List ℕ) → here ≢ phase.Ended → FedUntilEnd here a h fed → HasBeenFed a h fed
-fed_going phase.Begin a h fed going was = was
-fed_going (phase.Prefix here) a h fed going was = was
-fed_going phase.Staging a h fed going was = was
-fed_going phase.Root a h fed going was = was
-fed_going (phase.RootMake item) a h fed going was = was
-fed_going phase.RootRename a h fed going was = was
-fed_going (phase.RootCheck file) a h fed going was = was
-fed_going phase.OpenRoot a h fed going was = was
-fed_going phase.Judge a h fed going was = was
-fed_going (phase.OpenObject object) a h fed going was = was
-fed_going (phase.Scan object) a h fed going was = was
-fed_going (phase.Read object bytes) a h fed going was = was
-fed_going (phase.Make object part) a h fed going was = was
-fed_going (phase.Copy object position left) a h fed going was = was
-fed_going (phase.Tuples object number) a h fed going was = was
-fed_going (phase.Rename object) a h fed going was = was
-fed_going (phase.Line object) a h fed going was = was
-fed_going phase.Walk a h fed going was = was
-fed_going phase.End a h fed going was = was
-fed_going phase.Ended a h fed going was = absurd (going refl)
+fed_going here a h fed going was = OnFalse_at (is_going here going) was
 
 pub fed_to_end : (here : Phase) (a : Algorithm) (h : Hasher) (fed : List ℕ) → HasBeenFed a h fed → FedUntilEnd here a h fed
-fed_to_end phase.Begin a h fed was = was
-fed_to_end (phase.Prefix here) a h fed was = was
-fed_to_end phase.Staging a h fed was = was
-fed_to_end phase.Root a h fed was = was
-fed_to_end (phase.RootMake item) a h fed was = was
-fed_to_end phase.RootRename a h fed was = was
-fed_to_end (phase.RootCheck file) a h fed was = was
-fed_to_end phase.OpenRoot a h fed was = was
-fed_to_end phase.Judge a h fed was = was
-fed_to_end (phase.OpenObject object) a h fed was = was
-fed_to_end (phase.Scan object) a h fed was = was
-fed_to_end (phase.Read object bytes) a h fed was = was
-fed_to_end (phase.Make object part) a h fed was = was
-fed_to_end (phase.Copy object position left) a h fed was = was
-fed_to_end (phase.Tuples object number) a h fed was = was
-fed_to_end (phase.Rename object) a h fed was = was
-fed_to_end (phase.Line object) a h fed was = was
-fed_to_end phase.Walk a h fed was = was
-fed_to_end phase.End a h fed was = was
-fed_to_end phase.Ended a h fed was = tt
+fed_to_end here a h fed was = OnFalse_from (is_ended here) (HasBeenFed a h fed) (λ _. was)
 
 -- the hasher has no part in what the calls need
 permits_fed : (job : Job) (here : Phase) (s : State) (fed : List ℕ) (r : Option Reading) (w : Option Writing) → Permits job here (held_of s fed) r w → Permits job here (held_of s []) r w
@@ -131,66 +96,51 @@ permits_fed job phase.Walk s fed r w may = may
 permits_fed job phase.End s fed r w may = may
 permits_fed job phase.Ended s fed r w may = tt
 
-pub may_turn : (here : Phase) (s : State) (r : Option Reading) (w : Option Writing) (g : Option (List ℕ)) (n d l : ℕ) → here ≢ phase.Ended → BeganSomewhere (world r w g n d l) (record { phase = here; state = s }) → Permits (job_of s.job) here (held_of s []) r w
+pub may_turn : (here : Phase) (s : State) (now : World) → here ≢ phase.Ended → BeganSomewhere now (record { phase = here; state = s }) → Permits (job_of s.job) here (held_of s []) now.source now.dest
 unfolding BeganSomewhere IsBegun
-may_turn here s r w g n d l going (start, begun) =
-    let is : InProgress start (world r w g n d l) (record { phase = here; state = s }) = begun in
+may_turn here s now going (start, begun) =
+    let is : InProgress start now (record { phase = here; state = s }) = begun in
     let was = fed_going here s.job.algorithm s.hasher is.fed going is.was in
-    permits_fed (job_of s.job) here s is.fed r w (begun_permits (job_of s.job) start (world r w g n d l) (record { phase = here; kept = kept_of s is.fed }) (within_work_is_begun (job_of s.job) start (world r w g n d l) (record { phase = here; kept = kept_of s is.fed }) is.begun))
+    permits_fed (job_of s.job) here s is.fed now.source now.dest (begun_permits (job_of s.job) start now (record { phase = here; kept = kept_of s is.fed }) (within_work_is_begun (job_of s.job) start now (record { phase = here; kept = kept_of s is.fed }) is.begun))
 
 held_at : (job : Job) (start : Start) (world : World) (run : Run) → Begun job start world run → (past : Past) × HeldAt job past run.phase run.kept.held
 unfolding Begun
 held_at job start world run (past, is) = (past, is.held)
 
-pub stands_there : (here : Phase) (s : State) (r : Option Reading) (w : Option Writing) (g : Option (List ℕ)) (n d l : ℕ) → here ≢ phase.Ended → BeganSomewhere (world r w g n d l) (record { phase = here; state = s }) → Stands here s
+pub stands_there : (here : Phase) (s : State) (now : World) → here ≢ phase.Ended → BeganSomewhere now (record { phase = here; state = s }) → Stands here s
 unfolding BeganSomewhere IsBegun
-stands_there here s r w g n d l going (start, begun) =
-    let is : InProgress start (world r w g n d l) (record { phase = here; state = s }) = begun in
+stands_there here s now going (start, begun) =
+    let is : InProgress start now (record { phase = here; state = s }) = begun in
     let was = fed_going here s.job.algorithm s.hasher is.fed going is.was in
-    let held = held_at (job_of s.job) start (world r w g n d l) (record { phase = here; kept = kept_of s is.fed }) (within_work_is_begun (job_of s.job) start (world r w g n d l) (record { phase = here; kept = kept_of s is.fed }) is.begun) in
+    let held = held_at (job_of s.job) start now (record { phase = here; kept = kept_of s is.fed }) (within_work_is_begun (job_of s.job) start now (record { phase = here; kept = kept_of s is.fed }) is.begun) in
     stands here s is.fed held.0 going was held.1
 
 fed_there : (here : Phase) (a : Algorithm) (h : Hasher) (fed : List ℕ) → HasBeenFed a h fed → HasFed here a h
-fed_there phase.Begin a h fed was = (fed, was)
-fed_there (phase.Prefix here) a h fed was = (fed, was)
-fed_there phase.Staging a h fed was = (fed, was)
-fed_there phase.Root a h fed was = (fed, was)
-fed_there (phase.RootMake item) a h fed was = (fed, was)
-fed_there phase.RootRename a h fed was = (fed, was)
-fed_there (phase.RootCheck file) a h fed was = (fed, was)
-fed_there phase.OpenRoot a h fed was = (fed, was)
-fed_there phase.Judge a h fed was = (fed, was)
-fed_there (phase.OpenObject object) a h fed was = (fed, was)
-fed_there (phase.Scan object) a h fed was = (fed, was)
-fed_there (phase.Read object bytes) a h fed was = (fed, was)
-fed_there (phase.Make object part) a h fed was = (fed, was)
-fed_there (phase.Copy object position left) a h fed was = (fed, was)
-fed_there (phase.Tuples object number) a h fed was = (fed, was)
-fed_there (phase.Rename object) a h fed was = (fed, was)
-fed_there (phase.Line object) a h fed was = (fed, was)
-fed_there phase.Walk a h fed was = (fed, was)
-fed_there phase.End a h fed was = (fed, was)
-fed_there phase.Ended a h fed was = tt
+fed_there here a h fed was = OnFalse_from (is_ended here) ((fed : List ℕ) × HasBeenFed a h fed) (λ _. (fed, was))
 
-pub has_fed : (here : Phase) (s : State) (r : Option Reading) (w : Option Writing) (g : Option (List ℕ)) (n d l : ℕ) → here ≢ phase.Ended → BeganSomewhere (world r w g n d l) (record { phase = here; state = s }) → HasFed here s.job.algorithm s.hasher
+pub has_fed : (here : Phase) (s : State) (now : World) → here ≢ phase.Ended → BeganSomewhere now (record { phase = here; state = s }) → HasFed here s.job.algorithm s.hasher
 unfolding BeganSomewhere IsBegun
-has_fed here s r w g n d l going (start, begun) =
-    let is : InProgress start (world r w g n d l) (record { phase = here; state = s }) = begun in
+has_fed here s now going (start, begun) =
+    let is : InProgress start now (record { phase = here; state = s }) = begun in
     fed_there here s.job.algorithm s.hasher is.fed (fed_going here s.job.algorithm s.hasher is.fed going is.was)
+
+pub same_job : (here : Phase) (s s' : State) (old new : World) (answer : Answer) → CountedTurn here s s' old new answer → s'.job ≡ s.job
+unfolding CountedTurn
+same_job here s s' old new answer turned = turned.0
 
 pub is_bounded : (here : Phase) (s : State) → IsWell (record { phase = here; state = s }) → IsBounded (job_of s.job) here (kept_of s [])
 is_bounded here s well = well.bounded
 
 -- ---- what it leaves
 
-pub left_by_turn : (here : Phase) (s s' : State) (r r' : Option Reading) (w w' : Option Writing) (g g' : Option (List ℕ)) (n n' d d' l l' : ℕ) (answer : Answer) → here ≢ phase.Ended → BeganSomewhere (world r w g n d l) (record { phase = here; state = s }) → Turns here s s' r r' w w' g g' n n' d d' l l' answer
-    → TurnLeaves s s' g g' (record { source = n; dest = d; log = l }) (record { source = n'; dest = d'; log = l' }) answer
-unfolding BeganSomewhere IsBegun Turns
-left_by_turn here s s' r r' w w' g g' n n' d d' l l' answer going (start, begun) turned =
-    let is : InProgress start (world r w g n d l) (record { phase = here; state = s }) = begun in
+pub left_by_turn : (here : Phase) (s s' : State) (old new : World) (answer : Answer) → here ≢ phase.Ended → BeganSomewhere old (record { phase = here; state = s }) → CountedTurn here s s' old new answer
+    → TurnLeaves s s' old.log new.log old.failures new.failures answer
+unfolding BeganSomewhere IsBegun CountedTurn
+left_by_turn here s s' old new answer going (start, begun) turned =
+    let is : InProgress start old (record { phase = here; state = s }) = begun in
     let was = fed_going here s.job.algorithm s.hasher is.fed going is.was in
-    let made = turned is.fed was in
-    turn_leaves (job_of s.job) here s s' is.fed made.0 r r' w w' g g' n n' d d' l l' answer made.1.1
+    let made = turned.1 is.fed was in
+    turn_leaves (job_of s.job) here s s' is.fed made.0 old new answer made.1.1
 
 -- what is counted doesn't lean on what the hasher was fed
 bounded_fed : (job : Job) (here : Phase) (s : State) (fed fed' : List ℕ) → IsBounded job here (kept_of s fed) → IsBounded job here (kept_of s fed')
@@ -224,18 +174,18 @@ not_first s s' fed fed' here answer begins bounded turns =
     let none : s'.counts.turns ≡ 0 = subst (λ (p : Phase). IsWithin (job_of s.job) p (held_of s' fed') s'.counts.turns) begins bounded.within in
     omega (arith, none, turns)
 
-pub well_after : (here : Phase) (s s' : State) (r r' : Option Reading) (w w' : Option Writing) (g g' : Option (List ℕ)) (n n' d d' l l' : ℕ) (answer : Answer) → here ≢ phase.Ended → BeganSomewhere (world r w g n d l) (record { phase = here; state = s }) → IsWell (record { phase = here; state = s }) → s.counts.turns < s.job.limits.turns → s'.job ≡ s.job
-    → Turns here s s' r r' w w' g g' n n' d d' l l' answer → IsWell (record { phase = phase_after answer; state = s' })
-unfolding BeganSomewhere IsBegun Turns
-well_after here s s' r r' w w' g g' n n' d d' l l' answer going (start, begun) well more job turned =
-    let is : InProgress start (world r w g n d l) (record { phase = here; state = s }) = begun in
+pub well_after : (here : Phase) (s s' : State) (old new : World) (answer : Answer) → here ≢ phase.Ended → BeganSomewhere old (record { phase = here; state = s }) → IsWell (record { phase = here; state = s }) → s.counts.turns < s.job.limits.turns
+    → CountedTurn here s s' old new answer → IsWell (record { phase = phase_after answer; state = s' })
+unfolding BeganSomewhere IsBegun CountedTurn
+well_after here s s' old new answer going (start, begun) well more turned =
+    let is : InProgress start old (record { phase = here; state = s }) = begun in
     let was = fed_going here s.job.algorithm s.hasher is.fed going is.was in
-    let made = turned is.fed was in
+    let made = turned.1 is.fed was in
     record {
-      bounded = subst (λ j. IsBounded (job_of j) (phase_after answer) (kept_of s' [])) (sym job)
+      bounded = subst (λ j. IsBounded (job_of j) (phase_after answer) (kept_of s' [])) (sym turned.0)
           (bounded_fed (job_of s.job) (phase_after answer) s' made.0 [] (turn_keeps_bounds (job_of s.job) here (kept_of s is.fed) (kept_of s' made.0) _ _ answer (bounded_fed (job_of s.job) here s [] is.fed well.bounded) more made.1.1));
       fresh = λ begins. absurd (not_first s s' is.fed made.0 here answer begins (turn_keeps_bounds (job_of s.job) here (kept_of s is.fed) (kept_of s' made.0) _ _ answer (bounded_fed (job_of s.job) here s [] is.fed well.bounded) more made.1.1)
-          (turn_leaves (job_of s.job) here s s' is.fed made.0 r r' w w' g g' n n' d d' l l' answer made.1.1).turns);
+          (turn_leaves (job_of s.job) here s s' is.fed made.0 old new answer made.1.1).turns);
     }
 
 -- ---- a run that ends without a turn
@@ -266,110 +216,76 @@ leaves_behind start world r is = left_in (job_of r.state.job) start world (run_o
 
 -- ---- how often the source was called
 
-pub few_calls : (here : Phase) (a b : ℕ → Type 0) → AtMostCalls (most_calls here) a b → AtMostCalls 2 a b
-unfolding AtMostCalls
-few_calls here a b calls = λ n h. let made = calls n h in (made.0, (most here made.0 made.1.0, made.1.1))
+-- twice at most where the prefix is read, which is the second turn, and else once
+pub few_calls : (here : Phase) (s : State) → IsWell (record { phase = here; state = s }) → most_calls here ≤ most_calls_at (record { phase = here; state = s })
+few_calls here s well = by here well.bounded.within
   where
-    most : (here : Phase) (m : ℕ) → m ≤ most_calls here → m ≤ 2
-    most phase.Begin m few = omega (arith, few)
-    most (phase.Prefix here) m few = omega (arith, few)
-    most phase.Staging m few = omega (arith, few)
-    most phase.Root m few = omega (arith, few)
-    most (phase.RootMake item) m few = omega (arith, few)
-    most phase.RootRename m few = omega (arith, few)
-    most (phase.RootCheck file) m few = omega (arith, few)
-    most phase.OpenRoot m few = omega (arith, few)
-    most phase.Judge m few = omega (arith, few)
-    most (phase.OpenObject object) m few = omega (arith, few)
-    most (phase.Scan object) m few = omega (arith, few)
-    most (phase.Read object bytes) m few = omega (arith, few)
-    most (phase.Make object part) m few = omega (arith, few)
-    most (phase.Copy object position left) m few = omega (arith, few)
-    most (phase.Tuples object number) m few = omega (arith, few)
-    most (phase.Rename object) m few = omega (arith, few)
-    most (phase.Line object) m few = omega (arith, few)
-    most phase.Walk m few = omega (arith, few)
-    most phase.End m few = omega (arith, few)
-    most phase.Ended m few = omega (arith, few)
+    least : (b : Bool) → 1 ≤ cond b 2 1
+    least true = omega (arith)
+    least false = omega (arith)
 
-pub one_call_after : (here : Phase) (s : State) (a b : ℕ → Type 0) → IsWell (record { phase = here; state = s }) → AtMostCalls (most_calls here) a b → s.counts.turns ≢ 1 → AtMostCalls 1 a b
-one_call_after here s a b well calls other = by here well.bounded.within calls
-  where
-    by : (here : Phase) → IsWithin (job_of s.job) here (held_of s []) s.counts.turns → AtMostCalls (most_calls here) a b → AtMostCalls 1 a b
-    by phase.Begin within calls = calls
-    by (phase.Prefix here) within calls = absurd (other within)
-    by phase.Staging within calls = calls
-    by phase.Root within calls = calls
-    by (phase.RootMake item) within calls = calls
-    by phase.RootRename within calls = calls
-    by (phase.RootCheck file) within calls = calls
-    by phase.OpenRoot within calls = calls
-    by phase.Judge within calls = calls
-    by (phase.OpenObject object) within calls = calls
-    by (phase.Scan object) within calls = calls
-    by (phase.Read object bytes) within calls = calls
-    by (phase.Make object part) within calls = calls
-    by (phase.Copy object position left) within calls = calls
-    by (phase.Tuples object number) within calls = calls
-    by (phase.Rename object) within calls = calls
-    by (phase.Line object) within calls = calls
-    by phase.Walk within calls = calls
-    by phase.End within calls = calls
-    by phase.Ended within calls = calls
+    one : 1 ≤ most_calls_at (record { phase = here; state = s })
+    one = least (s.counts.turns == 1)
+
+    by : (here : Phase) → IsWithin (job_of s.job) here (held_of s []) s.counts.turns → most_calls here ≤ most_calls_at (record { phase = here; state = s })
+    by phase.Begin within = one
+    by (phase.Prefix here) within = rw within (omega (arith))
+    by phase.Staging within = one
+    by phase.Root within = one
+    by (phase.RootMake item) within = one
+    by phase.RootRename within = one
+    by (phase.RootCheck file) within = one
+    by phase.OpenRoot within = one
+    by phase.Judge within = one
+    by (phase.OpenObject object) within = one
+    by (phase.Scan object) within = one
+    by (phase.Read object bytes) within = one
+    by (phase.Make object part) within = one
+    by (phase.Copy object position left) within = one
+    by (phase.Tuples object number) within = one
+    by (phase.Rename object) within = one
+    by (phase.Line object) within = one
+    by phase.Walk within = one
+    by phase.End within = one
+    by phase.Ended within = one
 
 -- ---- by the answer
 
 -- the counts of failures
-pub ok_source : (s s' : State) (g g' : Option (List ℕ)) (n n' d d' l l' : ℕ) (next : Phase) {T : Type 0} (x : T) → TurnLeaves s s' g g' (record { source = n; dest = d; log = l }) (record { source = n'; dest = d'; log = l' }) (Ok next) → Counts 1 n n' (Ok x)
-ok_source s s' g g' n n' d d' l l' next x left = ap (λ (f : Failures). f.source) left.failures
+pub ok_blames : (s s' : State) (old new : World) (next : Phase) (t : own_turn.Turn) → TurnLeaves s s' old.log new.log old.failures new.failures (Ok next) → BlamesRightly old new (Ok t)
+unfolding BlamesRightly
+ok_blames s s' old new next t left = record { source = ap (λ (f : Failures). f.source) left.failures; dest = ap (λ (f : Failures). f.dest) left.failures; log = ap (λ (f : Failures). f.log) left.failures }
 
-pub ok_dest : (s s' : State) (g g' : Option (List ℕ)) (n n' d d' l l' : ℕ) (next : Phase) {T : Type 0} (x : T) → TurnLeaves s s' g g' (record { source = n; dest = d; log = l }) (record { source = n'; dest = d'; log = l' }) (Ok next) → Counts 2 d d' (Ok x)
-ok_dest s s' g g' n n' d d' l l' next x left = ap (λ (f : Failures). f.dest) left.failures
+none_blamed : (old new : World) (f : Fault) → new.failures ≡ old.failures → Rose (fault_number f == 1) old.failures.source new.failures.source ≡ (new.failures.source ≡ old.failures.source) → Rose (fault_number f == 2) old.failures.dest new.failures.dest ≡ (new.failures.dest ≡ old.failures.dest) → Rose (fault_number f == 3) old.failures.log new.failures.log ≡ (new.failures.log ≡ old.failures.log) → BlamesRightly {T = own_turn.Turn} old new (Err f)
+unfolding BlamesRightly
+none_blamed old new f same a b c = record {
+  source = subst (λ (P : Type 0). P) (sym a) (ap (λ (f : Failures). f.source) same);
+  dest = subst (λ (P : Type 0). P) (sym b) (ap (λ (f : Failures). f.dest) same);
+  log = subst (λ (P : Type 0). P) (sym c) (ap (λ (f : Failures). f.log) same);
+}
 
-pub ok_log : (s s' : State) (g g' : Option (List ℕ)) (n n' d d' l l' : ℕ) (next : Phase) {T : Type 0} (x : T) → TurnLeaves s s' g g' (record { source = n; dest = d; log = l }) (record { source = n'; dest = d'; log = l' }) (Ok next) → Counts 3 l l' (Ok x)
-ok_log s s' g g' n n' d d' l l' next x left = ap (λ (f : Failures). f.log) left.failures
+blames_by : (why : Halt) (old new : World) → Blames why old.failures new.failures → BlamesRightly {T = own_turn.Turn} old new (Err (fault_of why))
+unfolding BlamesRightly
+blames_by halt.Source old new is = record { source = is.0; dest = is.1; log = is.2 }
+blames_by halt.Dest old new is = record { source = is.0; dest = is.1; log = is.2 }
+blames_by halt.Log old new is = record { source = is.0; dest = is.1; log = is.2 }
+blames_by halt.Memory old new is = none_blamed old new fault.Memory is refl refl refl
+blames_by halt.NotPairtree old new is = none_blamed old new fault.NotPairtree is refl refl refl
+blames_by halt.Prefix old new is = none_blamed old new fault.Prefix is refl refl refl
+blames_by halt.StagingLeft old new is = none_blamed old new fault.StagingLeft is refl refl refl
+blames_by halt.Target old new is = none_blamed old new fault.Target is refl refl refl
+blames_by halt.Changed old new is = none_blamed old new fault.Changed is refl refl refl
 
-blames_source : (why : Halt) (n n' d d' l l' : ℕ) → Blames why (record { source = n; dest = d; log = l }) (record { source = n'; dest = d'; log = l' }) → Counts {T = own_turn.Turn} 1 n n' (Err (fault_of why))
-blames_source halt.Source n n' d d' l l' is = is.0
-blames_source halt.Dest n n' d d' l l' is = is.0
-blames_source halt.Log n n' d d' l l' is = is.0
-blames_source halt.Memory n n' d d' l l' is = ap (λ (f : Failures). f.source) is
-blames_source halt.NotPairtree n n' d d' l l' is = ap (λ (f : Failures). f.source) is
-blames_source halt.Prefix n n' d d' l l' is = ap (λ (f : Failures). f.source) is
-blames_source halt.StagingLeft n n' d d' l l' is = ap (λ (f : Failures). f.source) is
-blames_source halt.Target n n' d d' l l' is = ap (λ (f : Failures). f.source) is
-blames_source halt.Changed n n' d d' l l' is = ap (λ (f : Failures). f.source) is
+pub err_blames : (s s' : State) (old new : World) (why : Halt) (f : Fault) → f ≡ fault_of why → TurnLeaves s s' old.log new.log old.failures new.failures (Err why) → BlamesRightly {T = own_turn.Turn} old new (Err f)
+err_blames s s' old new why f is left = subst (λ f. BlamesRightly {T = own_turn.Turn} old new (Err f)) (sym is) (blames_by why old new left.failures)
 
-pub err_source : (s s' : State) (g g' : Option (List ℕ)) (n n' d d' l l' : ℕ) (why : Halt) (f : Fault) → f ≡ fault_of why → TurnLeaves s s' g g' (record { source = n; dest = d; log = l }) (record { source = n'; dest = d'; log = l' }) (Err why) → Counts {T = own_turn.Turn} 1 n n' (Err f)
-err_source s s' g g' n n' d d' l l' why f is left = subst (λ f. Counts {T = own_turn.Turn} 1 n n' (Err f)) (sym is) (blames_source why n n' d d' l l' left.failures)
+pub none_blamed_for_turns : (w : World) → BlamesRightly {T = own_turn.Turn} w w (Err fault.Turns)
+unfolding BlamesRightly
+none_blamed_for_turns w = record { source = refl; dest = refl; log = refl }
 
-blames_dest : (why : Halt) (n n' d d' l l' : ℕ) → Blames why (record { source = n; dest = d; log = l }) (record { source = n'; dest = d'; log = l' }) → Counts {T = own_turn.Turn} 2 d d' (Err (fault_of why))
-blames_dest halt.Source n n' d d' l l' is = is.1
-blames_dest halt.Dest n n' d d' l l' is = is.1
-blames_dest halt.Log n n' d d' l l' is = is.1
-blames_dest halt.Memory n n' d d' l l' is = ap (λ (f : Failures). f.dest) is
-blames_dest halt.NotPairtree n n' d d' l l' is = ap (λ (f : Failures). f.dest) is
-blames_dest halt.Prefix n n' d d' l l' is = ap (λ (f : Failures). f.dest) is
-blames_dest halt.StagingLeft n n' d d' l l' is = ap (λ (f : Failures). f.dest) is
-blames_dest halt.Target n n' d d' l l' is = ap (λ (f : Failures). f.dest) is
-blames_dest halt.Changed n n' d d' l l' is = ap (λ (f : Failures). f.dest) is
-
-pub err_dest : (s s' : State) (g g' : Option (List ℕ)) (n n' d d' l l' : ℕ) (why : Halt) (f : Fault) → f ≡ fault_of why → TurnLeaves s s' g g' (record { source = n; dest = d; log = l }) (record { source = n'; dest = d'; log = l' }) (Err why) → Counts {T = own_turn.Turn} 2 d d' (Err f)
-err_dest s s' g g' n n' d d' l l' why f is left = subst (λ f. Counts {T = own_turn.Turn} 2 d d' (Err f)) (sym is) (blames_dest why n n' d d' l l' left.failures)
-
-blames_log : (why : Halt) (n n' d d' l l' : ℕ) → Blames why (record { source = n; dest = d; log = l }) (record { source = n'; dest = d'; log = l' }) → Counts {T = own_turn.Turn} 3 l l' (Err (fault_of why))
-blames_log halt.Source n n' d d' l l' is = is.2
-blames_log halt.Dest n n' d d' l l' is = is.2
-blames_log halt.Log n n' d d' l l' is = is.2
-blames_log halt.Memory n n' d d' l l' is = ap (λ (f : Failures). f.log) is
-blames_log halt.NotPairtree n n' d d' l l' is = ap (λ (f : Failures). f.log) is
-blames_log halt.Prefix n n' d d' l l' is = ap (λ (f : Failures). f.log) is
-blames_log halt.StagingLeft n n' d d' l l' is = ap (λ (f : Failures). f.log) is
-blames_log halt.Target n n' d d' l l' is = ap (λ (f : Failures). f.log) is
-blames_log halt.Changed n n' d d' l l' is = ap (λ (f : Failures). f.log) is
-
-pub err_log : (s s' : State) (g g' : Option (List ℕ)) (n n' d d' l l' : ℕ) (why : Halt) (f : Fault) → f ≡ fault_of why → TurnLeaves s s' g g' (record { source = n; dest = d; log = l }) (record { source = n'; dest = d'; log = l' }) (Err why) → Counts {T = own_turn.Turn} 3 l l' (Err f)
-err_log s s' g g' n n' d d' l l' why f is left = subst (λ f. Counts {T = own_turn.Turn} 3 l l' (Err f)) (sym is) (blames_log why n n' d d' l l' left.failures)
+pub none_blamed_for_ended : (w : World) → BlamesRightly {T = own_turn.Turn} w w (Err fault.Ended)
+unfolding BlamesRightly
+none_blamed_for_ended w = record { source = refl; dest = refl; log = refl }
 
 -- no halt is an answer of a run that made no turn
 counted_halt : (why : Halt) (old new : Running) → IsTurn old → new.phase ≡ phase.Ended → (new.state.counts.turns ≡ old.state.counts.turns + 1) × (lines_put (counts_of new.state.counts) ≤ lines_put (counts_of old.state.counts) + 1) → EndsAs old new (Err (fault_of why)) × IsCounted old new (Err (fault_of why))
@@ -479,6 +395,84 @@ pub begins_begun : (r : Running) (world : World) → r.phase ≡ phase.Begin →
 unfolding HasBegun
 begins_begun r world begins = inl begins
 
-pub ruleset making_turn = (may_turn, stands_there, has_fed, is_bounded, left_by_turn, well_after, few_calls, one_call_after)
+-- ---- what a step leaves
 
-pub ruleset stepping = (goes_on_after, goes_on_halted, goes_on_ended, goes_on_same, begins_begun, told_nothing, moves_to, gains_same, ended_well, ok_source, ok_dest, ok_log, err_source, err_dest, err_log, err_answer, err_counted, err_stays, new_well)
+pub leaves_more : (before after : Running) (old new : World) (next : Phase) → after.state.job ≡ before.state.job → source_tree new.source ≡ source_tree old.source → TurnLeaves before.state after.state old.log new.log old.failures new.failures (Ok next) → StepLeaves old new before after (Ok turn.More)
+unfolding StepLeaves
+leaves_more before after old new next job tree left = record { tree = tree; job = job; turns = (left.turns, left.lines); told = left.told; finished = tt; trail = left.trail; rows = left.rows; contents = left.contents }
+
+pub leaves_finished : (before after : Running) (old new : World) (next : Phase) → next ≡ phase.Ended → after.state.job ≡ before.state.job → source_tree new.source ≡ source_tree old.source → TurnLeaves before.state after.state old.log new.log old.failures new.failures (Ok next) → StepLeaves old new before after (Ok turn.Finished)
+unfolding StepLeaves
+leaves_finished before after old new next ended job tree left =
+    let last : TurnLeaves before.state after.state old.log new.log old.failures new.failures (Ok phase.Ended) = subst (λ (p : Phase). TurnLeaves before.state after.state old.log new.log old.failures new.failures (Ok p)) ended left in
+    record { tree = tree; job = job; turns = (left.turns, left.lines); told = left.told; finished = last.ended; trail = left.trail; rows = left.rows; contents = left.contents }
+
+pub leaves_halted : (before after : Running) (old new : World) (why : Halt) (f : Fault) → f ≡ fault_of why → after.state.job ≡ before.state.job → source_tree new.source ≡ source_tree old.source → TurnLeaves before.state after.state old.log new.log old.failures new.failures (Err why) → StepLeaves old new before after (Err f)
+unfolding StepLeaves
+leaves_halted before after old new why f is job tree left = record {
+  tree = tree;
+  job = job;
+  turns = err_counted before after _ _ _ _ why f is left;
+  told = left.told;
+  finished = tt;
+  trail = left.trail;
+  rows = left.rows;
+  contents = left.contents;
+}
+
+-- no turn was made
+same_left : (before after : Running) (w : World) (f : Fault) → IsCounted before after (Err f) → after.state ≡ before.state → StepLeaves w w before after (Err f)
+unfolding StepLeaves
+same_left before after w f counted same = record {
+  tree = refl;
+  job = ap (λ (s : State). s.job) same;
+  turns = counted;
+  told = told_nothing w.log w.log _ _ refl (ap (λ (s : State). s.counts) same);
+  finished = tt;
+  trail = moves_to before.state.trail after.state.trail (ap (λ (s : State). s.trail) same);
+  rows = gains_same before.state.rows after.state.rows (ap (λ (s : State). s.rows) same);
+  contents = gains_same before.state.contents after.state.contents (ap (λ (s : State). s.contents) same);
+}
+
+pub leaves_at_limit : (before after : Running) (w : World) → after.state ≡ before.state → StepLeaves w w before after (Err fault.Turns)
+leaves_at_limit before after w same = same_left before after w fault.Turns (ap (λ (s : State). s.counts) same) same
+
+pub leaves_ended : (before after : Running) (w : World) → after.state ≡ before.state → StepLeaves w w before after (Err fault.Ended)
+leaves_ended before after w same = same_left before after w fault.Ended (ap (λ (s : State). s.counts) same) same
+
+-- ---- the turn that it made
+
+pub turned_more : (here next : Phase) (s s' : State) (old new : World) → CountedTurn here s s' old new (Ok next) → MakesTurn old new (record { phase = here; state = s }) (record { phase = next; state = s' }) (Ok turn.More)
+unfolding MakesTurn
+turned_more here next s s' old new turned = turned
+
+pub turned_last : (here next : Phase) (s s' : State) (old new : World) → next ≡ phase.Ended → CountedTurn here s s' old new (Ok next) → MakesTurn old new (record { phase = here; state = s }) (record { phase = phase.Ended; state = s' }) (Ok turn.Finished)
+unfolding MakesTurn
+turned_last here next s s' old new ended turned = subst (λ (p : Phase). CountedTurn here s s' old new (Ok p)) ended turned
+
+turned_by : (why : Halt) (before after : Running) (old new : World) → CountedTurn before.phase before.state after.state old new (Err why) → MakesTurn old new before after (Err (fault_of why))
+unfolding MakesTurn
+turned_by halt.Source before after old new turned = (halt.Source, refl, turned)
+turned_by halt.Dest before after old new turned = (halt.Dest, refl, turned)
+turned_by halt.Log before after old new turned = (halt.Log, refl, turned)
+turned_by halt.Memory before after old new turned = (halt.Memory, refl, turned)
+turned_by halt.NotPairtree before after old new turned = (halt.NotPairtree, refl, turned)
+turned_by halt.Prefix before after old new turned = (halt.Prefix, refl, turned)
+turned_by halt.StagingLeft before after old new turned = (halt.StagingLeft, refl, turned)
+turned_by halt.Target before after old new turned = (halt.Target, refl, turned)
+turned_by halt.Changed before after old new turned = (halt.Changed, refl, turned)
+
+pub turned_halted : (why : Halt) (f : Fault) (before after : Running) (old new : World) → f ≡ fault_of why → CountedTurn before.phase before.state after.state old new (Err why) → MakesTurn old new before after (Err f)
+turned_halted why f before after old new is turned = subst (λ f. MakesTurn old new before after (Err f)) (sym is) (turned_by why before after old new turned)
+
+pub no_turn_at_limit : (before after : Running) (w : World) → IsWell before → before.state.job.limits.turns ≤ before.state.counts.turns → after.state ≡ before.state → MakesTurn w w before after (Err fault.Turns)
+unfolding MakesTurn
+no_turn_at_limit before after w well made same = (same, refl, let most = well.bounded.turns in omega (arith, most, made))
+
+pub no_turn_ended : (before after : Running) (w : World) → after ≡ before → MakesTurn w w before after (Err fault.Ended)
+unfolding MakesTurn
+no_turn_ended before after w same = (same, refl)
+
+pub ruleset making_turn = (may_turn, stands_there, has_fed, is_bounded, left_by_turn, well_after, few_calls)
+
+pub ruleset stepping = (same_job, goes_on_after, goes_on_halted, goes_on_ended, goes_on_same, begins_begun, ended_well, err_answer, err_stays, new_well, ok_blames, err_blames, none_blamed_for_turns, none_blamed_for_ended, leaves_more, leaves_finished, leaves_halted, leaves_at_limit, leaves_ended, turned_more, turned_last, turned_halted, no_turn_at_limit, no_turn_ended)

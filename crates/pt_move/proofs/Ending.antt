@@ -1,19 +1,18 @@
 -- What the steps of a run say of the whole.
-use Rattle.std.proofs.Common.{◌≡◌, [], sym, ◌∙◌, subst}
+use Rattle.std.proofs.Common.{◌≡◌, [], inl, sym, ◌∙◌, subst}
 use Rattle.std.specs.Prelude.{Err, ◌≢◌}
 use Rattle.pt_name.specs.Tuples.{IsLayout}
 use Rattle.pt_object.specs.Hasher.{HasBeenFed}
 use Rattle.pt_plan.specs.Run.{Run, new_run}
 use Rattle.pt_plan.specs.World.{World}
-use Rattle.pt_plan.specs.declared.phase.Phase.{Phase}
 use Rattle.pt_plan.specs.declared.phase.Phase.TheVariants as phase
 use Rattle.pt_begun.specs.Begun.{IsWorld, start_of}
 use Rattle.pt_work.proofs.Within.{new_run_is_within_work}
 use Rattle.pt_work.specs.WorkLaws.{BegunWithinWork}
 use Rattle.pt_state.specs.States.{job_of}
 use Rattle.pt_state.specs.declared.job.Job.{Job}
-use Rattle.pt_move.specs.Running.{FedUntilEnd, IsBegun, IsNew, Running, run_of}
-use Rattle.pt_move.proofs.Answering.{has_begun, leaves_behind}
+use Rattle.pt_move.specs.Running.{HasBegun, IsBegun, IsNew, Running, run_of}
+use Rattle.pt_move.proofs.Answering.{fed_to_end, has_begun}
 use Rattle.pt_move.specs.Stepping.{EndsAs}
 use Rattle.pt_move.specs.declared.fault.Fault.{Fault}
 use Rattle.pt_move.specs.declared.fault.Fault.TheVariants as fault
@@ -34,11 +33,17 @@ pub new_is_begun : (job : Job) (r : Running) (now : World) → IsNew job r → I
 unfolding IsBegun
 new_is_begun job r now new layout is = record {
   fed = [];
-  was = subst (λ (p : Phase). FedUntilEnd p r.state.job.algorithm r.state.hasher []) (sym new.phase) (subst (λ j. HasBeenFed j.algorithm r.state.hasher []) (sym new.job_is) new.fed);
+  was = fed_to_end r.phase r.state.job.algorithm r.state.hasher [] (subst (λ j. HasBeenFed j.algorithm r.state.hasher []) (sym new.job_is) new.fed);
   begun = subst (λ j. BegunWithinWork (job_of j) (start_of now) now (run_of r [])) (sym new.job_is) (subst (λ (run : Run). BegunWithinWork (job_of job) (start_of now) now run) (sym run_is) (new_run_is_within_work (job_of job) now layout is));
 }
   where
     run_is : run_of r [] ≡ new_run
     run_is = λ i. record { phase = new.phase i; kept = new.kept i }
+
+pub new_has_begun : (job : Job) (r : Running) (now : World) → IsNew job r → HasBegun now r
+unfolding HasBegun
+new_has_begun job r now new = inl new.phase
+
+pub ruleset starting = (new_is_begun, new_has_begun)
 
 pub ruleset migrating = (new_goes_on, not_ended, has_begun)

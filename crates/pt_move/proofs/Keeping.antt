@@ -1,7 +1,6 @@
 -- That a run keeps its promises in a step, by what the step answers.
 use Rattle.std.proofs.Common.{◌≡◌, ◌≢◌, ◌<◌, ◌≤◌, ℕ, List, [], sym, subst, arith}
 use Rattle.std.specs.Prelude.{Option, Some, Ok, Err}
-use Rattle.pt_tree.specs.Dest.{Writing}
 use Rattle.pt_tree.specs.Forest.{Forest}
 use Rattle.pt_tree.specs.Source.{Reading}
 use Rattle.pt_tree.specs.Tree.{Tree}
@@ -26,10 +25,10 @@ use Rattle.pt_work.proofs.Within.{turn_is_left, within_work_is_begun}
 use Rattle.pt_work.specs.WorkLaws.{BegunWithinWork}
 use Rattle.pt_object.specs.Hasher.{HasBeenFed}
 use Rattle.pt_state.specs.States.{held_of, job_of, kept_of}
-use Rattle.pt_state.specs.Turned.{FedAfter, world}
+use Rattle.pt_state.specs.Outside.{FedAfter}
 use Rattle.pt_state.specs.declared.job.Job as own
 use Rattle.pt_state.specs.declared.state.State.{State}
-use Rattle.pt_turn.specs.Turning.{Turns}
+use Rattle.pt_move.specs.Turning.{CountedTurn}
 use Rattle.pt_move.specs.Fault.{fault_of}
 use Rattle.pt_move.specs.Outcome.{FaultLeaves, HoldsWithinBound, IfEarly, LeavesAll, MadeWithinWork, SaysRightly, StandsStillIn, WantsMemory}
 use Rattle.pt_move.specs.Promises.{IfHalted, Keeps, TurnKeeps, UnlessEnded}
@@ -38,17 +37,18 @@ use Rattle.pt_move.specs.declared.fault.Fault.{Fault}
 use Rattle.pt_move.specs.declared.fault.Fault.TheVariants as fault
 use Rattle.pt_move.specs.declared.mover.Turn.TheVariants as turn
 use Rattle.pt_move.proofs.Answering.{begun_ends, fed_going, fed_to_end, leaves_behind, same_begun}
-use Rattle.pt_move.proofs.Outcomes.{bound_after, is_going, left_after, reading_of, says_after, stands_after, within_after, work_after}
+use Rattle.pt_move.proofs.Going.{is_going}
+use Rattle.pt_move.proofs.Outcomes.{bound_after, left_after, reading_of, says_after, stands_after, within_after, work_after}
 
 -- ---- the source's tree stays
 
-pub tree_stays : (here : Phase) (s s' : State) (r r' : Option Reading) (w w' : Option Writing) (g g' : Option (List ℕ)) (n n' d d' l l' : ℕ) (answer : Answer) → here ≢ phase.Ended → BeganSomewhere (world r w g n d l) (record { phase = here; state = s })
-    → Turns here s s' r r' w w' g g' n n' d d' l l' answer → source_tree r' ≡ source_tree r
-unfolding BeganSomewhere IsBegun Turns
-tree_stays here s s' r r' w w' g g' n n' d d' l l' answer going (start, begun) turned =
-    let is : InProgress start (world r w g n d l) (record { phase = here; state = s }) = begun in
-    let made = turned is.fed (fed_going here s.job.algorithm s.hasher is.fed going is.was) in
-    turn_tree (job_of s.job) here (turning (kept_of s is.fed)) (kept_of s' made.0) (world r w g n d l) (world r' w' g' n' d' l') answer made.1.1
+pub tree_stays : (here : Phase) (s s' : State) (old new : World) (answer : Answer) → here ≢ phase.Ended → BeganSomewhere old (record { phase = here; state = s })
+    → CountedTurn here s s' old new answer → source_tree new.source ≡ source_tree old.source
+unfolding BeganSomewhere IsBegun CountedTurn
+tree_stays here s s' old new answer going (start, begun) turned =
+    let is : InProgress start old (record { phase = here; state = s }) = begun in
+    let made = turned.1 is.fed (fed_going here s.job.algorithm s.hasher is.fed going is.was) in
+    turn_tree (job_of s.job) here (turning (kept_of s is.fed)) (kept_of s' made.0) old new answer made.1.1
 
 -- ---- the turn in a step
 
@@ -56,13 +56,12 @@ fed_after : (answer : Answer) (s s' : State) (fed : List ℕ) → s'.job ≡ s.j
 fed_after (Ok next) s s' fed job was = fed_to_end next s'.job.algorithm s'.hasher fed (subst (λ j. HasBeenFed j.algorithm s'.hasher fed) (sym job) was)
 fed_after (Err why) s s' fed job was = tt
 
-pub keeps_after : (here : Phase) (s s' : State) (r r' : Option Reading) (w w' : Option Writing) (g g' : Option (List ℕ)) (n n' d d' l l' : ℕ) (answer : Answer) → here ≢ phase.Ended → s'.job ≡ s.job → Turns here s s' r r' w w' g g' n n' d d' l l' answer
-    → (start : Start) → IsBegun start (world r w g n d l) (record { phase = here; state = s }) → TurnKeeps start (world r w g n d l) (world r' w' g' n' d' l') s s' answer
-unfolding IsBegun Turns TurnKeeps
-keeps_after here s s' r r' w w' g g' n n' d d' l l' answer going job turned start is =
-    let old : World = world r w g n d l in
-    let new : World = world r' w' g' n' d' l' in
-    let made = turned is.fed (fed_going here s.job.algorithm s.hasher is.fed going is.was) in
+pub keeps_after : (here : Phase) (s s' : State) (old new : World) (answer : Answer) → here ≢ phase.Ended → CountedTurn here s s' old new answer
+    → (start : Start) → IsBegun start old (record { phase = here; state = s }) → TurnKeeps start old new s s' answer
+unfolding IsBegun CountedTurn TurnKeeps
+keeps_after here s s' old new answer going turned start is =
+    let job = turned.0 in
+    let made = turned.1 is.fed (fed_going here s.job.algorithm s.hasher is.fed going is.was) in
     let going_on = is_going here going in
     let begun : IsBegun start new (record { phase = phase_after answer; state = s' }) = record {
       fed = made.0;
@@ -72,7 +71,7 @@ keeps_after here s s' r r' w w' g g' n n' d d' l l' answer going job turned star
     } in
     record {
       begun = begun;
-      leaves = subst (λ j. LeavesBehind j start.dest w') job (leaves_behind start new (record { phase = phase_after answer; state = s' }) begun);
+      leaves = subst (λ j. LeavesBehind j start.dest new.dest) job (leaves_behind start new (record { phase = phase_after answer; state = s' }) begun);
       stands = stands_after s s' here is.fed made.0 old new start is.begun going_on answer made.1.1;
       work = work_after s s' here is.fed made.0 old new start is.begun going_on answer made.1.1;
       bound = bound_after s s' here is.fed made.0 old new start is.begun going_on answer made.1.1;
@@ -187,6 +186,15 @@ good_there start now r going made is = λ f t source_is start_is good free enoug
     subst (λ (f : Forest). r.state.counts.turns < work (job_of r.state.job) f (root_in t)) reading.2 (turn_is_left (job_of r.state.job) start now (run_of r is.fed) reading.0 t is.begun (is_going r.phase going) reading.1 start_is) in
     absurd (omega (arith, less, enough, made))
 
+-- a limit that was made is less than the work
+limit_there : (start : Start) (now : World) (r : Running) → r.phase ≢ phase.Ended → r.state.job.limits.turns ≤ r.state.counts.turns → IsBegun start now r → (s : Forest) (t : Tree) → source_tree now.source ≡ Some s → start.dest ≡ Some t → r.state.job.limits.turns < work (job_of r.state.job) s (root_in t)
+unfolding IsBegun
+limit_there start now r going made is = λ f t source_is start_is.
+    let reading = reading_of now.source f source_is in
+    let less : r.state.counts.turns < work (job_of r.state.job) f (root_in t) =
+    subst (λ (f : Forest). r.state.counts.turns < work (job_of r.state.job) f (root_in t)) reading.2 (turn_is_left (job_of r.state.job) start now (run_of r is.fed) reading.0 t is.begun (is_going r.phase going) reading.1 start_is) in
+    omega (arith, less, made)
+
 same_counts : (job : own.Job) (source : Option Forest) (start : Option Tree) (s s' : State) → s' ≡ s → MadeWithinWork job source start s.counts → MadeWithinWork job source start s'.counts
 same_counts job source start s s' same made = subst (λ (x : State). MadeWithinWork job source start x.counts) (sym same) made
 
@@ -204,7 +212,7 @@ keeps_at_limit start now before after going made ended same is = record {
   ends = tt;
   states = tt;
   early = tt;
-  says = (λ s told. tt, λ t told. tt, λ s t told some. tt);
+  says = (λ s told. tt, λ t told. tt, limit_there start now before going made is);
   good = good_there start now before going made is;
 }
 

@@ -2,23 +2,20 @@
 use Rattle.std.proofs.Common.{◌≡◌, ◌≤◌, ℕ, ◌+◌, List, refl, sym, subst, ap, ◌∙◌, inl, inr, arith}
 use Rattle.std.specs.Prelude.{Option, None, Some, Ok, Err}
 use Rattle.pt_object.specs.declared.rows.Row.{Row}
-use Rattle.pt_tree.specs.Dest.{Writing}
-use Rattle.pt_tree.specs.Source.{Reading}
 use Rattle.pt_plan.specs.Answer.{Answer}
 use Rattle.pt_plan.specs.Job.{Job}
 use Rattle.pt_plan.specs.Lines.{Line, Done, Present, Skipped, End}
 use Rattle.pt_plan.specs.Run.{Counts, turning}
 use Rattle.pt_plan.specs.Turn.{Did, FailsAtFirst, FailsLater, GoesOn, HasFailed, IsHalted, IsRefused, LeavesSome, Stays, Turn, counted}
-use Rattle.pt_plan.specs.World.{Failures, LeavesFront, Puts}
+use Rattle.pt_plan.specs.World.{Failures, LeavesFront, Puts, World}
 use Rattle.pt_plan.specs.declared.halt.Halt.{Halt}
 use Rattle.pt_plan.specs.declared.halt.Halt.TheVariants as halt
 use Rattle.pt_plan.specs.declared.phase.Phase.{Phase}
 use Rattle.pt_plan.specs.declared.phase.Phase.TheVariants as phase
 use Rattle.pt_state.specs.States.{counts_of, kept_of}
-use Rattle.pt_state.specs.Turned.{world}
 use Rattle.pt_state.specs.declared.job.Report.{Report}
 use Rattle.pt_state.specs.declared.state.State.{State}
-use Rattle.pt_turn.specs.Bounds.{lines_put}
+use Rattle.pt_move.specs.Bounds.{lines_put}
 use Rattle.pt_move.proofs.Changes.{EndsWith, IsRefusal, LineOf, follows_change, follows_end, follows_line, follows_refuse, gains_same, moves_to}
 use Rattle.pt_move.specs.Held.{Gains}
 use Rattle.pt_move.specs.Leaving.{Blames, EndsBy, TurnLeaves}
@@ -128,33 +125,33 @@ halted_leaves s s' fed fed' rows g g' old new why halted gains blames told =
 
 -- ---- a turn
 
-pub turn_leaves : (job : Job) (here : Phase) (s s' : State) (fed fed' : List ℕ) (r r' : Option Reading) (w w' : Option Writing) (g g' : Option (List ℕ)) (n n' d d' l l' : ℕ) (answer : Answer)
-    → Turn job here (turning (kept_of s fed)) (kept_of s' fed') (world r w g n d l) (world r' w' g' n' d' l') answer
-    → TurnLeaves s s' g g' (record { source = n; dest = d; log = l }) (record { source = n'; dest = d'; log = l' }) answer
+pub turn_leaves : (job : Job) (here : Phase) (s s' : State) (fed fed' : List ℕ) (old new : World) (answer : Answer)
+    → Turn job here (turning (kept_of s fed)) (kept_of s' fed') old new answer
+    → TurnLeaves s s' old.log new.log old.failures new.failures answer
 unfolding Did LeavesSome Stays counted_turn Puts
-turn_leaves job here s s' fed fed' r r' w w' g g' n n' d d' l l' _ (GoesOn calls next follows did counts) =
+turn_leaves job here s s' fed fed' old new _ (GoesOn calls next follows did counts) =
     let changes = follows_change job (turning (kept_of s fed)).counts here _ _ _ _ calls (Ok next) follows in
     let more = counted_more calls.line (turning (kept_of s fed)).counts in
     let put = ap lines_put counts in
     let one = more.0 in
     record {
       failures = did.1;
-      told = told_line calls.line g g' s.counts s'.counts did.0.log counts (follows_line job (turning (kept_of s fed)).counts here _ _ _ _ calls (Ok next) follows);
-      ended = ended_with next calls.line g g' s.counts s'.counts (follows_end job (turning (kept_of s fed)).counts here _ _ _ _ calls next follows) did.0.log counts;
+      told = told_line calls.line old.log new.log s.counts s'.counts did.0.log counts (follows_line job (turning (kept_of s fed)).counts here _ _ _ _ calls (Ok next) follows);
+      ended = ended_with next calls.line old.log new.log s.counts s'.counts (follows_end job (turning (kept_of s fed)).counts here _ _ _ _ calls next follows) did.0.log counts;
       turns = ap (λ (k : Counts). k.turns) counts ∙ more.1;
       lines = omega (arith, put, one);
       trail = changes.trail;
       rows = changes.rows;
       contents = changes.contents;
     }
-turn_leaves job here s s' fed fed' r r' w w' g g' n n' d d' l l' _ (IsRefused prefix held calls why follows did halted) =
+turn_leaves job here s s' fed fed' old new _ (IsRefused prefix held calls why follows did halted) =
     let refused = follows_refuse job (turning (kept_of s fed)).counts here _ _ _ _ calls why follows in
-    halted_leaves s s' fed fed' s.rows g g' _ _ why halted (gains_same s.rows s.rows refl) (refusal_blames why _ _ refused.0 did.1)
-    (left_front None g g' s.counts s'.counts (subst (λ (o : Option Line). Puts o g g') refused.1 did.0.log) halted.counts)
-turn_leaves job here s s' fed fed' r r' w w' g g' n n' d d' l l' _ (FailsAtFirst why stays halted) =
-    halted_leaves s s' fed fed' s.rows g g' _ _ why halted (gains_same s.rows s.rows refl) (failed_blames why _ _ stays.3) (left_front None g g' s.counts s'.counts stays.2 halted.counts)
-turn_leaves job here s s' fed fed' r r' w w' g g' n n' d d' l l' _ (FailsLater prefix held calls answer rows why follows left which halted) =
-    halted_leaves s s' fed fed' rows g g' _ _ why halted gained (failed_blames why _ _ left.1) (left_front calls.line g g' s.counts s'.counts left.0.log halted.counts)
+    halted_leaves s s' fed fed' s.rows old.log new.log _ _ why halted (gains_same s.rows s.rows refl) (refusal_blames why _ _ refused.0 did.1)
+    (left_front None old.log new.log s.counts s'.counts (subst (λ (o : Option Line). Puts o old.log new.log) refused.1 did.0.log) halted.counts)
+turn_leaves job here s s' fed fed' old new _ (FailsAtFirst why stays halted) =
+    halted_leaves s s' fed fed' s.rows old.log new.log _ _ why halted (gains_same s.rows s.rows refl) (failed_blames why _ _ stays.3) (left_front None old.log new.log s.counts s'.counts stays.2 halted.counts)
+turn_leaves job here s s' fed fed' old new _ (FailsLater prefix held calls answer rows why follows left which halted) =
+    halted_leaves s s' fed fed' rows old.log new.log _ _ why halted gained (failed_blames why _ _ left.1) (left_front calls.line old.log new.log s.counts s'.counts left.0.log halted.counts)
   where
     gained : Gains s.rows rows
     gained = elim which [

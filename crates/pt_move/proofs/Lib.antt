@@ -1,9 +1,14 @@
 pub mod Answering
+pub mod Bounding
 pub mod Changes
 pub mod Ending
+pub mod Going
 pub mod Keeping
 pub mod Leaves
+pub mod Migrating
+pub mod Needs
 pub mod Outcomes
 pub mod RunEnding
 pub mod Standing
 pub mod WholeLog
+pub mod Ran

@@ -1,5 +1,5 @@
 -- What a turn of a run leaves and says, from what it is of the definitions.
-use Rattle.std.proofs.Common.{◌≡◌, ◌≢◌, ◌≤◌, ℕ, List, [], false, true, refl, sym, subst, ap, ◌∙◌}
+use Rattle.std.proofs.Common.{◌≡◌, ◌≤◌, ℕ, List, [], false, true, refl, sym, subst, ap, ◌∙◌}
 use Rattle.std.specs.Prelude.{All, Option, None, Some, Ok, Err}
 use Rattle.pt_tree.specs.Forest.{Forest}
 use Rattle.pt_tree.specs.Source.{Reading}
@@ -49,28 +49,6 @@ pub reading_of : (r : Option Reading) (f : Forest) → source_tree r ≡ Some f 
 reading_of None f is = absurd (cc)
 reading_of (Some s) f is = (s, refl, some_same s.tree f is)
 
-pub is_going : (here : Phase) → here ≢ phase.Ended → is_ended here ≡ false
-is_going phase.Begin going = refl
-is_going (phase.Prefix here) going = refl
-is_going phase.Staging going = refl
-is_going phase.Root going = refl
-is_going (phase.RootMake number) going = refl
-is_going phase.RootRename going = refl
-is_going (phase.RootCheck number) going = refl
-is_going phase.OpenRoot going = refl
-is_going phase.Judge going = refl
-is_going (phase.OpenObject object) going = refl
-is_going (phase.Scan object) going = refl
-is_going (phase.Read object bytes) going = refl
-is_going (phase.Make object part) going = refl
-is_going (phase.Copy object position left) going = refl
-is_going (phase.Tuples object number) going = refl
-is_going (phase.Rename object) going = refl
-is_going (phase.Line object) going = refl
-is_going phase.Walk going = refl
-is_going phase.End going = refl
-is_going phase.Ended going = absurd (going refl)
-
 -- ---- halts as faults
 
 of_source : (why : Halt) (source : Forest) → law.SaysOfSource why source → SaysOfSource (fault_of why) source
@@ -80,8 +58,8 @@ of_source halt.Log source says = tt
 of_source halt.Memory source says = tt
 of_source halt.NotPairtree source says = says
 of_source halt.Prefix source says = says
-of_source halt.StagingLeft source says = tt
-of_source halt.Target source says = tt
+of_source halt.StagingLeft source says = says
+of_source halt.Target source says = says
 of_source halt.Changed source says = says
 
 of_dest : (job : Job) (why : Halt) (start : Tree) → (why ≡ halt.StagingLeft → SaysOfDest job fault.StagingLeft start) → (why ≡ halt.Target → SaysOfDest job fault.Target start) → SaysOfDest job (fault_of why) start

@@ -1,12 +1,9 @@
 -- What the last step of a run says of the whole run.
-use Rattle.std.proofs.Common.{◌≡◌, ℕ, List, refl, sym, subst, ◌∙◌}
+use Rattle.std.proofs.Common.{◌≡◌, refl, sym, subst}
 use Rattle.std.specs.Prelude.{Option, Ok, Err, Result}
-use Rattle.pt_tree.specs.Dest.{Writing}
 use Rattle.pt_tree.specs.Forest.{Forest}
-use Rattle.pt_tree.specs.Source.{Reading}
 use Rattle.pt_plan.specs.World.{Failures, World, source_tree}
 use Rattle.pt_begun.specs.Begun.{Start}
-use Rattle.pt_state.specs.Turned.{world}
 use Rattle.pt_state.specs.declared.job.Job.{Job}
 use Rattle.pt_state.specs.declared.job.Report.{Report}
 use Rattle.pt_move.specs.Outcome.{EndsWhole, FaultLeaves, IfEarly, LeavesAll, MadeWithinWork, SaysRightly, StandsStillIn, StatesAreFiles, WantsMemory}
@@ -18,7 +15,7 @@ use Rattle.pt_move.specs.declared.mover.Turn.{Turn}
 use Rattle.pt_move.specs.declared.mover.Turn.TheVariants as turn
 
 -- a step, as a run sees it
-abbrev StepKeeps : World → World → Running → Running → Result Turn Fault → Type 0
+abbrev pub StepKeeps : World → World → Running → Running → Result Turn Fault → Type 0
 StepKeeps old new before after answer = (start : Start) → IsBegun start old before → Keeps start old new before after answer
 
 -- a fault that isn't that of an ended run
@@ -35,70 +32,59 @@ not_ended P fault.Changed going p = p
 not_ended P fault.Turns going p = p
 not_ended P fault.Ended going p = absurd (going refl)
 
-module _ (start : Start) (before after : Running) (r r' : Option Reading) (w w' : Option Writing) (g g' : Option (List ℕ)) (n n' d d' l l' : ℕ) (job : Job) (source : Option Forest) (is : IsBegun start (world r w g n d l) before) (same : before.state.job ≡ job) (tree : source_tree r ≡ source) where
-  abbrev at_start : World
-  at_start = world r w g n d l
-
-  abbrev at_end : World
-  at_end = world r' w' g' n' d' l'
-
+module _ (start : Start) (before after : Running) (old new : World) (job : Job) (source : Option Forest) (is : IsBegun start old before) (same : before.state.job ≡ job) (tree : source_tree old.source ≡ source) where
   -- of any step
-  pub run_begun : (answer : Result Turn Fault) → StepKeeps at_start at_end before after answer → IsBegun start at_end after
+  pub run_begun : (answer : Result Turn Fault) → StepKeeps old new before after answer → IsBegun start new after
   unfolding Keeps
   run_begun answer keeps = (keeps start is).begun
 
-  pub run_leaves : (answer : Result Turn Fault) → StepKeeps at_start at_end before after answer → LeavesBehind job start.dest w'
+  pub run_leaves : (answer : Result Turn Fault) → StepKeeps old new before after answer → LeavesBehind job start.dest new.dest
   unfolding Keeps
-  run_leaves answer keeps = subst (λ j. LeavesBehind j start.dest w') same (keeps start is).leaves
+  run_leaves answer keeps = subst (λ j. LeavesBehind j start.dest new.dest) same (keeps start is).leaves
 
-  pub run_stands : (answer : Result Turn Fault) → StepKeeps at_start at_end before after answer → StandsStillIn start.dest w'
+  pub run_stands : (answer : Result Turn Fault) → StepKeeps old new before after answer → StandsStillIn start.dest new.dest
   unfolding Keeps
   run_stands answer keeps = (keeps start is).stands
 
-  pub run_left : (answer : Result Turn Fault) → StepKeeps at_start at_end before after answer → FaultLeaves job source start w' g'
+  pub run_left : (answer : Result Turn Fault) → StepKeeps old new before after answer → FaultLeaves job source start new.dest new.log
   unfolding Keeps
-  run_left answer keeps = subst (λ x. FaultLeaves job x start w' g') tree (subst (λ j. FaultLeaves j (source_tree r) start w' g') same (keeps start is).left)
+  run_left answer keeps = subst (λ x. FaultLeaves job x start new.dest new.log) tree (subst (λ j. FaultLeaves j (source_tree old.source) start new.dest new.log) same (keeps start is).left)
 
   -- of the last one
-  module _ (last : Turn) (finished : last ≡ turn.Finished) (keeps : StepKeeps at_start at_end before after (Ok last)) where
-    kept : Keeps start at_start at_end before after (Ok turn.Finished)
-    kept = subst (λ t. Keeps start at_start at_end before after (Ok t)) finished (keeps start is)
+  module _ (last : Turn) (finished : last ≡ turn.Finished) (keeps : StepKeeps old new before after (Ok last)) where
+    kept : Keeps start old new before after (Ok turn.Finished)
+    kept = subst (λ t. Keeps start old new before after (Ok t)) finished (keeps start is)
 
-    pub run_ends : (report : Report) → report ≡ after.state.counts → EndsWhole job source start w' g' report
+    pub run_ends : (report : Report) → report ≡ after.state.counts → EndsWhole job source start new.dest new.log report
     unfolding Keeps
     run_ends report counts =
-        subst (λ c. EndsWhole job source start w' g' c) (sym counts) (subst (λ x. EndsWhole job x start w' g' after.state.counts) tree (subst (λ j. EndsWhole j (source_tree r) start w' g' after.state.counts) same (kept).ends))
+        subst (λ c. EndsWhole job source start new.dest new.log c) (sym counts) (subst (λ x. EndsWhole job x start new.dest new.log after.state.counts) tree (subst (λ j. EndsWhole j (source_tree old.source) start new.dest new.log after.state.counts) same (kept).ends))
 
-    pub run_states : StatesAreFiles job source start w' g'
+    pub run_states : StatesAreFiles job source start new.dest new.log
     unfolding Keeps
-    run_states = subst (λ x. StatesAreFiles job x start w' g') tree (subst (λ j. StatesAreFiles j (source_tree r) start w' g') same (kept).states)
+    run_states = subst (λ x. StatesAreFiles job x start new.dest new.log) tree (subst (λ j. StatesAreFiles j (source_tree old.source) start new.dest new.log) same (kept).states)
 
     pub run_work : (report : Report) → report ≡ after.state.counts → MadeWithinWork job source start.dest report
     unfolding Keeps
     run_work report counts =
-        subst (λ c. MadeWithinWork job source start.dest c) (sym counts) (subst (λ x. MadeWithinWork job x start.dest after.state.counts) tree (subst (λ j. MadeWithinWork j (source_tree r) start.dest after.state.counts) same (kept).work))
+        subst (λ c. MadeWithinWork job source start.dest c) (sym counts) (subst (λ x. MadeWithinWork job x start.dest after.state.counts) tree (subst (λ j. MadeWithinWork j (source_tree old.source) start.dest after.state.counts) same (kept).work))
 
   -- of one that met a fault
-  module _ (f : Fault) (going : f ≡ fault.Ended → ⊥) (keeps : StepKeeps at_start at_end before after (Err f)) where
-    pub run_early : IfEarly f (LeavesAll start w' g')
+  module _ (f : Fault) (going : f ≡ fault.Ended → ⊥) (keeps : StepKeeps old new before after (Err f)) where
+    pub run_early : IfEarly f (LeavesAll start new.dest new.log)
     unfolding Keeps
-    run_early = not_ended (λ f. IfEarly f (LeavesAll start w' g')) f going (keeps start is).early
+    run_early = not_ended (λ f. IfEarly f (LeavesAll start new.dest new.log)) f going (keeps start is).early
 
     pub run_says : SaysRightly job source start.dest f
     unfolding Keeps
     run_says =
-        let says = not_ended (SaysRightly before.state.job (source_tree r) start.dest) f going (keeps start is).says in
-        subst (λ x. SaysRightly job x start.dest f) tree (subst (λ j. SaysRightly j (source_tree r) start.dest f) same says)
+        let says = not_ended (SaysRightly before.state.job (source_tree old.source) start.dest) f going (keeps start is).says in
+        subst (λ x. SaysRightly job x start.dest f) tree (subst (λ j. SaysRightly j (source_tree old.source) start.dest f) same says)
 
-    pub run_good : (first last : Failures) → first ≡ at_start.failures → last ≡ at_end.failures → WantsMemory job source start.dest first last f
+    pub run_good : (first last : Failures) → first ≡ old.failures → last ≡ new.failures → WantsMemory job source start.dest first last f
     unfolding Keeps
     run_good first last first_is last_is =
-        let good = not_ended (WantsMemory before.state.job (source_tree r) start.dest at_start.failures at_end.failures) f going (keeps start is).good in
+        let good = not_ended (WantsMemory before.state.job (source_tree old.source) start.dest old.failures new.failures) f going (keeps start is).good in
         subst (λ x. WantsMemory job source start.dest first x f) (sym last_is)
-        (subst (λ x. WantsMemory job source start.dest x at_end.failures f) (sym first_is)
-        (subst (λ x. WantsMemory job x start.dest at_start.failures at_end.failures f) tree (subst (λ j. WantsMemory j (source_tree r) start.dest at_start.failures at_end.failures f) same good)))
-
-pub same_tree : (before now new : Option Forest) → new ≡ now → now ≡ before → new ≡ before
-same_tree before now new a b = a ∙ b
-
-pub ruleset whole = (same_tree)
+        (subst (λ x. WantsMemory job source start.dest x new.failures f) (sym first_is)
+        (subst (λ x. WantsMemory job x start.dest old.failures new.failures f) tree (subst (λ j. WantsMemory j (source_tree old.source) start.dest old.failures new.failures f) same good)))

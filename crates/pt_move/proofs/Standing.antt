@@ -22,7 +22,7 @@ use Rattle.pt_make.specs.Making.{HasContentsOfRows, HasFedInventory, IsReadyFor}
 use Rattle.pt_scan.specs.Scanning.{IsSite}
 use Rattle.pt_state.specs.States.{held_of, job_of}
 use Rattle.pt_state.specs.declared.state.State.{State}
-use Rattle.pt_turn.specs.Stands.{Stands}
+use Rattle.pt_move.specs.Stands.{Stands}
 
 -- ---- what the code needs
 
@@ -45,7 +45,7 @@ ready part.Version object s fed past was held = tt
 ready (part.Content position) object s fed past was held = held.numbers.within
 ready part.VersionInventory object s fed past was held = held.rows.contents
 ready part.VersionSidecar object s fed past was held = subst (λ (f : List ℕ). HasBeenFed s.job.algorithm s.hasher f) held.fed was
-ready part.Inventory object s fed past was held = held.rows.contents
+ready part.Inventory object s fed past was held = (held.rows.contents, subst (λ (f : List ℕ). HasBeenFed s.job.algorithm s.hasher f) held.fed was)
 ready part.Sidecar object s fed past was held = subst (λ (f : List ℕ). HasBeenFed s.job.algorithm s.hasher f) held.fed was
 
 -- the row there is stored, so there is a content of that number

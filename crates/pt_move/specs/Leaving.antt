@@ -10,7 +10,7 @@ use Rattle.pt_plan.specs.declared.phase.Phase.TheVariants as phase
 use Rattle.pt_state.specs.States.{counts_of}
 use Rattle.pt_state.specs.declared.job.Report.{Report}
 use Rattle.pt_state.specs.declared.state.State.{State}
-use Rattle.pt_turn.specs.Bounds.{lines_put}
+use Rattle.pt_move.specs.Bounds.{lines_put}
 use Rattle.pt_move.specs.Held.{Gains, Moves}
 use Rattle.pt_move.specs.Lines.{TellsEnd, TellsFront, TellsLine}
 

@@ -1,9 +1,14 @@
+pub mod Bounds
 pub mod Counting
 pub mod Fault
 pub mod Held
 pub mod Leaving
 pub mod Lines
+pub mod Migrates
 pub mod Outcome
 pub mod Promises
 pub mod Running
+pub mod Runs
 pub mod Stepping
+pub mod Stands
+pub mod Turning

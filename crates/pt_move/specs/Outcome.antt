@@ -1,5 +1,5 @@
 -- What a run that ended says and leaves, where the devices tell.
-use Rattle.std.specs.Prelude.{◌≡◌, ◌≤◌, ℕ, true, false, All, List, [], ◌++◌, Option, Some, is_some, ⊤}
+use Rattle.std.specs.Prelude.{◌≡◌, ◌<◌, ◌≤◌, ℕ, true, false, All, List, [], ◌++◌, Option, Some, is_some, ⊤}
 use Rattle.pt_object.specs.Holding.{IsFree}
 use Rattle.pt_object.specs.Scripts.{staging}
 use Rattle.pt_tree.specs.Dest.{Writing}
@@ -77,10 +77,12 @@ HoldsWithinBound job source state = (s : Forest) → source ≡ Some s → IsWit
 
 -- ---- refusals
 
--- a source is refused only for what it is: it is no store; it is one, but its prefix isn't good. No file of it changes while it is read
+-- a source is refused only for what it is: it is no store; it is one, but its prefix isn't good. A destination is refused only after the source was found to be a store with a good prefix. No file of it changes while it is read
 abbrev pub SaysOfSource : Fault → Forest → Type 0
 SaysOfSource fault.NotPairtree source = is_store source ≡ false
 SaysOfSource fault.Prefix source = (is_store source ≡ true) × (has_prefix source ≡ false)
+SaysOfSource fault.StagingLeft source = (is_store source ≡ true) × (has_prefix source ≡ true)
+SaysOfSource fault.Target source = (is_store source ≡ true) × (has_prefix source ≡ true)
 SaysOfSource fault.Changed source = ⊥
 SaysOfSource _ source = ⊤
 
@@ -90,8 +92,9 @@ SaysOfDest job fault.StagingLeft start = is_some (start staging) ≡ true
 SaysOfDest job fault.Target start = IsFree start staging × IsBadTarget job (root_in start) (λ object. ⊤)
 SaysOfDest job _ start = ⊤
 
--- of both: where the way to an object's place is barred, that object is one that is carried
+-- of both: where the way to an object's place is barred, that object is one that is carried; and the limit of turns is met only where it is less than the work
 abbrev pub SaysOfBoth : plan.Job → Fault → Forest → Tree → Type 0
+SaysOfBoth job fault.Turns source start = job.limits.turns < work job source (root_in start)
 SaysOfBoth job fault.Target source start = IsBadTarget job (root_in start) (IsCarriedOf job source (root_in start))
 SaysOfBoth job _ source start = ⊤
 

@@ -1,5 +1,6 @@
 -- A run under way: where it stands, and what it holds.
-use Rattle.std.specs.Prelude.{◌≡◌, ◌⊎◌, ℕ, List, Option, [], ⊤}
+use Rattle.std.specs.Bool.{OnFalse}
+use Rattle.std.specs.Prelude.{◌≡◌, ◌⊎◌, ℕ, List, Option, []}
 use Rattle.pt_object.specs.Hasher.{HasBeenFed}
 use Rattle.pt_object.specs.declared.algorithm.Algorithm.{Algorithm}
 use Rattle.pt_object.specs.declared.hasher.Hasher.{Hasher}
@@ -9,6 +10,7 @@ use Rattle.pt_plan.specs.Run.{Kept, Run}
 use Rattle.pt_plan.specs.declared.phase.Phase.{Phase}
 use Rattle.pt_plan.specs.declared.phase.Phase.TheVariants as phase
 use Rattle.pt_begun.specs.Begun.{Start, TellsAsBefore}
+use Rattle.pt_begun.specs.EndLaws.{is_ended}
 use Rattle.pt_begun.specs.BegunDest.{IsLeftBehind}
 use Rattle.pt_plan.specs.World.{World, dest_tree}
 use Rattle.pt_work.specs.WorkLaws.{BegunWithinWork}
@@ -16,7 +18,7 @@ use Rattle.pt_state.specs.States.{job_of, kept_of}
 use Rattle.pt_state.specs.declared.job.Job.{Job}
 use Rattle.pt_state.specs.declared.job.Report.{Report}
 use Rattle.pt_state.specs.declared.state.State.{State}
-use Rattle.pt_turn.specs.Bounds.{IsBounded}
+use Rattle.pt_move.specs.Bounds.{IsBounded}
 
 -- a mover, as contracts see it
 pub record Running : Type 0 where
@@ -55,8 +57,7 @@ run_of r fed = record { phase = r.phase; kept = kept_of r.state fed }
 
 -- until the run has ended, the hasher was fed this
 abbrev pub FedUntilEnd : Phase → Algorithm → Hasher → List ℕ → Type 0
-FedUntilEnd phase.Ended algorithm hasher fed = ⊤
-FedUntilEnd here algorithm hasher fed = HasBeenFed algorithm hasher fed
+FedUntilEnd here algorithm hasher fed = OnFalse (is_ended here) (HasBeenFed algorithm hasher fed)
 
 -- the start where the devices tell this
 abbrev pub start_with : Option Writing → Option (List ℕ) → Start

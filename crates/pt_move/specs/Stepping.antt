@@ -1,8 +1,15 @@
 -- What one step answers, and what it leaves.
-use Rattle.std.specs.Prelude.{◌≡◌, ◌≢◌, ◌+◌, ◌<◌, ◌≤◌, Result, Ok, Err, ⊤}
+use Rattle.std.specs.Prelude.{◌≡◌, ◌≢◌, ◌+◌, ◌<◌, ◌==◌, ◌≤◌, ℕ, IfOk, Result, Ok, Err, cond, ⊤}
+use Rattle.pt_plan.specs.World.{World, source_tree}
+use Rattle.pt_plan.specs.declared.halt.Halt.{Halt}
 use Rattle.pt_plan.specs.declared.phase.Phase.TheVariants as phase
 use Rattle.pt_state.specs.States.{counts_of}
-use Rattle.pt_turn.specs.Bounds.{lines_put}
+use Rattle.pt_move.specs.Bounds.{lines_put}
+use Rattle.pt_move.specs.Turning.{CountedTurn}
+use Rattle.pt_move.specs.Counting.{Counts}
+use Rattle.pt_move.specs.Fault.{fault_of}
+use Rattle.pt_move.specs.Held.{Gains, Moves}
+use Rattle.pt_move.specs.Lines.{FinishTold, Tells}
 use Rattle.pt_move.specs.Running.{Running}
 use Rattle.pt_move.specs.declared.fault.Fault.{Fault}
 use Rattle.pt_move.specs.declared.fault.Fault.TheVariants as fault
@@ -33,3 +40,54 @@ abbrev pub Stays : {X : Type 0} → Result Turn Fault → X → X → Type 0
 Stays (Err fault.Ended) old new = new ≡ old
 Stays (Err fault.Turns) old new = new ≡ old
 Stays r old new = ⊤
+
+-- how often a step calls the source at most: twice in the second turn, which reads the prefix, and else once
+abbrev pub most_calls_at : Running → ℕ
+most_calls_at r = cond (r.state.counts.turns == 1) 2 1
+
+-- ---- the turn
+
+-- by the answer it is one of the definitions' turns. After the end, and where exactly as many as the limit were made, it is none: what the run holds and the devices are as they were
+unfoldable pub MakesTurn : World → World → Running → Running → Result Turn Fault → Type 0
+MakesTurn old new before after (Ok turn.More) = CountedTurn before.phase before.state after.state old new (Ok after.phase)
+MakesTurn old new before after (Ok turn.Finished) = CountedTurn before.phase before.state after.state old new (Ok phase.Ended)
+MakesTurn old new before after (Err fault.Ended) = (after ≡ before) × (new ≡ old)
+MakesTurn old new before after (Err fault.Turns) = (after.state ≡ before.state) × (new ≡ old) × (before.state.counts.turns ≡ before.state.job.limits.turns)
+MakesTurn old new before after (Err f) = (why : Halt) × (f ≡ fault_of why) × CountedTurn before.phase before.state after.state old new (Err why)
+
+-- ---- what it leaves
+
+pub record Blamed {T : Type 0} (old new : World) (result : Result T Fault) : Type 0 where
+  pub source : Counts 1 old.failures.source new.failures.source result
+  pub dest : Counts 2 old.failures.dest new.failures.dest result
+  pub log : Counts 3 old.failures.log new.failures.log result
+
+-- a device is blamed only where its count of failures rose, and else its count stayed
+unfoldable pub BlamesRightly : {T : Type 0} → World → World → Result T Fault → Type 0
+BlamesRightly old new result = Blamed old new result
+
+pub record Left (old new : World) (before after : Running) (result : Result Turn Fault) : Type 0 where
+  -- the source's tree stays, and so does the job
+  pub tree : source_tree new.source ≡ source_tree old.source
+  pub job : after.state.job ≡ before.state.job
+  -- the turn is counted, and its line told
+  pub turns : IsCounted before after result
+  pub told : Tells old.log new.log before.state.counts after.state.counts result
+  pub finished : IfOk result (λ t. FinishTold t old.log new.log before.state.counts after.state.counts)
+  -- what is held grows by one at most
+  pub trail : Moves before.state.trail after.state.trail
+  pub rows : Gains before.state.rows after.state.rows
+  pub contents : Gains before.state.contents after.state.contents
+
+-- what one step leaves outside, and of what is held
+unfoldable pub StepLeaves : World → World → Running → Running → Result Turn Fault → Type 0
+StepLeaves old new before after result = Left old new before after result
+
+-- ---- a step over three devices
+
+-- what a step answers, whom it blames, what it leaves, and that it made a turn
+pub record Steps (old new : World) (before after : Running) (result : Result Turn Fault) : Type 0 where
+  pub answer : EndsAs before after result
+  pub blames : BlamesRightly old new result
+  pub leaves : StepLeaves old new before after result
+  pub turn : MakesTurn old new before after result

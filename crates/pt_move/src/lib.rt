@@ -4,6 +4,7 @@
 mod fault;
 mod migration;
 mod mover;
+mod turning;
 
 pub use fault::Fault;
 pub use migration::migrate;

@@ -1,28 +1,25 @@
-#![tactic(auto, using(crate::proofs::Answering::stepping, crate::proofs::Keeping::answered, pt_state::proofs::Counting::calls))]
+#![tactic(auto, using(crate::proofs::Answering::stepping, crate::proofs::Keeping::answered))]
 // A run under way, made turn by turn.
-ghost use Rattle.std.specs.Prelude.{◌≡◌, ◌≢◌, ◌<◌, ◌≤◌, ◌+◌, Ok, Err, IfErr, IfOk, length};
-ghost use Rattle.pt_plan.specs.declared.phase.Phase.TheVariants as phase;
-ghost use Rattle.pt_walk.specs.Trail.{entries_held};
-ghost use Rattle.pt_state.specs.Counting.{AtMostCalls};
-ghost use Rattle.pt_move.specs.declared.fault.Fault.TheVariants as fault;
-ghost use Rattle.pt_move.specs.Counting.{Counts};
-ghost use Rattle.pt_move.specs.Held.{Gains, Moves};
-ghost use Rattle.pt_move.specs.Lines.{FinishTold, Tells};
+ghost use Rattle.std.specs.Prelude.{◌≡◌, ◌≢◌, ◌<◌, ◌+◌, length};
+ghost use Rattle.pt_begun.specs.Begun.{IsWorld, Start, start_of};
 ghost use Rattle.pt_plan.specs.Answer.{phase_after};
+ghost use Rattle.pt_plan.specs.World.{World, source_tree};
+ghost use Rattle.pt_plan.specs.declared.phase.Phase.TheVariants as phase;
+ghost use Rattle.pt_state.specs.Counting.{AtMostCalls};
+ghost use Rattle.pt_state.specs.Outside.{world};
+ghost use Rattle.pt_move.specs.Turning.{CountedTurn};
+ghost use Rattle.pt_walk.specs.Trail.{entries_held};
 ghost use Rattle.pt_move.specs.Leaving.{TurnLeaves};
 ghost use Rattle.pt_move.specs.Promises.{Keeps, TurnKeeps};
-ghost use Rattle.pt_begun.specs.Begun.{Start};
-ghost use Rattle.pt_plan.specs.World.{World, source_tree};
-ghost use Rattle.pt_state.specs.Turned.{world};
 ghost use Rattle.pt_move.specs.Running.{BeganSomewhere, HasBegun, IsBegun, IsNew, IsWell};
-ghost use Rattle.pt_move.specs.Stepping.{EndsAs, IsCounted, Stays};
+ghost use Rattle.pt_move.specs.Stepping.{BlamesRightly, EndsAs, MakesTurn, Stays, StepLeaves, Steps, most_calls_at};
 
 use crate::Fault;
+use crate::turning::turn;
 use pt_object::{Contents, Hasher, Rows};
 use pt_plan::{Halt, Phase};
-use pt_state::{Job, Report, State};
+use pt_state::{Devices, Job, Outside, Report, State};
 use pt_tree::{Block, Dest, Log, Source};
-use pt_turn::turn;
 use pt_walk::Trail;
 use std::alloc::Global;
 use std::marker::Model;
@@ -41,8 +38,8 @@ pub enum Turn {
 /// `pairtree_root` to where it stands, and the rows and contents of the object that it is at.
 #[derive(Drop)]
 pub struct Mover {
-    phase: Phase,
-    state: State,
+    pub(crate) phase: Phase,
+    pub(crate) state: State,
 }
 
 impl Model for Mover {
@@ -56,10 +53,22 @@ impl Model for Mover {
 }
 
 impl Mover {
-    /// A run that is to begin. It calls nothing and takes no memory.
+    /// A run that is to begin. It calls nothing and takes no memory. Over any devices it is then in progress, from what
+    /// they hold as they stand.
+    #[tactic(auto, using(crate::proofs::Ending::starting))]
     pub fn start(alloc: Global, job: Job) -> Mover
         ensures new { IsNew job result }
         ensures begun { (world : World) → HasBegun world result }
+        ensures in_progress { (world : World) → IsWorld world
+            → IsBegun (start_of world) world result }
+    {
+        job.layout.count();
+        Mover::fresh(alloc, job)
+    }
+
+    // Nothing is held, and nothing is counted.
+    fn fresh(alloc: Global, job: Job) -> Mover
+        ensures { IsNew job result }
     {
         let hasher = Hasher::start(job.algorithm);
         let state = State {
@@ -97,29 +106,53 @@ impl Mover {
         dest: &mut D,
         log: &mut L,
     ) -> Result<Turn, Fault>
-        requires { HasBegun (world (S.told source.old) (D.told dest.old) (L.told log.old) (S.failed source.old) (D.failed dest.old) (L.failed log.old)) self.old }
-        ensures keeps { (start : Start) → IsBegun start (world (S.told source.old) (D.told dest.old) (L.told log.old) (S.failed source.old) (D.failed dest.old) (L.failed log.old)) self.old
-            → Keeps start (world (S.told source.old) (D.told dest.old) (L.told log.old) (S.failed source.old) (D.failed dest.old) (L.failed log.old)) (world (S.told source.new) (D.told dest.new) (L.told log.new) (S.failed source.new) (D.failed dest.new) (L.failed log.new)) self.old self.new result }
-        ensures goes_on { HasBegun (world (S.told source.new) (D.told dest.new) (L.told log.new) (S.failed source.new) (D.failed dest.new) (L.failed log.new)) self.new }
-        ensures tree { source_tree (S.told source.new) ≡ source_tree (S.told source.old) }
-        ensures source { Counts 1 (S.failed source.old) (S.failed source.new) result }
-        ensures dest { Counts 2 (D.failed dest.old) (D.failed dest.new) result }
-        ensures log { Counts 3 (L.failed log.old) (L.failed log.new) result }
-        ensures calls { AtMostCalls 2 (S.called source.old) (S.called source.new) }
-        ensures one_call { self.old.state.counts.turns ≢ 1 → AtMostCalls 1 (S.called source.old) (S.called source.new) }
-        ensures job { self.new.state.job ≡ self.old.state.job }
-        ensures turns { IsCounted self.old self.new result }
-        ensures told { Tells (L.told log.old) (L.told log.new) self.old.state.counts self.new.state.counts result }
-        ensures finished { IfOk result (λ t. FinishTold t (L.told log.old) (L.told log.new) self.old.state.counts self.new.state.counts) }
-        ensures trail { Moves self.old.state.trail self.new.state.trail }
-        ensures rows { Gains self.old.state.rows self.new.state.rows }
-        ensures contents { Gains self.old.state.contents self.new.state.contents }
-        ensures answer { EndsAs self.old self.new result }
+        requires { HasBegun
+            (world (S.told source.old) (D.told dest.old) (L.told log.old)
+            (S.failed source.old) (D.failed dest.old) (L.failed log.old))
+            self.old }
+        // The promises of the run so far, against the start at which it began.
+        ensures keeps { (start : Start) → IsBegun start
+            (world (S.told source.old) (D.told dest.old) (L.told log.old)
+            (S.failed source.old) (D.failed dest.old) (L.failed log.old))
+            self.old → Keeps start
+            (world (S.told source.old) (D.told dest.old) (L.told log.old)
+            (S.failed source.old) (D.failed dest.old) (L.failed log.old))
+            (world (S.told source.new) (D.told dest.new) (L.told log.new)
+            (S.failed source.new) (D.failed dest.new) (L.failed log.new))
+            self.old self.new result }
+        ensures goes_on { HasBegun
+            (world (S.told source.new) (D.told dest.new) (L.told log.new)
+            (S.failed source.new) (D.failed dest.new) (L.failed log.new))
+            self.new }
+        // When each answer comes, which device it blames, what one step leaves, and the turn that it made.
+        ensures steps { Steps
+            (world (S.told source.old) (D.told dest.old) (L.told log.old)
+            (S.failed source.old) (D.failed dest.old) (L.failed log.old))
+            (world (S.told source.new) (D.told dest.new) (L.told log.new)
+            (S.failed source.new) (D.failed dest.new) (L.failed log.new))
+            self.old self.new result }
+        ensures calls { AtMostCalls (most_calls_at self.old) (S.called source.old) (S.called source.new) }
         ensures source_stays { Stays result source.old source.new }
         ensures dest_stays { Stays result dest.old dest.new }
         ensures log_stays { Stays result log.old log.new }
     {
-        self.begun(source, dest, log);
+        self.advance(&mut Devices { source, dest, log })
+    }
+
+    // Makes one turn over the devices as one.
+    pub(crate) fn advance<O: Outside>(&mut self, out: &mut O) -> Result<Turn, Fault>
+        requires { HasBegun (O.world out.old) self.old }
+        ensures keeps { (start : Start) → IsBegun start (O.world out.old) self.old
+            → Keeps start (O.world out.old) (O.world out.new) self.old self.new result }
+        ensures goes_on { HasBegun (O.world out.new) self.new }
+        ensures answer { EndsAs self.old self.new result }
+        ensures blames { BlamesRightly (O.world out.old) (O.world out.new) result }
+        ensures leaves { StepLeaves (O.world out.old) (O.world out.new) self.old self.new result }
+        ensures turn { MakesTurn (O.world out.old) (O.world out.new) self.old self.new result }
+        ensures calls { O.within (most_calls_at self.old) out.old out.new }
+        ensures stays { Stays result out.old out.new }
+    {
+        self.begun(out);
         let phase = match mem::replace(&mut self.phase, Phase::Ended) {
             Phase::Ended => return Err(Fault::Ended),
             phase => phase,
@@ -127,7 +160,7 @@ impl Mover {
         if self.state.counts.turns >= self.state.job.limits.turns() {
             return Err(Fault::Turns);
         }
-        match made_turn(&mut self.state, phase, source, dest, log)? {
+        match made_turn(&mut self.state, phase, out)? {
             Phase::Ended => Ok(Turn::Finished),
             next => {
                 self.phase = next;
@@ -137,16 +170,17 @@ impl Mover {
     }
 
     // Where the run is to begin, it begins at these devices as they stand.
-    fn begun<S: Source, D: Dest, L: Log>(&self, source: &S, dest: &D, log: &L)
-        requires { HasBegun (world (S.told source.now) (D.told dest.now) (L.told log.now) (S.failed source.now) (D.failed dest.now) (L.failed log.now)) self.now }
-        ensures { BeganSomewhere (world (S.told source.now) (D.told dest.now) (L.told log.now) (S.failed source.now) (D.failed dest.now) (L.failed log.now)) self.now }
+    fn begun<O: Outside>(&self, out: &O)
+        requires { HasBegun (O.world out.now) self.now }
+        ensures { BeganSomewhere (O.world out.now) self.now }
     {
         self.state.job.layout.count();
     }
 
     /// How many records it holds: the entries of the trail's listings, the rows and the contents together.
     pub fn records(&self) -> u128
-        ensures { result ≡ entries_held self.now.state.trail + length self.now.state.rows + length self.now.state.contents }
+        ensures { result ≡ entries_held self.now.state.trail
+            + length self.now.state.rows + length self.now.state.contents }
     {
         self.state.trail.records()
             + self.state.rows.len() as u128
@@ -164,25 +198,21 @@ impl Mover {
 
 // Makes the turn of a phase, and gives the next one.
 #[tactic(auto, using(crate::proofs::Answering::making_turn, crate::proofs::Keeping::outcomes))]
-fn made_turn<S: Source, D: Dest, L: Log>(
-    state: &mut State,
-    here: Phase,
-    source: &mut S,
-    dest: &mut D,
-    log: &mut L,
-) -> Result<Phase, Halt>
-    requires begun { BeganSomewhere (world (S.told source.old) (D.told dest.old) (L.told log.old) (S.failed source.old) (D.failed dest.old) (L.failed log.old)) (record { phase = here; state = state.old }) }
+fn made_turn<O: Outside>(state: &mut State, here: Phase, out: &mut O) -> Result<Phase, Halt>
+    requires begun { BeganSomewhere (O.world out.old) (record { phase = here; state = state.old }) }
     requires going { here ≢ phase.Ended }
     requires well { IsWell (record { phase = here; state = state.old }) }
     requires within { state.old.counts.turns < state.old.job.limits.turns }
-    ensures keeps { (start : Start) → IsBegun start (world (S.told source.old) (D.told dest.old) (L.told log.old) (S.failed source.old) (D.failed dest.old) (L.failed log.old)) (record { phase = here; state = state.old })
-        → TurnKeeps start (world (S.told source.old) (D.told dest.old) (L.told log.old) (S.failed source.old) (D.failed dest.old) (L.failed log.old)) (world (S.told source.new) (D.told dest.new) (L.told log.new) (S.failed source.new) (D.failed dest.new) (L.failed log.new)) state.old state.new result }
-    ensures tree { source_tree (S.told source.new) ≡ source_tree (S.told source.old) }
-    ensures job { state.new.job ≡ state.old.job }
+    ensures keeps { (start : Start)
+        → IsBegun start (O.world out.old) (record { phase = here; state = state.old })
+        → TurnKeeps start (O.world out.old) (O.world out.new) state.old state.new result }
+    ensures tree { source_tree (O.world out.new).source ≡ source_tree (O.world out.old).source }
+    ensures turn { CountedTurn here state.old state.new (O.world out.old) (O.world out.new) result }
     ensures well { IsWell (record { phase = phase_after result; state = state.new }) }
-    ensures leaves { TurnLeaves state.old state.new (L.told log.old) (L.told log.new) (record { source = S.failed source.old; dest = D.failed dest.old; log = L.failed log.old }) (record { source = S.failed source.new; dest = D.failed dest.new; log = L.failed log.new }) result }
-    ensures calls { AtMostCalls 2 (S.called source.old) (S.called source.new) }
-    ensures one_call { state.old.counts.turns ≢ 1 → AtMostCalls 1 (S.called source.old) (S.called source.new) }
+    ensures leaves { TurnLeaves state.old state.new (O.world out.old).log (O.world out.new).log
+        (O.world out.old).failures (O.world out.new).failures result }
+    ensures calls { O.within (most_calls_at (record { phase = here; state = state.old }))
+        out.old out.new }
 {
-    turn(state, here, source, dest, log)
+    turn(state, here, out)
 }

@@ -1,11 +1,11 @@
 #![tactic(auto, unfolding(crate::specs::Hasher::HasBeenFed))]
 
-ghost use Rattle.std.specs.Prelude.{◌≡◌, [], ◌++◌, List, ℕ};
+ghost use Rattle.std.specs.Prelude.{◌≡◌, [], ◌++◌, IfOk, List, ℕ};
 ghost use Rattle.pt_object.specs.Algorithm.{digest_of};
 ghost use Rattle.pt_object.specs.declared.algorithm.Algorithm.{Algorithm};
 
 use crate::{Algorithm, Digest};
-use pt_tree::Block;
+use pt_tree::{Block, MemoryFault};
 use sha2::{Digest as _, Sha256, Sha512};
 
 #[derive(Drop)]
@@ -51,6 +51,18 @@ impl Hasher {
             Core::Sha512(core) => core.update(bytes),
             Core::Sha256(core) => core.update(bytes),
         }
+    }
+
+    /// Another hasher that has been fed the same.
+    pub fn copy(&self) -> Result<Hasher, MemoryFault>
+        ensures { (algorithm : Algorithm) (fed : List ℕ) →
+            HasBeenFed algorithm self.now fed → IfOk result (λ copy. HasBeenFed algorithm copy fed) }
+    {
+        let core = match &self.core {
+            Core::Sha512(core) => Core::Sha512(core.clone()?),
+            Core::Sha256(core) => Core::Sha256(core.clone()?),
+        };
+        Ok(Hasher { core })
     }
 
     /// The digest of all that it has been fed.

@@ -133,9 +133,9 @@ pub data Makings (job : Job) : Phase → Held → Held → Calls → Answer → 
   -- an inventory's text is fed to the hasher as well
   MakesVersionInventory : (held : Held) (object : Object)
       → Makings job (phase.Make object part.VersionInventory) held (with_fed held (text_of_inventory job object held.rows)) (does (Makes (inventory_file job object held.rows (in_version [])))) (Ok (phase.Make object part.VersionSidecar))
-  -- and the hasher's digest is taken for its sidecar
+  -- and the hasher's digest is taken for its sidecar; the inventory at the top has the same text, which isn't fed again
   MakesVersionSidecar : (held : Held) (object : Object)
-      → Makings job (phase.Make object part.VersionSidecar) held (with_fed held []) (does (Makes (sidecar_file job object held.rows (in_version [])))) (Ok (phase.Make object part.Inventory))
+      → Makings job (phase.Make object part.VersionSidecar) held (with_fed held (text_of_inventory job object held.rows)) (does (Makes (sidecar_file job object held.rows (in_version [])))) (Ok (phase.Make object part.Inventory))
   MakesInventory : (held : Held) (object : Object)
       → Makings job (phase.Make object part.Inventory) held (with_fed held (text_of_inventory job object held.rows)) (does (Makes (inventory_file job object held.rows staging))) (Ok (phase.Make object part.Sidecar))
   MakesSidecar : (held : Held) (object : Object)

@@ -2,7 +2,7 @@
 #![tactic(auto)]
 
 ghost use Rattle.pt_move.specs.Running.{HasBegun};
-ghost use Rattle.pt_state.specs.Turned.{world};
+ghost use Rattle.pt_state.specs.Outside.{world};
 
 use pt_memory::{MemDest, MemLog, MemSource};
 use pt_move::{Fault, Job, Mover, Report, Turn, migrate};

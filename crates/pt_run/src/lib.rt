@@ -4,6 +4,7 @@
 
 mod log;
 mod migration;
+mod prefix;
 mod reason;
 mod room;
 mod shown;

@@ -1,23 +1,48 @@
-ghost use Rattle.std.specs.Prelude.{◌≡◌, IfSome, Ok, OnErr, OnOk};
+ghost use Rattle.std.specs.Prelude.{◌≡◌, ⊤, IfSome, Ok, OnErr, OnOk};
+ghost use Rattle.std.specs.declared.io.Error.{Error};
+ghost use Rattle.std.specs.declared.result.Result.{Result};
 ghost use Rattle.std.specs.Io.KnownBytes.{Appends};
 ghost use Rattle.pt_tree.specs.Failures.{HasRisen, IsCounted};
 ghost use Rattle.pt_tree.specs.Log.{AppendsFront};
 
-use pt_folder::Handle;
 use pt_tree::{Log, TreeFault, WriterLog};
+use std::fs::OpenFile;
 use std::io;
 use std::io::Write;
 
-/// A log over a writer whose file, where there is one, is put onto its disk after each piece.
+/// What can have what was written put onto its disk.
+pub trait Syncs {
+    /// Having that done may answer so, and leave it so.
+    ghost syncs: { Self → Result (Unit {0}) Error → Self → Type 0 };
+
+    /// Has what was written put onto its disk.
+    fn sync(&mut self) -> io::Result<()>
+        ensures synced { syncs self.old result self.new };
+}
+
+/// A file that standard output goes to, opened once more. Having one opening of a file put onto its disk does that for what was written
+/// through any other.
 #[derive(Drop)]
-pub struct DurableLog<W: Write, F: Handle + Drop> {
+pub struct OutputFile<F>(pub F);
+
+impl<F: OpenFile> Syncs for OutputFile<F> {
+    ghost syncs = { λ _ _ _. ⊤ };
+
+    fn sync(&mut self) -> io::Result<()> {
+        self.0.sync_all()
+    }
+}
+
+/// A log over a writer whose output, where that is asked, is put onto its disk after each piece.
+#[derive(Drop)]
+pub struct DurableLog<W: Write, F: Syncs + Drop> {
     log: WriterLog<W>,
     file: Option<F>,
     failures: u64,
 }
 
-impl<W: Write, F: Handle + Drop> DurableLog<W, F> {
-    /// A log over a writer, and the file that it writes to, if that is to be put onto its disk.
+impl<W: Write, F: Syncs + Drop> DurableLog<W, F> {
+    /// A log over a writer, and the output that it writes to, if that is to be put onto its disk.
     pub fn new(writer: W, file: Option<F>) -> DurableLog<W, F>
         ensures writer { result.log.writer ≡ writer }
         ensures file { result.file ≡ file }
@@ -41,7 +66,7 @@ impl<W: Write, F: Handle + Drop> DurableLog<W, F> {
     }
 }
 
-impl<W: Write, F: Handle + Drop> Log for DurableLog<W, F> {
+impl<W: Write, F: Syncs + Drop> Log for DurableLog<W, F> {
     ghost told = { λ l. W.contents l.log.writer };
 
     ghost failed = { λ l. l.failures };
@@ -67,7 +92,7 @@ impl<W: Write, F: Handle + Drop> Log for DurableLog<W, F> {
 }
 
 // Puts a file onto its disk, where there is one.
-fn sync_there<F: Handle>(file: &mut Option<F>) -> io::Result<()>
+fn sync_there<F: Syncs>(file: &mut Option<F>) -> io::Result<()>
     ensures { OnOk result (IfSome file.old (λ file. (after : F) × F.syncs file (Ok tt) after)) }
 {
     match file {

@@ -2,17 +2,18 @@
 ghost use Rattle.std.specs.Prelude.{◌≡◌};
 ghost use Rattle.pt_run.specs.Ends.{Ends, RunEnds, guard_status, run_status};
 
-use crate::log::DurableLog;
-use crate::reason;
+use crate::log::{DurableLog, OutputFile};
 use crate::room::longest_made;
 use crate::tally::{TalliedLog, Tally};
 use crate::terminal::Terminals;
 use crate::watch::{Progress, Watched};
+use crate::{prefix, reason};
 use pt_folder::{HostDest, HostSource, Rehearsal, System};
 use pt_guard::{GuardFault, Lockable, begin};
 use pt_move::{Fault, Job, Report};
 use std::fs::OpenOptions;
 use std::io;
+use std::io::ErrorKind;
 use std::rt::{Clock, Files};
 
 const CARRIED: u8 = 0;
@@ -42,8 +43,8 @@ pub struct Wanted {
 }
 
 /// Carries a store into a destination, or rehearses that, and gives the exit status: 0 all was carried; 1 the log has lines
-/// that tell of what was not; 2 the folders lie in one another; 3 a fault, or another run holds the destination. Standard
-/// error tells of 2 and 3.
+/// that tell of what was not; 2 the folders lie in one another, or it isn't known where; 3 a fault, or another run holds the
+/// destination. Standard error tells of 2 and 3.
 pub fn migrate<R>(rt: &R, wanted: Wanted, source: &str, dest: &str) -> u8
 where
     R: Files + Clock + Print + Eprint + AllocGlobal + Terminals,
@@ -53,6 +54,12 @@ where
     let mut system = rt;
     match begin(&mut system, rt.alloc(), source, dest) {
         Ok(lock) => {
+            if wanted.verbose {
+                prefix::tell(rt, source);
+                if let Err(error) = &lock {
+                    reason::unlocked(rt, dest, error);
+                }
+            }
             let status = carry(rt, wanted, source, dest);
             drop(lock);
             status
@@ -70,7 +77,7 @@ fn refused(rt: &impl Eprint, fault: GuardFault) -> u8
         _ => eprintln!(rt; "pairtree2ocfl: {fault}"),
     };
     match fault {
-        GuardFault::Overlap => REFUSED,
+        GuardFault::Overlap | GuardFault::Hidden => REFUSED,
         GuardFault::Taken | GuardFault::Memory => FAILED,
     }
 }
@@ -81,7 +88,7 @@ where
     R: Files + Clock + Print + Eprint + AllocGlobal + Terminals,
     ensures { RunEnds result }
 {
-    let Ok(file) = output_file(rt, wanted.sync) else {
+    let Ok(output) = synced_output(rt, wanted.sync) else {
         failed(rt, &Fault::Log);
         return status_of(&Err(Fault::Log));
     };
@@ -92,7 +99,7 @@ where
     let mut dest = HostDest::new(rt, alloc, folder)
         .with_longest(longest_made(&wanted.job.layout))
         .with_sync(wanted.sync);
-    let mut log = TalliedLog::new(DurableLog::new(io::writer(rt), file), &tally);
+    let mut log = TalliedLog::new(DurableLog::new(io::writer(rt), output), &tally);
     let verbose = wanted.verbose;
     if wanted.rehearse {
         let mut dest = Rehearsal::new(alloc, dest);
@@ -105,18 +112,44 @@ where
     told(rt, &ran, verbose, source.source(), &dest, store)
 }
 
-// The file that standard output goes to, where it is one and is to be put onto its disk; an error where it can't be opened.
-fn output_file<R: Files>(rt: &R, sync: bool) -> io::Result<Option<R::File>> {
-    if !sync {
+// The file that standard output goes to, where there is one and it is to be put onto its disk. Where that can't be had it is told; an error
+// where it fails.
+fn synced_output<R: Files + Eprint + Terminals>(
+    rt: &R,
+    sync: bool,
+) -> io::Result<Option<OutputFile<R::File>>> {
+    if !sync || rt.output_is_terminal() {
         return Ok(None);
     }
-    match rt.metadata(OUTPUT) {
-        Ok(metadata) if metadata.is_file() => {
-            let mut options = OpenOptions::new();
-            options.write(true);
-            Ok(Some(rt.open_file(&options, OUTPUT)?))
+    match output_file(rt) {
+        Ok(None) => Ok(None),
+        Ok(Some(file)) => match file.sync_all() {
+            Ok(()) => Ok(Some(OutputFile(file))),
+            Err(error) if error.kind() == ErrorKind::InvalidInput => {
+                reason::unsynced(rt, &error);
+                Ok(None)
+            }
+            Err(error) => Err(error),
+        },
+        Err(error) => {
+            reason::unsynced(rt, &error);
+            Ok(None)
         }
-        _ => Ok(None),
+    }
+}
+
+// The file that standard output goes to, opened once more; nothing where it goes to what isn't a file, as a pipe.
+fn output_file<R: Files>(rt: &R) -> io::Result<Option<R::File>> {
+    if !rt.metadata(OUTPUT)?.is_file() {
+        return Ok(None);
+    }
+    let mut appending = OpenOptions::new();
+    appending.append(true);
+    let mut reading = OpenOptions::new();
+    reading.read(true);
+    match rt.open_file(&appending, OUTPUT) {
+        Ok(file) => Ok(Some(file)),
+        Err(_) => Ok(Some(rt.open_file(&reading, OUTPUT)?)),
     }
 }
 

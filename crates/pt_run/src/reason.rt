@@ -4,6 +4,8 @@ use crate::shown::escaped;
 use pt_folder::{Failure, HostDest, HostSource, System};
 use pt_move::Fault;
 use std::alloc::{AllocGlobal, Global};
+use std::io;
+use std::io::ErrorKind;
 
 /// Tells standard error why a run over these folders ended with a fault, where that has a path.
 pub(crate) fn tell<R: Eprint + AllocGlobal, S: System, D: System>(
@@ -39,6 +41,21 @@ pub(crate) fn tell<R: Eprint + AllocGlobal, S: System, D: System>(
         ),
         Fault::Log | Fault::Memory | Fault::Turns | Fault::Ended => {}
     }
+}
+
+/// Tells standard error why a destination that is there can't be locked.
+pub(crate) fn unlocked<R: Eprint + AllocGlobal>(rt: &R, dest: &str, error: &io::Error) {
+    if error.kind() == ErrorKind::NotFound {
+        return;
+    }
+    if let Ok(path) = escaped(rt.alloc(), dest) {
+        let _ = eprintln!(rt; "pairtree2ocfl: {path}: it is not locked: {error}");
+    }
+}
+
+/// Tells standard error why the log's file can't be put onto its disk.
+pub(crate) fn unsynced<R: Eprint>(rt: &R, error: &io::Error) {
+    let _ = eprintln!(rt; "pairtree2ocfl: the log's file will not be put onto its disk: {error}");
 }
 
 // Tells of a call that failed.

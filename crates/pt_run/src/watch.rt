@@ -117,7 +117,7 @@ impl<'a, S: Source, R: Clock + Eprint + Terminals> Watched<'a, S, R> {
             ELSEWHERE
         };
         self.due = now.saturating_add(period);
-        let Ok(line) = self.line(now.saturating_sub(self.begun) / 1000) else {
+        let Ok(line) = self.line(now.saturating_sub(self.begun)) else {
             return;
         };
         let _ = if self.on_terminal {
@@ -127,20 +127,29 @@ impl<'a, S: Source, R: Clock + Eprint + Terminals> Watched<'a, S, R> {
         };
     }
 
-    // How far the run is after so many seconds, on one line.
-    fn line(&self, seconds: u64) -> Result<String, AllocError> {
+    // How far the run is after so many milliseconds, and how fast it was, on one line.
+    fn line(&self, passed: u64) -> Result<String, AllocError> {
         let (done, present, skipped) = (
             self.tally.done(),
             self.tally.present(),
             self.tally.skipped(),
         );
         let bytes = self.tally.bytes();
+        let (seconds, lines) = (
+            passed / 1000,
+            done.saturating_add(present).saturating_add(skipped),
+        );
+        let (places, tenths) = (
+            lines.saturating_mul(1000) / passed.max(1),
+            bytes / 100 / passed.max(1),
+        );
+        let (whole, tenth) = (tenths / 10, tenths % 10);
         let at = match str::from_utf8(self.at.as_slice()) {
             Ok(at) => escaped(self.alloc, at)?,
             Err(_) => String::new(self.alloc),
         };
         let line = format!(in self.alloc;
-            "pairtree2ocfl: {seconds} s: {done} done, {present} present, {skipped} skipped, {bytes} bytes read, at {at}"
+            "pairtree2ocfl: {seconds} s, {places}/s, {whole}.{tenth} MB/s: {done} done, {present} present, {skipped} skipped, {bytes} bytes read, at {at}"
         )?;
         if self.on_terminal {
             return cut(self.alloc, line.as_str());

@@ -1,11 +1,12 @@
 //! A system that counts its calls: looks, changes and syncs. Of these one kind may fail.
-ghost use Rattle.std.specs.Prelude.{⊤};
+ghost use Rattle.std.specs.Prelude.{⊤, ◌≡◌};
+ghost use Rattle.pt_folder.specs.Untold.{no_forest, no_kept, unknown, untold_dir, untold_file, untold_kind, untold_look, untold_move, untold_names, untold_open, untold_peek, untold_proper, untold_tree, untold_write};
 
-use pt_folder::System;
+use pt_folder::{HostFile, System};
 use std::cell::Cell;
 use std::fs::{Metadata, OpenFile, OpenOptions};
 use std::io;
-use std::io::{ErrorKind, Read, Seek, SeekFrom, Write};
+use std::io::{ErrorKind, Read, Seek, SeekFrom};
 
 /// How often the system was asked, and whether a sync or a look fails.
 #[derive(Drop)]
@@ -27,6 +28,10 @@ impl Counts {
             no_look: Cell::new(false),
         }
     }
+
+    pub fn system(&self) -> Counted<'_> {
+        Counted { counts: self }
+    }
 }
 
 fn one_more(count: &Cell<u32>) {
@@ -41,17 +46,6 @@ pub struct CountedFile<'a> {
 impl<'a> Read for CountedFile<'a> {
     fn read(&mut self, _: &mut [u8]) -> io::Result<usize> {
         Ok(0)
-    }
-}
-
-impl<'a> Write for CountedFile<'a> {
-    fn write(&mut self, buf: &[u8]) -> io::Result<usize> {
-        one_more(&self.counts.changes);
-        Ok(buf.len())
-    }
-
-    fn flush(&mut self) -> io::Result<()> {
-        Ok(())
     }
 }
 
@@ -92,10 +86,20 @@ impl Read for NoNames {
     }
 }
 
-impl<'a> System for &'a Counts {
-    type File = CountedFile<'a>;
+/// The system whose calls are counted.
+#[derive(Drop)]
+pub struct Counted<'a> {
+    counts: &'a Counts,
+}
 
-    type Dir = NoNames;
+impl<'a> System for Counted<'a> {
+    type File = HostFile<CountedFile<'a>>;
+
+    type Dir = HostFile<NoNames>;
+
+    ghost forest = { λ _ _. no_forest };
+
+    ghost kept = { λ _ _. no_kept };
 
     ghost looks = { λ _ _ _ _. ⊤ };
 
@@ -107,33 +111,68 @@ impl<'a> System for &'a Counts {
 
     ghost renames = { λ _ _ _ _ _. ⊤ };
 
+    ghost writes = { λ _ _ _ _ _ _. ⊤ };
+
+    ghost look_law = { λ old new folder p reply named can by. untold_look p reply };
+
+    ghost open_law = { λ old new folder p reply named can by. untold_open p reply };
+
+    ghost names_law = { λ old new folder p reply named can by. untold_names p reply };
+
+    ghost proper_law = { λ s folder f is. untold_proper f is };
+
+    ghost kind_law = { λ old new folder p reply named by. untold_kind p reply };
+
+    ghost peek_law = { λ old new folder p reply named by. untold_peek unknown p reply };
+
+    ghost dir_law = { λ old new folder p reply named can by. untold_dir _ p reply };
+
+    ghost move_law = { λ old new folder from to reply named_from named_to can by. untold_move _ from to reply };
+
+    ghost file_law = { λ old new folder p reply named can by. untold_file p reply };
+
+    ghost write_law = { λ old new folder q file after piece reply at by. untold_write q after piece reply };
+
+    ghost tree_law = { λ s folder t is. untold_tree t is };
+
     fn look(&mut self, _: &str) -> io::Result<Metadata> {
-        one_more(&self.looks);
-        if self.no_look.get() {
+        one_more(&self.counts.looks);
+        if self.counts.no_look.get() {
             return Err(io::Error::from(ErrorKind::NotFound));
         }
         Ok(Metadata::of_file(0))
     }
 
-    fn open_as(&mut self, how: &OpenOptions, _: &str) -> io::Result<CountedFile<'a>> {
-        if how.asks_write() {
-            one_more(&self.changes);
+    fn open_as(&mut self, how: &OpenOptions, _: &str) -> io::Result<HostFile<CountedFile<'a>>> {
+        if how.asks_append() {
+            one_more(&self.counts.changes);
         }
-        Ok(CountedFile { counts: *self })
+        Ok(HostFile::new(CountedFile {
+            counts: self.counts,
+        }))
     }
 
-    fn open_names(&mut self, _: &str) -> io::Result<NoNames> {
-        one_more(&self.looks);
-        Ok(NoNames)
+    fn open_names(&mut self, _: &str) -> io::Result<HostFile<NoNames>> {
+        one_more(&self.counts.looks);
+        Ok(HostFile::new(NoNames))
     }
 
     fn make_dir(&mut self, _: &str) -> io::Result<()> {
-        one_more(&self.changes);
+        one_more(&self.counts.changes);
         Ok(())
     }
 
     fn move_to(&mut self, _: &str, _: &str) -> io::Result<()> {
-        one_more(&self.changes);
+        one_more(&self.counts.changes);
         Ok(())
+    }
+
+    fn write_piece(
+        &mut self,
+        _: &mut HostFile<CountedFile<'a>>,
+        piece: &[u8],
+    ) -> io::Result<usize> {
+        one_more(&self.counts.changes);
+        Ok(piece.len())
     }
 }

@@ -6,12 +6,13 @@ use pt_tree::{Dest, TreeFault};
 use std::test::Fail;
 
 #[test]
+#[tactic(auto, using(pt_folder::specs::DestHeld::untold_may_make, pt_folder::specs::DestHeld::untold_can_write, pt_folder::specs::DestHeld::untold_may_move))]
 fn files_are_synced_where_that_is_asked(rt: HostRuntime) -> Result<(), Fail> {
     let alloc = rt.alloc();
     let (staging, place) = (path(alloc, &["staging"])?, path(alloc, &["ocfl", "abc"])?);
     for (sync, after_file, after_move) in [(false, 0, 0), (true, 1, 2)] {
         let counts = Counts::new();
-        let mut dest = HostDest::new(&counts, alloc, "f").with_sync(sync);
+        let mut dest = HostDest::new(counts.system(), alloc, "f").with_sync(sync);
         dest.create(&path(alloc, &["staging"])?)?;
         dest.append(b"bytes".as_slice())?;
         dest.finish()?;
@@ -23,11 +24,12 @@ fn files_are_synced_where_that_is_asked(rt: HostRuntime) -> Result<(), Fail> {
 }
 
 #[test]
+#[tactic(auto, using(pt_folder::specs::DestHeld::untold_may_make, pt_folder::specs::DestHeld::untold_can_write, pt_folder::specs::DestHeld::untold_may_move))]
 fn errors_that_come_late_are_told(rt: HostRuntime) -> Result<(), Fail> {
     let alloc = rt.alloc();
     let counts = Counts::new();
     counts.no_sync.set(true);
-    let mut dest = HostDest::new(&counts, alloc, "f").with_sync(true);
+    let mut dest = HostDest::new(counts.system(), alloc, "f").with_sync(true);
     dest.create(&path(alloc, &["a"])?)?;
     assert_eq!(rt; dest.finish(), Err(TreeFault::Device));
     match dest.last_failure() {

@@ -17,7 +17,7 @@ pub fn path(alloc: Global, names: &[&str]) -> Result<NamePath, Fail> {
 fn a_rehearsal_changes_nothing(rt: HostRuntime) -> Result<(), Fail> {
     let alloc = rt.alloc();
     let counts = Counts::new();
-    let mut dest = Rehearsal::new(alloc, HostDest::new(&counts, alloc, "f"));
+    let mut dest = Rehearsal::new(alloc, HostDest::new(counts.system(), alloc, "f"));
     let (staging, place) = (path(alloc, &["staging"])?, path(alloc, &["ocfl", "abc"])?);
     let file = path(alloc, &["staging", "a"])?;
     dest.mkdir(&staging)?;
@@ -41,7 +41,7 @@ fn a_rehearsal_needs_its_folder(rt: HostRuntime) -> Result<(), Fail> {
     let alloc = rt.alloc();
     let counts = Counts::new();
     counts.no_look.set(true);
-    let mut dest = Rehearsal::new(alloc, HostDest::new(&counts, alloc, "f"));
+    let mut dest = Rehearsal::new(alloc, HostDest::new(counts.system(), alloc, "f"));
     let staging = path(alloc, &["staging"])?;
     assert_eq!(rt; dest.kind(&staging)?, None);
     assert_eq!(rt; dest.mkdir(&staging), Err(TreeFault::Device));
@@ -54,10 +54,11 @@ fn a_rehearsal_needs_its_folder(rt: HostRuntime) -> Result<(), Fail> {
 }
 
 #[test]
+#[tactic(auto, using(pt_folder::specs::DestHeld::untold_may_make))]
 fn longer_paths_are_not_made(rt: HostRuntime) -> Result<(), Fail> {
     let alloc = rt.alloc();
     let counts = Counts::new();
-    let mut dest = HostDest::new(&counts, alloc, "f").with_longest(5);
+    let mut dest = HostDest::new(counts.system(), alloc, "f").with_longest(5);
     dest.mkdir(&path(alloc, &["abc"])?)?;
     dest.create(&path(alloc, &["a", "b"])?)?;
     assert_eq!(rt; counts.changes.get(), 2);

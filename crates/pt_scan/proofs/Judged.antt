@@ -13,11 +13,9 @@ use Rattle.pt_name.specs.Place.{place_of}
 use Rattle.pt_name.specs.Tuples.{Tuples}
 use Rattle.pt_name.specs.Reading.{GivesReading, before, hex_value, read_character, reading_of}
 use Rattle.pt_name.specs.declared.reading.UncleanFault.TheVariants as unclean
-use Rattle.pt_tree.specs.Dest.{IsKindAt, Writing}
 use Rattle.pt_tree.specs.Listing.{Item}
 use Rattle.pt_tree.specs.Name.{is_name}
 use Rattle.pt_tree.specs.Path.{Path, same_path}
-use Rattle.pt_tree.specs.Source.{Reading}
 use Rattle.pt_tree.specs.declared.kind.Kind.{Kind}
 use Rattle.pt_walk.specs.Site.{found, found_at_top, non_shorties}
 use Rattle.pt_walk.specs.Sites.{at_of}
@@ -29,23 +27,28 @@ use Rattle.pt_walk.specs.declared.site.Finding.TheVariants as finding
 use Rattle.pt_walk.specs.declared.site.Form.{Form}
 use Rattle.pt_walk.proofs.Findings.{candidate as one_candidate}
 use Rattle.pt_plan.specs.Answer.{Answer}
-use Rattle.pt_plan.specs.Job.{form_of}
+use Rattle.pt_plan.specs.Job.{Job, form_of}
 use Rattle.pt_plan.specs.Lines.{Present, Skipped}
 use Rattle.pt_plan.specs.Run.{with_trail}
-use Rattle.pt_plan.specs.Turn.{Did, Walk}
-use Rattle.pt_plan.specs.TurnWalk.{Walks, LeadsOn, IsSkipped, HasNoIdentifier, IsPresent, IsNew, at_object, found_at, has_object, identifier_by, in_root, path_of_object, unless_reserved}
-use Rattle.pt_plan.specs.World.{Answers, AsksNothing, Calls, Changes, Finds, does, no_calls, tells, Puts}
+use Rattle.pt_plan.specs.Turn.{Did, LeavesSome, Walk}
+use Rattle.pt_plan.specs.TurnWalk.{Walks, LeadsOn, IsSkipped, HasNoIdentifier, IsPresent, IsNew, at_object, found_at, has_object, identifier_at, identifier_by, in_root, path_of_object, unless_reserved}
+use Rattle.pt_plan.specs.World.{Finds, World, does, no_calls, tells}
 use Rattle.pt_plan.specs.declared.halt.Halt.{Halt}
+use Rattle.pt_plan.specs.declared.halt.Halt.TheVariants as halt
 use Rattle.pt_plan.specs.declared.phase.Phase.{Phase}
 use Rattle.pt_plan.specs.declared.phase.Phase.TheVariants as phase
-use Rattle.pt_state.specs.Calls.{DestDid, LogGot, LogGotFront}
 use Rattle.pt_state.specs.Lines.{with_present, with_skipped}
-use Rattle.pt_state.specs.States.{counts_of, held_of, job_of}
-use Rattle.pt_state.specs.Turned.{Turned, world}
+use Rattle.pt_state.specs.Outside.{Turned}
+use Rattle.pt_state.specs.States.{held_of, job_of}
 use Rattle.pt_state.specs.declared.state.State.{State}
-use Rattle.pt_state.proofs.Turning.{dest_did, did_nothing}
-use Rattle.pt_state.proofs.Whole.{told_whole, turned_front, turned_on}
+use Rattle.pt_state.proofs.LineTexts.{front_none}
+use Rattle.pt_state.proofs.Together.{did_nothing, looked_stays, looked_then}
+use Rattle.pt_state.proofs.Turns.{KeepsAll, left_told, stayed}
+use Rattle.pt_scan.proofs.HeldTurns.{finds_and_tells, looked_left, looked_told, moved, moves}
+use Rattle.pt_scan.specs.Scanning.{Moved}
 use Rattle.pt_scan.specs.declared.judging.Candidate.{Candidate}
+use Rattle.pt_scan.specs.declared.judging.Verdict.{Verdict}
+use Rattle.pt_scan.specs.declared.judging.Verdict.TheVariants as verdict
 use Rattle.pt_scan.specs.Judging.{FindsObject, IsNamed, IsPlaced, PassesSite, is_own_place, read_behind}
 
 -- ---- what the site is
@@ -70,27 +73,24 @@ pub skips_site : (s : State) (why : Cause) → finding.Skip why ≡ found_at (fo
 unfolding PassesSite
 skips_site s why is = λ fed. IsSkipped (held_of s fed) why (sym is)
 
-pub led_on : (s s' : State) (r : Option Reading) (w : Option Writing) (g : Option (List ℕ)) (n d l : ℕ) → finding.Interior ≡ found_at (form_of (job_of s.job)) s.trail → s'.trail ≡ s.trail
-    → s'.rows ≡ s.rows → s'.contents ≡ s.contents → s'.counts ≡ s.counts → string_bytes s'.prefix ≡ string_bytes s.prefix → s'.hasher ≡ s.hasher → Turned phase.Judge s s' r r w w g g n n d d l l (Ok phase.Walk)
-led_on s s' r w g n d l is trail rows contents counts prefix hasher =
-    turned_on phase.Judge phase.Walk s s' r r w w g g n n d d l l no_calls s.trail s.rows s.contents
-    (λ fed. Walk phase.Judge (string_bytes s.prefix) (held_of s fed) _ _ _ (LeadsOn (held_of s fed) (sym is))) (did_nothing (world r w g n d l)) trail rows contents (ap counts_of counts) prefix hasher
+pub led_on : (s s' : State) (w : World) → finding.Interior ≡ found_at (form_of (job_of s.job)) s.trail → Moved s.trail s.counts s s' → Turned phase.Judge s s' w w (Ok phase.Walk)
+led_on s s' w is to =
+    moves phase.Judge phase.Walk s s' w w no_calls s.trail s.counts
+    (λ fed. Walk phase.Judge (string_bytes s.prefix) (held_of s fed) _ _ _ (LeadsOn (held_of s fed) (sym is))) (did_nothing w) refl to
 
 -- ---- a site that is passed over
 
-pub passed_site : (s s' : State) (r : Option Reading) (w : Option Writing) (g g' : Option (List ℕ)) (n d l l' : ℕ) (path : Path) (why : Cause) → PassesSite s why → LogGot (Skipped path why) g g' l l' → path ≡ trail_path s.trail → s'.trail ≡ s.trail
-    → s'.rows ≡ s.rows → s'.contents ≡ s.contents → s'.counts ≡ with_skipped s.counts → string_bytes s'.prefix ≡ string_bytes s.prefix → s'.hasher ≡ s.hasher → Turned phase.Judge s s' r r w w g g' n n d d l l' (Ok phase.Walk)
+pub passed_site : (s s' : State) (a b : World) (path : Path) (why : Cause) → PassesSite s why → Did (tells (Skipped path why)) a b → path ≡ trail_path s.trail → Moved s.trail (with_skipped s.counts) s s' → Turned phase.Judge s s' a b (Ok phase.Walk)
 unfolding PassesSite
-passed_site s s' r w g g' n d l l' path why line got is trail rows contents counts prefix hasher =
-    turned_on phase.Judge phase.Walk s s' r r w w g g' n n d d l l' (tells (Skipped (trail_path s.trail) why)) s.trail s.rows s.contents
-    (λ fed. Walk phase.Judge (string_bytes s.prefix) (held_of s fed) _ _ _ (line fed)) (told_whole (Skipped (trail_path s.trail) why) r w g g' n d l l' (subst (λ (p : Path). LogGot (Skipped p why) g g' l l') is got)) trail rows contents (ap counts_of counts) prefix hasher
+passed_site s s' a b path why line told is to =
+    moves phase.Judge phase.Walk s s' a b (tells (Skipped (trail_path s.trail) why)) s.trail (with_skipped s.counts)
+    (λ fed. Walk phase.Judge (string_bytes s.prefix) (held_of s fed) _ _ _ (line fed)) (subst (λ (p : Path). Did (tells (Skipped p why)) a b) is told) refl to
 
-pub passed_site_front : (s s' : State) (r : Option Reading) (w : Option Writing) (g g' : Option (List ℕ)) (n d l l' : ℕ) (path : Path) (why : Cause) (f : Halt) (result : Answer) → IsErrAnd result (λ h. h ≡ f) → PassesSite s why → LogGotFront (Skipped path why) f g g' l l' → path ≡ trail_path s.trail
-    → string_bytes s'.prefix ≡ string_bytes s.prefix → s'.trail ≡ s.trail → s'.rows ≡ s.rows → s'.contents ≡ s.contents → s'.counts ≡ s.counts → Turned phase.Judge s s' r r w w g g' n n d d l l' result
+pub passed_site_front : (s s' : State) (a b : World) (path : Path) (why : Cause) (f : Halt) (result : Answer) → IsErrAnd result (λ h. h ≡ f) → PassesSite s why → LeavesSome (tells (Skipped path why)) f a b → path ≡ trail_path s.trail → KeepsAll s s' → Turned phase.Judge s s' a b result
 unfolding PassesSite
-passed_site_front s s' r w g g' n d l l' path why f result is line front there prefix trail rows contents counts =
-    turned_front phase.Judge phase.Walk s s' r r w w g g' n d l l' (tells (Skipped (trail_path s.trail) why)) (Skipped (trail_path s.trail) why) _ f result is (subst (λ (p : Path). LogGotFront (Skipped p why) f g g' l l') there front) refl
-    (λ fed. Walk phase.Judge (string_bytes s.prefix) (held_of s fed) _ _ _ (line fed)) refl refl tt tt prefix trail rows contents counts
+passed_site_front s s' a b path why f result is line front there keeps =
+    left_told phase.Judge s s' a b (tells (Skipped (trail_path s.trail) why)) _ f _ result is
+    (λ fed. Walk phase.Judge (string_bytes s.prefix) (held_of s fed) _ _ _ (line fed)) (subst (λ (p : Path). LeavesSome (tells (Skipped p why)) f a b) there front) keeps
 
 -- ---- identifiers
 
@@ -126,31 +126,22 @@ names_some [] first is name = absurd (cc)
 names_some ([] ∷ path) first is name = absurd (let same : first ≡ [] = cc in let no : is_name [] ≡ true = subst (λ (n : List ℕ). is_name n ≡ true) same name in cc)
 names_some ((byte ∷ bytes) ∷ path) first is name = omega (arith)
 
+-- what is read before more isn't empty
+reads_before : (first : Option ℕ) (rest : Option (List ℕ)) → before first rest ≡ Some [] → ⊥
+reads_before None rest is = cc
+reads_before (Some byte) None is = cc
+reads_before (Some byte) (Some bytes) is = cc
+
 -- what isn't empty reads what isn't empty
 reads_some : (text : List ℕ) → 0 < length text → reading_of text ≡ Some [] → ⊥
 reads_some [] some is = omega (arith, some)
-reads_some (a ∷ []) some is = no (read_character a) (Some []) is
-  where
-    no : (first : Option ℕ) (rest : Option (List ℕ)) → before first rest ≡ Some [] → ⊥
-    no None rest is = cc
-    no (Some byte) None is = cc
-    no (Some byte) (Some bytes) is = cc
-reads_some (a ∷ b ∷ []) some is = no (read_character a) (before (read_character b) (Some [])) is
-  where
-    no : (first : Option ℕ) (rest : Option (List ℕ)) → before first rest ≡ Some [] → ⊥
-    no None rest is = cc
-    no (Some byte) None is = cc
-    no (Some byte) (Some bytes) is = cc
+reads_some (a ∷ []) some is = reads_before (read_character a) (Some []) is
+reads_some (a ∷ b ∷ []) some is = reads_before (read_character a) (before (read_character b) (Some [])) is
 reads_some (a ∷ b ∷ c ∷ rest) some is = by (a == 94) is
   where
-    no : (first : Option ℕ) (rest : Option (List ℕ)) → before first rest ≡ Some [] → ⊥
-    no None rest is = cc
-    no (Some byte) None is = cc
-    no (Some byte) (Some bytes) is = cc
-
     by : (caret : Bool) → cond caret (before (hex_value b c) (reading_of rest)) (before (read_character a) (reading_of (b ∷ c ∷ rest))) ≡ Some [] → ⊥
-    by true is = no (hex_value b c) (reading_of rest) is
-    by false is = no (read_character a) (reading_of (b ∷ c ∷ rest)) is
+    by true is = reads_before (hex_value b c) (reading_of rest) is
+    by false is = reads_before (read_character a) (reading_of (b ∷ c ∷ rest)) is
 
 some_bytes : (bytes : List ℕ) → (bytes ≡ [] → ⊥) → 0 < length bytes
 some_bytes [] other = absurd (other refl)
@@ -189,122 +180,114 @@ pub no_name : (path : Path) (text : List ℕ) → None ≡ slice_get path 0 → 
 no_name [] text is = refl
 no_name (x ∷ path) text is = absurd (cc)
 
--- what was read, with its place
-pub named_read : (s : State) (site : Path) (id : List ℕ) (candidate : Candidate) → site ≡ trail_path s.trail → Ok id ≡ read_behind (string_bytes s.prefix) (reading_of (concat site)) → IsPlaced s.job.layout id (Ok candidate) → IsNamed s (Ok candidate)
-unfolding IsPlaced IsNamed
-named_read s site id candidate there read (same, place, own) = (by (reading_of (concat (trail_path s.trail))) (ap (λ (p : Path). read_behind (string_bytes s.prefix) (reading_of (concat p))) (sym there) ∙ sym read) ∙ ap (λ (i : List ℕ). Ok i) (sym same), place ∙ ap (place_of s.job.layout) (sym same))
+-- an identifier that was read, unless its place is the root's own
+abbrev unless_own : Job → Result (List ℕ) Cause → Result (List ℕ) Cause
+unless_own job (Ok id) = unless_reserved job id
+unless_own job (Err why) = Err why
+
+-- what the names of a site's path read
+id_of : (s : State) (site : Path) (read : Result (List ℕ) Cause) → site ≡ trail_path s.trail → read ≡ read_behind (string_bytes s.prefix) (reading_of (concat site)) → identifier_at (job_of s.job) (string_bytes s.prefix) (trail_path s.trail) ≡ unless_own (job_of s.job) read
+id_of s site read there is = ap (identifier_at (job_of s.job) (string_bytes s.prefix)) (sym there) ∙ by (reading_of (concat site)) ∙ ap (unless_own (job_of s.job)) (sym is)
   where
-    by_utf8 : (bytes : List ℕ) (b : Bool) → cond b (Ok (string_bytes s.prefix ++ bytes)) (Err cause.Utf8) ≡ Ok id → cond b (unless_reserved (job_of s.job) (string_bytes s.prefix ++ bytes)) (Err cause.Utf8) ≡ Ok id
-    by_utf8 bytes true is = let same : string_bytes s.prefix ++ bytes ≡ id = cc in ap (unless_reserved (job_of s.job)) same ∙ ap (λ (b : Bool). cond b (Err cause.Reserved) (Ok id)) own
-    by_utf8 bytes false is = absurd (cc)
+    by_utf8 : (bytes : List ℕ) (b : Bool) → cond b (unless_reserved (job_of s.job) bytes) (Err cause.Utf8) ≡ unless_own (job_of s.job) (cond b (Ok bytes) (Err cause.Utf8))
+    by_utf8 bytes true = refl
+    by_utf8 bytes false = refl
 
-    by : (o : Option (List ℕ)) → read_behind (string_bytes s.prefix) o ≡ Ok id → identifier_by (job_of s.job) (string_bytes s.prefix) o ≡ Ok id
-    by None is = absurd (cc)
-    by (Some bytes) is = by_utf8 bytes (is_utf8 bytes) is
+    by : (o : Option (List ℕ)) → identifier_by (job_of s.job) (string_bytes s.prefix) o ≡ unless_own (job_of s.job) (read_behind (string_bytes s.prefix) o)
+    by None = refl
+    by (Some bytes) = by_utf8 (string_bytes s.prefix ++ bytes) (is_utf8 bytes)
 
-pub named_reserved : (s : State) (site : Path) (id : List ℕ) (why : Cause) → site ≡ trail_path s.trail → Ok id ≡ read_behind (string_bytes s.prefix) (reading_of (concat site)) → IsPlaced s.job.layout id (Err why) → IsNamed s (Err why)
+named_read : (s : State) (site : Path) (id : List ℕ) (candidate : Candidate) → site ≡ trail_path s.trail → Ok id ≡ read_behind (string_bytes s.prefix) (reading_of (concat site)) → IsPlaced s.job.layout id (verdict.Carry candidate) → IsNamed s (verdict.Carry candidate)
 unfolding IsPlaced IsNamed
-named_reserved s site id why there read (same, own) = by (reading_of (concat (trail_path s.trail))) (ap (λ (p : Path). read_behind (string_bytes s.prefix) (reading_of (concat p))) (sym there) ∙ sym read) ∙ ap (λ (c : Cause). Err c) (sym same)
-  where
-    by_utf8 : (bytes : List ℕ) (b : Bool) → cond b (Ok (string_bytes s.prefix ++ bytes)) (Err cause.Utf8) ≡ Ok id → cond b (unless_reserved (job_of s.job) (string_bytes s.prefix ++ bytes)) (Err cause.Utf8) ≡ Err cause.Reserved
-    by_utf8 bytes true is = let same : string_bytes s.prefix ++ bytes ≡ id = cc in ap (unless_reserved (job_of s.job)) same ∙ ap (λ (b : Bool). cond b (Err cause.Reserved) (Ok id)) own
-    by_utf8 bytes false is = absurd (cc)
+named_read s site id candidate there read (same, place, own) = (id_of s site (Ok id) there read ∙ ap (λ (b : Bool). cond b (Err cause.Reserved) (Ok id)) own ∙ ap (λ (i : List ℕ). Ok i) (sym same), place ∙ ap (place_of s.job.layout) (sym same))
 
-    by : (o : Option (List ℕ)) → read_behind (string_bytes s.prefix) o ≡ Ok id → identifier_by (job_of s.job) (string_bytes s.prefix) o ≡ Err cause.Reserved
-    by None is = absurd (cc)
-    by (Some bytes) is = by_utf8 bytes (is_utf8 bytes) is
+named_reserved : (s : State) (site : Path) (id : List ℕ) (why : Cause) → site ≡ trail_path s.trail → Ok id ≡ read_behind (string_bytes s.prefix) (reading_of (concat site)) → IsPlaced s.job.layout id (verdict.Pass why) → IsNamed s (verdict.Pass why)
+unfolding IsPlaced IsNamed
+named_reserved s site id why there read (same, own) = id_of s site (Ok id) there read ∙ ap (λ (b : Bool). cond b (Err cause.Reserved) (Ok id)) own ∙ ap (λ (c : Cause). Err c) (sym same)
 
-pub named_unread : (s : State) (site : Path) (why : Cause) → site ≡ trail_path s.trail → Err why ≡ read_behind (string_bytes s.prefix) (reading_of (concat site)) → IsNamed s (Err why)
+named_unread : (s : State) (site : Path) (why : Cause) → site ≡ trail_path s.trail → Err why ≡ read_behind (string_bytes s.prefix) (reading_of (concat site)) → IsNamed s (verdict.Pass why)
 unfolding IsNamed
-named_unread s site why there read = by (reading_of (concat (trail_path s.trail))) (ap (λ (p : Path). read_behind (string_bytes s.prefix) (reading_of (concat p))) (sym there) ∙ sym read)
-  where
-    by_utf8 : (bytes : List ℕ) (b : Bool) → cond b (Ok (string_bytes s.prefix ++ bytes)) (Err cause.Utf8) ≡ Err why → cond b (unless_reserved (job_of s.job) (string_bytes s.prefix ++ bytes)) (Err cause.Utf8) ≡ Err why
-    by_utf8 bytes true is = absurd (cc)
-    by_utf8 bytes false is = is
+named_unread s site why there read = id_of s site (Err why) there read
 
-    by : (o : Option (List ℕ)) → read_behind (string_bytes s.prefix) o ≡ Err why → identifier_by (job_of s.job) (string_bytes s.prefix) o ≡ Err why
-    by None is = is
-    by (Some bytes) is = by_utf8 bytes (is_utf8 bytes) is
-
-pub named_placed : {E : Type 0} (s : State) (site : Path) (id : List ℕ) (r : Result (Result Candidate Cause) E) → site ≡ trail_path s.trail → Ok id ≡ read_behind (string_bytes s.prefix) (reading_of (concat site)) → IfOk r (IsPlaced s.job.layout id) → IfOk r (IsNamed s)
-named_placed s site id (Ok (Ok candidate)) there read placed = named_read s site id candidate there read placed
-named_placed s site id (Ok (Err why)) there read placed = named_reserved s site id why there read placed
+pub named_placed : {E : Type 0} (s : State) (site : Path) (id : List ℕ) (r : Result Verdict E) → site ≡ trail_path s.trail → Ok id ≡ read_behind (string_bytes s.prefix) (reading_of (concat site)) → IfOk r (IsPlaced s.job.layout id) → IfOk r (IsNamed s)
+named_placed s site id (Ok (verdict.Carry candidate)) there read placed = named_read s site id candidate there read placed
+named_placed s site id (Ok (verdict.Pass why)) there read placed = named_reserved s site id why there read placed
 named_placed s site id (Err fault) there read placed = tt
 
-pub is_placed : (tuples : Tuples) (id : List ℕ) (place : Path) → place ≡ place_of tuples id → false ≡ is_own_place tuples place → IsPlaced tuples id (Ok (record { id = id; place = place }))
+pub not_utf8_named : (s : State) (site : Path) (text : List ℕ) → site ≡ trail_path s.trail → GivesReading (reading_of text) (Err unclean.NotUtf8) → text ≡ concat site → IsNamed s (verdict.Pass cause.Utf8)
+not_utf8_named s site text there reads joined = named_unread s site cause.Utf8 there (read_not_utf8 site text (string_bytes s.prefix) reads joined)
+
+pub malformed_named : (s : State) (site : Path) (text : List ℕ) → site ≡ trail_path s.trail → reading_of text ≡ None → text ≡ concat site → IsNamed s (verdict.Pass cause.Name)
+malformed_named s site text there reads joined = named_unread s site cause.Name there (sym (ap (read_behind (string_bytes s.prefix)) (ap reading_of (sym joined) ∙ reads)))
+
+pub is_placed : (tuples : Tuples) (id : List ℕ) (place : Path) → place ≡ place_of tuples id → false ≡ is_own_place tuples place → IsPlaced tuples id (verdict.Carry (record { id = id; place = place }))
 unfolding IsPlaced
 is_placed tuples id place at not = (refl, at, ap (is_own_place tuples) (sym at) ∙ sym not)
 
-pub is_not_placed : (tuples : Tuples) (id : List ℕ) (place : Path) → place ≡ place_of tuples id → true ≡ is_own_place tuples place → IsPlaced tuples id (Err cause.Reserved)
+pub is_not_placed : (tuples : Tuples) (id : List ℕ) (place : Path) → place ≡ place_of tuples id → true ≡ is_own_place tuples place → IsPlaced tuples id (verdict.Pass cause.Reserved)
 unfolding IsPlaced
 is_not_placed tuples id place at own = (refl, ap (is_own_place tuples) (sym at) ∙ sym own)
 
-pub skips_unnamed : (s : State) (index : Option ℕ) (why : Cause) → FindsObject s index → IsNamed s (Err why) → PassesSite s why
+pub skips_unnamed : (s : State) (index : Option ℕ) (why : Cause) → FindsObject s index → IsNamed s (verdict.Pass why) → PassesSite s why
 unfolding FindsObject IsNamed PassesSite
 skips_unnamed s index why found named = λ fed. HasNoIdentifier (held_of s fed) index why found named
 
 -- ---- an object whose place was asked for
 
-found_at_place : (path at : Path) (here : Option Kind) (w w' : Option Writing) (d d' : ℕ) → path ≡ at → DestDid (Finds path here) w w' d d' → DestDid (Finds at here) w w' d d'
-found_at_place path at here w w' d d' is did = subst (λ (p : Path). DestDid (Finds p here) w w' d d') is did
+found_at_place : (path at : Path) (here : Option Kind) (a b : World) → path ≡ at → Did (does (Finds path here)) a b → Did (does (Finds at here)) a b
+found_at_place path at here a b is did = subst (λ (p : Path). Did (does (Finds p here)) a b) is did
 
-same_after : (path : Path) (here : Option Kind) (w w' : Option Writing) (d d' : ℕ) → DestDid (Finds path here) w w' d d' → w' ≡ w
-unfolding DestDid Changes
-same_after path here w w' d d' did = did.0.1
+-- memory was short after it was asked for
+pub looked_short : (s s' : State) (a b : World) (path : Path) (here : Option Kind) (result : Answer) → IsErrAnd result (λ h. h ≡ halt.Memory) → Did (does (Finds path here)) a b → KeepsAll s s' → Turned phase.Judge s s' a b result
+looked_short s s' a b path here result is did keeps = stayed phase.Judge s s' a b halt.Memory result is (looked_stays path here a b did) keeps
 
-present_calls : Path → Kind → Path → List ℕ → Path → Calls
-present_calls at here path id place = record { asked = AsksNothing; change = Finds at (Some here); line = Some (Present path id place) }
-
-present_follows : (s : State) (index : Option ℕ) (candidate : Candidate) (here : Kind) → FindsObject s index → IsNamed s (Ok candidate) → (fed : List ℕ)
-    → Walks (job_of s.job) (string_bytes s.prefix) phase.Judge (held_of s fed) (held_of s fed) (present_calls (in_root candidate.place) here (path_of_object index s.trail) candidate.id candidate.place) (Ok phase.Walk)
-unfolding FindsObject IsNamed present_calls
+present_follows : (s : State) (index : Option ℕ) (candidate : Candidate) (here : Kind) → FindsObject s index → IsNamed s (verdict.Carry candidate) → (fed : List ℕ)
+    → Walks (job_of s.job) (string_bytes s.prefix) phase.Judge (held_of s fed) (held_of s fed) (finds_and_tells (in_root candidate.place) (Some here) (Present (path_of_object index s.trail) candidate.id candidate.place)) (Ok phase.Walk)
+unfolding FindsObject IsNamed
 present_follows s index candidate here found (named, place) fed =
-    subst (λ (p : Path). Walks (job_of s.job) (string_bytes s.prefix) phase.Judge (held_of s fed) (held_of s fed) (present_calls (in_root p) here (path_of_object index s.trail) candidate.id p) (Ok phase.Walk)) (sym place)
+    subst (λ (p : Path). Walks (job_of s.job) (string_bytes s.prefix) phase.Judge (held_of s fed) (held_of s fed) (finds_and_tells (in_root p) (Some here) (Present (path_of_object index s.trail) candidate.id p)) (Ok phase.Walk)) (sym place)
     (IsPresent (held_of s fed) index candidate.id here found named)
 
-pub told_present : (s s' : State) (r : Option Reading) (w w' : Option Writing) (g g' : Option (List ℕ)) (n d d' l l' : ℕ) (path at : Path) (here : Option Kind) (it : Kind) (index : Option ℕ) (candidate : Candidate) → FindsObject s index → IsNamed s (Ok candidate)
-    → DestDid (Finds path here) w w' d d' → here ≡ Some it → path ≡ in_root candidate.place → LogGot (Present at candidate.id candidate.place) g g' l l' → at ≡ path_of_object index s.trail → s'.trail ≡ s.trail
-    → s'.rows ≡ s.rows → s'.contents ≡ s.contents → s'.counts ≡ with_present s.counts → string_bytes s'.prefix ≡ string_bytes s.prefix → s'.hasher ≡ s.hasher → Turned phase.Judge s s' r r w w' g g' n n d d' l l' (Ok phase.Walk)
-unfolding present_calls DestDid LogGot Did Answers Puts
-told_present s s' r w w' g g' n d d' l l' path at here it index candidate found named did is there got place trail rows contents counts prefix hasher =
-    turned_on phase.Judge phase.Walk s s' r r w w' g g' n n d d' l l' (present_calls (in_root candidate.place) it (path_of_object index s.trail) candidate.id candidate.place) s.trail s.rows s.contents
-    (λ fed. Walk phase.Judge (string_bytes s.prefix) (held_of s fed) _ _ _ (present_follows s index candidate it found named fed)) (
-      record { source = refl; dest = (subst (λ o. DestDid (Finds (in_root candidate.place) o) w w' d d') is (found_at_place path (in_root candidate.place) here w w' d d' there did)).0; log = (subst (λ (p : Path). LogGot (Present p candidate.id candidate.place) g g' l l') place got).0 },
-      ap (λ (k : ℕ). record { source = n; dest = k; log = l' }) did.1 ∙ ap (λ (k : ℕ). record { source = n; dest = d; log = k }) got.1,
-    ) trail rows contents (ap counts_of counts) prefix hasher
+-- something stands there
+there_is : (path at : Path) (here : Option Kind) (it : Kind) (a b : World) → path ≡ at → here ≡ Some it → Did (does (Finds path here)) a b → Did (does (Finds at (Some it))) a b
+there_is path at here it a b there is did = subst (λ (o : Option Kind). Did (does (Finds at o)) a b) is (found_at_place path at here a b there did)
 
-pub told_present_front : (s s' : State) (r : Option Reading) (w w' : Option Writing) (g g' : Option (List ℕ)) (n d d' l l' : ℕ) (path at : Path) (here : Option Kind) (it : Kind) (index : Option ℕ) (candidate : Candidate) (f : Halt) (result : Answer) → IsErrAnd result (λ h. h ≡ f) → FindsObject s index → IsNamed s (Ok candidate)
-    → DestDid (Finds path here) w w' d d' → here ≡ Some it → path ≡ in_root candidate.place → LogGotFront (Present at candidate.id candidate.place) f g g' l l' → at ≡ path_of_object index s.trail
-    → string_bytes s'.prefix ≡ string_bytes s.prefix → s'.trail ≡ s.trail → s'.rows ≡ s.rows → s'.contents ≡ s.contents → s'.counts ≡ s.counts → Turned phase.Judge s s' r r w w' g g' n n d d' l l' result
-unfolding present_calls DestDid Changes
-told_present_front s s' r w w' g g' n d d' l l' path at here it index candidate f result error found named did is there front place prefix trail rows contents counts =
-    subst (λ (k : ℕ). Turned phase.Judge s s' r r w w' g g' n n d k l l' result) (sym did.1)
-    (turned_front phase.Judge phase.Walk s s' r r w w' g g' n d l l' (present_calls (in_root candidate.place) it (path_of_object index s.trail) candidate.id candidate.place) (Present (path_of_object index s.trail) candidate.id candidate.place) _ f result error
-    (subst (λ (p : Path). LogGotFront (Present p candidate.id candidate.place) f g g' l l') place front) refl
-    (λ fed. Walk phase.Judge (string_bytes s.prefix) (held_of s fed) _ _ _ (present_follows s index candidate it found named fed)) refl (same_after path here w w' d d' did) tt (subst (λ o. IsKindAt w (in_root candidate.place) o) is (subst (λ (p : Path). IsKindAt w p here) there did.0.0)) prefix trail rows contents counts)
+pub told_present : (s s' : State) (a b c : World) (path at : Path) (here : Option Kind) (it : Kind) (index : Option ℕ) (candidate : Candidate) → FindsObject s index → IsNamed s (verdict.Carry candidate)
+    → Did (does (Finds path here)) a b → here ≡ Some it → path ≡ in_root candidate.place → Did (tells (Present at candidate.id candidate.place)) b c → at ≡ path_of_object index s.trail → Moved s.trail (with_present s.counts) s s' → Turned phase.Judge s s' a c (Ok phase.Walk)
+told_present s s' a b c path at here it index candidate found named did is there told place to =
+    moves phase.Judge phase.Walk s s' a c (finds_and_tells (in_root candidate.place) (Some it) (Present (path_of_object index s.trail) candidate.id candidate.place)) s.trail (with_present s.counts)
+    (λ fed. Walk phase.Judge (string_bytes s.prefix) (held_of s fed) _ _ _ (present_follows s index candidate it found named fed))
+    (looked_told (in_root candidate.place) (Some it) _ a b c (there_is path (in_root candidate.place) here it a b there is did) (subst (λ (p : Path). Did (tells (Present p candidate.id candidate.place)) b c) place told)) refl to
+
+pub told_present_front : (s s' : State) (a b c : World) (path at : Path) (here : Option Kind) (it : Kind) (index : Option ℕ) (candidate : Candidate) (f : Halt) (result : Answer) → IsErrAnd result (λ h. h ≡ f) → FindsObject s index → IsNamed s (verdict.Carry candidate)
+    → Did (does (Finds path here)) a b → here ≡ Some it → path ≡ in_root candidate.place → LeavesSome (tells (Present at candidate.id candidate.place)) f b c → at ≡ path_of_object index s.trail → KeepsAll s s' → Turned phase.Judge s s' a c result
+told_present_front s s' a b c path at here it index candidate f result error found named did is there front place keeps =
+    left_told phase.Judge s s' a c (finds_and_tells (in_root candidate.place) (Some it) (Present (path_of_object index s.trail) candidate.id candidate.place)) _ f _ result error
+    (λ fed. Walk phase.Judge (string_bytes s.prefix) (held_of s fed) _ _ _ (present_follows s index candidate it found named fed))
+    (looked_left (in_root candidate.place) (Some it) _ f a b c (there_is path (in_root candidate.place) here it a b there is did) (subst (λ (p : Path). LeavesSome (tells (Present p candidate.id candidate.place)) f b c) place front)) keeps
 
 length-object : (index : Option ℕ) (trail : List Frame) → length (at_object index trail) ≡ length trail
 length-object None trail = refl
 length-object (Some index) [] = refl
 length-object (Some index) (frame ∷ frames) = refl
 
-new_follows : (s : State) (index : Option ℕ) (candidate : Candidate) → FindsObject s index → IsNamed s (Ok candidate) → (fed : List ℕ)
+new_follows : (s : State) (index : Option ℕ) (candidate : Candidate) → FindsObject s index → IsNamed s (verdict.Carry candidate) → (fed : List ℕ)
     → Walks (job_of s.job) (string_bytes s.prefix) phase.Judge (held_of s fed) (with_trail (held_of s fed) (at_object index s.trail)) (does (Finds (in_root candidate.place) None)) (Ok (phase.OpenObject (record { id = candidate.id; place = candidate.place; gathered = is_none index; site = length s.trail; empty = 0 })))
 unfolding FindsObject IsNamed
 new_follows s index candidate found (named, place) fed =
     subst (λ (p : Path). Walks (job_of s.job) (string_bytes s.prefix) phase.Judge (held_of s fed) (with_trail (held_of s fed) (at_object index s.trail)) (does (Finds (in_root p) None)) (Ok (phase.OpenObject (record { id = candidate.id; place = p; gathered = is_none index; site = length s.trail; empty = 0 })))) (sym place)
     (IsNew (held_of s fed) index candidate.id found named)
 
-pub found_new : (s s' : State) (r : Option Reading) (w w' : Option Writing) (g : Option (List ℕ)) (n d d' l : ℕ) (path : Path) (here : Option Kind) (index : Option ℕ) (candidate : Candidate) (gathered : Bool) (site : ℕ) (next : Phase) → FindsObject s index → IsNamed s (Ok candidate)
-    → DestDid (Finds path here) w w' d d' → here ≡ None → path ≡ in_root candidate.place → next ≡ phase.OpenObject (record { id = candidate.id; place = candidate.place; gathered = gathered; site = site; empty = 0 }) → gathered ≡ is_none index → s'.trail ≡ at_object index s.trail → site ≡ length s'.trail
-    → s'.rows ≡ s.rows → s'.contents ≡ s.contents → s'.counts ≡ s.counts → string_bytes s'.prefix ≡ string_bytes s.prefix → s'.hasher ≡ s.hasher → Turned phase.Judge s s' r r w w' g g n n d d' l l (Ok next)
-found_new s s' r w w' g n d d' l path here index candidate gathered site next found named did is there then gather trail deep rows contents counts prefix hasher =
+pub found_new : (s s' : State) (a b : World) (path : Path) (here : Option Kind) (index : Option ℕ) (candidate : Candidate) (gathered : Bool) (site : ℕ) (next : Phase) → FindsObject s index → IsNamed s (verdict.Carry candidate)
+    → Did (does (Finds path here)) a b → here ≡ None → path ≡ in_root candidate.place → next ≡ phase.OpenObject (record { id = candidate.id; place = candidate.place; gathered = gathered; site = site; empty = 0 }) → gathered ≡ is_none index → site ≡ length s'.trail
+    → Moved (at_object index s.trail) s.counts s s' → Turned phase.Judge s s' a b (Ok next)
+found_new s s' a b path here index candidate gathered site next found named did is there then gather deep to =
     let object_is : next ≡ phase.OpenObject (record { id = candidate.id; place = candidate.place; gathered = is_none index; site = length s.trail; empty = 0 }) =
-    then ∙ (λ i. phase.OpenObject (record { id = candidate.id; place = candidate.place; gathered = gather i; site = (deep ∙ ap length trail ∙ length-object index s.trail) i; empty = 0 })) in
-    subst (λ (p : Phase). Turned phase.Judge s s' r r w w' g g n n d d' l l (Ok p)) (sym object_is)
-    (turned_on phase.Judge _ s s' r r w w' g g n n d d' l l (does (Finds (in_root candidate.place) None)) (at_object index s.trail) s.rows s.contents
+    then ∙ (λ i. phase.OpenObject (record { id = candidate.id; place = candidate.place; gathered = gather i; site = (deep ∙ ap length to.trail_is ∙ length-object index s.trail) i; empty = 0 })) in
+    subst (λ (p : Phase). Turned phase.Judge s s' a b (Ok p)) (sym object_is)
+    (moves phase.Judge _ s s' a b (does (Finds (in_root candidate.place) None)) (at_object index s.trail) s.counts
     (λ fed. Walk phase.Judge (string_bytes s.prefix) (held_of s fed) _ _ _ (new_follows s index candidate found named fed))
-    (dest_did (Finds (in_root candidate.place) None) w w' r g n d d' l (subst (λ o. DestDid (Finds (in_root candidate.place) o) w w' d d') is (found_at_place path (in_root candidate.place) here w w' d d' there did))) trail rows contents (ap counts_of counts) prefix hasher)
+    (subst (λ (o : Option Kind). Did (does (Finds (in_root candidate.place) o)) a b) is (found_at_place path (in_root candidate.place) here a b there did)) refl to)
 
 -- ---- the trail at the object
 
@@ -320,4 +303,4 @@ object_place s index is = by s.trail is
     by [] is = absurd (cc)
     by (frame ∷ frames) is = let only = one_candidate frame.listing (at_of (names_to frames)) (form_of (job_of s.job)) index is in listed index frame.listing (slice_get frame.listing index) refl (ap is_dir_entry only.1)
 
-pub ruleset judging = (found_inner, found_none, finds_candidate, finds_gathered, skips_site, led_on, passed_site, passed_site_front, object_below, names_some, read_some, read_whole, read_not_utf8, one_name, no_name, named_placed, named_unread, is_placed, is_not_placed, skips_unnamed, told_present, told_present_front, found_new, object_place)
+pub ruleset judging = (found_inner, found_none, finds_candidate, finds_gathered, skips_site, led_on, moved, front_none, passed_site, passed_site_front, object_below, names_some, read_some, one_name, no_name, not_utf8_named, malformed_named, is_placed, is_not_placed, skips_unnamed, looked_short, looked_then, told_present, told_present_front, found_new, object_place)

@@ -1,6 +1,7 @@
 pub mod FileTurns
+pub mod HeldTurns
 pub mod Judged
 pub mod Leaving
 pub mod ObjectPaths
-pub mod ObjectTurns
 pub mod SiteTurns
+pub mod ScanTurns

@@ -3,7 +3,6 @@ use Rattle.std.proofs.Common.{◌≡◌, ◌<◌, ◌≤◌, ℕ, true, false, L
 use Rattle.std.specs.Prelude.{Option, None, Some, Ok, IsErrAnd, IsSome}
 use Rattle.std.specs.String.{string_bytes}
 use Rattle.std.proofs.lemmas.Bool.{lt-ltb, le-ltb}
-use Rattle.pt_tree.specs.Dest.{Writing}
 use Rattle.pt_tree.specs.Listing.{Item}
 use Rattle.pt_tree.specs.Path.{Path, last_name, parent as parent_of, split_path}
 use Rattle.pt_tree.specs.Source.{Reading, CanList}
@@ -19,62 +18,52 @@ use Rattle.pt_walk.specs.declared.frame.Frame.{Frame}
 use Rattle.pt_plan.specs.Answer.{Answer}
 use Rattle.pt_plan.specs.Lines.{Skipped}
 use Rattle.pt_plan.specs.Permits.{MayEnter}
-use Rattle.pt_plan.specs.Turn.{Walk}
+use Rattle.pt_plan.specs.Turn.{Did, LeavesSome, Walk}
 use Rattle.pt_plan.specs.TurnWalk.{OpensRoot, IsPast, IsDeep, EntersSite as EntersSiteOf, PassesEntry, LeavesSite, EndsWalk, in_pairtree}
-use Rattle.pt_plan.specs.World.{Lists, asks, no_calls, tells}
+use Rattle.pt_plan.specs.World.{Lists, World, asks, no_calls, tells}
 use Rattle.pt_plan.specs.declared.halt.Halt.{Halt}
-use Rattle.pt_plan.specs.declared.halt.Halt.TheVariants as halt
-use Rattle.pt_plan.specs.declared.phase.Phase.{Phase}
 use Rattle.pt_plan.specs.declared.phase.Phase.TheVariants as phase
-use Rattle.pt_state.specs.Calls.{LogGot, LogGotFront, SourceDid}
 use Rattle.pt_state.specs.Lines.{with_skipped}
-use Rattle.pt_state.specs.States.{counts_of, held_of}
-use Rattle.pt_state.specs.Turned.{Turned, world}
+use Rattle.pt_state.specs.Outside.{Turned}
+use Rattle.pt_state.specs.States.{held_of}
 use Rattle.pt_state.specs.declared.state.State.{State}
-use Rattle.pt_state.proofs.Turning.{did_nothing, source_did}
-use Rattle.pt_state.proofs.Whole.{listed_tree, told_whole, turned_asked, turned_front, turned_on}
+use Rattle.pt_state.proofs.LineTexts.{front_none}
+use Rattle.pt_state.proofs.Together.{did_nothing}
+use Rattle.pt_state.proofs.Turns.{KeepsAll, left_told, short_asked}
+use Rattle.pt_scan.proofs.HeldTurns.{moved, moves}
+use Rattle.pt_scan.specs.Scanning.{Moved}
 use Rattle.pt_scan.specs.Walking.{EntersSite, IsAtShorty, PassesShorty}
 
 -- ---- a listing that is entered
 
 -- the source was listed at this path
-listed_at : (path at : Path) (items : List Item) (r r' : Option Reading) (w : Option Writing) (g : Option (List ℕ)) (n n' d l : ℕ) → path ≡ at → SourceDid (Lists path items) r r' n n' → SourceDid (Lists at items) r r' n n'
-listed_at path at items r r' w g n n' d l is did = subst (λ (p : Path). SourceDid (Lists p items) r r' n n') is did
+listed_at : (path at : Path) (items : List Item) (a b : World) → path ≡ at → Did (asks (Lists path items)) a b → Did (asks (Lists at items)) a b
+listed_at path at items a b is did = subst (λ (p : Path). Did (asks (Lists p items)) a b) is did
 
--- memory was short after it was listed
-pub listed_short : (here : Phase) (s s' : State) (r r' : Option Reading) (w : Option Writing) (g : Option (List ℕ)) (n n' d l : ℕ) (path : Path) (items : List Item) (result : Answer) → IsErrAnd result (λ h. h ≡ halt.Memory) → SourceDid (Lists path items) r r' n n'
-    → string_bytes s'.prefix ≡ string_bytes s.prefix → s'.trail ≡ s.trail → s'.rows ≡ s.rows → s'.contents ≡ s.contents → s'.counts ≡ s.counts → Turned here s s' r r' w w g g n n' d d l l result
-listed_short here s s' r r' w g n n' d l path items result is did prefix trail rows contents counts = turned_asked here s s' r r' w g n n' d l (Lists path items) result is did (listed_tree r r' n n' path items did) prefix trail rows contents counts
-
-pub opened_root : (s s' : State) (r r' : Option Reading) (w : Option Writing) (g : Option (List ℕ)) (n n' d l : ℕ) (path : Path) (items : List Item) → SourceDid (Lists path items) r r' n n' → path ≡ in_pairtree [] → s'.trail ≡ entered items s.trail
-    → s'.rows ≡ s.rows → s'.contents ≡ s.contents → s'.counts ≡ s.counts → string_bytes s'.prefix ≡ string_bytes s.prefix → s'.hasher ≡ s.hasher → Turned phase.OpenRoot s s' r r' w w g g n n' d d l l (Ok phase.Judge)
-opened_root s s' r r' w g n n' d l path items did is trail rows contents counts prefix hasher =
-    turned_on phase.OpenRoot phase.Judge s s' r r' w w g g n n' d d l l (asks (Lists (in_pairtree []) items)) (entered items s.trail) s.rows s.contents
-    (λ fed. Walk phase.OpenRoot (string_bytes s.prefix) (held_of s fed) _ _ _ (OpensRoot (held_of s fed) items))
-    (source_did (Lists (in_pairtree []) items) r r' w g n n' d l (listed_at path (in_pairtree []) items r r' w g n n' d l is did)) trail rows contents (ap counts_of counts) prefix hasher
+pub opened_root : (s s' : State) (a b : World) (path : Path) (items : List Item) → Did (asks (Lists path items)) a b → path ≡ in_pairtree [] → Moved (entered items s.trail) s.counts s s' → Turned phase.OpenRoot s s' a b (Ok phase.Judge)
+opened_root s s' a b path items did is to =
+    moves phase.OpenRoot phase.Judge s s' a b (asks (Lists (in_pairtree []) items)) (entered items s.trail) s.counts
+    (λ fed. Walk phase.OpenRoot (string_bytes s.prefix) (held_of s fed) _ _ _ (OpensRoot (held_of s fed) items)) (listed_at path (in_pairtree []) items a b is did) refl to
 
 pub may_list_root : (told : Option Reading) (path at : Path) → CanList told at → path ≡ at → CanList told path
 may_list_root told path at may is = subst (λ (p : Path). CanList told p) (sym is) may
 
 -- ---- entries that are no shorties, and ends
 
-pub passed_entry : (s s' : State) (r : Option Reading) (w : Option Writing) (g : Option (List ℕ)) (n d l : ℕ) (name : List ℕ) (kind : Kind) → Some (name, kind) ≡ current_entry s.trail → false ≡ is_shorty (name, kind) → s'.trail ≡ advanced s.trail
-    → s'.rows ≡ s.rows → s'.contents ≡ s.contents → s'.counts ≡ s.counts → string_bytes s'.prefix ≡ string_bytes s.prefix → s'.hasher ≡ s.hasher → Turned phase.Walk s s' r r w w g g n n d d l l (Ok phase.Walk)
-passed_entry s s' r w g n d l name kind at is trail rows contents counts prefix hasher =
-    turned_on phase.Walk phase.Walk s s' r r w w g g n n d d l l no_calls (advanced s.trail) s.rows s.contents
-    (λ fed. Walk phase.Walk (string_bytes s.prefix) (held_of s fed) _ _ _ (PassesEntry (held_of s fed) (name, kind) (sym at) (sym is))) (did_nothing (world r w g n d l)) trail rows contents (ap counts_of counts) prefix hasher
+pub passed_entry : (s s' : State) (w : World) (name : List ℕ) (kind : Kind) → Some (name, kind) ≡ current_entry s.trail → false ≡ is_shorty (name, kind) → Moved (advanced s.trail) s.counts s s' → Turned phase.Walk s s' w w (Ok phase.Walk)
+passed_entry s s' w name kind at is to =
+    moves phase.Walk phase.Walk s s' w w no_calls (advanced s.trail) s.counts
+    (λ fed. Walk phase.Walk (string_bytes s.prefix) (held_of s fed) _ _ _ (PassesEntry (held_of s fed) (name, kind) (sym at) (sym is))) (did_nothing w) refl to
 
-pub left_site : (s s' : State) (r : Option Reading) (w : Option Writing) (g : Option (List ℕ)) (n d l : ℕ) → None ≡ current_entry s.trail → 1 < length s.trail → s'.trail ≡ advanced (parent s.trail)
-    → s'.rows ≡ s.rows → s'.contents ≡ s.contents → s'.counts ≡ s.counts → string_bytes s'.prefix ≡ string_bytes s.prefix → s'.hasher ≡ s.hasher → Turned phase.Walk s s' r r w w g g n n d d l l (Ok phase.Walk)
-left_site s s' r w g n d l at more trail rows contents counts prefix hasher =
-    turned_on phase.Walk phase.Walk s s' r r w w g g n n d d l l no_calls (advanced (parent s.trail)) s.rows s.contents
-    (λ fed. Walk phase.Walk (string_bytes s.prefix) (held_of s fed) _ _ _ (LeavesSite (held_of s fed) (sym at) (lt-ltb 1 (length s.trail) more))) (did_nothing (world r w g n d l)) trail rows contents (ap counts_of counts) prefix hasher
+pub left_site : (s s' : State) (w : World) → None ≡ current_entry s.trail → 1 < length s.trail → Moved (advanced (parent s.trail)) s.counts s s' → Turned phase.Walk s s' w w (Ok phase.Walk)
+left_site s s' w at more to =
+    moves phase.Walk phase.Walk s s' w w no_calls (advanced (parent s.trail)) s.counts
+    (λ fed. Walk phase.Walk (string_bytes s.prefix) (held_of s fed) _ _ _ (LeavesSite (held_of s fed) (sym at) (lt-ltb 1 (length s.trail) more))) (did_nothing w) refl to
 
-pub ended_walk : (s s' : State) (r : Option Reading) (w : Option Writing) (g : Option (List ℕ)) (n d l : ℕ) → None ≡ current_entry s.trail → length s.trail ≤ 1 → s'.trail ≡ s.trail
-    → s'.rows ≡ s.rows → s'.contents ≡ s.contents → s'.counts ≡ s.counts → string_bytes s'.prefix ≡ string_bytes s.prefix → s'.hasher ≡ s.hasher → Turned phase.Walk s s' r r w w g g n n d d l l (Ok phase.End)
-ended_walk s s' r w g n d l at few trail rows contents counts prefix hasher =
-    turned_on phase.Walk phase.End s s' r r w w g g n n d d l l no_calls s.trail s.rows s.contents
-    (λ fed. Walk phase.Walk (string_bytes s.prefix) (held_of s fed) _ _ _ (EndsWalk (held_of s fed) (sym at) (le-ltb 1 (length s.trail) few))) (did_nothing (world r w g n d l)) trail rows contents (ap counts_of counts) prefix hasher
+pub ended_walk : (s s' : State) (w : World) → None ≡ current_entry s.trail → length s.trail ≤ 1 → Moved s.trail s.counts s s' → Turned phase.Walk s s' w w (Ok phase.End)
+ended_walk s s' w at few to =
+    moves phase.Walk phase.End s s' w w no_calls s.trail s.counts
+    (λ fed. Walk phase.Walk (string_bytes s.prefix) (held_of s fed) _ _ _ (EndsWalk (held_of s fed) (sym at) (le-ltb 1 (length s.trail) few))) (did_nothing w) refl to
 
 -- ---- where a site stands
 
@@ -119,26 +108,22 @@ pub enters_site : (s : State) (site : Path) → IsAtShorty s.trail → site ≡ 
 unfolding IsAtShorty EntersSite
 enters_site s site (name, (at, is)) there last shallow = λ fed items. EntersSiteOf (held_of s fed) name items at is (ap (λ (p : Path). is_last (at_of p)) (sym there) ∙ sym last) (le-ltb s.job.limits.depth (length s.trail) shallow)
 
-pub passed_shorty : (s s' : State) (r : Option Reading) (w : Option Writing) (g g' : Option (List ℕ)) (n d l l' : ℕ) (path : Path) (why : Cause) → PassesShorty s why → LogGot (Skipped path why) g g' l l' → path ≡ names_to s.trail → s'.trail ≡ advanced s.trail
-    → s'.rows ≡ s.rows → s'.contents ≡ s.contents → s'.counts ≡ with_skipped s.counts → string_bytes s'.prefix ≡ string_bytes s.prefix → s'.hasher ≡ s.hasher → Turned phase.Walk s s' r r w w g g' n n d d l l' (Ok phase.Walk)
+pub passed_shorty : (s s' : State) (a b : World) (path : Path) (why : Cause) → PassesShorty s why → Did (tells (Skipped path why)) a b → path ≡ names_to s.trail → Moved (advanced s.trail) (with_skipped s.counts) s s' → Turned phase.Walk s s' a b (Ok phase.Walk)
 unfolding PassesShorty
-passed_shorty s s' r w g g' n d l l' path why line got is trail rows contents counts prefix hasher =
-    turned_on phase.Walk phase.Walk s s' r r w w g g' n n d d l l' (tells (Skipped (names_to s.trail) why)) (advanced s.trail) s.rows s.contents
-    (λ fed. Walk phase.Walk (string_bytes s.prefix) (held_of s fed) _ _ _ (line fed)) (told_whole (Skipped (names_to s.trail) why) r w g g' n d l l' (subst (λ (p : Path). LogGot (Skipped p why) g g' l l') is got)) trail rows contents (ap counts_of counts) prefix hasher
+passed_shorty s s' a b path why line got is to =
+    moves phase.Walk phase.Walk s s' a b (tells (Skipped (names_to s.trail) why)) (advanced s.trail) (with_skipped s.counts)
+    (λ fed. Walk phase.Walk (string_bytes s.prefix) (held_of s fed) _ _ _ (line fed)) (subst (λ (p : Path). Did (tells (Skipped p why)) a b) is got) refl to
 
-pub passed_front : (s s' : State) (r : Option Reading) (w : Option Writing) (g g' : Option (List ℕ)) (n d l l' : ℕ) (path : Path) (why : Cause) (f : Halt) (result : Answer) → IsErrAnd result (λ h. h ≡ f) → PassesShorty s why → LogGotFront (Skipped path why) f g g' l l' → path ≡ names_to s.trail
-    → string_bytes s'.prefix ≡ string_bytes s.prefix → s'.trail ≡ s.trail → s'.rows ≡ s.rows → s'.contents ≡ s.contents → s'.counts ≡ s.counts → Turned phase.Walk s s' r r w w g g' n n d d l l' result
+pub passed_front : (s s' : State) (a b : World) (path : Path) (why : Cause) (f : Halt) (result : Answer) → IsErrAnd result (λ h. h ≡ f) → PassesShorty s why → LeavesSome (tells (Skipped path why)) f a b → path ≡ names_to s.trail → KeepsAll s s' → Turned phase.Walk s s' a b result
 unfolding PassesShorty
-passed_front s s' r w g g' n d l l' path why f result is line front there prefix trail rows contents counts =
-    turned_front phase.Walk phase.Walk s s' r r w w g g' n d l l' (tells (Skipped (names_to s.trail) why)) (Skipped (names_to s.trail) why) _ f result is (subst (λ (p : Path). LogGotFront (Skipped p why) f g g' l l') there front) refl
-    (λ fed. Walk phase.Walk (string_bytes s.prefix) (held_of s fed) _ _ _ (line fed)) refl refl tt tt prefix trail rows contents counts
+passed_front s s' a b path why f result is line front there keeps =
+    left_told phase.Walk s s' a b (tells (Skipped (names_to s.trail) why)) _ f _ result is
+    (λ fed. Walk phase.Walk (string_bytes s.prefix) (held_of s fed) _ _ _ (line fed)) (subst (λ (p : Path). LeavesSome (tells (Skipped p why)) f a b) there front) keeps
 
-pub entered_site : (s s' : State) (r r' : Option Reading) (w : Option Writing) (g : Option (List ℕ)) (n n' d l : ℕ) (path : Path) (items : List Item) → EntersSite s → SourceDid (Lists path items) r r' n n' → path ≡ in_pairtree (names_to s.trail) → s'.trail ≡ entered items s.trail
-    → s'.rows ≡ s.rows → s'.contents ≡ s.contents → s'.counts ≡ s.counts → string_bytes s'.prefix ≡ string_bytes s.prefix → s'.hasher ≡ s.hasher → Turned phase.Walk s s' r r' w w g g n n' d d l l (Ok phase.Judge)
+pub entered_site : (s s' : State) (a b : World) (path : Path) (items : List Item) → EntersSite s → Did (asks (Lists path items)) a b → path ≡ in_pairtree (names_to s.trail) → Moved (entered items s.trail) s.counts s s' → Turned phase.Walk s s' a b (Ok phase.Judge)
 unfolding EntersSite
-entered_site s s' r r' w g n n' d l path items line did is trail rows contents counts prefix hasher =
-    turned_on phase.Walk phase.Judge s s' r r' w w g g n n' d d l l (asks (Lists (in_pairtree (names_to s.trail)) items)) (entered items s.trail) s.rows s.contents
-    (λ fed. Walk phase.Walk (string_bytes s.prefix) (held_of s fed) _ _ _ (line fed items))
-    (source_did (Lists (in_pairtree (names_to s.trail)) items) r r' w g n n' d l (listed_at path (in_pairtree (names_to s.trail)) items r r' w g n n' d l is did)) trail rows contents (ap counts_of counts) prefix hasher
+entered_site s s' a b path items line did is to =
+    moves phase.Walk phase.Judge s s' a b (asks (Lists (in_pairtree (names_to s.trail)) items)) (entered items s.trail) s.counts
+    (λ fed. Walk phase.Walk (string_bytes s.prefix) (held_of s fed) _ _ _ (line fed items)) (listed_at path (in_pairtree (names_to s.trail)) items a b is did) refl to
 
-pub ruleset walking = (at_split, listed_short, opened_root, may_list_root, passed_entry, left_site, ended_walk, at_shorty, shorty_is_dir, shorty_is_some, may_enter_shorty, is_past, is_deep, enters_site, passed_shorty, passed_front, entered_site)
+pub ruleset walking = (at_split, moved, short_asked, opened_root, may_list_root, passed_entry, left_site, ended_walk, at_shorty, shorty_is_dir, shorty_is_some, may_enter_shorty, is_past, is_deep, enters_site, front_none, passed_shorty, passed_front, entered_site)

@@ -15,7 +15,8 @@ use Rattle.pt_plan.specs.World.{tells}
 use Rattle.pt_plan.specs.declared.phase.Phase.TheVariants as phase
 use Rattle.pt_state.specs.States.{held_of, job_of}
 use Rattle.pt_state.specs.declared.state.State.{State}
-use Rattle.pt_scan.specs.declared.judging.Candidate.{Candidate}
+use Rattle.pt_scan.specs.declared.judging.Verdict.{Verdict}
+use Rattle.pt_scan.specs.declared.judging.Verdict.TheVariants as verdict
 
 -- the site is to be passed over for this cause
 unfoldable pub PassesSite : State → Cause → Type 0
@@ -26,9 +27,9 @@ unfoldable pub FindsObject : State → Option ℕ → Type 0
 FindsObject s index = found_at (form_of (job_of s.job)) s.trail ≡ has_object index
 
 -- the object's identifier and place, or why none is carried
-unfoldable pub IsNamed : State → Result Candidate Cause → Type 0
-IsNamed s (Ok named) = (identifier_at (job_of s.job) (string_bytes s.prefix) (trail_path s.trail) ≡ Ok named.id) × (named.place ≡ place_of s.job.layout named.id)
-IsNamed s (Err why) = identifier_at (job_of s.job) (string_bytes s.prefix) (trail_path s.trail) ≡ Err why
+unfoldable pub IsNamed : State → Verdict → Type 0
+IsNamed s (verdict.Carry named) = (identifier_at (job_of s.job) (string_bytes s.prefix) (trail_path s.trail) ≡ Ok named.id) × (named.place ≡ place_of s.job.layout named.id)
+IsNamed s (verdict.Pass why) = identifier_at (job_of s.job) (string_bytes s.prefix) (trail_path s.trail) ≡ Err why
 
 -- the identifier behind a prefix, by what a text reads
 abbrev pub read_behind : List ℕ → Option (List ℕ) → Result (List ℕ) Cause
@@ -40,6 +41,6 @@ abbrev pub is_own_place : Tuples → Path → Bool
 is_own_place tuples place = tuples.count == 0 && same_path place (codes "extensions" ∷ [])
 
 -- the identifier's place, unless that is the root's own
-unfoldable pub IsPlaced : Tuples → List ℕ → Result Candidate Cause → Type 0
-IsPlaced tuples id (Ok named) = (named.id ≡ id) × (named.place ≡ place_of tuples id) × (is_own_place tuples (place_of tuples id) ≡ false)
-IsPlaced tuples id (Err why) = (why ≡ cause.Reserved) × (is_own_place tuples (place_of tuples id) ≡ true)
+unfoldable pub IsPlaced : Tuples → List ℕ → Verdict → Type 0
+IsPlaced tuples id (verdict.Carry named) = (named.id ≡ id) × (named.place ≡ place_of tuples id) × (is_own_place tuples (place_of tuples id) ≡ false)
+IsPlaced tuples id (verdict.Pass why) = (why ≡ cause.Reserved) × (is_own_place tuples (place_of tuples id) ≡ true)

@@ -1,43 +1,47 @@
-#![tactic(auto, using(crate::proofs::Judged::judging, pt_state::proofs::Whole::whole))]
+#![tactic(auto, using(crate::proofs::Judged::judging, pt_state::proofs::Turns::turns))]
 //! The turn that judges a site: what it is, and whether its object may be carried.
-ghost use Rattle.std.specs.Prelude.{◌≡◌, ◌<◌, ◌==◌, ◌&&◌, ◌++◌, ◌^◌, ◌∷◌, [], ℕ, codes, cond, IfOk, IfSome, IsTrue, Ok, Option, is_none, length};
+ghost use Rattle.std.specs.Prelude.{◌≡◌, ◌<◌, ◌==◌, ◌&&◌, ◌++◌, ◌^◌, ◌∷◌, [], codes, cond, IfOk, IfSome, IsTrue, length};
 ghost use Rattle.std.specs.List.{concat};
 ghost use Rattle.pt_plan.specs.Job.{form_of as form_of_job};
 ghost use Rattle.pt_plan.specs.TurnWalk.{at_object, found_at, path_of_object};
 ghost use Rattle.pt_plan.specs.declared.phase.Phase.TheVariants as phase;
 ghost use Rattle.pt_tree.specs.Path.{same_path};
-ghost use Rattle.pt_tree.specs.Dest.{Writing};
-ghost use Rattle.pt_tree.specs.Source.{Reading};
 ghost use Rattle.pt_walk.specs.Trail.{has_place, trail_path};
-ghost use Rattle.pt_state.specs.States.{job_of};
-ghost use Rattle.pt_state.specs.Turned.{Turned};
-ghost use Rattle.pt_name.specs.Reading.{reading_of};
 ghost use Rattle.pt_walk.specs.declared.site.Form.TheVariants as form;
-ghost use Rattle.pt_scan.specs.Judging.{FindsObject, IsNamed, IsPlaced, PassesSite, is_own_place, read_behind};
+ghost use Rattle.pt_state.specs.Outside.{Turned};
+ghost use Rattle.pt_state.specs.States.{job_of};
+ghost use Rattle.pt_scan.specs.Judging.{FindsObject, IsNamed, IsPlaced, PassesSite, is_own_place};
+ghost use Rattle.pt_scan.specs.declared.judging.Verdict.TheVariants as verdict;
 
 use crate::walking::at;
 use pt_name::{Layout, UncleanFault, concatenated, unclean};
 use pt_plan::{Halt, Identifier, Object, Phase};
+use pt_state::lines::{put_present, put_skip};
 use pt_state::paths::in_storage_root;
-use pt_state::{State, calls, lines};
-use pt_tree::{Dest, Log, MemoryFault, NamePath};
+use pt_state::{Outside, State};
+use pt_tree::{MemoryFault, NamePath};
 use pt_walk::{Cause, Finding, Form, Trail, judge as judged};
 use std::alloc::Global;
 
-/// Judges the site that was entered: it only leads on, is passed over, or has an object, whose place is asked for. An
-/// object whose place is free is to be entered next.
-pub fn judge<D: Dest, L: Log>(state: &mut State, dest: &mut D, log: &mut L) -> Result<Phase, Halt>
+/// Judges the site that was entered: it only leads on, is told in the log and passed over, or has an object, whose place
+/// is asked for. An object whose place is free is to be entered next; one whose place is taken is told in the log as
+/// present.
+///
+/// Halts for `Dest` where the place can't be asked for, for `Log` where a line can't be put, and for `Memory` where a
+/// growth is refused; what is held stays then.
+pub fn judge<O: Outside>(state: &mut State, out: &mut O) -> Result<Phase, Halt>
     requires skipped { state.old.counts.skipped < 2 ^ 40 }
     requires present { state.old.counts.present < 2 ^ 40 }
-    ensures job { state.new.job ≡ state.old.job }
-    ensures turn { (reading : Option Reading) (n : ℕ) → Turned phase.Judge state.old state.new reading reading (D.told dest.old) (D.told dest.new) (L.told log.old) (L.told log.new) n n (D.failed dest.old) (D.failed dest.new) (L.failed log.old) (L.failed log.new) result }
+    ensures turn { Turned phase.Judge state.old state.new
+        (O.world out.old) (O.world out.new) result }
+    ensures calls { O.within 0 out.old out.new }
 {
     let site = state.trail.path()?;
     match finding(state, &site) {
         Finding::Interior => Ok(Phase::Walk),
-        Finding::Skip(cause) => pass_over(state, &site, cause, log),
-        Finding::Candidate(index) => judge_object(state, &site, Some(index), dest, log),
-        Finding::Gathered => judge_object(state, &site, None, dest, log),
+        Finding::Skip(cause) => pass_over(state, &site, cause, out),
+        Finding::Candidate(index) => judge_object(state, &site, Some(index), out),
+        Finding::Gathered => judge_object(state, &site, None, out),
     }
 }
 
@@ -60,40 +64,41 @@ fn form_of(gather: bool) -> Form
 }
 
 // Tells that a site is passed over.
-fn pass_over<L: Log>(
+fn pass_over<O: Outside>(
     state: &mut State,
     site: &NamePath,
     cause: Cause,
-    log: &mut L,
+    out: &mut O,
 ) -> Result<Phase, Halt>
     requires site { site.now ≡ trail_path state.old.trail }
     requires line { PassesSite state.old cause }
     requires few { state.old.counts.skipped < 2 ^ 40 }
-    ensures job { state.new.job ≡ state.old.job }
-    ensures turn { (reading : Option Reading) (writing : Option Writing) (n d : ℕ) → Turned phase.Judge state.old state.new reading reading writing writing (L.told log.old) (L.told log.new) n n d d (L.failed log.old) (L.failed log.new) result }
+    ensures turn { Turned phase.Judge state.old state.new
+        (O.world out.old) (O.world out.new) result }
+    ensures calls { O.within 0 out.old out.new }
 {
-    lines::put_skip(state.alloc, log, site, cause, &mut state.counts)?;
+    put_skip(state.alloc, out, site, cause, &mut state.counts)?;
     Ok(Phase::Walk)
 }
 
 // Reads the identifier of a site's object, which is the entry of this index, or else is gathered.
-fn judge_object<D: Dest, L: Log>(
+fn judge_object<O: Outside>(
     state: &mut State,
     site: &NamePath,
     index: Option<usize>,
-    dest: &mut D,
-    log: &mut L,
+    out: &mut O,
 ) -> Result<Phase, Halt>
     requires site { site.now ≡ trail_path state.old.trail }
     requires object { FindsObject state.old index }
     requires skipped { state.old.counts.skipped < 2 ^ 40 }
     requires present { state.old.counts.present < 2 ^ 40 }
-    ensures job { state.new.job ≡ state.old.job }
-    ensures turn { (reading : Option Reading) (n : ℕ) → Turned phase.Judge state.old state.new reading reading (D.told dest.old) (D.told dest.new) (L.told log.old) (L.told log.new) n n (D.failed dest.old) (D.failed dest.new) (L.failed log.old) (L.failed log.new) result }
+    ensures turn { Turned phase.Judge state.old state.new
+        (O.world out.old) (O.world out.new) result }
+    ensures calls { O.within 0 out.old out.new }
 {
     match named(state, site)? {
-        Ok(named) => find_place(state, site, index, named, dest, log),
-        Err(cause) => pass_over(state, site, cause, log),
+        Verdict::Carry(candidate) => find_place(state, site, index, candidate, out),
+        Verdict::Pass(cause) => pass_over(state, site, cause, out),
     }
 }
 
@@ -104,36 +109,43 @@ struct Candidate {
     place: NamePath,
 }
 
+// Whether the object of a site can be carried, or why it isn't.
+#[derive(Drop)]
+enum Verdict {
+    Carry(Candidate),
+    Pass(Cause),
+}
+
 // Asks what stands at an object's place, which is carried where nothing does.
-fn find_place<D: Dest, L: Log>(
+fn find_place<O: Outside>(
     state: &mut State,
     site: &NamePath,
     index: Option<usize>,
-    named: Candidate,
-    dest: &mut D,
-    log: &mut L,
+    candidate: Candidate,
+    out: &mut O,
 ) -> Result<Phase, Halt>
     requires site { site.now ≡ trail_path state.old.trail }
     requires object { FindsObject state.old index }
-    requires named { IsNamed state.old (Ok named) }
+    requires named { IsNamed state.old (verdict.Carry candidate) }
     requires present { state.old.counts.present < 2 ^ 40 }
-    ensures job { state.new.job ≡ state.old.job }
-    ensures turn { (reading : Option Reading) (n : ℕ) → Turned phase.Judge state.old state.new reading reading (D.told dest.old) (D.told dest.new) (L.told log.old) (L.told log.new) n n (D.failed dest.old) (D.failed dest.new) (L.failed log.old) (L.failed log.new) result }
+    ensures turn { Turned phase.Judge state.old state.new
+        (O.world out.old) (O.world out.new) result }
+    ensures calls { O.within 0 out.old out.new }
 {
-    let path = in_storage_root(state.alloc, &named.place)?;
-    match calls::kind(dest, &path)? {
+    let path = in_storage_root(state.alloc, &candidate.place)?;
+    match out.kind(&path)? {
         None => {
             seek_object(&mut state.trail, index);
-            Ok(opened(named, index.is_none(), state.trail.len()))
+            Ok(opened(candidate, index.is_none(), state.trail.len()))
         }
         Some(_) => {
             let at = object_at(&state.trail, site, index)?;
-            lines::put_present(
+            put_present(
                 state.alloc,
-                log,
+                out,
                 &at,
-                &named.id,
-                &named.place,
+                &candidate.id,
+                &candidate.place,
                 &mut state.counts,
             )?;
             Ok(Phase::Walk)
@@ -167,46 +179,39 @@ fn object_at(trail: &Trail, site: &NamePath, index: Option<usize>) -> Result<Nam
 }
 
 // The turn after the one that found an object whose place is free.
-fn opened(named: Candidate, gathered: bool, site: usize) -> Phase
-    ensures { result ≡ phase.OpenObject (record { id = named.id; place = named.place; gathered = gathered; site = site; empty = 0 }) }
+fn opened(candidate: Candidate, gathered: bool, site: usize) -> Phase
+    ensures { result ≡ phase.OpenObject (record {
+      id = candidate.id;
+      place = candidate.place;
+      gathered = gathered;
+      site = site;
+      empty = 0;
+    }) }
 {
     Phase::OpenObject(Object {
-        id: named.id,
-        place: named.place,
+        id: candidate.id,
+        place: candidate.place,
         gathered,
         site,
         empty: 0,
     })
 }
 
-// The identifier and the place of the object at a site, or why none is carried.
-fn named(state: &State, site: &NamePath) -> Result<Result<Candidate, Cause>, MemoryFault>
+// Whether the object at a site can be carried: its identifier is what the names of the site's path read, behind the
+// prefix (Pairtree 0.1, "Identifier string cleaning").
+fn named(state: &State, site: &NamePath) -> Result<Verdict, MemoryFault>
     requires site { site.now ≡ trail_path state.now.trail }
     requires some { 0 < length site.now }
     ensures { IfOk result (IsNamed state.now) }
 {
-    match identifier(state.alloc, state.prefix.as_str(), site)? {
-        Ok(id) => placed(state.alloc, state.job.layout, id),
-        Err(cause) => Ok(Err(cause)),
-    }
-}
-
-// The identifier that the names of a site's path read, behind the prefix, or why it has none (Pairtree 0.1, "Identifier
-// string cleaning").
-fn identifier(
-    alloc: Global,
-    prefix: &str,
-    site: &NamePath,
-) -> Result<Result<Identifier, Cause>, MemoryFault>
-    requires { 0 < length site.now }
-    ensures read { IfOk result (λ read. read ≡ read_behind prefix.now (reading_of (concat site.now))) }
-    ensures some { IfOk result (λ read. IfOk read (λ id. 0 < length id)) }
-{
-    let text = text_of_names(alloc, site)?;
-    match unclean(alloc, &text) {
-        Ok(read) => Ok(Ok(behind(alloc, prefix, &read)?)),
-        Err(UncleanFault::Malformed) => Ok(Err(Cause::Name)),
-        Err(UncleanFault::NotUtf8) => Ok(Err(Cause::Utf8)),
+    let text = text_of_names(state.alloc, site)?;
+    match unclean(state.alloc, &text) {
+        Ok(read) => {
+            let id = behind(state.alloc, state.prefix.as_str(), &read)?;
+            placed(state.alloc, state.job.layout, id)
+        }
+        Err(UncleanFault::Malformed) => Ok(Verdict::Pass(Cause::Name)),
+        Err(UncleanFault::NotUtf8) => Ok(Verdict::Pass(Cause::Utf8)),
         Err(UncleanFault::Memory) => Err(MemoryFault::Memory),
     }
 }
@@ -234,19 +239,15 @@ fn behind(alloc: Global, prefix: &str, text: &str) -> Result<Identifier, MemoryF
 }
 
 // An object with its place, unless that is the storage root's own.
-fn placed(
-    alloc: Global,
-    layout: Layout,
-    id: Identifier,
-) -> Result<Result<Candidate, Cause>, MemoryFault>
+fn placed(alloc: Global, layout: Layout, id: Identifier) -> Result<Verdict, MemoryFault>
     requires { 0 < length id }
     ensures { IfOk result (IsPlaced layout id) }
 {
     let place = layout.place(alloc, id.as_str().as_bytes())?;
     if is_reserved(layout, &place) {
-        return Ok(Err(Cause::Reserved));
+        return Ok(Verdict::Pass(Cause::Reserved));
     }
-    Ok(Ok(Candidate { id, place }))
+    Ok(Verdict::Carry(Candidate { id, place }))
 }
 
 // Whether no tuples are used, and a place is that of the storage root's own extensions.

@@ -1,75 +1,73 @@
-#![tactic(auto, using(crate::proofs::ObjectTurns::scanning, crate::proofs::ObjectPaths::paths, crate::proofs::Leaving::leaving, pt_state::proofs::Counting::calls, pt_state::proofs::Whole::whole))]
+#![tactic(auto, using(crate::proofs::ScanTurns::scanning, crate::proofs::ObjectPaths::paths, crate::proofs::Leaving::leaving, pt_state::proofs::Turns::turns))]
 //! The turns that scan an object: its directories are listed and entered, its files opened.
-ghost use Rattle.std.specs.Prelude.{◌≡◌, ◌<◌, ◌+◌, ◌-◌, ◌==◌, ◌&&◌, ◌^◌, ℕ, IfErr, IfOk, IsTrue, List, OnErr, None, Ok, OnOk, IsSome, Option, cond, drop, false, length, not};
-ghost use Rattle.pt_plan.specs.Permits.{MayEnter, MayOpen};
+ghost use Rattle.std.specs.Prelude.{◌≡◌, ◌<◌, ◌+◌, ◌-◌, ◌==◌, ◌&&◌, ◌^◌, IfErr, IfOk, IsSome, IsTrue, None, Ok, OnErr, OnOk, cond, drop, false, length, not};
 ghost use Rattle.pt_plan.specs.Lines.{Skipped};
+ghost use Rattle.pt_plan.specs.Permits.{MayEnter, MayOpen};
+ghost use Rattle.pt_plan.specs.Turn.{Did, LeavesSome, Stays};
 ghost use Rattle.pt_plan.specs.TurnScan.{is_in_site as is_in_site_of, logical_path as logical_path_of, own_listings, to_site};
+ghost use Rattle.pt_plan.specs.World.{World, tells};
+ghost use Rattle.pt_plan.specs.declared.phase.Phase.{Phase};
 ghost use Rattle.pt_plan.specs.declared.phase.Phase.TheVariants as phase;
-ghost use Rattle.pt_tree.specs.Dest.{Writing};
-ghost use Rattle.pt_tree.specs.Source.{Reading};
 ghost use Rattle.pt_walk.specs.Site.{is_shorty as is_shorty_entry};
 ghost use Rattle.pt_walk.specs.Trail.{current_entry, is_dir_entry, names_to, trail_path};
-ghost use Rattle.pt_state.specs.Calls.{LogGot, LogGotFront, SourceStays};
-ghost use Rattle.pt_state.specs.Counting.{AtMostCalls};
-ghost use Rattle.pt_state.specs.Turned.{Turned};
-ghost use Rattle.pt_scan.specs.Scanning.{Enters, GivesUp, IsAtDirectory, IsAtFile, IsBackAtSite, IsSite, IsUnmoved};
+ghost use Rattle.pt_state.specs.Outside.{Turned};
+ghost use Rattle.pt_scan.specs.Scanning.{Enters, GivesUp, IsAtFile, IsBackAtSite, IsKept, IsSite, MeetsDirectory};
 
 use crate::walking::listed_path;
 use pt_object::Hasher;
 use pt_plan::{Halt, Object, Part, Phase};
+use pt_state::lines::put_skip;
 use pt_state::paths::{entry_path, extended, in_pairtree};
 use pt_state::site::back_to_site;
-use pt_state::{State, calls, lines};
-use pt_tree::{Kind, Log, MemoryFault, Name, NamePath, Source};
+use pt_state::{Outside, State};
+use pt_tree::{Kind, MemoryFault, Name, NamePath};
 use pt_walk::{Cause, Trail, is_shorty};
 use std::alloc::Global;
 
-/// Enters the directory that encapsulates an object; a gathered one starts in its site.
-pub fn open_object<S: Source, L: Log>(
+/// Enters the directory that encapsulates an object, at whose place the walk stands; a gathered object starts in its
+/// site. Where the directory is too deep the object is told in the log and passed over, and the walk goes on at its
+/// site.
+///
+/// Halts for `Source` where the directory can't be listed, for `Log` where the line can't be put, and for `Memory` where
+/// a growth is refused; what is held stays then.
+pub fn open_object<O: Outside>(
     state: &mut State,
     object: Object,
-    source: &mut S,
-    log: &mut L,
+    out: &mut O,
 ) -> Result<Phase, Halt>
-    requires may { object.gathered ≡ false → MayEnter (S.told source.old) state.old.trail }
-    requires directory { object.gathered ≡ false → IsTrue (is_dir_entry (current_entry state.old.trail)) }
+    requires may { object.gathered ≡ false → MayEnter (O.world out.old).source state.old.trail }
+    requires directory { object.gathered ≡ false
+        → IsTrue (is_dir_entry (current_entry state.old.trail)) }
     requires site { IsSite object state.old.trail }
     requires few { state.old.counts.skipped < 2 ^ 40 }
     requires empty { object.empty < 2 ^ 40 }
-    ensures job { state.new.job ≡ state.old.job }
-    ensures turn { (writing : Option Writing) (d : ℕ) → Turned (phase.OpenObject object) state.old state.new (S.told source.old) (S.told source.new) writing writing (L.told log.old) (L.told log.new) (S.failed source.old) (S.failed source.new) d d (L.failed log.old) (L.failed log.new) result }
-    ensures calls { AtMostCalls 1 (S.called source.old) (S.called source.new) }
+    ensures turn { Turned (phase.OpenObject object) state.old state.new
+        (O.world out.old) (O.world out.new) result }
+    ensures calls { O.within 1 out.old out.new }
 {
     if object.gathered {
         state.trail.seek(0);
         return Ok(Phase::Scan(object));
     }
-    if state.trail.len() as u64 > state.job.limits.depth() {
-        give_up(state, &object, Cause::Limit, log)?;
-        return Ok(Phase::Walk);
-    }
-    let is_empty = enter(state, source)?;
-    Ok(Phase::Scan(with_directory(object, is_empty)))
+    enter_directory(state, object, out)
 }
 
 /// Looks at the next entry of an object: a directory is entered, a file opened; at its end a listing is left, and the
 /// object is made after the outermost. What is too deep, too many or too long, and what is neither a directory nor a file,
-/// is a cause against the object.
-pub fn scan<S: Source, L: Log>(
-    state: &mut State,
-    object: Object,
-    source: &mut S,
-    log: &mut L,
-) -> Result<Phase, Halt>
-    requires enter { MayEnter (S.told source.old) state.old.trail }
-    requires open { MayOpen (S.told source.old) state.old.trail }
+/// is a cause against the object: it is told in the log and passed over, and the walk goes on at its site.
+///
+/// Halts for `Source` where a directory can't be listed or a file not be opened, for `Log` where the line can't be put,
+/// and for `Memory` where a growth is refused; what is held stays then.
+pub fn scan<O: Outside>(state: &mut State, object: Object, out: &mut O) -> Result<Phase, Halt>
+    requires enter { MayEnter (O.world out.old).source state.old.trail }
+    requires open { MayOpen (O.world out.old).source state.old.trail }
     requires site { IsSite object state.old.trail }
     requires own { 0 < own_listings object state.old.trail }
     requires few { state.old.counts.skipped < 2 ^ 40 }
     requires empty { object.empty < 2 ^ 40 }
-    ensures job { state.new.job ≡ state.old.job }
-    ensures turn { (writing : Option Writing) (d : ℕ) → Turned (phase.Scan object) state.old state.new (S.told source.old) (S.told source.new) writing writing (L.told log.old) (L.told log.new) (S.failed source.old) (S.failed source.new) d d (L.failed log.old) (L.failed log.new) result }
-    ensures calls { AtMostCalls 1 (S.called source.old) (S.called source.new) }
+    ensures turn { Turned (phase.Scan object) state.old state.new
+        (O.world out.old) (O.world out.new) result }
+    ensures calls { O.within 1 out.old out.new }
 {
     let in_site = is_in_site(&object, &state.trail);
     match state.trail.current() {
@@ -79,9 +77,9 @@ pub fn scan<S: Source, L: Log>(
                 return Ok(Phase::Scan(object));
             }
             match kind {
-                Kind::Dir => meet_directory(state, object, source, log),
-                Kind::File => meet_file(state, object, source, log),
-                Kind::Other => pass_object(state, object, Cause::Other, log),
+                Kind::Dir => enter_directory(state, object, out),
+                Kind::File => meet_file(state, object, out),
+                Kind::Other => pass_object(state, object, Cause::Other, out),
             }
         }
         None => Ok(leave_listing(state, object, in_site)),
@@ -103,57 +101,55 @@ fn is_passed(in_site: bool, name: &Name, kind: Kind) -> bool
 }
 
 // Passes over the object for this cause.
-fn pass_object<L: Log>(
+fn pass_object<O: Outside>(
     state: &mut State,
     object: Object,
     cause: Cause,
-    log: &mut L,
+    out: &mut O,
 ) -> Result<Phase, Halt>
-    requires line { GivesUp (phase.Scan object) object cause state.old }
     requires site { IsSite object state.old.trail }
     requires few { state.old.counts.skipped < 2 ^ 40 }
-    ensures job { state.new.job ≡ state.old.job }
-    ensures turn { (reading : Option Reading) (writing : Option Writing) (n d : ℕ) → Turned (phase.Scan object) state.old state.new reading reading writing writing (L.told log.old) (L.told log.new) n n d d (L.failed log.old) (L.failed log.new) result }
+    ensures turn { (here : Phase) → GivesUp here object cause state.old
+        → Turned here state.old state.new (O.world out.old) (O.world out.new) result }
+    ensures calls { O.within 0 out.old out.new }
 {
-    give_up(state, &object, cause, log)?;
+    give_up(state, &object, cause, out)?;
     Ok(Phase::Walk)
 }
 
-// Enters the directory at the trail's place, unless it is too deep.
-fn meet_directory<S: Source, L: Log>(
+// Enters the directory of an object at the trail's place, unless it is too deep.
+fn enter_directory<O: Outside>(
     state: &mut State,
     object: Object,
-    source: &mut S,
-    log: &mut L,
+    out: &mut O,
 ) -> Result<Phase, Halt>
-    requires directory { IsAtDirectory object state.old.trail }
-    requires may { MayEnter (S.told source.old) state.old.trail }
+    requires directory { IsTrue (is_dir_entry (current_entry state.old.trail)) }
+    requires may { MayEnter (O.world out.old).source state.old.trail }
     requires site { IsSite object state.old.trail }
     requires few { state.old.counts.skipped < 2 ^ 40 }
     requires empty { object.empty < 2 ^ 40 }
-    ensures job { state.new.job ≡ state.old.job }
-    ensures turn { (writing : Option Writing) (d : ℕ) → Turned (phase.Scan object) state.old state.new (S.told source.old) (S.told source.new) writing writing (L.told log.old) (L.told log.new) (S.failed source.old) (S.failed source.new) d d (L.failed log.old) (L.failed log.new) result }
-    ensures calls { AtMostCalls 1 (S.called source.old) (S.called source.new) }
+    ensures turn { (here : Phase) → MeetsDirectory here object state.old
+        → Turned here state.old state.new (O.world out.old) (O.world out.new) result }
+    ensures calls { O.within 1 out.old out.new }
 {
     if state.trail.len() as u64 > state.job.limits.depth() {
-        return pass_object(state, object, Cause::Limit, log);
+        return pass_object(state, object, Cause::Limit, out);
     }
-    let is_empty = enter(state, source)?;
+    let is_empty = enter(state, out)?;
     Ok(Phase::Scan(with_directory(object, is_empty)))
 }
 
 // Lists the directory at the trail's place and enters it; gives whether it has no entries.
-fn enter<S: Source>(state: &mut State, source: &mut S) -> Result<bool, Halt>
+fn enter<O: Outside>(state: &mut State, out: &mut O) -> Result<bool, Halt>
     requires directory { IsTrue (is_dir_entry (current_entry state.old.trail)) }
-    requires may { MayEnter (S.told source.old) state.old.trail }
-    ensures job { state.new.job ≡ state.old.job }
-    ensures ok { IfOk result (Enters state.old state.new (S.told source.old) (S.told source.new) (S.failed source.old) (S.failed source.new)) }
-    ensures err { IfErr result (λ f. SourceStays f (S.told source.old) (S.told source.new) (S.failed source.old) (S.failed source.new)) }
-    ensures same { OnErr result (IsUnmoved state.old state.new) }
-    ensures calls { AtMostCalls 1 (S.called source.old) (S.called source.new) }
+    requires may { MayEnter (O.world out.old).source state.old.trail }
+    ensures ok { IfOk result (Enters state.old state.new (O.world out.old) (O.world out.new)) }
+    ensures err { IfErr result (λ why. Stays why (O.world out.old) (O.world out.new)) }
+    ensures same { OnErr result (IsKept state.old state.new) }
+    ensures calls { O.within 1 out.old out.new }
 {
     let path = listed_path(state)?;
-    let listing = calls::list(source, &path)?;
+    let listing = out.list(&path)?;
     let is_empty = listing.is_empty();
     state.trail.enter(listing)?;
     Ok(is_empty)
@@ -171,31 +167,26 @@ fn with_directory(mut object: Object, is_empty: bool) -> Object
 }
 
 // Opens the file at the trail's place, unless it is one too many, or its logical path is too long.
-fn meet_file<S: Source, L: Log>(
-    state: &mut State,
-    object: Object,
-    source: &mut S,
-    log: &mut L,
-) -> Result<Phase, Halt>
+fn meet_file<O: Outside>(state: &mut State, object: Object, out: &mut O) -> Result<Phase, Halt>
     requires file { IsAtFile state.old.trail }
-    requires may { MayOpen (S.told source.old) state.old.trail }
+    requires may { MayOpen (O.world out.old).source state.old.trail }
     requires site { IsSite object state.old.trail }
     requires own { 0 < own_listings object state.old.trail }
     requires few { state.old.counts.skipped < 2 ^ 40 }
-    ensures job { state.new.job ≡ state.old.job }
-    ensures turn { (writing : Option Writing) (d : ℕ) → Turned (phase.Scan object) state.old state.new (S.told source.old) (S.told source.new) writing writing (L.told log.old) (L.told log.new) (S.failed source.old) (S.failed source.new) d d (L.failed log.old) (L.failed log.new) result }
-    ensures calls { AtMostCalls 1 (S.called source.old) (S.called source.new) }
+    ensures turn { Turned (phase.Scan object) state.old state.new
+        (O.world out.old) (O.world out.new) result }
+    ensures calls { O.within 1 out.old out.new }
 {
     if state.rows.len() as u64 >= state.job.limits.files() {
-        return pass_object(state, object, Cause::Limit, log);
+        return pass_object(state, object, Cause::Limit, out);
     }
     let entry = entry_path(&state.trail)?;
     let text = logical_part(state.alloc, &object, &state.trail, &entry)?.join()?;
     if text.len() as u64 > state.job.limits.path_bytes() {
-        return pass_object(state, object, Cause::Limit, log);
+        return pass_object(state, object, Cause::Limit, out);
     }
     let path = in_pairtree(state.alloc, &entry)?;
-    calls::open(source, &path)?;
+    out.open(&path)?;
     state.hasher = Hasher::start(state.job.algorithm);
     Ok(Phase::Read(object, 0))
 }
@@ -236,8 +227,7 @@ fn leave_listing(state: &mut State, object: Object, in_site: bool) -> Phase
     requires in_site { in_site ≡ is_in_site_of object state.old.trail }
     requires site { IsSite object state.old.trail }
     requires own { 0 < own_listings object state.old.trail }
-    ensures job { state.new.job ≡ state.old.job }
-    ensures turn { (reading : Option Reading) (writing : Option Writing) (log : Option (List ℕ)) (n d l : ℕ) → Turned (phase.Scan object) state.old state.new reading reading writing writing log log n n d d l l (Ok result) }
+    ensures turn { (w : World) → Turned (phase.Scan object) state.old state.new w w (Ok result) }
 {
     if in_site {
         return Phase::Make(object, Part::Staging);
@@ -259,22 +249,26 @@ fn is_left(object: &Object, trail: &Trail) -> bool
 }
 
 // Tells why an object isn't carried, goes back to its site and forgets it.
-pub(crate) fn give_up<L: Log>(
+pub(crate) fn give_up<O: Outside>(
     state: &mut State,
     object: &Object,
     cause: Cause,
-    log: &mut L,
+    out: &mut O,
 ) -> Result<(), Halt>
     requires site { IsSite object.now state.old.trail }
     requires few { state.old.counts.skipped < 2 ^ 40 }
-    ensures job { state.new.job ≡ state.old.job }
-    ensures ok { OnOk result (LogGot (Skipped (trail_path (to_site object.now state.old.trail)) cause) (L.told log.old) (L.told log.new) (L.failed log.old) (L.failed log.new)) }
+    ensures ok { OnOk result (Did
+        (tells (Skipped (trail_path (to_site object.now state.old.trail)) cause))
+        (O.world out.old) (O.world out.new)) }
     ensures back { OnOk result (IsBackAtSite object.now state.old state.new) }
-    ensures err { IfErr result (λ f. LogGotFront (Skipped (trail_path (to_site object.now state.old.trail)) cause) f (L.told log.old) (L.told log.new) (L.failed log.old) (L.failed log.new)) }
-    ensures same { OnErr result (IsUnmoved state.old state.new) }
+    ensures err { IfErr result (λ why. LeavesSome
+        (tells (Skipped (trail_path (to_site object.now state.old.trail)) cause)) why
+        (O.world out.old) (O.world out.new)) }
+    ensures same { OnErr result (IsKept state.old state.new) }
+    ensures calls { O.within 0 out.old out.new }
 {
     let path = site_path(state.alloc, object, &state.trail)?;
-    lines::put_skip(state.alloc, log, &path, cause, &mut state.counts)?;
+    put_skip(state.alloc, out, &path, cause, &mut state.counts)?;
     leave_object(&mut state.trail, object.site);
     back_to_site(&mut state.trail, &mut state.rows, &mut state.contents);
     Ok(())

@@ -1,55 +1,56 @@
-#![tactic(auto, using(crate::proofs::SiteTurns::walking, pt_state::proofs::Counting::calls, pt_state::proofs::Whole::whole))]
+#![tactic(auto, using(crate::proofs::SiteTurns::walking, pt_state::proofs::Turns::turns))]
 //! The turns of the walk through the sites of a pairtree.
-ghost use Rattle.std.specs.Prelude.{◌≡◌, ◌<◌, ◌==◌, ◌^◌, cond, [], ℕ, IfOk, List, Option, length};
+ghost use Rattle.std.specs.Prelude.{◌≡◌, ◌<◌, ◌==◌, ◌^◌, cond, [], IfOk, length};
 ghost use Rattle.pt_plan.specs.Permits.{MayEnter};
 ghost use Rattle.pt_plan.specs.TurnWalk.{in_pairtree as in_pairtree_of};
 ghost use Rattle.pt_plan.specs.declared.phase.Phase.TheVariants as phase;
-ghost use Rattle.pt_tree.specs.Dest.{Writing};
-ghost use Rattle.pt_tree.specs.Source.{Reading, CanList};
+ghost use Rattle.pt_tree.specs.Source.{CanList};
 ghost use Rattle.pt_walk.specs.Sites.{at_of, is_last as is_last_of};
 ghost use Rattle.pt_walk.specs.Trail.{names_to};
 ghost use Rattle.pt_walk.specs.declared.site.At.TheVariants as at;
-ghost use Rattle.pt_state.specs.Counting.{AtMostCalls};
-ghost use Rattle.pt_state.specs.Turned.{Turned};
+ghost use Rattle.pt_state.specs.Outside.{Turned};
 ghost use Rattle.pt_scan.specs.Walking.{EntersSite, IsAtShorty, PassesShorty};
 
 use pt_plan::{Halt, Phase};
+use pt_state::lines::put_skip;
 use pt_state::paths::{PAIRTREE_ROOT, entry_path, in_pairtree, path_of};
-use pt_state::{State, calls, lines};
-use pt_tree::{Log, MemoryFault, Name, NamePath, Source};
+use pt_state::{Outside, State};
+use pt_tree::{MemoryFault, Name, NamePath};
 use pt_walk::{At, Cause, is_shorty};
 
-/// Lists `pairtree_root` and enters it.
-pub fn open_root<S: Source>(state: &mut State, source: &mut S) -> Result<Phase, Halt>
-    requires may { CanList (S.told source.old) (in_pairtree_of []) }
+/// Lists `pairtree_root` and enters it; nothing is entered yet. Gives the phase that judges it.
+///
+/// Halts for `Source` where it can't be listed, and for `Memory` where a growth is refused; what is held stays then.
+pub fn open_root<O: Outside>(state: &mut State, out: &mut O) -> Result<Phase, Halt>
+    requires may { CanList (O.world out.old).source (in_pairtree_of []) }
     requires trail { state.old.trail ≡ [] }
-    ensures job { state.new.job ≡ state.old.job }
-    ensures turn { (writing : Option Writing) (log : Option (List ℕ)) (d l : ℕ) → Turned phase.OpenRoot state.old state.new (S.told source.old) (S.told source.new) writing writing log log (S.failed source.old) (S.failed source.new) d d l l result }
-    ensures calls { AtMostCalls 1 (S.called source.old) (S.called source.new) }
+    ensures turn { Turned phase.OpenRoot state.old state.new
+        (O.world out.old) (O.world out.new) result }
+    ensures calls { O.within 1 out.old out.new }
 {
     let path = path_of(state.alloc, &[PAIRTREE_ROOT])?;
-    let listing = calls::list(source, &path)?;
+    let listing = out.list(&path)?;
     state.trail.enter(listing)?;
     Ok(Phase::Judge)
 }
 
-/// Looks at the next entry of a site: a shorty is entered or passed over, any other entry is passed; at its end the
-/// listing is left, and after the outermost the walk is done.
-pub fn walk<S: Source, L: Log>(
-    state: &mut State,
-    source: &mut S,
-    log: &mut L,
-) -> Result<Phase, Halt>
-    requires may { MayEnter (S.told source.old) state.old.trail }
+/// Looks at the next entry of a site. A shorty is listed and entered, to be judged next (Pairtree 0.1, "Mapping
+/// identifiers to paths"); one that is too deep, or stands below a name of one byte, is told in the log and passed
+/// over. Any other entry is passed. At its end the listing is left, and after the outermost the walk is done.
+///
+/// Halts for `Source` where a shorty can't be listed, for `Log` where its line can't be put, and for `Memory` where a
+/// growth is refused; what is held stays then.
+pub fn walk<O: Outside>(state: &mut State, out: &mut O) -> Result<Phase, Halt>
+    requires may { MayEnter (O.world out.old).source state.old.trail }
     requires few { state.old.counts.skipped < 2 ^ 40 }
-    ensures job { state.new.job ≡ state.old.job }
-    ensures turn { (writing : Option Writing) (d : ℕ) → Turned phase.Walk state.old state.new (S.told source.old) (S.told source.new) writing writing (L.told log.old) (L.told log.new) (S.failed source.old) (S.failed source.new) d d (L.failed log.old) (L.failed log.new) result }
-    ensures calls { AtMostCalls 1 (S.called source.old) (S.called source.new) }
+    ensures turn { Turned phase.Walk state.old state.new
+        (O.world out.old) (O.world out.new) result }
+    ensures calls { O.within 1 out.old out.new }
 {
     match state.trail.current() {
         Some((name, kind)) => {
             if is_shorty(name, kind) {
-                return meet_shorty(state, source, log);
+                return meet_shorty(state, out);
             }
             state.trail.advance();
             Ok(Phase::Walk)
@@ -66,53 +67,50 @@ pub fn walk<S: Source, L: Log>(
 }
 
 // Enters the shorty at the trail's place, or tells why not.
-fn meet_shorty<S: Source, L: Log>(
-    state: &mut State,
-    source: &mut S,
-    log: &mut L,
-) -> Result<Phase, Halt>
+fn meet_shorty<O: Outside>(state: &mut State, out: &mut O) -> Result<Phase, Halt>
     requires shorty { IsAtShorty state.old.trail }
-    requires may { MayEnter (S.told source.old) state.old.trail }
+    requires may { MayEnter (O.world out.old).source state.old.trail }
     requires few { state.old.counts.skipped < 2 ^ 40 }
-    ensures job { state.new.job ≡ state.old.job }
-    ensures turn { (writing : Option Writing) (d : ℕ) → Turned phase.Walk state.old state.new (S.told source.old) (S.told source.new) writing writing (L.told log.old) (L.told log.new) (S.failed source.old) (S.failed source.new) d d (L.failed log.old) (L.failed log.new) result }
-    ensures calls { AtMostCalls 1 (S.called source.old) (S.called source.new) }
+    ensures turn { Turned phase.Walk state.old state.new
+        (O.world out.old) (O.world out.new) result }
+    ensures calls { O.within 1 out.old out.new }
 {
     let site = state.trail.path()?;
     if is_last(&site) {
-        return pass_shorty(state, Cause::Past, log);
+        return pass_shorty(state, Cause::Past, out);
     }
     if state.trail.len() as u64 > state.job.limits.depth() {
-        return pass_shorty(state, Cause::Limit, log);
+        return pass_shorty(state, Cause::Limit, out);
     }
-    enter_site(state, source)
+    enter_site(state, out)
 }
 
 // Tells that the shorty at the trail's place is passed over.
-fn pass_shorty<L: Log>(state: &mut State, cause: Cause, log: &mut L) -> Result<Phase, Halt>
+fn pass_shorty<O: Outside>(state: &mut State, cause: Cause, out: &mut O) -> Result<Phase, Halt>
     requires line { PassesShorty state.old cause }
     requires shorty { IsAtShorty state.old.trail }
     requires few { state.old.counts.skipped < 2 ^ 40 }
-    ensures job { state.new.job ≡ state.old.job }
-    ensures turn { (reading : Option Reading) (writing : Option Writing) (n d : ℕ) → Turned phase.Walk state.old state.new reading reading writing writing (L.told log.old) (L.told log.new) n n d d (L.failed log.old) (L.failed log.new) result }
+    ensures turn { Turned phase.Walk state.old state.new
+        (O.world out.old) (O.world out.new) result }
+    ensures calls { O.within 0 out.old out.new }
 {
     let path = entry_path(&state.trail)?;
-    lines::put_skip(state.alloc, log, &path, cause, &mut state.counts)?;
+    put_skip(state.alloc, out, &path, cause, &mut state.counts)?;
     state.trail.advance();
     Ok(Phase::Walk)
 }
 
 // Lists the shorty at the trail's place and enters it.
-fn enter_site<S: Source>(state: &mut State, source: &mut S) -> Result<Phase, Halt>
+fn enter_site<O: Outside>(state: &mut State, out: &mut O) -> Result<Phase, Halt>
     requires line { EntersSite state.old }
-    requires may { MayEnter (S.told source.old) state.old.trail }
+    requires may { MayEnter (O.world out.old).source state.old.trail }
     requires shorty { IsAtShorty state.old.trail }
-    ensures job { state.new.job ≡ state.old.job }
-    ensures turn { (writing : Option Writing) (log : Option (List ℕ)) (d l : ℕ) → Turned phase.Walk state.old state.new (S.told source.old) (S.told source.new) writing writing log log (S.failed source.old) (S.failed source.new) d d l l result }
-    ensures calls { AtMostCalls 1 (S.called source.old) (S.called source.new) }
+    ensures turn { Turned phase.Walk state.old state.new
+        (O.world out.old) (O.world out.new) result }
+    ensures calls { O.within 1 out.old out.new }
 {
     let path = listed_path(state)?;
-    let listing = calls::list(source, &path)?;
+    let listing = out.list(&path)?;
     state.trail.enter(listing)?;
     Ok(Phase::Judge)
 }

@@ -1,34 +1,32 @@
-#![tactic(auto, using(crate::proofs::Starting::starting, pt_state::proofs::Counting::calls))]
+#![tactic(auto, using(crate::proofs::Starting::starting))]
 //! The source has to be a Pairtree store with a good prefix.
-ghost use Rattle.std.specs.Prelude.{◌≡◌, [], None, Some, IfOk, IfErr, slice_get};
+ghost use Rattle.std.specs.Prelude.{◌≡◌, [], None, IfOk, IfErr, slice_get};
 ghost use Rattle.std.specs.String.{string_bytes};
 ghost use Rattle.pt_name.specs.Prefix.{prefix_refusal, without_line_ends};
-ghost use Rattle.pt_plan.specs.Job.{Job};
 ghost use Rattle.pt_plan.specs.Permits.{MayOpenPrefix};
-ghost use Rattle.pt_plan.specs.Run.{Counts, Held, Kept};
 ghost use Rattle.pt_plan.specs.TurnStart.{is_dir_kind, is_file_kind, kind_in as kind_in_of, lists_store};
 ghost use Rattle.pt_plan.specs.declared.phase.Phase.TheVariants as phase;
 ghost use Rattle.pt_tree.specs.Source.{CanList};
-ghost use Rattle.pt_state.specs.Counting.{AtMostCalls};
-ghost use Rattle.pt_state.specs.Turned.{SourceTurns};
+ghost use Rattle.pt_state.specs.Outside.{Turned};
 ghost use Rattle.pt_start.specs.Starting.{PrefixFails, kind_if_named};
 
 use pt_name::{PrefixFault, read_prefix};
 use pt_plan::{Halt, Phase};
-use pt_state::calls;
 use pt_state::files::read_first;
 use pt_state::paths::{PAIRTREE_ROOT, PREFIX_FILE, VERSION_FILE, path_of};
-use pt_tree::{Block, Kind, Listing, NamePath, Source};
+use pt_state::{Outside, State};
+use pt_tree::{Block, Kind, Listing, NamePath};
 use std::alloc::Global;
 
 /// Lists the top.
-pub fn begin<S: Source>(alloc: Global, source: &mut S) -> Result<Phase, Halt>
-    requires { CanList (S.told source.old) [] }
-    ensures turn { (job : Job) (kept : Kept) → SourceTurns job phase.Begin kept kept (S.told source.old) (S.told source.new) (S.failed source.old) (S.failed source.new) result }
-    ensures calls { AtMostCalls 1 (S.called source.old) (S.called source.new) }
+pub fn begin<O: Outside>(state: &State, out: &mut O) -> Result<Phase, Halt>
+    requires { CanList (O.world out.old).source [] }
+    ensures turn { Turned phase.Begin state.now state.now
+        (O.world out.old) (O.world out.new) result }
+    ensures calls { O.within 1 out.old out.new }
 {
-    let top = NamePath::new(alloc);
-    let listing = calls::list(source, &top)?;
+    let top = NamePath::new(state.alloc);
+    let listing = out.list(&top)?;
     if !is_store(&listing) {
         return Err(Halt::NotPairtree);
     }
@@ -84,32 +82,28 @@ fn kind_at(listing: &Listing, i: usize, name: &str) -> Option<Kind>
 }
 
 /// Reads the prefix file, if it is there.
-pub fn prefix<S: Source>(
-    alloc: Global,
-    here: Option<Kind>,
-    prefix: &mut String,
-    block: &mut Block,
-    source: &mut S,
-) -> Result<Phase, Halt>
-    requires { MayOpenPrefix (S.told source.old) here }
-    ensures turn { (job : Job) (held : Held) (counts : Counts) → SourceTurns job (phase.Prefix here) (record { prefix = string_bytes prefix.old; held = held; counts = counts }) (record { prefix = string_bytes prefix.new; held = held; counts = counts }) (S.told source.old) (S.told source.new) (S.failed source.old) (S.failed source.new) result }
-    ensures calls { AtMostCalls 2 (S.called source.old) (S.called source.new) }
+pub fn prefix<O: Outside>(state: &mut State, here: Option<Kind>, out: &mut O) -> Result<Phase, Halt>
+    requires { MayOpenPrefix (O.world out.old).source here }
+    ensures turn { Turned (phase.Prefix here) state.old state.new
+        (O.world out.old) (O.world out.new) result }
+    ensures calls { O.within 2 out.old out.new }
 {
     match here {
         None => return Ok(Phase::Staging),
         Some(Kind::File) => {}
         Some(_) => return Err(Halt::Prefix),
     }
-    let path = path_of(alloc, &[PREFIX_FILE])?;
-    read_first(source, &path, block)?;
-    *prefix = prefix_of(alloc, block)?;
+    let path = path_of(state.alloc, &[PREFIX_FILE])?;
+    read_first(out, &path, &mut state.block)?;
+    state.prefix = prefix_of(state.alloc, &state.block)?;
     Ok(Phase::Staging)
 }
 
 // The prefix in the prefix file's first block.
 fn prefix_of(alloc: Global, block: &Block) -> Result<String, Halt>
     ensures good { IfOk result (λ prefix. prefix_refusal block.now.items ≡ None) }
-    ensures prefix { IfOk result (λ prefix. string_bytes prefix ≡ without_line_ends block.now.items) }
+    ensures prefix { IfOk result
+        (λ prefix. string_bytes prefix ≡ without_line_ends block.now.items) }
     ensures err { IfErr result (PrefixFails block.now.items) }
 {
     match read_prefix(alloc, block.as_slice()) {

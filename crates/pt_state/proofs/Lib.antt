@@ -1,7 +1,5 @@
-pub mod Calling
-pub mod Counting
 pub mod Extending
-pub mod Filing
-pub mod Putting
-pub mod Turning
-pub mod Whole
+pub mod Asking
+pub mod Together
+pub mod Turns
+pub mod LineTexts

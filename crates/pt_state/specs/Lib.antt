@@ -1,5 +1,4 @@
-pub mod Calls
 pub mod Counting
 pub mod Lines
 pub mod States
-pub mod Turned
+pub mod Outside

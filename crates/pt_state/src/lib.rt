@@ -1,13 +1,14 @@
 //! What a run holds, the calls that it makes of its devices, and the lines that it tells.
 #![tactic(auto)]
 
-pub mod calls;
 pub mod files;
 mod job;
 pub mod lines;
+pub mod outside;
 pub mod paths;
 pub mod site;
 mod state;
 
 pub use job::{Job, Report};
+pub use outside::{Devices, Outside};
 pub use state::State;

@@ -1,20 +1,18 @@
-#![tactic(auto, using(crate::proofs::Putting::putting))]
+#![tactic(auto, using(crate::proofs::LineTexts::texts))]
 //! The lines of a run's log: each one compact JSON object with its keys in byte order, and LF. A line is counted where it
 //! was put whole.
-ghost use Rattle.std.specs.Prelude.{◌≡◌, ◌<◌, ◌^◌, ◌++◌, [], ◌∷◌, IfErr, IfOk, OnOk, OnErr, false};
-ghost use Rattle.std.specs.Io.KnownBytes.{Appends};
+ghost use Rattle.std.specs.Prelude.{◌≡◌, ◌<◌, ◌^◌, IfErr, IfOk, OnOk, OnErr};
 ghost use Rattle.serde_json.specs.Data.{number, put as put_member, string, unsigned};
 ghost use Rattle.serde_json.specs.View.{members_view, view};
-ghost use Rattle.serde_json.specs.Written.{compact_text, has_float};
-ghost use Rattle.pt_tree.specs.Log.{AppendsFront};
 ghost use Rattle.pt_plan.specs.Lines.{Line, Done as DoneLine, Present as PresentLine, Skipped as SkippedLine, End as EndLine};
-ghost use Rattle.pt_state.specs.Calls.{LogGot, LogGotFront};
+ghost use Rattle.pt_plan.specs.Turn.{Did, LeavesSome};
+ghost use Rattle.pt_plan.specs.World.{tells};
 ghost use Rattle.pt_state.specs.Lines.{IsTreeOf, with_done, with_present, with_skipped};
 
-use crate::Report;
 use crate::paths::text_of;
+use crate::{Outside, Report};
 use pt_plan::{Halt, Identifier};
-use pt_tree::{Log, MemoryFault, NamePath};
+use pt_tree::{MemoryFault, NamePath};
 use pt_walk::Cause;
 use serde_json::{Map, Value};
 use std::alloc::{AllocError, Global};
@@ -37,26 +35,32 @@ pub struct Done<'a> {
 }
 
 /// Tells that an object was carried.
-pub fn put_done<L: Log>(
+pub fn put_done<O: Outside>(
     alloc: Global,
-    log: &mut L,
+    out: &mut O,
     object: &Done<'_>,
     counts: &mut Report,
 ) -> Result<(), Halt>
     requires { counts.old.done < 2 ^ 40 }
     ensures ok { OnOk result (counts.new ≡ with_done counts.old) }
     ensures err { OnErr result (counts.new ≡ counts.old) }
-    ensures line { OnOk result (LogGot (DoneLine object.now.at.now object.now.bytes object.now.empty object.now.files object.now.id.now object.now.to.now) (L.told log.old) (L.told log.new) (L.failed log.old) (L.failed log.new)) }
-    ensures front { IfErr result (λ why. LogGotFront (DoneLine object.now.at.now object.now.bytes object.now.empty object.now.files object.now.id.now object.now.to.now) why (L.told log.old) (L.told log.new) (L.failed log.old) (L.failed log.new)) }
+    ensures line { OnOk result (Did (tells (DoneLine object.now.at.now object.now.bytes
+        object.now.empty object.now.files object.now.id.now object.now.to.now))
+        (O.world out.old) (O.world out.new)) }
+    ensures front { IfErr result (λ why. LeavesSome (tells (DoneLine object.now.at.now
+        object.now.bytes object.now.empty object.now.files object.now.id.now object.now.to.now))
+        why (O.world out.old) (O.world out.new)) }
+    ensures calls { O.within 0 out.old out.new }
 {
     let value = done_line(alloc, object)?;
-    put(alloc, log, &value)?;
+    put(alloc, out, &value)?;
     counts.done += 1;
     Ok(())
 }
 
 fn done_line(alloc: Global, object: &Done<'_>) -> Result<Value, MemoryFault>
-    ensures { IfOk result (λ value. IsTreeOf (DoneLine object.now.at.now object.now.bytes object.now.empty object.now.files object.now.id.now object.now.to.now) (view value)) }
+    ensures { IfOk result (λ value. IsTreeOf (DoneLine object.now.at.now object.now.bytes
+        object.now.empty object.now.files object.now.id.now object.now.to.now) (view value)) }
 {
     let at = text_of(object.at)?;
     let to = text_of(object.to)?;
@@ -72,9 +76,9 @@ fn done_line(alloc: Global, object: &Done<'_>) -> Result<Value, MemoryFault>
 }
 
 /// Tells that an object's place is taken already.
-pub fn put_present<L: Log>(
+pub fn put_present<O: Outside>(
     alloc: Global,
-    log: &mut L,
+    out: &mut O,
     at: &NamePath,
     id: &Identifier,
     to: &NamePath,
@@ -83,11 +87,14 @@ pub fn put_present<L: Log>(
     requires { counts.old.present < 2 ^ 40 }
     ensures ok { OnOk result (counts.new ≡ with_present counts.old) }
     ensures err { OnErr result (counts.new ≡ counts.old) }
-    ensures line { OnOk result (LogGot (PresentLine at.now id.now to.now) (L.told log.old) (L.told log.new) (L.failed log.old) (L.failed log.new)) }
-    ensures front { IfErr result (λ why. LogGotFront (PresentLine at.now id.now to.now) why (L.told log.old) (L.told log.new) (L.failed log.old) (L.failed log.new)) }
+    ensures line { OnOk result (Did (tells (PresentLine at.now id.now to.now))
+        (O.world out.old) (O.world out.new)) }
+    ensures front { IfErr result (λ why. LeavesSome (tells (PresentLine at.now id.now to.now)) why
+        (O.world out.old) (O.world out.new)) }
+    ensures calls { O.within 0 out.old out.new }
 {
     let value = present_line(alloc, at, id, to)?;
-    put(alloc, log, &value)?;
+    put(alloc, out, &value)?;
     counts.present += 1;
     Ok(())
 }
@@ -111,9 +118,9 @@ fn present_line(
 }
 
 /// Tells that a site, or a shorty that isn't walked, was passed over.
-pub fn put_skip<L: Log>(
+pub fn put_skip<O: Outside>(
     alloc: Global,
-    log: &mut L,
+    out: &mut O,
     at: &NamePath,
     cause: Cause,
     counts: &mut Report,
@@ -121,11 +128,14 @@ pub fn put_skip<L: Log>(
     requires { counts.old.skipped < 2 ^ 40 }
     ensures ok { OnOk result (counts.new ≡ with_skipped counts.old) }
     ensures err { OnErr result (counts.new ≡ counts.old) }
-    ensures line { OnOk result (LogGot (SkippedLine at.now cause) (L.told log.old) (L.told log.new) (L.failed log.old) (L.failed log.new)) }
-    ensures front { IfErr result (λ why. LogGotFront (SkippedLine at.now cause) why (L.told log.old) (L.told log.new) (L.failed log.old) (L.failed log.new)) }
+    ensures line { OnOk result (Did (tells (SkippedLine at.now cause))
+        (O.world out.old) (O.world out.new)) }
+    ensures front { IfErr result (λ why. LeavesSome (tells (SkippedLine at.now cause)) why
+        (O.world out.old) (O.world out.new)) }
+    ensures calls { O.within 0 out.old out.new }
 {
     let value = skip_line(alloc, at, cause)?;
-    put(alloc, log, &value)?;
+    put(alloc, out, &value)?;
     counts.skipped += 1;
     Ok(())
 }
@@ -142,16 +152,20 @@ fn skip_line(alloc: Global, at: &NamePath, cause: Cause) -> Result<Value, Memory
 }
 
 /// Tells that the run is done.
-pub fn put_end<L: Log>(alloc: Global, log: &mut L, counts: &Report) -> Result<(), Halt>
-    ensures line { OnOk result (LogGot (EndLine counts.now.done counts.now.present counts.now.skipped) (L.told log.old) (L.told log.new) (L.failed log.old) (L.failed log.new)) }
-    ensures front { IfErr result (λ why. LogGotFront (EndLine counts.now.done counts.now.present counts.now.skipped) why (L.told log.old) (L.told log.new) (L.failed log.old) (L.failed log.new)) }
+pub fn put_end<O: Outside>(alloc: Global, out: &mut O, counts: &Report) -> Result<(), Halt>
+    ensures line { OnOk result (Did (tells (EndLine counts.now.done counts.now.present
+        counts.now.skipped)) (O.world out.old) (O.world out.new)) }
+    ensures front { IfErr result (λ why. LeavesSome (tells (EndLine counts.now.done
+        counts.now.present counts.now.skipped)) why (O.world out.old) (O.world out.new)) }
+    ensures calls { O.within 0 out.old out.new }
 {
     let value = end_line(alloc, counts)?;
-    put(alloc, log, &value)
+    put(alloc, out, &value)
 }
 
 fn end_line(alloc: Global, counts: &Report) -> Result<Value, AllocError>
-    ensures { IfOk result (λ value. IsTreeOf (EndLine counts.now.done counts.now.present counts.now.skipped) (view value)) }
+    ensures { IfOk result (λ value. IsTreeOf (EndLine counts.now.done counts.now.present
+        counts.now.skipped) (view value)) }
 {
     let mut members = Map::new(alloc);
     put_text(&mut members, alloc, "as", "end")?;
@@ -162,17 +176,17 @@ fn end_line(alloc: Global, counts: &Report) -> Result<Value, AllocError>
 }
 
 // Puts the line that this is the JSON of.
-fn put<L: Log>(alloc: Global, log: &mut L, value: &Value) -> Result<(), Halt>
+fn put<O: Outside>(alloc: Global, out: &mut O, value: &Value) -> Result<(), Halt>
     requires { (line : Line) × IsTreeOf line (view value.now) }
-    ensures line { (line : Line) → IsTreeOf line (view value.now) → OnOk result (LogGot line (L.told log.old) (L.told log.new) (L.failed log.old) (L.failed log.new)) }
-    ensures front { (line : Line) → IsTreeOf line (view value.now) → IfErr result (λ why. LogGotFront line why (L.told log.old) (L.told log.new) (L.failed log.old) (L.failed log.new)) }
+    ensures line { (line : Line) → IsTreeOf line (view value.now)
+        → OnOk result (Did (tells line) (O.world out.old) (O.world out.new)) }
+    ensures front { (line : Line) → IsTreeOf line (view value.now)
+        → IfErr result (λ why. LeavesSome (tells line) why (O.world out.old) (O.world out.new)) }
+    ensures calls { O.within 0 out.old out.new }
 {
     let mut text = value.to_string(alloc)?;
     text.push_str("\n")?;
-    match log.put(text.as_bytes()) {
-        Ok(()) => Ok(()),
-        Err(fault) => Err(Halt::of_log(fault)),
-    }
+    out.put(text.as_bytes())
 }
 
 // Puts a text at a key.
@@ -182,7 +196,8 @@ fn put_text(
     key: &str,
     text: &str,
 ) -> Result<(), AllocError>
-    ensures { OnOk result (members_view members.new.entries ≡ put_member key.now (string text.now) (members_view members.old.entries)) }
+    ensures { OnOk result (members_view members.new.entries
+        ≡ put_member key.now (string text.now) (members_view members.old.entries)) }
 {
     let text = String::from_str(alloc, text)?;
     serde_json::put(members, alloc, key, Value::from(text))
@@ -195,7 +210,8 @@ fn put_number(
     key: &str,
     n: u64,
 ) -> Result<(), AllocError>
-    ensures { OnOk result (members_view members.new.entries ≡ put_member key.now (number (unsigned n)) (members_view members.old.entries)) }
+    ensures { OnOk result (members_view members.new.entries
+        ≡ put_member key.now (number (unsigned n)) (members_view members.old.entries)) }
 {
     serde_json::put(members, alloc, key, Value::from(n))
 }

@@ -114,7 +114,8 @@ pub fn source_path(
     trail: &Trail,
     path: &NamePath,
 ) -> Result<NamePath, MemoryFault>
-    ensures { IfOk result (λ whole. whole ≡ in_pairtree_of (path_of_source object.now trail.now ++ path.now)) }
+    ensures { IfOk result (λ whole. whole
+        ≡ in_pairtree_of (path_of_source object.now trail.now ++ path.now)) }
 {
     let directory = object_path(object, trail)?;
     extended(in_pairtree(alloc, &directory)?, path.names())

@@ -1,4 +1,4 @@
-use Rattle.std.proofs.Common.{rules, arith, ◌≡◌, ◌-◌, length, subst, Ok}
+use Rattle.std.proofs.Common.{rules, arith, ◌≡◌, ◌∙◌, ◌-◌, length, subst, Ok}
 use Rattle.pt_folder.proofs.Blocks.{read_more}
 use Rattle.pt_folder.proofs.Turns.{reads_more, reads_none}
 use Rattle.pt_folder.proofs.bytes.fill.Goals as goal
@@ -8,7 +8,8 @@ loop-done-preserved g c =
     let whole : length c.read_piece.new.buffer ≡ length c.loop-done.buffer - c.loop-done.done = omega (arith, c.read_piece.auto.buffer) in
     record {
       within = search rules;
-      taken = read_more _ _ _ c.loop-done.buffer c.read_piece.new.buffer c.loop-done.done _ c.in_ok-count.count c.loop-done.invariant.within c.in_ok-count.ensures.bound.0 c.loop-done.invariant.taken c.in_ok-count.ensures.bytes.0;
+      taken = read_more _ _ _ c.loop-done.buffer c.read_piece.new.buffer c.loop-done.done _ c.in_ok-count.count c.loop-done.invariant.within c.in_ok-count.ensures.bound.0 c.loop-done.invariant.taken c.in_ok-count.ensures.given.0;
+      same = c.read_piece.ensures.same ∙ c.loop-done.invariant.same;
       read = reads_more g.F.Input.reads (length c.args.buffer.now) c.args.file.now c.loop-done.file c.read_piece.new.self c.loop-done.buffer c.read_piece.new.buffer c.loop-done.done c.loop-done.auto.buffer c.loop-done.invariant.within whole c.loop-done.invariant.read c.in_ok-count.count c.in_ok-count.ensures.bound.0 c.if-count-eq0.false c.in_ok-count.ensures.read;
     }
 

@@ -1,6 +1,8 @@
-use Rattle.std.proofs.Common.{rules, lit<, length, ◌≡◌, ◌<◌, ◌⊎◌, ◌∷◌, [], ◌++◌, inl, inr, ◌∙◌, ap, arith, string_bytes}
+use Rattle.std.proofs.Common.{rules, lit<, length, ◌≡◌, ◌<◌, ◌⊎◌, ◌∷◌, [], ◌++◌, inl, inr, ◌∙◌, ap, arith, string_bytes, true, get_or}
 use Rattle.std.specs.Prelude.{slice_get, Some, None}
-use Rattle.std.proofs.lemmas.Option.{slice_get-get_or}
+use Rattle.std.proofs.lemmas.Option.{get_or_from_slice_get, slice_get-get_or}
+use Rattle.std.proofs.lemmas.List.Elements.{All-more}
+use Rattle.pt_tree.specs.Name.{is_name}
 use Rattle.pt_folder.proofs.Texts.{text_more}
 use Rattle.pt_folder.proofs.folder.path_text.Goals as goal
 use Rattle.pt_folder.proofs.folder.path_text.Goals.{then-i-gt0+in_ok-push-2, else-i-gt0, in-Some+in_ok-push_str-2, in_default}
@@ -18,8 +20,13 @@ loop-i-preserved c =
     elim c.match-get.branch [
       | in-Some+in_ok-push_str-2 w ↦
           let at : slice_get c.args.path.now c.loop-i.i ≡ Some w.in-Some.name.now = search rules in
-          let pushed : string_bytes c.match-get.text ≡ before ++ w.in-Some.name.now = ap string_bytes w.text-is ∙ w.in_ok-push_str-2.ensures.bytes ∙ ap (λ l. before ++ l) w.name_text.ensures in
-          pushed ∙ text_more c.args.folder.now c.args.path.now c.loop-i.i w.in-Some.name.now text before at c.loop-i.invariant how
+          let pushed : string_bytes c.match-get.text ≡ before ++ w.in-Some.name.now = ap string_bytes w.text-is ∙ w.in_ok-push_str-2.ensures.bytes ∙ ap (λ l. before ++ l) w.name_text.ensures.same in
+          let named : is_name w.in-Some.name.now ≡ true = w.name_text.ensures.named in
+          let here : is_name (get_or c.args.path.now c.loop-i.i w.in-Some.name.now) ≡ true = ap is_name (get_or_from_slice_get c.args.path.now c.loop-i.i w.in-Some.name.now w.in-Some.name.now at) ∙ named in
+          record {
+            text = pushed ∙ text_more c.args.folder.now c.args.path.now c.loop-i.i w.in-Some.name.now text before at c.loop-i.invariant.text how;
+            named = All-more (λ n. is_name n ≡ true) c.args.path.now c.loop-i.i w.in-Some.name.now (omega arith) c.loop-i.invariant.named here;
+          }
       | in_default w ↦
           let at : slice_get c.args.path.now c.loop-i.i ≡ None = search rules in
           let within : c.loop-i.i < length c.args.path.now = omega arith in

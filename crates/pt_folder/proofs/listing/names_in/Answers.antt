@@ -16,7 +16,7 @@ returns-in-Ok-clause-asked g c =
       c.in-Ok.ensures,
       (
         after,
-        each_way c.read_names.result (λ names. GetsNames reads dir names.items after) (λ names. IfSome (g.S.Dir.Read.remaining dir) (λ bytes. GivesNames bytes names.items))
+        each_way c.read_names.result (λ names. GetsNames reads dir names.items after) (λ names. IfSome (g.S.Dir.Input.left dir) (λ bytes. GivesNames bytes names.items))
             (λ f. IsDueTo f (FailsToGet reads most_entries dir after)) c.read_names.ensures.read c.read_names.ensures.names fault,
       ),
     )

@@ -9,7 +9,7 @@ loop-preserved g c =
     let whole : length buffer ≡ 8192 = c.read_piece.auto.buffer ∙ c.loop.invariant.piece in
     record {
       most = c.in_ok-add_names-in-Ok.ensures.most;
-      names = reads_one _ _ _ c.loop.names.items c.add_names.new.names.items _ _ c.loop.invariant.names c.in-Ok.ensures.bytes.0 (ap (λ n. take n buffer) (omega arith)) c.in_ok-add_names-in-Ok.ensures.names;
+      names = reads_one _ _ _ c.loop.names.items c.add_names.new.names.items _ _ c.loop.invariant.names c.in-Ok.ensures.given.0 (ap (λ n. take n buffer) (omega arith)) c.in_ok-add_names-in-Ok.ensures.names;
       piece = whole;
       reads = names_more g.D.Input.reads c.args.most c.args.dir.now c.loop.dir c.read_piece.new.self c.loop.names.items buffer c.loop.counter c.loop.invariant.reads whole c.in-Ok.count c.add_names.new.names.items _ c.in-Ok.ensures.bound.0 c.in-Ok.count-test.1 c.in-Ok.ensures.read (ap (λ n. take n buffer) (omega arith)) c.in_ok-add_names-in-Ok.ensures.names;
     }

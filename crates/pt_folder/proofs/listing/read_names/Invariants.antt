@@ -9,7 +9,7 @@ use Rattle.pt_folder.proofs.listing.read_names.Given as goal
 abbrev pub invariant-loop : goal.invariant-loop
 invariant-loop g l = record {
   most : vec_len l.names ≤ l.most;
-  names : (read : List ℕ) × Consumes (g.D.Read.remaining l.fn.dir) (g.D.Read.remaining l.dir) read × GivesNames read l.names.items;
+  names : (read : List ℕ) × Consumes (g.D.Input.left l.fn.dir) (g.D.Input.left l.dir) read × GivesNames read l.names.items;
   piece : length l.piece ≡ 8192;
   reads : (pieces : List (List ℕ)) × (length pieces ≡ l.counter) × FoldsTo (ReadsNames g.D.Input.reads) (l.fn.dir, []) pieces (l.dir, l.names.items);
 }

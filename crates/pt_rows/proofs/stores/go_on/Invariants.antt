@@ -1,4 +1,4 @@
-use Rattle.pt_state.specs.Turned.{world}
+use Rattle.pt_state.specs.Outside.{world}
 use Rattle.pt_move.specs.Running.{HasBegun}
 use Rattle.pt_rows.proofs.stores.go_on.Given as goal
 

@@ -1,4 +1,4 @@
-use Rattle.pt_scan.proofs.ObjectTurns.{may_open_entry}
+use Rattle.pt_scan.proofs.ScanTurns.{may_open_entry}
 use Rattle.pt_scan.proofs.scanning.meet_file.Goals as goal
 
 pub open-requires : goal.open-requires

@@ -1,0 +1,101 @@
+-- What a destination tells after a call, by the laws of its system.
+use Rattle.std.proofs.Common.{◌≡◌, ℕ, ◌+◌, List, [], ◌∷◌, ◌++◌, refl, sym, ap, subst, ◌∙◌, inl, inr, arith, take, drop, append-nil}
+use Rattle.std.specs.Prelude.{◌⊎◌, ◌<◌, Option, None, Some, IsSome, Result, Ok, Err, IfOk, OnOk, OnErr, cond, is_some, Bool, true, false, MatchResult}
+use Rattle.std.specs.Option.{option_map, ForSome}
+use Rattle.std.specs.List.{FoldsTo}
+use Rattle.std.specs.Fs.{file_type}
+use Rattle.std.specs.declared.fs.Metadata.{Metadata}
+use Rattle.std.specs.declared.io.Error.{Error}
+use Rattle.std.proofs.Math.Seq.{take-add}
+use Rattle.std.proofs.lemmas.List.{drop-drop, take-append-drop}
+use Rattle.pt_tree.specs.declared.kind.Kind.{Kind}
+use Rattle.pt_tree.specs.declared.faults.TreeFault.{TreeFault}
+use Rattle.pt_tree.specs.Path.{Path, rest_below}
+use Rattle.pt_tree.specs.Tree.{Tree, Entry, Bytes, Folder, Special, kind_of_entry, put, added, moved, CanMake, CanMove}
+use Rattle.pt_tree.specs.Dest.{Writing, IsKindAt, MayMake, MayMove, CanWrite, LeavesPart, after_mkdir, after_create, after_append, after_rename, open_unless_below}
+use Rattle.pt_folder.specs.declared.writing.Writing.{Writing as Open}
+use Rattle.pt_folder.specs.Calls.{AsksOnce, IsAnswer, IsNotMade, LeadsToKind, MakesOnce}
+use Rattle.pt_folder.specs.DestLaws.{Becomes, DirLaw, Kept, KindLaw, LooksRight, MakesDir}
+use Rattle.pt_folder.proofs.Types.{right_kind}
+use Rattle.pt_folder.specs.DestHeld.{told_of, IsPlaced}
+
+right_kind_here : (here : Option Entry) (reply : Result Metadata Error) (k : Option Kind) → LooksRight here reply → LeadsToKind reply (Ok k) → option_map kind_of_entry here ≡ k
+right_kind_here None (Ok m) k right leads = absurd right
+right_kind_here (Some e) (Ok m) None right leads = absurd leads
+right_kind_here (Some e) (Ok m) (Some k) right leads = right_kind (Some (kind_of_entry e)) (file_type m) k right leads
+right_kind_here here (Err e) None right leads = ap (option_map kind_of_entry) (right leads)
+right_kind_here here (Err e) (Some k) right leads = absurd leads
+
+-- what is told of a tree
+abbrev pub told_at : {F : Type 0} → Option (Open F) → Tree → Writing
+told_at w t = record { tree = t; writing = option_map (λ w. w.path) w }
+
+-- a condition on what is told, on the tree that is kept
+pub may_make : {F : Type 0} (w : Option (Open F)) (o : Option Tree) (p : Path) → MayMake (option_map (told_at w) o) p → ForSome o (λ t. CanMake t p)
+unfolding MayMake
+may_make w o p h = λ t is. h (told_at w t) (ap (option_map (told_at w)) is)
+
+pub may_move : {F : Type 0} (w : Option (Open F)) (o : Option Tree) (from to : Path) → MayMove (option_map (told_at w) o) from to → ForSome o (λ t. CanMove t from to)
+unfolding MayMove
+may_move w o from to h = λ t is. h (told_at w t) (ap (option_map (told_at w)) is)
+
+-- the tree becomes another
+pub told_becomes : {F : Type 0} (w : Option (Open F)) (o : Option Tree) (change : Tree → Tree) (after : Writing → Writing) → ((t : Tree) → told_at w (change t) ≡ after (told_at w t))
+    → option_map (told_at w) (option_map change o) ≡ option_map after (option_map (told_at w) o)
+told_becomes w None change after h = refl
+told_becomes w (Some t) change after h = ap Some (h t)
+
+pub placed_becomes : {F : Type 0} (w : Option (Open F)) (o : Option Tree) (change : Tree → Tree) (place : F → Option Path)
+    → ForSome o (λ _. ForSome w (λ w. place w.file ≡ Some w.path)) → ForSome (option_map change o) (λ _. ForSome w (λ w. place w.file ≡ Some w.path))
+placed_becomes w None change place is = λ t e. absurd (cc)
+placed_becomes w (Some t) change place is = λ s e. is t refl
+
+kind_is : {F : Type 0} (w : Option (Open F)) (o : Option Tree) (p : Path) (k : Option Kind) → ForSome o (λ t. option_map kind_of_entry (t p) ≡ k) → IsKindAt (option_map (told_at w) o) p k
+unfolding IsKindAt
+kind_is w None p k h = λ s is. absurd (cc)
+kind_is w (Some t) p k h = λ s is. let same : told_at w t ≡ s = cc in subst (λ (s : Writing). option_map kind_of_entry (s.tree p) ≡ k) same (h t refl)
+
+module _ {S F : Type 0} (kept : S → List ℕ → Kept F) (folder : List ℕ) where
+  -- a look at an entry
+  pub kind_keeps : {T : Type 0} (looks : S → List ℕ → Result Metadata Error → S → Type 0) → KindLaw kept looks → (leads : Result Metadata Error → Result T TreeFault → Type 0) (old new : S) (p : Path) (result : Result T TreeFault)
+      → AsksOnce looks leads folder p old new result → kept new folder ≡ kept old folder
+  kind_keeps looks law leads old new p result (inl none) = ap (λ s. kept s folder) none.0
+  kind_keeps looks law leads old new p result (inr asked) = (law old new folder p asked.reply asked.named asked.made).same
+
+  pub kind_tells : (looks : S → List ℕ → Result Metadata Error → S → Type 0) → KindLaw kept looks → (old new : S) (p : Path) (result : Result (Option Kind) TreeFault) (w : Option (Open F))
+      → AsksOnce looks LeadsToKind folder p old new result → IfOk result (λ k. IsKindAt (told_of (kept old folder) w) p k)
+  kind_tells looks law old new p (Err e) w asked = tt
+  kind_tells looks law old new p (Ok k) w (inl none) = absurd none.1
+  kind_tells looks law old new p (Ok k) w (inr asked) =
+      kind_is w (kept old folder).tree p k (λ t is. right_kind_here (t p) asked.reply k ((law old new folder p asked.reply asked.named asked.made).shown t is) asked.gives)
+
+  -- a directory is made, or nothing is changed
+  pub mkdir_gives : (makes : S → List ℕ → Result (Unit {0}) Error → S → Type 0) → DirLaw kept makes → (old new : S) (p : Path) (longest : ℕ) (result : Result (Unit {0}) TreeFault)
+      → ForSome (kept old folder).tree (λ t. CanMake t p) → MakesOnce longest makes IsAnswer folder p old new result
+      → MatchResult result (λ _. Becomes (λ t. put t p Folder) (kept old folder) (kept new folder)) (λ _. kept new folder ≡ kept old folder)
+  mkdir_gives makes law old new p longest (Ok x) can (inl none) = absurd none.1
+  mkdir_gives makes law old new p longest (Err e) can (inl none) = ap (λ s. kept s folder) none.0
+  mkdir_gives makes law old new p longest result can (inr asked) = by asked.reply result asked.gives (law old new folder p asked.reply asked.named can asked.made)
+    where
+      by : (reply : Result (Unit {0}) Error) (result : Result (Unit {0}) TreeFault) → IsAnswer reply result → MakesDir (kept old folder) (kept new folder) p reply
+          → MatchResult result (λ _. Becomes (λ t. put t p Folder) (kept old folder) (kept new folder)) (λ _. kept new folder ≡ kept old folder)
+      by (Ok x) (Ok y) gives is = is
+      by (Ok x) (Err f) gives is = absurd (cc)
+      by (Err e) (Ok y) gives is = absurd (cc)
+      by (Err e) (Err f) gives is = is
+
+  module _ (w : Option (Open F)) (old new : S) where
+    pub mkdir_made : (p : Path) (result : Result (Unit {0}) TreeFault) → MatchResult result (λ _. Becomes (λ t. put t p Folder) (kept old folder) (kept new folder)) (λ _. kept new folder ≡ kept old folder)
+        → OnOk result (told_of (kept new folder) w ≡ option_map (after_mkdir p) (told_of (kept old folder) w))
+    mkdir_made p (Err e) is = tt
+    mkdir_made p (Ok x) is = ap (λ k. told_of k w) is ∙ told_becomes w (kept old folder).tree (λ t. put t p Folder) (after_mkdir p) (λ t. refl)
+
+    pub mkdir_same : (p : Path) (result : Result (Unit {0}) TreeFault) → MatchResult result (λ _. Becomes (λ t. put t p Folder) (kept old folder) (kept new folder)) (λ _. kept new folder ≡ kept old folder)
+        → OnErr result (told_of (kept new folder) w ≡ told_of (kept old folder) w)
+    mkdir_same p (Ok x) is = tt
+    mkdir_same p (Err e) is = ap (λ k. told_of k w) is
+
+    pub mkdir_placed : (p : Path) (result : Result (Unit {0}) TreeFault) → MatchResult result (λ _. Becomes (λ t. put t p Folder) (kept old folder) (kept new folder)) (λ _. kept new folder ≡ kept old folder)
+        → IsPlaced (kept old folder) w → IsPlaced (kept new folder) w
+    mkdir_placed p (Ok x) is at = subst (λ k. IsPlaced k w) (sym is) (placed_becomes w (kept old folder).tree (λ t. put t p Folder) (kept old folder).place at)
+    mkdir_placed p (Err e) is at = subst (λ k. IsPlaced k w) (sym is) at

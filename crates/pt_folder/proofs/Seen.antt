@@ -1,0 +1,82 @@
+-- Entries looked at one after another, by the law of looks.
+use Rattle.std.proofs.Common.{◌≡◌, ℕ, List, [], ◌∷◌, ◌++◌, map, true, refl, sym, ap, ◌∙◌, subst, arith, append_assoc, ◌<◌, length, get_or, zero, suc}
+use Rattle.std.specs.Prelude.{Option, None, Some, IsSome, Result, Ok, Err, IfOk, OnErr}
+use Rattle.std.specs.Option.{option_map, ForSome}
+use Rattle.std.specs.Result.{IsErrAnd}
+use Rattle.std.specs.List.{All}
+use Rattle.std.specs.Fs.{file_type}
+use Rattle.std.specs.declared.fs.Metadata.{Metadata}
+use Rattle.std.specs.declared.io.Error.{Error}
+use Rattle.std.proofs.lemmas.List.Elements.{All-append}
+use Rattle.pt_tree.specs.declared.faults.TreeFault.{TreeFault}
+use Rattle.pt_tree.specs.declared.kind.Kind.{Kind}
+use Rattle.pt_tree.specs.Forest.{Forest, Dir, dir_at, kind_of, node_at}
+use Rattle.pt_tree.specs.Listing.{Item}
+use Rattle.pt_tree.specs.Name.{is_name}
+use Rattle.pt_tree.specs.Path.{Path, joined, parent}
+use Rattle.pt_folder.specs.Folder.{entry_text}
+use Rattle.pt_folder.specs.Laws.{IsPath}
+use Rattle.pt_folder.specs.Listing.{LeadsToOwnKind, dir_front}
+use Rattle.pt_folder.specs.Seeing.{IsItem, Sees, SeesAt}
+use Rattle.pt_folder.specs.SourceLaws.{LookLaw, Looked}
+use Rattle.pt_folder.proofs.Types.{right_kind}
+use Rattle.pt_folder.proofs.Texts.{joined-push}
+
+-- the directory that an entry is in
+parent_above : (p : Path) (n : List ℕ) → parent (p ++ n ∷ []) ≡ p
+parent_above [] n = refl
+parent_above (x ∷ []) n = refl
+parent_above (x ∷ y ∷ p) n = ap (λ (q : Path). x ∷ q) (parent_above (y ∷ p) n)
+
+-- the path of an entry of the directory
+front_name : (folder : List ℕ) (p : Path) (n : List ℕ) → dir_front folder p ++ n ≡ entry_text folder (p ++ n ∷ [])
+front_name folder [] n = append_assoc folder (47 ∷ []) n
+front_name folder (x ∷ p) n =
+    two folder ((joined (x ∷ p))) n ∙ ap (λ (l : List ℕ). folder ++ 47 ∷ l) (sym (joined-push x p n))
+  where
+    two : (folder text n : List ℕ) → ((folder ++ 47 ∷ text) ++ 47 ∷ []) ++ n ≡ folder ++ 47 ∷ (text ++ 47 ∷ n)
+    two folder text n = simp append_assoc
+
+All-one : {X : Type 0} (P : X → Type 0) (x : X) → P x → All P (x ∷ [])
+All-one {X} P x is = first
+  where
+    first : (k : ℕ) (d : X) → k < length (x ∷ []) → P (get_or (x ∷ []) k d)
+    first zero d within = is
+    first (suc k) d within = absurd (omega arith)
+
+module _ {S : Type 0} (kept : S → List ℕ → Option Forest) (looks : S → List ℕ → Result Metadata Error → S → Type 0) (law : LookLaw kept looks) (front : List ℕ) (old mid new : S) where
+  looked_at : (name text : List ℕ) (reply : Result Metadata Error) → is_name name ≡ true → text ≡ front ++ name → looks mid text reply new
+      → (folder : List ℕ) (p : Path) → IsPath p → front ≡ dir_front folder p → ForSome (kept mid folder) (λ f. IsSome (dir_at f p)) → Looked (kept mid folder) (kept new folder) (p ++ name ∷ []) reply
+  looked_at name text reply named is asked folder p path begins can =
+      law mid new folder (p ++ name ∷ []) reply (All-append (λ n. is_name n ≡ true) p (name ∷ []) path (All-one (λ n. is_name n ≡ true) name named))
+      (λ f known. subst (λ q. IsSome (dir_at f q)) (sym (parent_above p name)) (can f known))
+      (subst (λ t. looks mid t reply new) (is ∙ ap (λ (l : List ℕ). l ++ name) begins ∙ front_name folder p name) asked)
+
+  pub sees_more : (listing after : List Item) (name text : List ℕ) (kind : Kind) → SeesAt kept front old mid listing → is_name name ≡ true → text ≡ front ++ name
+      → ((reply : Result Metadata Error) × looks mid text reply new × LeadsToOwnKind reply (Ok kind)) → after ≡ listing ++ (name, kind) ∷ [] → SeesAt kept front old new after
+  sees_more listing after name text kind seen named is (Err e, asked, leads) more = absurd leads
+  sees_more listing after name text kind seen named is (Ok m, asked, leads) more = λ folder p path begins can.
+      let before = seen folder p path begins can in
+      let look = looked_at name text (Ok m) named is asked folder p path begins (λ f known. can f (sym before.same ∙ known)) in
+      record {
+        same = look.same ∙ before.same;
+        seen = λ f known.
+            let here : option_map kind_of (node_at (Dir f) (p ++ name ∷ [])) ≡ Some kind = right_kind (option_map kind_of (node_at (Dir f) (p ++ name ∷ []))) (file_type m) kind (look.shown f (before.same ∙ known)) leads in
+            subst (All (IsItem f p)) (sym more) (All-append (IsItem f p) listing ((name, kind) ∷ []) (before.seen f known) (All-one (IsItem f p) (name, kind) here));
+      }
+
+  -- what is kept stays, whatever the look gave
+  pub sees_fail : (listing : List Item) (name text : List ℕ) (r : Result Kind TreeFault) → SeesAt kept front old mid listing → is_name name ≡ true → text ≡ front ++ name
+      → ((reply : Result Metadata Error) × looks mid text reply new × LeadsToOwnKind reply r) → SeesAt kept front old new []
+  sees_fail listing name text r seen named is (reply, asked, leads) = λ folder p path begins can. let before = seen folder p path begins can in record {
+    same = (looked_at name text reply named is asked folder p path begins (λ f known. can f (sym before.same ∙ known))).same ∙ before.same;
+    seen = λ f known. λ k d within. absurd (omega arith);
+  }
+
+-- the same with fewer entries
+pub sees_none : {S : Type 0} (kept : S → List ℕ → Option Forest) (front : List ℕ) (old new : S) (listing : List Item) → SeesAt kept front old new listing → SeesAt kept front old new []
+sees_none kept front old new listing seen = λ folder p path begins can. record { same = (seen folder p path begins can).same; seen = λ f known. λ k d within. absurd (omega arith) }
+
+pub on_err : {T E : Type 0} (r : Result T E) (P : Type 0) → P → OnErr r P
+on_err (Ok x) P h = tt
+on_err (Err e) P h = h

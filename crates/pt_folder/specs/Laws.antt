@@ -1,0 +1,27 @@
+-- What the laws of a system speak of.
+use Rattle.std.specs.Prelude.{◌≡◌, ◌<◌, ℕ, true, List, length, take, drop, Option, None, Some}
+use Rattle.std.specs.Option.{option_map}
+use Rattle.std.specs.List.{All}
+use Rattle.std.specs.Io.KnownBytes.{Consumes, IsAtEnd}
+use Rattle.std.specs.declared.fs.FileType.{FileType}
+use Rattle.pt_tree.specs.declared.kind.Kind.{Kind}
+use Rattle.pt_tree.specs.Name.{is_name}
+use Rattle.pt_tree.specs.Path.{Path}
+use Rattle.pt_folder.specs.Folder.{IsKind}
+
+-- names that entries may have
+abbrev pub IsPath : Path → Type 0
+IsPath p = All (λ n. is_name n ≡ true) p
+
+-- so many of the next bytes are in the buffer; none only at the end, or where the buffer has no room
+abbrev pub Gives : Option (List ℕ) → Option (List ℕ) → ℕ → List ℕ → Type 0
+Gives old new n buffer = Consumes old new (take n buffer) × (n ≡ 0 → 0 < length buffer → IsAtEnd new)
+
+-- it stands behind so many of its bytes
+abbrev pub GoesRight : Option (List ℕ) → Option (List ℕ) → ℕ → Type 0
+GoesRight bytes left place = left ≡ option_map (drop place) bytes
+
+-- what a look may show where an entry of this kind stands, or none does
+abbrev pub Shows : Option Kind → FileType → Type 0
+Shows None t = ⊥
+Shows (Some kind) t = IsKind t kind

@@ -1,0 +1,124 @@
+//! The runtime's own files as a system. It keeps nothing: what becomes of the folders isn't told.
+ghost use Rattle.std.specs.Prelude.{⊤, ◌≡◌};
+ghost use Rattle.pt_folder.specs.Untold.{no_forest, no_kept, unknown, untold_dir, untold_file, untold_kind, untold_look, untold_move, untold_names, untold_open, untold_peek, untold_proper, untold_tree, untold_write};
+
+use crate::system::{Handle, Input, System};
+use std::fs::{Metadata, OpenFile, OpenOptions};
+use std::io;
+use std::io::{Read, Seek, SeekFrom, Write};
+use std::rt::Files;
+
+/// An open file of the runtime, or the names in a directory.
+#[derive(Drop)]
+pub struct HostFile<F> {
+    file: F,
+}
+
+impl<F> HostFile<F> {
+    /// A file that the runtime opened.
+    pub fn new(file: F) -> HostFile<F>
+        ensures { result ≡ record { file = file } }
+    {
+        HostFile { file }
+    }
+}
+
+impl<F: Read> Input for HostFile<F> {
+    ghost bytes = { unknown };
+
+    ghost left = { unknown };
+
+    ghost reads = { λ _ _ _ _. ⊤ };
+
+    fn read_piece(&mut self, buffer: &mut [u8]) -> io::Result<usize> {
+        self.file.read(buffer)
+    }
+}
+
+impl<F: Read + Seek + OpenFile> Handle for HostFile<F> {
+    ghost goes = { λ _ _ _ _. ⊤ };
+
+    ghost syncs = { λ _ _ _. ⊤ };
+
+    fn go_to(&mut self, place: u64) -> io::Result<u64> {
+        self.file.seek(SeekFrom::Start(place))
+    }
+
+    fn sync(&mut self) -> io::Result<()> {
+        self.file.sync_all()
+    }
+}
+
+impl<'a, R: Files> System for &'a R {
+    type File = HostFile<R::File>;
+
+    type Dir = HostFile<R::Dir>;
+
+    ghost forest = { λ _ _. no_forest };
+
+    ghost kept = { λ _ _. no_kept };
+
+    ghost looks = { λ _ _ _ _. ⊤ };
+
+    ghost opens = { λ _ _ _ _ _. ⊤ };
+
+    ghost opens_dir = { λ _ _ _ _. ⊤ };
+
+    ghost makes_dir = { λ _ _ _ _. ⊤ };
+
+    ghost renames = { λ _ _ _ _ _. ⊤ };
+
+    ghost writes = { λ _ _ _ _ _ _. ⊤ };
+
+    ghost look_law = { λ old new folder p reply named can by. untold_look p reply };
+
+    ghost open_law = { λ old new folder p reply named can by. untold_open p reply };
+
+    ghost names_law = { λ old new folder p reply named can by. untold_names p reply };
+
+    ghost proper_law = { λ s folder f is. untold_proper f is };
+
+    ghost kind_law = { λ old new folder p reply named by. untold_kind p reply };
+
+    ghost peek_law = { λ old new folder p reply named by. untold_peek unknown p reply };
+
+    ghost dir_law = { λ old new folder p reply named can by. untold_dir _ p reply };
+
+    ghost move_law = { λ old new folder from to reply named_from named_to can by. untold_move _ from to reply };
+
+    ghost file_law = { λ old new folder p reply named can by. untold_file p reply };
+
+    ghost write_law = { λ old new folder q file after piece reply at by. untold_write q after piece reply };
+
+    ghost tree_law = { λ s folder t is. untold_tree t is };
+
+    fn look(&mut self, path: &str) -> io::Result<Metadata> {
+        self.symlink_metadata(path)
+    }
+
+    fn open_as(&mut self, how: &OpenOptions, path: &str) -> io::Result<HostFile<R::File>> {
+        match self.open_file(how, path) {
+            Ok(file) => Ok(HostFile::new(file)),
+            Err(error) => Err(error),
+        }
+    }
+
+    fn open_names(&mut self, path: &str) -> io::Result<HostFile<R::Dir>> {
+        match self.open_dir(path) {
+            Ok(dir) => Ok(HostFile::new(dir)),
+            Err(error) => Err(error),
+        }
+    }
+
+    fn make_dir(&mut self, path: &str) -> io::Result<()> {
+        self.create_dir(path)
+    }
+
+    fn move_to(&mut self, from: &str, to: &str) -> io::Result<()> {
+        self.rename(from, to)
+    }
+
+    fn write_piece(&mut self, file: &mut HostFile<R::File>, piece: &[u8]) -> io::Result<usize> {
+        file.file.write(piece)
+    }
+}

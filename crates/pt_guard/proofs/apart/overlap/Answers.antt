@@ -1,0 +1,16 @@
+use Rattle.std.proofs.Common.{List, ℕ, ◌++◌, ◌∙◌, codes, subst}
+use Rattle.pt_guard.specs.Apart.{Finds}
+use Rattle.pt_guard.proofs.apart.overlap.Goals as goal
+
+pub returns : goal.returns
+returns g c =
+    let source = c.args.source.now in
+    let dest = c.args.dest.now in
+    let finds = λ (tree : List ℕ) (root : List ℕ) (staging : List ℕ). Finds g.S.Places.resolves g.S.Places.identifies source tree dest root staging
+    c.args.system.now c.first_found.new.system c.first_found.result in
+    let tree = c.as_str.ensures.value ∙ c.in_ok-tree.ensures in
+    let root = c.as_str-2.ensures.value ∙ c.in_ok-root.ensures in
+    let staging = c.as_str-3.ensures.value ∙ c.in_ok-staging.ensures in
+    subst (λ text. finds (source ++ codes "/pairtree_root") (dest ++ codes "/ocfl") text) staging
+    (subst (λ text. finds (source ++ codes "/pairtree_root") text c.as_str-3.result.now) root
+    (subst (λ text. finds text c.as_str-2.result.now c.as_str-3.result.now) tree c.first_found.ensures))

@@ -1,0 +1,160 @@
+-- What the steps of a run over the devices as one say of the whole.
+use Rattle.std.proofs.Common.{◌≡◌, ◌≢◌, ◌<◌, ◌-◌, ◌+◌, arith, List, [], ℕ, refl, sym, subst, ap, ◌∙◌}
+use Rattle.std.specs.Prelude.{Ok, Err, Result}
+use Rattle.pt_object.specs.Hasher.{HasBeenFed}
+use Rattle.pt_plan.specs.Run.{Run, new_run, turning}
+use Rattle.pt_plan.specs.Turn.{Turn}
+use Rattle.pt_plan.specs.declared.halt.Halt.{Halt}
+use Rattle.pt_plan.specs.declared.phase.Phase.{Phase}
+use Rattle.pt_plan.specs.declared.phase.Phase.TheVariants as phase
+use Rattle.pt_plan.specs.World.{Failures, World, source_tree}
+use Rattle.pt_move.specs.Counting.{Counts}
+use Rattle.pt_move.specs.Lines.{HasTold, HasToldAll, HasToldFront}
+use Rattle.pt_move.specs.Fault.{fault_of}
+use Rattle.pt_move.specs.Running.{FedUntilEnd, IsNew, Running, run_of}
+use Rattle.pt_move.specs.Runs.{AtLimit, Finished, Halted, IsRun, NoTurn, OneMore, Turns}
+use Rattle.pt_move.specs.Stepping.{BlamesRightly, EndsAs, IsTurn, MakesTurn, StepLeaves}
+use Rattle.pt_move.specs.declared.fault.Fault.{Fault}
+use Rattle.pt_move.specs.declared.fault.Fault.TheVariants as fault
+use Rattle.pt_move.specs.declared.mover.Turn.{Turn as Motion}
+use Rattle.pt_move.specs.declared.mover.Turn.TheVariants as motion
+use Rattle.pt_move.proofs.Answering.{fed_going, fed_to_end}
+use Rattle.pt_move.proofs.Going.{is_going}
+use Rattle.pt_move.proofs.WholeLog as log
+use Rattle.pt_state.specs.States.{job_of, kept_of}
+use Rattle.pt_state.specs.declared.job.Job.{Job}
+use Rattle.pt_state.specs.declared.job.Report.{Report}
+use Rattle.pt_move.specs.Turning.{CountedTurn}
+
+pub step_tree : (old new : World) (a b : Running) (r : Result Motion Fault) → StepLeaves old new a b r → source_tree new.source ≡ source_tree old.source
+unfolding StepLeaves
+step_tree old new a b r left = left.tree
+
+pub step_job : (old new : World) (a b : Running) (r : Result Motion Fault) → StepLeaves old new a b r → b.state.job ≡ a.state.job
+unfolding StepLeaves
+step_job old new a b r left = left.job
+
+pub step_told : (first old new : World) (a b : Running) (t : Motion) → HasTold first.log old.log a.state.counts → StepLeaves old new a b (Ok t) → HasTold first.log new.log b.state.counts
+unfolding StepLeaves
+step_told first old new a b t told left = log.told_more first.log old.log new.log a.state.counts b.state.counts told left.told
+
+pub step_all : (first old new : World) (a b : Running) (t : Motion) → HasTold first.log old.log a.state.counts → StepLeaves old new a b (Ok t) → t ≡ motion.Finished → HasToldAll first.log new.log b.state.counts
+unfolding StepLeaves
+step_all first old new a b t told left last = log.told_finished t first.log old.log new.log a.state.counts b.state.counts told left.finished last
+
+pub step_front : (first old new : World) (a b : Running) (f : Fault) → HasTold first.log old.log a.state.counts → StepLeaves old new a b (Err f) → HasToldFront first.log new.log
+unfolding StepLeaves
+step_front first old new a b f told left = log.told_front first.log old.log new.log a.state.counts b.state.counts told left.told
+
+-- where none failed before, the step's blame is the run's
+pub none_failed : (old new : World) (t : Motion) → BlamesRightly old new (Ok t) → new.failures ≡ old.failures
+unfolding BlamesRightly
+none_failed old new t blames = λ i. record { source = blames.source i; dest = blames.dest i; log = blames.log i }
+
+pub blames_ok : (first old new : World) (t : Motion) (report : Report) → old.failures ≡ first.failures → BlamesRightly old new (Ok t) → BlamesRightly first new (Ok report)
+unfolding BlamesRightly
+blames_ok first old new t report same blames = record { source = blames.source ∙ ap (λ (f : Failures). f.source) same; dest = blames.dest ∙ ap (λ (f : Failures). f.dest) same; log = blames.log ∙ ap (λ (f : Failures). f.log) same }
+
+pub blames_err : (first old new : World) (f : Fault) → old.failures ≡ first.failures → BlamesRightly {T = Motion} old new (Err f) → BlamesRightly {T = Report} first new (Err f)
+unfolding BlamesRightly
+blames_err first old new f same blames = record {
+  source = subst (λ (k : Failures). Counts {T = Report} 1 k.source new.failures.source (Err f)) same blames.source;
+  dest = subst (λ (k : Failures). Counts {T = Report} 2 k.dest new.failures.dest (Err f)) same blames.dest;
+  log = subst (λ (k : Failures). Counts {T = Report} 3 k.log new.failures.log (Err f)) same blames.log;
+}
+
+-- a turn less is left to make
+pub smaller : (old new : World) (a b : Running) (t : Motion) → t ≡ motion.More → StepLeaves old new a b (Ok t) → EndsAs a b (Ok t) → b.state.job.limits.turns - b.state.counts.turns < a.state.job.limits.turns - a.state.counts.turns
+unfolding StepLeaves
+smaller old new a b t is left ends =
+    let made : EndsAs a b (Ok motion.More) = subst (λ (t : Motion). EndsAs a b (Ok t)) is ends in
+    let within : a.state.counts.turns < a.state.job.limits.turns = made.0.within in
+    let more : b.state.counts.turns ≡ a.state.counts.turns + 1 = left.turns.0 in
+    let same : b.state.job.limits.turns ≡ a.state.job.limits.turns = ap (λ j. j.limits.turns) left.job in
+    omega (arith, within, more, same)
+
+-- ---- turns so far
+
+-- so many turns were made as are counted
+pub record RanSoFar (job : Job) (first now : World) (r : Running) : Type 0 where
+  pub fed : List ℕ
+  pub was : FedUntilEnd r.phase r.state.job.algorithm r.state.hasher fed
+  pub turns : Turns (job_of job) first r.state.counts.turns (run_of r fed) now
+
+-- none
+pub ran_nothing : (job : Job) (w : World) (r : Running) → IsNew job r → RanSoFar job w w r
+ran_nothing job w r new = record {
+  fed = [];
+  was = fed_to_end r.phase r.state.job.algorithm r.state.hasher [] (subst (λ j. HasBeenFed j.algorithm r.state.hasher []) (sym new.job_is) new.fed);
+  turns = subst (λ (run : Run). Turns (job_of job) w r.state.counts.turns run w) (sym run_is) (subst (λ (n : ℕ). Turns (job_of job) w n new_run w) (sym (ap (λ (c : Report). c.turns) new.counts)) NoTurn);
+}
+  where
+    run_is : run_of r [] ≡ new_run
+    run_is = λ i. record { phase = new.phase i; kept = new.kept i }
+
+-- the turn that a step made, where the hasher was fed what it was
+module _ (job : Job) (first old new : World) (a b : Running) (same : a.state.job ≡ job) (going : a.phase ≢ phase.Ended) (so_far : RanSoFar job first old a) where
+  fed_now : HasBeenFed a.state.job.algorithm a.state.hasher so_far.fed
+  fed_now = fed_going a.phase a.state.job.algorithm a.state.hasher so_far.fed going so_far.was
+
+  -- and one more
+  pub ran_one_more : (next : Phase) → CountedTurn a.phase a.state b.state old new (Ok next) → b.state.counts.turns ≡ a.state.counts.turns + 1 → RanSoFar job first new (record { phase = next; state = b.state })
+  unfolding CountedTurn
+  ran_one_more next turned counted =
+      let made = turned.1 so_far.fed fed_now in
+      record {
+        fed = made.0;
+        was = fed_to_end next b.state.job.algorithm b.state.hasher made.0 (subst (λ j. HasBeenFed j.algorithm b.state.hasher made.0) (sym turned.0) made.1.0);
+        turns = subst (λ (n : ℕ). Turns (job_of job) first n (record { phase = next; kept = kept_of b.state made.0 }) new) (sym counted)
+            (OneMore a.state.counts.turns (run_of a so_far.fed) old new (kept_of b.state made.0) next so_far.turns
+            (subst (λ j. Turn (job_of j) a.phase (turning (kept_of a.state so_far.fed)) (kept_of b.state made.0) old new (Ok next)) same made.1.1));
+      }
+
+  pub ran_on : (t : Motion) → t ≡ motion.More → StepLeaves old new a b (Ok t) → MakesTurn old new a b (Ok t) → RanSoFar job first new b
+  unfolding StepLeaves MakesTurn
+  ran_on t is left turned = ran_one_more b.phase (subst (λ (t : Motion). MakesTurn old new a b (Ok t)) is turned) left.turns.0
+
+  pub ran_whole : (t : Motion) (report : Report) → t ≡ motion.Finished → report ≡ b.state.counts → StepLeaves old new a b (Ok t) → MakesTurn old new a b (Ok t) → IsRun job first new (Ok report)
+  unfolding StepLeaves MakesTurn IsRun
+  ran_whole t report is counts left turned =
+      let ended = ran_one_more phase.Ended (subst (λ (t : Motion). MakesTurn old new a b (Ok t)) is turned) left.turns.0 in
+      subst (λ (c : Report). Finished job first new c) (sym counts) (record { kept = kept_of b.state ended.fed; counts = refl; turns = ended.turns })
+
+  halted : (f : Fault) → IsTurn a → ((why : Halt) × (f ≡ fault_of why) × CountedTurn a.phase a.state b.state old new (Err why)) → Halted job first new f
+  unfolding CountedTurn
+  halted f turn (why, is, turned) =
+      let made = turned.1 so_far.fed fed_now in
+      record {
+        count = a.state.counts.turns;
+        run = run_of a so_far.fed;
+        world = old;
+        after = kept_of b.state made.0;
+        why = why;
+        turns = so_far.turns;
+        within = subst (λ (j : Job). a.state.counts.turns < j.limits.turns) same turn.within;
+        turn = subst (λ j. Turn (job_of j) a.phase (turning (kept_of a.state so_far.fed)) (kept_of b.state made.0) old new (Err why)) same made.1.1;
+        fault_is = is;
+      }
+
+  at_limit : MakesTurn old new a b (Err fault.Turns) → AtLimit job first new
+  unfolding MakesTurn
+  at_limit (kept, still, made) = record {
+    run = run_of a so_far.fed;
+    going = is_going a.phase going;
+    turns = subst (λ (w : World). Turns (job_of job) first job.limits.turns (run_of a so_far.fed) w) (sym still)
+        (subst (λ (n : ℕ). Turns (job_of job) first n (run_of a so_far.fed) old) (made ∙ ap (λ (j : Job). j.limits.turns) same) so_far.turns);
+  }
+
+  pub ran_halted : (f : Fault) → EndsAs a b (Err f) → MakesTurn old new a b (Err f) → IsRun job first new (Err f)
+  unfolding MakesTurn IsRun
+  ran_halted fault.Source ends turned = halted fault.Source ends.0 turned
+  ran_halted fault.Dest ends turned = halted fault.Dest ends.0 turned
+  ran_halted fault.Log ends turned = halted fault.Log ends.0 turned
+  ran_halted fault.Memory ends turned = halted fault.Memory ends.0 turned
+  ran_halted fault.NotPairtree ends turned = halted fault.NotPairtree ends.0 turned
+  ran_halted fault.Prefix ends turned = halted fault.Prefix ends.0 turned
+  ran_halted fault.StagingLeft ends turned = halted fault.StagingLeft ends.0 turned
+  ran_halted fault.Target ends turned = halted fault.Target ends.0 turned
+  ran_halted fault.Changed ends turned = halted fault.Changed ends.0 turned
+  ran_halted fault.Turns ends turned = at_limit turned
+  ran_halted fault.Ended ends turned = going ends.0

@@ -1,0 +1,51 @@
+-- What `migrate` promises, over the world of its devices before and after. Each promise says itself which devices have to tell.
+use Rattle.std.specs.Prelude.{◌≡◌, ◌≢◌, ◌≤◌, IfErr, IfOk, OnErr, Result}
+use Rattle.pt_begun.specs.Begun.{start_of}
+use Rattle.pt_plan.specs.World.{World, dest_tree, source_tree}
+use Rattle.pt_state.specs.States.{counts_of}
+use Rattle.pt_state.specs.declared.job.Job.{Job}
+use Rattle.pt_state.specs.declared.job.Report.{Report}
+use Rattle.pt_move.specs.Bounds.{lines_put}
+use Rattle.pt_move.specs.Counting.{Counts}
+use Rattle.pt_move.specs.Lines.{HasToldAll, HasToldFront}
+use Rattle.pt_move.specs.Outcome.{EndsWhole, FaultLeaves, IfEarly, LeavesAll, MadeWithinWork, SaysRightly, StandsStillIn, StatesAreFiles, WantsMemory}
+use Rattle.pt_move.specs.Running.{LeavesBehind}
+use Rattle.pt_move.specs.Runs.{IsRun}
+use Rattle.pt_move.specs.declared.fault.Fault.{Fault}
+use Rattle.pt_move.specs.declared.fault.Fault.TheVariants as fault
+
+pub record Migrates (job : Job) (old new : World) (result : Result Report Fault) : Type 0 where
+  -- at its end the root holds all objects that are carried, each whole, nothing else is changed, and the log has all lines
+  pub ends : IfOk result (EndsWhole job (source_tree old.source) (start_of old) new.dest new.log)
+  -- and the state of the version of each is its files
+  pub states : IfOk result (λ report. StatesAreFiles job (source_tree old.source) (start_of old) new.dest new.log)
+  -- however it ends, destination and log are such as a fault may leave
+  pub left : FaultLeaves job (source_tree old.source) (start_of old) new.dest new.log
+  -- and as they were after an early fault
+  pub early : IfErr result (λ f. IfEarly f (LeavesAll (start_of old) new.dest new.log))
+  -- whatever the source gives, the destination holds only whole objects at places where nothing stood, and a part of one more in `staging`
+  pub leaves : LeavesBehind job (dest_tree old.dest) new.dest
+  -- and what stood in it stands
+  pub stands : StandsStillIn (dest_tree old.dest) new.dest
+  -- the source's tree is as it was
+  pub tree : source_tree new.source ≡ source_tree old.source
+  -- a source or a destination is refused only for what it is
+  pub says : IfErr result (SaysRightly job (source_tree old.source) (dest_tree old.dest))
+  -- and over a good start none is
+  pub good : IfErr result (WantsMemory job (source_tree old.source) (dest_tree old.dest) old.failures new.failures)
+  -- a device is blamed exactly where it failed
+  pub source : Counts 1 old.failures.source new.failures.source result
+  pub dest : Counts 2 old.failures.dest new.failures.dest result
+  pub log : Counts 3 old.failures.log new.failures.log result
+  -- no run is told that it has ended
+  pub never_ended : IfErr result (λ f. f ≢ fault.Ended)
+  -- the log got whole lines, which the report counts, and their end line
+  pub told : IfOk result (λ report. HasToldAll old.log new.log report)
+  -- or whole lines, and a front of one more
+  pub told_front : OnErr result (HasToldFront old.log new.log)
+  -- it is so many turns of the definitions, one after another
+  pub run : IsRun job old new result
+  -- of which there are no more than the work, and than the limit; and no more lines than turns
+  pub work : IfOk result (MadeWithinWork job (source_tree old.source) (dest_tree old.dest))
+  pub turns : IfOk result (λ report. report.turns ≤ job.limits.turns)
+  pub lines : IfOk result (λ report. lines_put (counts_of report) ≤ report.turns)

@@ -1,0 +1,26 @@
+-- One turn of a run, counted.
+use Rattle.std.specs.Bool.{OnFalse}
+use Rattle.std.specs.Prelude.{◌≡◌, ℕ, List}
+use Rattle.pt_object.specs.Hasher.{HasBeenFed}
+use Rattle.pt_object.specs.declared.algorithm.Algorithm.{Algorithm}
+use Rattle.pt_object.specs.declared.hasher.Hasher.{Hasher}
+use Rattle.pt_begun.specs.EndLaws.{is_ended}
+use Rattle.pt_plan.specs.Answer.{Answer}
+use Rattle.pt_plan.specs.Run.{turning}
+use Rattle.pt_plan.specs.Turn.{Turn}
+use Rattle.pt_plan.specs.World.{World}
+use Rattle.pt_plan.specs.declared.phase.Phase.{Phase}
+use Rattle.pt_state.specs.Outside.{FedAfter}
+use Rattle.pt_state.specs.States.{job_of, kept_of}
+use Rattle.pt_state.specs.declared.state.State.{State}
+
+-- of what was held at a phase, and what is held after it, over the world of the devices. The turn is counted as it begins; the job stays
+unfoldable pub CountedTurn : Phase → State → State → World → World → Answer → Type 0
+CountedTurn here s s' old new answer =
+    (s'.job ≡ s.job)
+    × ((fed : List ℕ) → HasBeenFed s.job.algorithm s.hasher fed
+    → (fed' : List ℕ) × (FedAfter answer s.job.algorithm s'.hasher fed' × Turn (job_of s.job) here (turning (kept_of s fed)) (kept_of s' fed') old new answer))
+
+-- until a run has ended, its hasher has been fed something
+abbrev pub HasFed : Phase → Algorithm → Hasher → Type 0
+HasFed here algorithm hasher = OnFalse (is_ended here) ((fed : List ℕ) × HasBeenFed algorithm hasher fed)

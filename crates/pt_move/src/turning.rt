@@ -1,0 +1,67 @@
+#![tactic(auto, using(crate::proofs::Needs::standing))]
+// One turn: what is done at each phase.
+ghost use Rattle.std.specs.Prelude.{◌<◌, []};
+ghost use Rattle.pt_plan.specs.Permits.{Permits};
+ghost use Rattle.pt_state.specs.Outside.{Turned};
+ghost use Rattle.pt_state.specs.States.{held_of, job_of, kept_of};
+ghost use Rattle.pt_move.specs.Bounds.{IsBounded, most_calls};
+ghost use Rattle.pt_move.specs.Stands.{CanAdd, Stands};
+ghost use Rattle.pt_move.specs.Turning.{CountedTurn, HasFed};
+
+use pt_make::{copying, making, placing, telling};
+use pt_plan::{Halt, Phase};
+use pt_scan::{judging, reading, scanning, walking};
+use pt_start::{root, store};
+use pt_state::{Outside, State};
+
+/// Makes the turn of a phase, which is counted as it begins, and gives the next phase, or why the run halts: `Source`,
+/// `Dest` and `Log` where that device failed, `Memory` where a growth was refused, the others where the table of turns
+/// says so (docs/MODEL.md). It is a turn of the run's definitions, whatever the devices tell.
+pub(crate) fn turn<O: Outside>(state: &mut State, phase: Phase, out: &mut O) -> Result<Phase, Halt>
+    requires permits { Permits (job_of state.old.job) phase (held_of state.old [])
+        (O.world out.old).source (O.world out.old).dest }
+    requires stands { Stands phase state.old }
+    requires fed { HasFed phase state.old.job.algorithm state.old.hasher }
+    requires bounded { IsBounded (job_of state.old.job) phase (kept_of state.old []) }
+    requires within { state.old.counts.turns < state.old.job.limits.turns }
+    ensures turn { CountedTurn phase state.old state.new
+        (O.world out.old) (O.world out.new) result }
+    ensures calls { O.within (most_calls phase) out.old out.new }
+{
+    let _most = state.job.limits.turns();
+    state.counts.turns += 1;
+    turn_at(state, phase, out)
+}
+
+// Makes the turn of a phase, and gives the next one.
+fn turn_at<O: Outside>(state: &mut State, phase: Phase, out: &mut O) -> Result<Phase, Halt>
+    requires permits { Permits (job_of state.old.job) phase (held_of state.old [])
+        (O.world out.old).source (O.world out.old).dest }
+    requires stands { Stands phase state.old }
+    requires adds { CanAdd phase state.old }
+    ensures turn { Turned phase state.old state.new (O.world out.old) (O.world out.new) result }
+    ensures calls { O.within (most_calls phase) out.old out.new }
+{
+    match phase {
+        Phase::Begin => store::begin(state, out),
+        Phase::Prefix(kind) => store::prefix(state, kind, out),
+        Phase::Staging => root::staging(state, out),
+        Phase::Root => root::root(state, out),
+        Phase::RootMake(item) => root::make_root(state, item, out),
+        Phase::RootRename => root::rename_root(state, out),
+        Phase::RootCheck(file) => root::check_root(state, file, out),
+        Phase::OpenRoot => walking::open_root(state, out),
+        Phase::Judge => judging::judge(state, out),
+        Phase::OpenObject(object) => scanning::open_object(state, object, out),
+        Phase::Scan(object) => scanning::scan(state, object, out),
+        Phase::Read(object, bytes) => reading::read(state, object, bytes, out),
+        Phase::Make(object, part) => making::make(state, object, part, out),
+        Phase::Copy(object, position, left) => copying::copy(state, object, position, left, out),
+        Phase::Tuples(object, index) => placing::make_tuple(state, object, index, out),
+        Phase::Rename(object) => placing::rename(state, object, out),
+        Phase::Line(object) => telling::tell_done(state, object, out),
+        Phase::Walk => walking::walk(state, out),
+        Phase::End => telling::tell_end(state, out),
+        Phase::Ended => unreachable!(),
+    }
+}

@@ -1,0 +1,53 @@
+//! A prefix that reads otherwise than it looks.
+use crate::shown::escaped;
+use pt_name::read_prefix;
+use std::alloc::{AllocError, AllocGlobal, Global};
+use std::fs;
+use std::rt::Files;
+
+const NAME: &str = "/pairtree_prefix";
+
+// How many bytes the file of a prefix may have.
+const LONGEST: u64 = 1024;
+
+/// Tells standard error of a store whose prefix holds a control character, a blank at an end, or a byte order mark.
+pub(crate) fn tell<R: Files + Eprint + AllocGlobal>(rt: &R, store: &str) {
+    let Ok(path) = path_in(rt.alloc(), store) else {
+        return;
+    };
+    if is_doubtful(rt, path.as_str())
+        && let Ok(path) = escaped(rt.alloc(), path.as_str())
+    {
+        let _ = eprintln!(rt;
+            "pairtree2ocfl: {path}: the prefix holds a control character, a blank at an end, or a byte order mark"
+        );
+    }
+}
+
+// The path of the prefix in a store.
+fn path_in(alloc: Global, store: &str) -> Result<String, AllocError> {
+    let mut path = String::from_str(alloc, store)?;
+    path.push_str(NAME)?;
+    Ok(path)
+}
+
+// Whether a file holds such a prefix. What can't be read, or isn't a prefix, is the run's own to tell.
+fn is_doubtful<R: Files + AllocGlobal>(rt: &R, path: &str) -> bool {
+    match rt.symlink_metadata(path) {
+        Ok(found) if found.is_file() && found.len() <= LONGEST => match fs::read(rt, path) {
+            Ok(bytes) => match read_prefix(rt.alloc(), bytes.as_slice()) {
+                Ok(prefix) => has_hidden(prefix.as_str()),
+                Err(_) => false,
+            },
+            Err(_) => false,
+        },
+        _ => false,
+    }
+}
+
+// Whether a text has such a character.
+fn has_hidden(text: &str) -> bool {
+    text.starts_with(' ')
+        || text.ends_with(' ')
+        || text.chars().any(|c| c.is_control() || c == '\u{feff}')
+}

@@ -1,0 +1,105 @@
+-- Turns that change what is held, from what their calls came to.
+use Rattle.std.proofs.Common.{◌≡◌, ℕ, List, refl, sym, subst, ap, ◌∙◌}
+use Rattle.std.specs.Prelude.{Option, Some, Ok}
+use Rattle.std.specs.String.{string_bytes}
+use Rattle.pt_tree.specs.Dest.{Writing}
+use Rattle.pt_tree.specs.Log.{AppendsFront}
+use Rattle.pt_tree.specs.Path.{Path}
+use Rattle.pt_tree.specs.Source.{Reading}
+use Rattle.pt_tree.specs.declared.kind.Kind.{Kind}
+use Rattle.pt_walk.specs.declared.frame.Frame.{Frame}
+use Rattle.pt_plan.specs.Lines.{Line, line_text}
+use Rattle.pt_plan.specs.Run.{with_trail}
+use Rattle.pt_plan.specs.Turn.{Did, Follows, HasFailed, LeavesSome, counted}
+use Rattle.pt_plan.specs.World.{Answers, AsksNothing, Calls, Change, Changes, ChangesNothing, Failures, Finds, LeavesPart, NewFile, OfFile, OfPiece, Puts, Reads, Untouched, World, asks, dest_tree, does, source_tree, tells}
+use Rattle.pt_plan.specs.declared.halt.Halt.{Halt}
+use Rattle.pt_plan.specs.declared.phase.Phase.{Phase}
+use Rattle.pt_scan.specs.Scanning.{IsKept, Moved}
+use Rattle.pt_state.proofs.Together.{asked_tree}
+use Rattle.pt_state.proofs.Turns.{KeepsAll, keeps_all, turned_on}
+use Rattle.pt_state.specs.Outside.{Turned}
+use Rattle.pt_state.specs.States.{counts_of, held_of, job_of}
+use Rattle.pt_state.specs.declared.job.Report.{Report}
+use Rattle.pt_state.specs.declared.state.State.{State}
+
+-- ---- a line that is told after another call
+
+abbrev pub reads_and_tells : List ℕ → Line → Calls
+reads_and_tells block line = record { asked = Reads block; change = ChangesNothing; line = Some line }
+
+pub read_told : (block : List ℕ) (line : Line) (a b c : World) → Did (asks (Reads block)) a b → Did (tells line) b c → Did (reads_and_tells block line) a c
+unfolding Did Answers Changes Puts
+read_told block line a b c first next = (
+  record {
+    source = subst (λ (o : Option Reading). Answers (Reads block) a.source o) (sym next.0.source) first.0.source;
+    dest = next.0.dest ∙ first.0.dest;
+    log = subst (λ (o : Option (List ℕ)). Puts (Some line) o c.log) first.0.log next.0.log;
+  },
+  next.1 ∙ first.1,
+)
+
+pub read_left : (block : List ℕ) (line : Line) (f : Halt) (a b c : World) → Did (asks (Reads block)) a b → LeavesSome (tells line) f b c → LeavesSome (reads_and_tells block line) f a c
+unfolding Did LeavesSome Answers Changes Puts
+read_left block line f a b c first next = (
+  record {
+    read = first.0.source.0;
+    found = tt;
+    source = next.0.source ∙ asked_tree (Reads block) a.source b.source first.0.source;
+    dest = subst (λ (o : Option Writing). LeavesPart o c.dest ChangesNothing) first.0.dest next.0.dest;
+    log = subst (λ (o : Option (List ℕ)). AppendsFront o c.log (line_text line)) first.0.log next.0.log;
+  },
+  subst (λ (x : Failures). HasFailed f x c.failures) first.1 next.1,
+)
+
+abbrev pub finds_and_tells : Path → Option Kind → Line → Calls
+finds_and_tells path here line = record { asked = AsksNothing; change = Finds path here; line = Some line }
+
+pub looked_told : (path : Path) (here : Option Kind) (line : Line) (a b c : World) → Did (does (Finds path here)) a b → Did (tells line) b c → Did (finds_and_tells path here line) a c
+unfolding Did Answers Changes Puts
+looked_told path here line a b c first next = (
+  record {
+    source = next.0.source ∙ first.0.source;
+    dest = (first.0.dest.0, next.0.dest ∙ first.0.dest.1);
+    log = subst (λ (o : Option (List ℕ)). Puts (Some line) o c.log) first.0.log next.0.log;
+  },
+  next.1 ∙ first.1,
+)
+
+untouched : (o o' : Option Writing) (change : Change) → change ≡ ChangesNothing → LeavesPart o o' change → dest_tree o' ≡ dest_tree o
+untouched o o' change is (Untouched it same) = same
+untouched o o' change is (OfFile path bytes count same) = absurd (cc)
+untouched o o' change is (NewFile path same) = absurd (cc)
+untouched o o' change is (OfPiece piece count same) = absurd (cc)
+
+pub looked_left : (path : Path) (here : Option Kind) (line : Line) (f : Halt) (a b c : World) → Did (does (Finds path here)) a b → LeavesSome (tells line) f b c → LeavesSome (finds_and_tells path here line) f a c
+unfolding Did LeavesSome Answers Changes Puts
+looked_left path here line f a b c first next = (
+  record {
+    read = tt;
+    found = first.0.dest.0;
+    source = next.0.source ∙ ap source_tree first.0.source;
+    dest = Untouched _ (untouched b.dest c.dest ChangesNothing refl next.0.dest ∙ ap dest_tree first.0.dest.1);
+    log = subst (λ (o : Option (List ℕ)). AppendsFront o c.log (line_text line)) first.0.log next.0.log;
+  },
+  subst (λ (x : Failures). HasFailed f x c.failures) first.1 next.1,
+)
+
+-- ---- what is held
+
+pub is_kept : (s s' : State) → s'.job ≡ s.job → string_bytes s'.prefix ≡ string_bytes s.prefix → s'.trail ≡ s.trail → s'.rows ≡ s.rows → s'.contents ≡ s.contents → s'.counts ≡ s.counts → IsKept s s'
+is_kept s s' job prefix trail rows contents counts = record { job = job; prefix = prefix; trail = trail; rows = rows; contents = contents; counts = counts }
+
+pub all_kept : (s s' : State) → IsKept s s' → KeepsAll s s'
+all_kept s s' k = keeps_all s s' k.job k.prefix k.trail k.rows k.contents k.counts
+
+pub moved : (s s' : State) (trail : List Frame) (counts : Report) → s'.job ≡ s.job → string_bytes s'.prefix ≡ string_bytes s.prefix → s'.trail ≡ trail → s'.rows ≡ s.rows → s'.contents ≡ s.contents → s'.counts ≡ counts → s'.hasher ≡ s.hasher → Moved trail counts s s'
+moved s s' trail counts job prefix trail_is rows contents counts_are hasher = record { job = job; prefix = prefix; trail_is = trail_is; rows = rows; contents = contents; counts_are = counts_are; hasher = hasher }
+
+-- ---- turns
+
+-- and the trail is this
+pub moves : (here next : Phase) (s s' : State) (a b : World) (calls : Calls) (trail : List Frame) (counts : Report)
+    → ((fed : List ℕ) → Follows (job_of s.job) (counts_of s.counts) here (string_bytes s.prefix) (held_of s fed) (string_bytes s.prefix) (with_trail (held_of s fed) trail) calls (Ok next))
+    → Did calls a b → counts_of counts ≡ counted calls.line (counts_of s.counts) → Moved trail counts s s' → Turned here s s' a b (Ok next)
+moves here next s s' a b calls trail counts follows did counts_are to =
+    turned_on here next s s' a b calls trail s.rows s.contents follows did to.trail_is to.rows to.contents (ap counts_of to.counts_are ∙ counts_are) to.prefix to.hasher to.job

@@ -1,0 +1,42 @@
+-- The text of a line, from the JSON that was put.
+use Rattle.std.proofs.Common.{◌≡◌, List, ℕ, [], ◌∷◌, ◌++◌, false, refl, sym, subst, ap, ◌∙◌}
+use Rattle.std.specs.Prelude.{Some, Option, None}
+use Rattle.std.specs.Io.KnownBytes.{Appends}
+use Rattle.std.proofs.lemmas.List.{append-nil}
+use Rattle.pt_plan.specs.Lines.{Line, Done, Present, Skipped, End, line_text, line_tree}
+use Rattle.pt_plan.specs.Turn.{HasFailed, LeavesSome}
+use Rattle.pt_plan.specs.World.{Untouched, World, tells}
+use Rattle.pt_plan.specs.declared.halt.Halt.{Halt}
+use Rattle.pt_plan.specs.declared.halt.Halt.TheVariants as halt
+use Rattle.pt_state.specs.Lines.{IsTreeOf}
+use Rattle.serde_json.specs.Data.{Data}
+use Rattle.serde_json.specs.Written.{compact_text, has_float}
+
+pub is_tree : (line : Line) (d : Data) → d ≡ line_tree line → IsTreeOf line d
+unfolding IsTreeOf
+is_tree line d is = is
+
+no_float_in : (line : Line) → has_float (line_tree line) ≡ false
+no_float_in (Done at bytes empty files id to) = refl
+no_float_in (Present at id to) = refl
+no_float_in (Skipped at why) = refl
+no_float_in (End done present skipped) = refl
+
+pub no_float : (line : Line) (d : Data) → IsTreeOf line d → has_float d ≡ false
+unfolding IsTreeOf
+no_float line d is = ap has_float is ∙ no_float_in line
+
+pub text_is : (line : Line) (d : Data) (text : List ℕ) → IsTreeOf line d → text ≡ compact_text d ++ 10 ∷ [] → text ≡ line_text line
+unfolding IsTreeOf
+text_is line d text is same = same ∙ ap (λ tree. compact_text tree ++ 10 ∷ []) is
+
+appends_nothing : (o : Option (List ℕ)) → Appends o o []
+appends_nothing None = tt
+appends_nothing (Some xs) = sym (append-nil xs)
+
+-- memory was short before anything was put
+pub front_none : (line : Line) (w : World) (why : Halt) → why ≡ halt.Memory → LeavesSome (tells line) why w w
+unfolding LeavesSome
+front_none line w why is = (record { read = tt; found = tt; source = refl; dest = Untouched _ refl; log = (0, appends_nothing w.log) }, subst (λ (x : Halt). HasFailed x w.failures w.failures) (sym is) refl)
+
+pub ruleset texts = (is_tree, no_float, text_is, front_none)

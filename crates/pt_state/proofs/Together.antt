@@ -1,0 +1,219 @@
+-- What several calls of a turn came to.
+use Rattle.std.proofs.Common.{◌≡◌, ℕ, List, [], ◌++◌, Bool, true, false, refl, sym, subst, ap, ◌∙◌, take, length, cond, arith}
+use Rattle.std.proofs.lemmas.List.{take_all}
+use Rattle.std.specs.Prelude.{Option, None, Some, IsSome}
+use Rattle.std.specs.Option.{option_map}
+use Rattle.pt_object.specs.Script.{MakeFile, done}
+use Rattle.pt_object.proofs.Ways.{path_itself}
+use Rattle.pt_plan.specs.Turn.{Did, HasFailed, LeavesSome, Stays}
+use Rattle.pt_plan.specs.World.{Adds, Answers, Asked, AsksNothing, Calls, Change, Changes, Creates, Failures, Finds, Finishes, LeavesPart, Lists, Makes, NewFile, OfFile, OfPiece, Opens, OpensAndReads, Puts, Reads, Untouched, WasRead, World, after_make, asks, dest_tree, does, no_calls, source_tree}
+use Rattle.pt_plan.specs.declared.halt.Halt.{Halt}
+use Rattle.pt_plan.specs.declared.halt.Halt.TheVariants as halt
+use Rattle.pt_tree.specs.Dest.{Writing, CanWrite, added_to, after_append, after_create, after_finish}
+use Rattle.pt_tree.specs.Path.{Path, same_path}
+use Rattle.pt_tree.specs.Source.{Reading, CanOpen, CanRead, IsRead, after_next, after_open}
+use Rattle.pt_tree.specs.Tree.{Bytes, Tree, edited_by, put}
+use Rattle.pt_tree.specs.declared.kind.Kind.{Kind}
+
+-- ---- a question leaves all as it was
+
+opened : (p : Path) (o : Option Reading) → source_tree (option_map (after_open p) o) ≡ source_tree o
+opened p None = refl
+opened p (Some s) = refl
+
+read_on : (o : Option Reading) → source_tree (option_map after_next o) ≡ source_tree o
+read_on None = refl
+read_on (Some s) = refl
+
+-- no answer of the source changes its tree
+pub asked_tree : (asked : Asked) (r r' : Option Reading) → Answers asked r r' → source_tree r' ≡ source_tree r
+unfolding Answers
+asked_tree AsksNothing r r' is = ap source_tree is
+asked_tree (Lists path entries) r r' is = ap source_tree is.2
+asked_tree (Opens path) r r' is = ap source_tree is ∙ opened path r
+asked_tree (Reads block) r r' is = ap source_tree is.1 ∙ read_on r
+asked_tree (OpensAndReads path block) r r' is = ap source_tree is.1 ∙ read_on (option_map (after_open path) r) ∙ opened path r
+
+-- then memory was short
+pub asked_stays : (asked : Asked) (a b : World) → Did (asks asked) a b → Stays halt.Memory a b
+unfolding Did Stays Changes Puts
+asked_stays asked a b did = (asked_tree asked a.source b.source did.0.source, did.0.dest, did.0.log, did.1)
+
+pub looked_stays : (p : Path) (here : Option Kind) (a b : World) → Did (does (Finds p here)) a b → Stays halt.Memory a b
+unfolding Did Stays Answers Changes Puts
+looked_stays p here a b did = (ap source_tree did.0.source, did.0.dest.1, did.0.log, did.1)
+
+-- then a further call failed, and nothing was changed
+stays_then : (f : Halt) (a b c : World) → Stays halt.Memory a b → Stays f b c → Stays f a c
+unfolding Stays
+stays_then f a b c first next = (next.0 ∙ first.0, next.1 ∙ first.1, next.2 ∙ first.2, subst (λ (x : Failures). HasFailed f x c.failures) first.3 next.3)
+
+pub asked_then : (asked : Asked) (f : Halt) (a b c : World) → Did (asks asked) a b → Stays f b c → Stays f a c
+asked_then asked f a b c first next = stays_then f a b c (asked_stays asked a b first) next
+
+pub looked_then : (p : Path) (here : Option Kind) (f : Halt) (a b c : World) → Did (does (Finds p here)) a b → Stays f b c → Stays f a c
+looked_then p here f a b c first next = stays_then f a b c (looked_stays p here a b first) next
+
+-- a look leaves the very world
+pub looked_same : (p : Path) (here : Option Kind) (a b : World) → Did (does (Finds p here)) a b → b ≡ a
+unfolding Did Answers Changes Puts
+looked_same p here a b did = λ i. record { source = did.0.source i; dest = did.0.dest.1 i; log = did.0.log i; failures = did.1 i }
+
+-- nothing was called
+pub did_nothing : (w : World) → Did no_calls w w
+unfolding Did Answers Changes Puts
+did_nothing w = (record { source = refl; dest = refl; log = refl }, refl)
+
+-- ---- a question of the source, and then a change of the destination
+
+abbrev pub asks_and : Asked → Change → Calls
+asks_and asked change = record { asked = asked; change = change; line = None }
+
+pub then_did : (asked : Asked) (change : Change) (a b c : World) → Did (asks asked) a b → Did (does change) b c → Did (asks_and asked change) a c
+unfolding Did Answers Changes Puts
+then_did asked change a b c first next = (
+  record {
+    source = subst (λ (o : Option Reading). Answers asked a.source o) (sym next.0.source) first.0.source;
+    dest = subst (λ (o : Option Writing). Changes change o c.dest) first.0.dest next.0.dest;
+    log = next.0.log ∙ first.0.log;
+  },
+  next.1 ∙ first.1,
+)
+
+-- the block that was asked for was the source's
+was_read : (asked : Asked) (r r' : Option Reading) → Answers asked r r' → WasRead asked r
+unfolding Answers
+was_read AsksNothing r r' is = tt
+was_read (Lists path entries) r r' is = tt
+was_read (Opens path) r r' is = tt
+was_read (Reads block) r r' is = is.0
+was_read (OpensAndReads path block) r r' is = tt
+
+pub then_leaves : (asked : Asked) (change : Change) (f : Halt) (a b c : World) → Did (asks asked) a b → LeavesSome (does change) f b c → LeavesSome (asks_and asked change) f a c
+unfolding Did LeavesSome Changes Puts
+then_leaves asked change f a b c first next = (
+  record {
+    read = was_read asked a.source b.source first.0.source;
+    found = tt;
+    source = next.0.source ∙ asked_tree asked a.source b.source first.0.source;
+    dest = subst (λ (o : Option Writing). LeavesPart o c.dest change) first.0.dest next.0.dest;
+    log = next.0.log ∙ first.0.log;
+  },
+  subst (λ (x : Failures). HasFailed f x c.failures) first.1 next.1,
+)
+
+-- a call that changes nothing failed: nothing is left of the change
+pub leaves_none : (change : Change) (f : Halt) (a b : World) → Stays f a b → LeavesSome (does change) f a b
+unfolding Stays LeavesSome
+leaves_none change f a b stays = (record { read = tt; found = tt; source = stays.0; dest = Untouched change (ap dest_tree stays.1); log = stays.2 }, stays.3)
+
+-- memory was short before anything was called
+pub leaves_short : (change : Change) (why : Halt) (w : World) → why ≡ halt.Memory → LeavesSome (does change) why w w
+unfolding Stays
+leaves_short change why w is = leaves_none change why w w (subst (λ (x : Halt). Stays x w w) (sym is) (refl, refl, refl, refl))
+
+-- ---- files of the source
+
+some_mapped : {A B : Type 0} (f : A → B) (o : Option A) (y : B) → Some y ≡ option_map f o → (x : A) × ((o ≡ Some x) × (y ≡ f x))
+some_mapped f None y is = absurd (cc)
+some_mapped f (Some x) y is = (x, (refl, cc))
+
+pub can_read_opened : (a b : World) (p : Path) → CanOpen a.source p → Did (asks (Opens p)) a b → CanRead b.source
+unfolding CanOpen CanRead Did Answers
+can_read_opened a b p can did = λ s e. let from = some_mapped (after_open p) a.source s (sym e ∙ did.0.source) in subst (λ (r : Reading). IsSome r.unread) (sym from.1.1) (can from.0 from.1.0)
+
+pub opens_and_reads : (a b c : World) (p : Path) (block : List ℕ) → Did (asks (Opens p)) a b → Did (asks (Reads block)) b c → Did (asks (OpensAndReads p block)) a c
+unfolding Did Answers Changes Puts
+opens_and_reads a b c p block first next = (
+  record {
+    source = (subst (λ o. IsRead o block) first.0.source next.0.source.0, next.0.source.1 ∙ ap (option_map after_next) first.0.source);
+    dest = next.0.dest ∙ first.0.dest;
+    log = next.0.log ∙ first.0.log;
+  },
+  next.1 ∙ first.1,
+)
+
+-- ---- files of the destination
+
+-- an empty file with a piece added is the file with the piece
+filled : (t : Tree) (p : Path) (bytes : List ℕ) → added_to (put t p (Bytes [])) (Some p) bytes ≡ put t p (Bytes bytes)
+filled t p bytes = λ i q. by q (same_path q p) i
+  where
+    there : edited_by (λ old. old ++ bytes) (put t p (Bytes []) p) ≡ Some (Bytes bytes)
+    there = ap (λ b. edited_by (λ old. old ++ bytes) (cond b (Some (Bytes [])) (t p))) (path_itself p)
+
+    by : (q : Path) (b : Bool) → cond b (edited_by (λ old. old ++ bytes) (put t p (Bytes []) p)) (cond b (Some (Bytes [])) (t q)) ≡ cond b (Some (Bytes bytes)) (t q)
+    by q true = there
+    by q false = refl
+
+made_file : (o : Option Writing) (p : Path) (bytes : List ℕ) → option_map after_finish (option_map (after_append bytes) (option_map (after_create p) o)) ≡ option_map (after_make (MakeFile p bytes)) o
+made_file None p bytes = refl
+made_file (Some s) p bytes = ap (λ (t : Tree). Some (record { tree = t; writing = None })) (filled s.tree p bytes)
+
+part_file : (o : Option Writing) (p : Path) (bytes : List ℕ) → dest_tree (option_map (after_append bytes) (option_map (after_create p) o)) ≡ option_map (done (MakeFile p bytes)) (dest_tree o)
+part_file None p bytes = refl
+part_file (Some s) p bytes = ap (λ (t : Tree). Some t) (filled s.tree p bytes)
+
+none_of_file : (o : Option Writing) (p : Path) → dest_tree (option_map (after_create p) o) ≡ option_map (λ t. put t p (Bytes [])) (dest_tree o)
+none_of_file None p = refl
+none_of_file (Some s) p = refl
+
+pub can_write_created : (a b : World) (p : Path) → Did (does (Creates p)) a b → CanWrite b.dest
+unfolding CanWrite Did Changes
+can_write_created a b p did = λ s e. let from = some_mapped (after_create p) a.dest s (sym e ∙ did.0.dest) in subst (λ (w : Writing). IsSome w.writing) (sym from.1.1) refl
+
+pub can_write_added : (a b : World) (piece : List ℕ) → CanWrite a.dest → Did (does (Adds piece)) a b → CanWrite b.dest
+unfolding CanWrite Did Changes
+can_write_added a b piece can did = λ s e. let from = some_mapped (after_append piece) a.dest s (sym e ∙ did.0.dest) in subst (λ (w : Writing). IsSome w.writing) (sym from.1.1) (can from.0 from.1.0)
+
+pub can_write_asked : (asked : Asked) (a b : World) → CanWrite a.dest → Did (asks asked) a b → CanWrite b.dest
+unfolding Did Changes
+can_write_asked asked a b can did = subst (λ (o : Option Writing). CanWrite o) (sym did.0.dest) can
+
+pub makes_file : (a b c d : World) (p : Path) (bytes : List ℕ) → Did (does (Creates p)) a b → Did (does (Adds bytes)) b c → Did (does Finishes) c d → Did (does (Makes (MakeFile p bytes))) a d
+unfolding Did Answers Changes Puts
+makes_file a b c d p bytes first next last = (
+  record {
+    source = last.0.source ∙ next.0.source ∙ first.0.source;
+    dest = last.0.dest ∙ ap (option_map after_finish) (next.0.dest ∙ ap (option_map (after_append bytes)) first.0.dest) ∙ made_file a.dest p bytes;
+    log = last.0.log ∙ next.0.log ∙ first.0.log;
+  },
+  last.1 ∙ next.1 ∙ first.1,
+)
+
+keeps_file : (a b c : Option Writing) (p : Path) (bytes : List ℕ) (part : Change) → part ≡ Adds bytes → b ≡ option_map (after_create p) a → LeavesPart b c part → LeavesPart a c (Makes (MakeFile p bytes))
+keeps_file a b c p bytes part is first (Untouched change same) = OfFile p bytes 0 (same ∙ ap dest_tree first ∙ none_of_file a p)
+keeps_file a b c p bytes part is first (OfFile path old count same) = absurd (cc)
+keeps_file a b c p bytes part is first (NewFile path same) = absurd (cc)
+keeps_file a b c p bytes part is first (OfPiece piece count same) =
+    let it : piece ≡ bytes = cc in
+    OfFile p bytes count (ap dest_tree (same ∙ ap (option_map (after_append (take count piece))) first) ∙ part_file a p (take count piece) ∙ ap (λ (l : List ℕ). option_map (done (MakeFile p (take count l))) (dest_tree a)) it)
+
+pub leaves_of_append : (a b c : World) (p : Path) (bytes : List ℕ) (f : Halt) → Did (does (Creates p)) a b → LeavesSome (does (Adds bytes)) f b c → LeavesSome (does (Makes (MakeFile p bytes))) f a c
+unfolding Did LeavesSome Answers Changes Puts
+leaves_of_append a b c p bytes f first next = (
+  record {
+    read = tt;
+    found = tt;
+    source = next.0.source ∙ ap source_tree first.0.source;
+    dest = keeps_file a.dest b.dest c.dest p bytes (Adds bytes) refl first.0.dest next.0.dest;
+    log = next.0.log ∙ first.0.log;
+  },
+  subst (λ (x : Failures). HasFailed f x c.failures) first.1 next.1,
+)
+
+pub leaves_unfinished : (a b c d : World) (p : Path) (bytes : List ℕ) (f : Halt) → Did (does (Creates p)) a b → Did (does (Adds bytes)) b c → Stays f c d → LeavesSome (does (Makes (MakeFile p bytes))) f a d
+unfolding Did Stays LeavesSome Answers Changes Puts
+leaves_unfinished a b c d p bytes f first next last =
+    let whole : take (length bytes) bytes ≡ bytes = take_all (length bytes) bytes (omega arith) in (
+      record {
+        read = tt;
+        found = tt;
+        source = last.0 ∙ ap source_tree (next.0.source ∙ first.0.source);
+        dest = OfFile p bytes (length bytes) (ap dest_tree (last.1 ∙ next.0.dest ∙ ap (option_map (after_append bytes)) first.0.dest) ∙ part_file a.dest p bytes ∙ ap (λ (l : List ℕ). option_map (done (MakeFile p l)) (dest_tree a.dest)) (sym whole));
+        log = last.2 ∙ next.0.log ∙ first.0.log;
+      },
+      subst (λ (x : Failures). HasFailed f x d.failures) (next.1 ∙ first.1) last.3,
+    )
+
+pub ruleset together = (can_read_opened, opens_and_reads, asked_then, can_write_created, can_write_added, makes_file, leaves_none, leaves_of_append, leaves_unfinished)

@@ -1,0 +1,134 @@
+-- A turn of all that a run holds, from what its calls came to.
+use Rattle.std.proofs.Common.{◌≡◌, ℕ, List, refl, sym, subst, ap, inl}
+use Rattle.std.specs.Prelude.{Option, None, Ok, Err, IsErrAnd}
+use Rattle.std.specs.String.{string_bytes}
+use Rattle.pt_object.specs.Hasher.{HasBeenFed}
+use Rattle.pt_object.specs.declared.contents.Content.{Content}
+use Rattle.pt_object.specs.declared.hasher.Hasher.{Hasher}
+use Rattle.pt_object.specs.declared.rows.Row.{Row}
+use Rattle.pt_plan.specs.Answer.{Answer}
+use Rattle.pt_plan.specs.Lines.{Line}
+use Rattle.pt_plan.specs.Run.{Held, Kept}
+use Rattle.pt_plan.specs.Turn.{Did, FailsAtFirst, FailsLater, Follows, GoesOn, IsHalted, IsRefused, LeavesSome, Stays, Turn, counted}
+use Rattle.pt_plan.specs.World.{Asked, Calls, World, asks}
+use Rattle.pt_plan.specs.declared.halt.Halt.{Halt}
+use Rattle.pt_plan.specs.declared.halt.Halt.TheVariants as halt
+use Rattle.pt_plan.specs.declared.phase.Phase.{Phase}
+use Rattle.pt_walk.specs.declared.frame.Frame.{Frame}
+use Rattle.pt_state.proofs.Together.{asked_stays}
+use Rattle.pt_state.specs.Outside.{Turned}
+use Rattle.pt_state.specs.States.{counts_of, held_of, job_of, kept_of}
+use Rattle.pt_state.specs.declared.state.State.{State}
+
+-- ---- what is kept
+
+-- all but the block and the hasher
+pub record KeepsAll (s s' : State) : Type 0 where
+  pub job : s'.job ≡ s.job
+  pub prefix : string_bytes s'.prefix ≡ string_bytes s.prefix
+  pub trail : s'.trail ≡ s.trail
+  pub rows : s'.rows ≡ s.rows
+  pub contents : s'.contents ≡ s.contents
+  pub counts : s'.counts ≡ s.counts
+
+pub keeps_all : (s s' : State) → s'.job ≡ s.job → string_bytes s'.prefix ≡ string_bytes s.prefix → s'.trail ≡ s.trail → s'.rows ≡ s.rows → s'.contents ≡ s.contents → s'.counts ≡ s.counts → KeepsAll s s'
+keeps_all s s' job prefix trail rows contents counts = record { job = job; prefix = prefix; trail = trail; rows = rows; contents = contents; counts = counts }
+
+pub keeps_same : (s : State) → KeepsAll s s
+keeps_same s = keeps_all s s refl refl refl refl refl refl
+
+kept_same : (s s' : State) (fed : List ℕ) → KeepsAll s s' → kept_of s' fed ≡ kept_of s fed
+kept_same s s' fed k = λ i. record { prefix = k.prefix i; held = record { trail = k.trail i; rows = k.rows i; contents = k.contents i; fed = fed }; counts = counts_of (k.counts i) }
+
+pub halted_as : (s s' : State) (fed fed' : List ℕ) → KeepsAll s s' → IsHalted s.rows (kept_of s fed) (kept_of s' fed')
+halted_as s s' fed fed' k = record { prefix = k.prefix; trail = k.trail; rows_are = k.rows; contents = k.contents; counts = ap counts_of k.counts }
+
+-- ---- turns
+
+-- its calls succeed, and the hasher was fed this after what it was fed before
+pub went : (here next : Phase) (s s' : State) (w w' : World) (calls : Calls) (now : List ℕ → List ℕ)
+    → ((fed : List ℕ) → HasBeenFed s.job.algorithm s.hasher fed → Follows (job_of s.job) (counts_of s.counts) here (string_bytes s.prefix) (held_of s fed) (string_bytes s.prefix) (held_of s (now fed)) calls (Ok next))
+    → Did calls w w' → calls.line ≡ None → ((fed : List ℕ) → HasBeenFed s.job.algorithm s.hasher fed → HasBeenFed s.job.algorithm s'.hasher (now fed)) → KeepsAll s s' → Turned here s s' w w' (Ok next)
+unfolding Turned
+went here next s s' w w' calls now follows did quiet feeds keeps = (
+  keeps.job,
+  λ fed was. (
+    now fed,
+    (
+      feeds fed was,
+      subst (λ (k : Kept). Turn (job_of s.job) here (kept_of s fed) k w w' (Ok next)) (sym (kept_same s s' (now fed) keeps))
+          (GoesOn calls next (follows fed was) did (sym (ap (λ (o : Option Line). counted o (counts_of s.counts)) quiet))),
+    ),
+  ),
+)
+
+-- its calls succeed, and what they answer halts the run
+pub refused : (here : Phase) (s s' : State) (w w' : World) (calls : Calls) (why : Halt)
+    → ((fed : List ℕ) → HasBeenFed s.job.algorithm s.hasher fed → Follows (job_of s.job) (counts_of s.counts) here (string_bytes s.prefix) (held_of s fed) (string_bytes s.prefix) (held_of s fed) calls (Err why)) → Did calls w w' → KeepsAll s s' → Turned here s s' w w' (Err why)
+unfolding Turned
+refused here s s' w w' calls why follows did keeps = (keeps.job, λ fed was. (fed, (tt, IsRefused (string_bytes s.prefix) (held_of s fed) calls why (follows fed was) did (halted_as s s' fed fed keeps))))
+
+-- a call fails, or memory is short, and nothing is changed
+pub stayed : (here : Phase) (s s' : State) (w w' : World) (f : Halt) (result : Answer) → IsErrAnd result (λ h. h ≡ f) → Stays f w w' → KeepsAll s s' → Turned here s s' w w' result
+unfolding Turned
+stayed here s s' w w' f (Ok next) is stays keeps = absurd is
+stayed here s s' w w' f (Err h) is stays keeps = (keeps.job, λ fed was. (fed, (tt, subst (λ (h : Halt). Turn (job_of s.job) here (kept_of s fed) (kept_of s' fed) w w' (Err h)) (sym is) (FailsAtFirst f stays (halted_as s s' fed fed keeps)))))
+
+-- memory was short before anything was called
+pub short : (here : Phase) (s s' : State) (w : World) (result : Answer) → IsErrAnd result (λ h. h ≡ halt.Memory) → KeepsAll s s' → Turned here s s' w w result
+unfolding Stays
+short here s s' w result is keeps = stayed here s s' w w halt.Memory result is (refl, refl, refl, refl) keeps
+
+-- or after the source was asked
+pub short_asked : (here : Phase) (s s' : State) (w w' : World) (asked : Asked) (result : Answer) → IsErrAnd result (λ h. h ≡ halt.Memory) → Did (asks asked) w w' → KeepsAll s s' → Turned here s s' w w' result
+short_asked here s s' w w' asked result is did keeps = stayed here s s' w w' halt.Memory result is (asked_stays asked w w' did) keeps
+
+-- a call fails, and a part is left of what the turn was to change
+pub left_some : (here : Phase) (s s' : State) (w w' : World) (calls : Calls) (answer : Answer) (f : Halt) (now : List ℕ → List ℕ) (result : Answer) → IsErrAnd result (λ h. h ≡ f)
+    → ((fed : List ℕ) → Follows (job_of s.job) (counts_of s.counts) here (string_bytes s.prefix) (held_of s fed) (string_bytes s.prefix) (held_of s (now fed)) calls answer) → LeavesSome calls f w w' → KeepsAll s s' → Turned here s s' w w' result
+unfolding Turned
+left_some here s s' w w' calls answer f now (Ok x) is follows some keeps = absurd is
+left_some here s s' w w' calls answer f now (Err h) is follows some keeps = (
+  keeps.job,
+  λ fed was. (
+    fed,
+    (
+      tt,
+      subst (λ (h : Halt). Turn (job_of s.job) here (kept_of s fed) (kept_of s' fed) w w' (Err h)) (sym is)
+          (FailsLater (string_bytes s.prefix) (held_of s (now fed)) calls answer s.rows f (follows fed) some (inl refl) (halted_as s s' fed fed keeps)),
+    ),
+  ),
+)
+
+-- ---- turns that change what is held
+
+-- its calls succeed, and the hasher has been fed otherwise
+pub turned_fed : (here next : Phase) (s s' : State) (a b : World) (calls : Calls) (trail : List Frame) (rows : List Row) (contents : List Content) (now : List ℕ → List ℕ)
+    → ((fed : List ℕ) → HasBeenFed s.job.algorithm s.hasher fed → HasBeenFed s.job.algorithm s'.hasher (now fed))
+    → ((fed : List ℕ) → Follows (job_of s.job) (counts_of s.counts) here (string_bytes s.prefix) (held_of s fed) (string_bytes s.prefix) (record { trail = trail; rows = rows; contents = contents; fed = now fed }) calls (Ok next))
+    → Did calls a b → s'.trail ≡ trail → s'.rows ≡ rows → s'.contents ≡ contents → counts_of s'.counts ≡ counted calls.line (counts_of s.counts) → string_bytes s'.prefix ≡ string_bytes s.prefix → s'.job ≡ s.job → Turned here s s' a b (Ok next)
+unfolding Turned
+turned_fed here next s s' a b calls trail rows contents now feeds follows did trail_is rows_are contents_are counts prefix job = (
+  job,
+  λ fed was.
+      let kept : Kept = record { prefix = string_bytes s.prefix; held = record { trail = trail; rows = rows; contents = contents; fed = now fed }; counts = counted calls.line (counts_of s.counts) } in
+      let kept_is : kept_of s' (now fed) ≡ kept = λ i. record { prefix = prefix i; held = record { trail = trail_is i; rows = rows_are i; contents = contents_are i; fed = now fed }; counts = counts i } in
+      (now fed, (feeds fed was, subst (λ (k : Kept). Turn (job_of s.job) here (kept_of s fed) k a b (Ok next)) (sym kept_is) (GoesOn calls next (follows fed) did refl))),
+)
+
+-- and the hasher is as it was
+pub turned_on : (here next : Phase) (s s' : State) (a b : World) (calls : Calls) (trail : List Frame) (rows : List Row) (contents : List Content)
+    → ((fed : List ℕ) → Follows (job_of s.job) (counts_of s.counts) here (string_bytes s.prefix) (held_of s fed) (string_bytes s.prefix) (record { trail = trail; rows = rows; contents = contents; fed = fed }) calls (Ok next))
+    → Did calls a b → s'.trail ≡ trail → s'.rows ≡ rows → s'.contents ≡ contents → counts_of s'.counts ≡ counted calls.line (counts_of s.counts) → string_bytes s'.prefix ≡ string_bytes s.prefix → s'.hasher ≡ s.hasher → s'.job ≡ s.job → Turned here s s' a b (Ok next)
+turned_on here next s s' a b calls trail rows contents follows did trail_is rows_are contents_are counts prefix hasher job =
+    turned_fed here next s s' a b calls trail rows contents (λ fed. fed) (λ fed was. subst (λ (h : Hasher). HasBeenFed s.job.algorithm h fed) (sym hasher) was) follows did trail_is rows_are contents_are counts prefix job
+
+-- a part of its line was put
+pub left_told : (here : Phase) (s s' : State) (a b : World) (calls : Calls) (answer : Answer) (f : Halt) (held : List ℕ → Held) (result : Answer) → IsErrAnd result (λ h. h ≡ f)
+    → ((fed : List ℕ) → Follows (job_of s.job) (counts_of s.counts) here (string_bytes s.prefix) (held_of s fed) (string_bytes s.prefix) (held fed) calls answer) → LeavesSome calls f a b → KeepsAll s s' → Turned here s s' a b result
+unfolding Turned
+left_told here s s' a b calls answer f held (Ok x) is follows some keeps = absurd is
+left_told here s s' a b calls answer f held (Err h) is follows some keeps =
+    (keeps.job, λ fed was. (fed, (tt, subst (λ (h : Halt). Turn (job_of s.job) here (kept_of s fed) (kept_of s' fed) a b (Err h)) (sym is) (FailsLater (string_bytes s.prefix) (held fed) calls answer s.rows f (follows fed) some (inl refl) (halted_as s s' fed fed keeps)))))
+
+pub ruleset turns = (keeps_all, stayed, short)

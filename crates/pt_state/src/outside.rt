@@ -1,0 +1,246 @@
+#![tactic(auto, using(crate::proofs::Asking::answering, crate::proofs::Asking::counting))]
+//! What stands outside a run: its three devices as one, each call of which answers why the run halts.
+ghost use Rattle.std.proofs.Common.{◌∙◌, refl};
+ghost use Rattle.std.specs.Prelude.{◌≡◌, ◌+◌, ◌≤◌, ℕ, true, Some, IfOk, IfErr, OnOk};
+ghost use Rattle.pt_object.specs.Script.{MakeFolder};
+ghost use Rattle.pt_plan.specs.Lines.{Line, line_text};
+ghost use Rattle.pt_plan.specs.Turn.{Did, LeavesSome, Stays};
+ghost use Rattle.pt_plan.specs.World.{World, Adds, Creates, Finds, Finishes, Lists, Makes, Opens, Peeks, Reads, Renames, asks, does, tells};
+ghost use Rattle.pt_tree.specs.Dest.{Writing, CanPeek, CanWrite, MayMake, MayMove};
+ghost use Rattle.pt_tree.specs.Forest.{is_proper};
+ghost use Rattle.pt_tree.specs.Source.{Reading, CanList, CanOpen, CanRead};
+ghost use Rattle.pt_tree.specs.Tree.{IsTree};
+ghost use Rattle.pt_state.specs.Counting.{AtMostCalls, calls_after, calls_more, calls_most, calls_none, calls_still};
+ghost use Rattle.pt_state.specs.Outside.{world as world_of};
+
+use pt_plan::Halt;
+use pt_tree::{Block, Dest, Kind, Listing, Log, NamePath, Source};
+
+/// What stands outside a run: a source, a destination and a log.
+///
+/// A call that fails for its device halts the run for that device, and one that wants memory for want of memory.
+/// It changes nothing then, but for `append` and `put`, which leave a part of what they were to add.
+pub trait Outside {
+    /// What the three tell, and how often each failed.
+    ghost world: { Self → World };
+
+    /// It is over the same three devices, and the source was called at most so many times more.
+    ghost within: { ℕ → Self → Self → Type 0 };
+
+    /// Lists a directory of the source.
+    fn list(&mut self, path: &NamePath) -> Result<Listing, Halt>
+        requires { CanList (world self.old).source path.now }
+        ensures ok { IfOk result (λ entries. Did (asks (Lists path.now entries))
+            (world self.old) (world self.new)) }
+        ensures err { IfErr result (λ why. Stays why (world self.old) (world self.new)) }
+        ensures calls { within 1 self.old self.new };
+
+    /// Opens a file of the source.
+    fn open(&mut self, path: &NamePath) -> Result<(), Halt>
+        requires { CanOpen (world self.old).source path.now }
+        ensures ok { OnOk result (Did (asks (Opens path.now)) (world self.old) (world self.new)) }
+        ensures err { IfErr result (λ why. Stays why (world self.old) (world self.new)) }
+        ensures calls { within 1 self.old self.new };
+
+    /// Reads the next block of the open file of the source.
+    fn next(&mut self, block: &mut Block) -> Result<(), Halt>
+        requires { CanRead (world self.old).source }
+        ensures ok { OnOk result (Did (asks (Reads block.new.items))
+            (world self.old) (world self.new)) }
+        ensures err { IfErr result (λ why. Stays why (world self.old) (world self.new)) }
+        ensures calls { within 1 self.old self.new };
+
+    /// Asks what stands at a path of the destination.
+    fn kind(&mut self, path: &NamePath) -> Result<Option<Kind>, Halt>
+        ensures ok { IfOk result (λ here. Did (does (Finds path.now here))
+            (world self.old) (world self.new)) }
+        ensures err { IfErr result (λ why. Stays why (world self.old) (world self.new)) }
+        ensures calls { within 0 self.old self.new };
+
+    /// Reads the first block of a file of the destination.
+    fn peek(&mut self, path: &NamePath, block: &mut Block) -> Result<(), Halt>
+        requires { CanPeek (world self.old).dest path.now }
+        ensures ok { OnOk result (Did (does (Peeks path.now block.new.items))
+            (world self.old) (world self.new)) }
+        ensures err { IfErr result (λ why. Stays why (world self.old) (world self.new)) }
+        ensures calls { within 0 self.old self.new };
+
+    /// Makes a directory in the destination.
+    fn mkdir(&mut self, path: &NamePath) -> Result<(), Halt>
+        requires { MayMake (world self.old).dest path.now }
+        ensures ok { OnOk result (Did (does (Makes (MakeFolder path.now)))
+            (world self.old) (world self.new)) }
+        ensures err { IfErr result (λ why. Stays why (world self.old) (world self.new)) }
+        ensures calls { within 0 self.old self.new };
+
+    /// Makes an empty file in the destination, which is then the open one.
+    fn create(&mut self, path: &NamePath) -> Result<(), Halt>
+        requires { MayMake (world self.old).dest path.now }
+        ensures ok { OnOk result (Did (does (Creates path.now)) (world self.old) (world self.new)) }
+        ensures err { IfErr result (λ why. Stays why (world self.old) (world self.new)) }
+        ensures calls { within 0 self.old self.new };
+
+    /// Adds a piece to the destination's open file.
+    fn append(&mut self, piece: &[u8]) -> Result<(), Halt>
+        requires { CanWrite (world self.old).dest }
+        ensures ok { OnOk result (Did (does (Adds piece.now)) (world self.old) (world self.new)) }
+        ensures err { IfErr result (λ why. LeavesSome (does (Adds piece.now)) why
+            (world self.old) (world self.new)) }
+        ensures calls { within 0 self.old self.new };
+
+    /// Closes the destination's open file.
+    fn finish(&mut self) -> Result<(), Halt>
+        requires { CanWrite (world self.old).dest }
+        ensures ok { OnOk result (Did (does Finishes) (world self.old) (world self.new)) }
+        ensures err { IfErr result (λ why. Stays why (world self.old) (world self.new)) }
+        ensures calls { within 0 self.old self.new };
+
+    /// Moves what stands at a path of the destination to another.
+    fn rename(&mut self, from: &NamePath, to: &NamePath) -> Result<(), Halt>
+        requires { MayMove (world self.old).dest from.now to.now }
+        ensures ok { OnOk result (Did (does (Renames from.now to.now))
+            (world self.old) (world self.new)) }
+        ensures err { IfErr result (λ why. Stays why (world self.old) (world self.new)) }
+        ensures calls { within 0 self.old self.new };
+
+    /// Puts the text of a line at the end of the log.
+    fn put(&mut self, text: &[u8]) -> Result<(), Halt>
+        ensures ok { (line : Line) → text.now ≡ line_text line → OnOk result (Did (tells line)
+            (world self.old) (world self.new)) }
+        ensures err { (line : Line) → text.now ≡ line_text line
+            → IfErr result (λ why. LeavesSome (tells line) why (world self.old) (world self.new)) }
+        ensures calls { within 0 self.old self.new };
+
+    /// Nothing was called.
+    ghost none: { (a : Self) → within 0 a a };
+
+    /// No more is no more than more.
+    ghost most: { (a b : Self) (m n : ℕ) → within m a b → m ≤ n → within n a b };
+
+    /// A call of the destination or of the log is none of the source.
+    ghost still: { (a b c : Self) (n : ℕ) → within n a b → within 0 b c → within n a c };
+
+    /// Nor is one before it.
+    ghost after: { (a b c : Self) (n : ℕ) → within 0 a b → within n b c → within n a c };
+
+    /// Calls are followed by others.
+    ghost more: { (a b c : Self) (m n : ℕ) → within m a b → within n b c → within (m + n) a c };
+
+    /// Two calls are two.
+    ghost twice: { (a b c : Self) → within 1 a b → within 1 b c → within 2 a c };
+
+    /// In each directory of a source that tells the names rise.
+    ghost proper: { (o : Self) (told : Reading) → (world o).source ≡ Some told
+        → is_proper told.tree ≡ true };
+
+    /// What a destination tells is a tree.
+    ghost is_tree: { (o : Self) (told : Writing) → (world o).dest ≡ Some told → IsTree told.tree };
+}
+
+/// The three devices of a run.
+#[derive(Drop)]
+pub struct Devices<'s, 'd, 'l, S: Source, D: Dest, L: Log> {
+    pub source: &'s mut S,
+    pub dest: &'d mut D,
+    pub log: &'l mut L,
+}
+
+impl<'s, 'd, 'l, S: Source, D: Dest, L: Log> Outside for Devices<'s, 'd, 'l, S, D, L> {
+    ghost world = { λ o. world_of (S.told o.source.now) (D.told o.dest.now) (L.told o.log.now)
+        (S.failed o.source.now) (D.failed o.dest.now) (L.failed o.log.now) };
+
+    ghost within = { λ n a b. (b.source.ghost_name ≡ a.source.ghost_name)
+        × (b.dest.ghost_name ≡ a.dest.ghost_name) × (b.log.ghost_name ≡ a.log.ghost_name)
+        × AtMostCalls n (S.called a.source.now) (S.called b.source.now) };
+
+    ghost none = { λ a. (refl, refl, refl, calls_none (S.called a.source.now)) };
+
+    ghost most = { λ a b m n p few. (
+      p.0,
+      p.1,
+      p.2,
+      calls_most (S.called a.source.now) (S.called b.source.now) m n p.3 few,
+    ) };
+
+    ghost still = { λ a b c n p q. (
+      q.0 ∙ p.0,
+      q.1 ∙ p.1,
+      q.2 ∙ p.2,
+      calls_still (S.called a.source.now) (S.called b.source.now) (S.called c.source.now) n p.3 q.3,
+    ) };
+
+    ghost after = { λ a b c n p q. (
+      q.0 ∙ p.0,
+      q.1 ∙ p.1,
+      q.2 ∙ p.2,
+      calls_after (S.called a.source.now) (S.called b.source.now) (S.called c.source.now) n p.3 q.3,
+    ) };
+
+    ghost more = { λ a b c m n p q. (
+      q.0 ∙ p.0,
+      q.1 ∙ p.1,
+      q.2 ∙ p.2,
+      calls_more (S.called a.source.now) (S.called b.source.now) (S.called c.source.now) m n p.3 q.3,
+    ) };
+
+    ghost twice = { λ a b c p q. (
+      q.0 ∙ p.0,
+      q.1 ∙ p.1,
+      q.2 ∙ p.2,
+      calls_more (S.called a.source.now) (S.called b.source.now) (S.called c.source.now) 1 1 p.3 q.3,
+    ) };
+
+    ghost proper = { λ o told is. S.proper o.source.now told is };
+
+    ghost is_tree = { λ o told is. D.is_tree o.dest.now told is };
+
+    fn list(&mut self, path: &NamePath) -> Result<Listing, Halt> {
+        match self.source.list(path) {
+            Ok(listing) => {
+                let _entries = listing.len();
+                Ok(listing)
+            }
+            Err(fault) => Err(Halt::of_source(fault)),
+        }
+    }
+
+    fn open(&mut self, path: &NamePath) -> Result<(), Halt> {
+        self.source.open(path).map_err(Halt::of_source)
+    }
+
+    fn next(&mut self, block: &mut Block) -> Result<(), Halt> {
+        self.source.next(block).map_err(Halt::of_source)
+    }
+
+    fn kind(&mut self, path: &NamePath) -> Result<Option<Kind>, Halt> {
+        self.dest.kind(path).map_err(Halt::of_dest)
+    }
+
+    fn peek(&mut self, path: &NamePath, block: &mut Block) -> Result<(), Halt> {
+        self.dest.peek(path, block).map_err(Halt::of_dest)
+    }
+
+    fn mkdir(&mut self, path: &NamePath) -> Result<(), Halt> {
+        self.dest.mkdir(path).map_err(Halt::of_dest)
+    }
+
+    fn create(&mut self, path: &NamePath) -> Result<(), Halt> {
+        self.dest.create(path).map_err(Halt::of_dest)
+    }
+
+    fn append(&mut self, piece: &[u8]) -> Result<(), Halt> {
+        self.dest.append(piece).map_err(Halt::of_dest)
+    }
+
+    fn finish(&mut self) -> Result<(), Halt> {
+        self.dest.finish().map_err(Halt::of_dest)
+    }
+
+    fn rename(&mut self, from: &NamePath, to: &NamePath) -> Result<(), Halt> {
+        self.dest.rename(from, to).map_err(Halt::of_dest)
+    }
+
+    fn put(&mut self, text: &[u8]) -> Result<(), Halt> {
+        self.log.put(text).map_err(Halt::of_log)
+    }
+}

@@ -1,3 +1,0 @@
-pub mod Bounding
-pub mod Lifting
-pub mod Standing

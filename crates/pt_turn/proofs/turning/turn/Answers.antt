@@ -1,9 +1,0 @@
-use Rattle.std.proofs.Common.{refl}
-use Rattle.pt_turn.proofs.Standing.{counted_turn, stands_on}
-use Rattle.pt_turn.proofs.turning.turn.Goals as goal
-
-pub turn_at-requires-clause-stands : goal.turn_at-requires-clause-stands
-turn_at-requires-clause-stands g c = stands_on c.args.phase c.args.state.now _ c.requires.stands
-
-pub returns-clause-turn : goal.returns-clause-turn
-returns-clause-turn g c = counted_turn _ c.args.state.now _ _ _ _ _ _ _ _ _ _ _ _ _ _ _ c.turn_at.ensures.turn refl refl (λ fed. refl)
