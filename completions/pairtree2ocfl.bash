@@ -1,6 +1,14 @@
 # bash completion of pairtree2ocfl
 _pairtree2ocfl() {
-    local current=${COMP_WORDS[COMP_CWORD]} previous=${COMP_WORDS[COMP_CWORD - 1]} command= options= word
+    local current=${COMP_WORDS[COMP_CWORD]} previous=${COMP_WORDS[COMP_CWORD - 1]} command= options= word front=
+    # A value behind `=` is a word of its own where bash breaks words there.
+    if [[ $current == = ]]; then
+        current=
+    elif [[ $previous == = && COMP_CWORD -gt 1 ]]; then
+        previous=${COMP_WORDS[COMP_CWORD - 2]}
+    elif [[ $current == --*=* ]]; then
+        previous=${current%%=*} front=${current%%=*}= current=${current#*=}
+    fi
     for word in "${COMP_WORDS[@]:1:COMP_CWORD-1}"; do
         case $word in
             migrate | names | help) command=$word && break ;;
@@ -8,8 +16,8 @@ _pairtree2ocfl() {
     done
     COMPREPLY=()
     case $previous in
-        --digest) mapfile -t COMPREPLY < <(compgen -W 'sha512 sha256' -- "$current") && return ;;
-        --progress) mapfile -t COMPREPLY < <(compgen -W 'auto always never' -- "$current") && return ;;
+        --digest) mapfile -t COMPREPLY < <(compgen -P "$front" -W 'sha512 sha256' -- "$current") && return ;;
+        --progress) mapfile -t COMPREPLY < <(compgen -P "$front" -W 'auto always never' -- "$current") && return ;;
         --created | --name | --address | --message | --tuple-size | --tuples | --prefix) return ;;
     esac
     case $command in

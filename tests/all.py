@@ -16,6 +16,7 @@ sys.dont_write_bytecode = True
 import migration
 import program
 import progress
+import system
 
 # What the gate says of itself, but for what went well.
 SAID = re.compile(r"^rt: (?!must-fail .*: refused, as it must be|.* proved$|.* passed$|.*: trying its )|: error: |^Traceback|^\w*Error: ")
@@ -62,6 +63,7 @@ def main():
     else:
         counts.append((0, 1))
         said.append(f"{path} was not built, so its tests did not run")
+    counts.append(system.run_cases())
     passed, failed = map(sum, zip(*counts))
     if failed:
         print("\n".join(said))

@@ -3,6 +3,8 @@
 import os
 import re
 import shlex
+import shutil
+import signal
 import subprocess
 import sys
 
@@ -13,6 +15,7 @@ from stores import DIR, build, read_tree, store
 
 TOP = os.path.dirname(os.path.dirname(os.path.abspath(__file__)))
 ROOTS = [sys.executable, "-B", f"{TOP}/tools/roots.py"]
+ENVIRONMENT = {**os.environ, "roots": ROOTS[-1]}
 TRICKY = {"blank ": b"1", "return\r": b"2", "back\\slash": b"3", "line\nfeed": b"4", "a/b/c": b"5", "same": b"5", "empty": b""}
 
 
@@ -63,10 +66,9 @@ def after_power_cut(program, folder):
     wanted = [stores.place(name) for name in DAMAGES]
     status, listed = roots(folder, "damaged", "d/ocfl")
     faults += differs(status=(status, 1), listed=(sorted(listed), sorted(wanted)))
-    os.symlink(ROOTS[-1], f"{folder}/roots.py")
     for part in ("> damaged.txt", "while"):
         script = guide_block("After a power cut", part).replace("DEST", "d")
-        subprocess.run(["sh", "-u", "-c", script], cwd=folder, stderr=subprocess.DEVNULL, timeout=120)
+        subprocess.run(["sh", "-u", "-c", script], cwd=folder, env=ENVIRONMENT, stderr=subprocess.DEVNULL, timeout=120)
     build(f"{folder}/d/ocfl", {"aaa": stores.GONE, "notes.txt": stores.GONE})
     faults += differs(again=(migrate(program, folder, "s", "d"), 1))
     faults += [f"after the mending: {fault}" for fault in stores.differences(read_tree(f"{folder}/d"), whole)]
@@ -94,23 +96,30 @@ def guide_block(heading, *parts):
 
 def many_stores(program, folder):
     """Runs side by side into folders of their own, joined, make the root that runs one after another make in one."""
-    several = {"one": ["aa", "ab", "cc"], "two": ["ba", "bb", "cc"], "three": ["ca"], "none": []}
+    several = {"O'Brien": ["aa", "ab", "cc"], "two 2": ["ba", "bb", "cc"], "three": ["ca"], "none": []}
     os.mkdir(f"{folder}/stores")
     for name, names in several.items():
         build(f"{folder}/stores", {name: DIR})
         build(f"{folder}/stores/{name}", identifiers(*names))
         build(f"{folder}/stores/{name}", {f"pairtree_root/{x}/obj/store": name.encode() for x in names})
-    os.mkdir(f"{folder}/bin")
-    os.symlink(program, f"{folder}/bin/pairtree2ocfl")
-    environment = {**os.environ, "PATH": f"{folder}/bin:{os.environ['PATH']}"}
+    environment = with_program(program, folder)
     script = guide_block("Many stores, many machines", "xargs")
     subprocess.run(["bash", "-eu", "-c", script], cwd=folder, env=environment, check=True, timeout=120)
+    script = guide_block("Many stores, many machines", "#SBATCH")
+    task = {**environment, "SLURM_ARRAY_TASK_ID": "2"}
+    os.mkdir(f"{folder}/slurm")
+    os.symlink("../stores", f"{folder}/slurm/stores")
+    subprocess.run(["bash", "-eu", "-c", script], cwd=f"{folder}/slurm", env=task, check=True, timeout=120)
+    one = read_tree(f"{folder}/slurm/out")
     ordered = sorted(several)
     statuses = [migrate(program, folder, f"stores/{name}", "d") for name in ordered]
     faults = differs(statuses=(sorted(statuses), [0, 0, 0, 1]))
-    outs = [f"out/{name}/ocfl" for name in ordered]
-    status, taken = roots(folder, "join", *outs)
-    faults += differs(status=(status, 1), taken=(len(taken), 1))
+    chosen = sorted(several)[1]
+    alike = {path: held for path, held in read_tree(f"{folder}/out").items() if path.split("/")[0] == chosen}
+    faults += [f"the task of an array: {text}" for text in stores.differences(one, alike)]
+    script = guide_block("Many stores, many machines", "join")
+    joined = subprocess.run(["bash", "-eu", "-c", script], cwd=folder, env=environment, capture_output=True, timeout=120)
+    faults += differs(status=(joined.returncode, 1), taken=(len(joined.stdout.splitlines()), 1))
     place = f"ocfl/{stores.place('cc')}"
     wanted = read_tree(f"{folder}/d")
     found = {path: held for path, held in read_tree(f"{folder}/out/{ordered[0]}").items() if path != "staging"}
@@ -118,6 +127,113 @@ def many_stores(program, folder):
     faults += differs(there=(place in found, True))
     logs = sorted(os.listdir(f"{folder}/logs"))
     return faults + differs(logs=(logs, sorted(f"{name}.log" for name in several)))
+
+
+def with_program(program, folder):
+    """An environment in which the guide's commands find the program and roots.py."""
+    os.makedirs(f"{folder}/bin")
+    os.symlink(program, f"{folder}/bin/pairtree2ocfl")
+    return {**ENVIRONMENT, "PATH": f"{folder}/bin:{os.environ['PATH']}", "created": "2024-05-01T12:00:00Z"}
+
+
+def log_line(at, identifier):
+    """A line of the log of an object with one file of one byte."""
+    return stores.text_of(stores.done(at, identifier, {"f": b"1"})).decode()
+
+
+STORE = {
+    "README": b"1",
+    "^5/Cx/obj/f": b"1",
+    "^5/cx/obj/f": b"1",
+    "ab/ce/obj/f": b"1",
+    "ab/ce/obj/e": DIR,
+    "ot/he/obj/link": stores.Link("f"),
+    "sp/li/.DS_Store": b"1",
+    "sp/li/obj/f": b"1",
+}
+SKIPS = ["other\tot/he", "root\t", "split\tsp/li"]
+TWIN = "ark:/\\x"
+
+# Of each block of the guide that the walk runs: a text in it, what `AT` is there, and the lines that it prints, sorted; None for any.
+WALK = [
+    ("ls -l", None, None),
+    ("od -c", None, sorted(["0000000   a   r   k   :   /  \\n", "0000006"])),
+    ("-name .DS_Store", None, ["s/pairtree_root/sp/li/.DS_Store"]),
+    ("! -readable", None, []),
+    ("created=", None, []),
+    ("--dry-run", None, ['{"as":"skip","at":"","cause":"root"}']),
+    ("uniq -d", None, [TWIN]),
+    ("sort -rn", None, ["11 ab/ce/obj/f", "11 sp/li/obj/f", "15 sp/li/.DS_Store"]),
+    ("run-1.log\n    echo", None, ["1"]),
+    ("tail -n 1", None, ['{"as":"end","done":2,"present":1,"skip":3}']),
+    ("uniq -c", None, sorted([f"      1 {it.split(chr(9))[0]}" for it in SKIPS] + SKIPS)),
+    ("jq -s", None, sorted([f"{TWIN}\t^5/cx/obj".replace("\\", "\\\\"), "1\tab/ce/obj", "{", '  "files": 2,', '  "bytes": 2', "}"])),
+    ("run-2.log", None, []),
+    ("SOURCE/pairtree_root -mindepth 1", None, ["s/pairtree_root/README"]),
+    ("-maxdepth 1", "sp/li", ["s/pairtree_root/sp/li/.DS_Store", "s/pairtree_root/sp/li/obj"]),
+    ("names --prefix", None, None),
+    ("! -type f", "ot/he", ["s/pairtree_root/ot/he/obj/link"]),
+    ("wc -c", "ab/ce", ["1"]),
+    ("-mindepth 5", None, ["2"]),
+    ("roots=", None, []),
+    ("-empty -delete", None, []),
+]
+
+
+def walk(program, folder):
+    """The guide from its beginning: each block of commands over a store with skips and twins, and what it prints."""
+    if not all(map(shutil.which, ("jq", "od", "awk", "bash"))):
+        return None
+    subprocess.run(["rm", "-r", f"{folder}/s", f"{folder}/d"], check=True)
+    build(f"{folder}/s", store(STORE, b"ark:/\n"))
+    environment, faults, seen = with_program(program, folder), [], []
+    for block in guide_blocks():
+        found = [step for step in WALK if step[0] in block and step not in seen]
+        if not found:
+            if not any(part in block for part in ELSEWHERE):
+                faults.append(f"no test runs {block.strip()[:60]}")
+            continue
+        part, at, wanted = found[0]
+        seen.append(found[0])
+        script = block.replace("SOURCE", "s").replace("DEST", "d").replace("/AT", f"/{at}")
+        done = subprocess.run(["bash", "-u", "-c", script], cwd=folder, env=environment, capture_output=True, timeout=120)
+        lines = sorted(done.stdout.decode().splitlines())
+        if wanted is not None and lines != sorted(wanted):
+            faults.append(f"{part} prints {lines}, not {sorted(wanted)}")
+        faults += differs(**{f"{part} says": (done.stderr, b"")})
+    return faults + [f"{part} isn't in the guide" for part, *_ in WALK if not any(part == step[0] for step in seen)]
+
+
+# The blocks that other cases run.
+ELSEWHERE = ("damaged.txt", 'damaged DEST/ocfl', "xargs", "#SBATCH", "join out", "rm -r DEST/staging")
+
+
+def guide_blocks():
+    """The blocks of commands of the guide."""
+    with open(f"{TOP}/docs/GUIDE.md", encoding="utf-8") as file:
+        return re.findall(r"(?:^    .*\n?)+", file.read(), re.MULTILINE)
+
+
+def stopped(program, folder):
+    """After a run that was stopped by hand the guide's steps leave what one unbroken run leaves."""
+    names = [f"{a}{b}" for a in "abcdefgh" for b in "abcdefgh"]
+    build(f"{folder}/s", {f"pairtree_root/{x}/{y}/obj/{'f' * 100}": b"1" for x in names for y in names[:20]})
+    os.mkdir(f"{folder}/e")
+    environment, faults = with_program(program, folder), differs(whole=(migrate(program, folder, "s", "e"), 0))
+    script = guide_block("Stopping it", "run-2.log").replace("SOURCE", "s").replace("DEST", "d")
+    script = script.replace("'Ada Lovelace'", "Ada")
+    for number in (signal.SIGINT, signal.SIGTERM):
+        subprocess.run(["rm", "-rf", f"{folder}/d"], check=True)
+        os.mkdir(f"{folder}/d")
+        with subprocess.Popen([program, "migrate", *MEANT, "s", "d"], cwd=folder, stdout=subprocess.PIPE, stderr=subprocess.PIPE) as first:
+            first.stdout.readline()
+            first.send_signal(number)
+            first.communicate(timeout=120)
+        faults += differs(ended=(first.returncode, -number))
+        again = subprocess.run(["bash", "-u", "-c", script], cwd=folder, env=environment, timeout=120).returncode
+        faults += differs(again=(again, 1))
+        faults += list(stores.differences(read_tree(f"{folder}/d"), read_tree(f"{folder}/e")))[:3]
+    return faults
 
 
 def other_tuples(program, folder):
@@ -133,17 +249,13 @@ def other_tuples(program, folder):
 def commands(program, folder):
     """Each command line of the guide is one that the shell can read, and names options that there are."""
     helped = subprocess.run([program, "migrate", "--help"], capture_output=True, check=True).stdout.decode()
-    with open(f"{TOP}/docs/GUIDE.md", encoding="utf-8") as file:
-        text = file.read()
-    blocks = re.findall(r"(?:^    .*\n?)+", text, re.MULTILINE)
     faults = []
-    for block in blocks:
+    for block in guide_blocks():
         done = subprocess.run(["bash", "-n", "-c", block], capture_output=True, cwd=folder)
         faults += differs(**{block.strip()[:40]: (done.returncode, 0)})
-        for command in re.findall(r"pairtree2ocfl migrate (.*?)(?:>>|$)", block.replace("\\\n", " ")):
+        for command in re.findall(r"pairtree2ocfl migrate (.*?)(?:>|$)", block.replace("\\\n", " ")):
             faults += [f"{word} isn't in help" for word in shlex.split(command) if word.startswith("--") and word not in helped]
-    overwrites = re.findall(r"[^>]> *\S*migrate\.log", text)
-    return faults + differs(overwrites=(overwrites, []))
+    return faults
 
 
 CASES = [
@@ -151,5 +263,7 @@ CASES = [
     Alone("the guide at a root that is damaged itself", damaged_root),
     Alone("the guide with many stores", many_stores),
     Alone("roots of other tuples are not joined", other_tuples),
+    Alone("the guide from its beginning", walk),
+    Alone("the guide after a stop by hand", stopped),
     Alone("the guide's commands", commands),
 ]

@@ -94,6 +94,10 @@ def in_bash(program, folder):
     return differs(
         commands=(completed(""), ["migrate", "names", "help", "--help", "-h", "--version", "-V"]),
         digests=(completed("migrate", "--digest", ""), ["sha512", "sha256"]),
+        behind=(completed("migrate", "--digest", "="), ["sha512", "sha256"]),
+        begun=(completed("migrate", "--digest", "=", "sha2"), ["sha256"]),
+        whole=(completed("migrate", "--digest=sha5"), ["--digest=sha512"]),
+        moment=(completed("migrate", "--created", "="), []),
         times=(completed("migrate", "--progress", "a"), ["auto", "always"]),
         moments=(completed("migrate", "--created", ""), []),
         folders=("crates" in completed("migrate", "--gather", "cr"), True),
@@ -159,14 +163,44 @@ def installed(program, folder):
     return faults + differs(left=(text_files(root), set()))
 
 
+def no_prefix(program, folder):
+    """Nothing is installed or taken away with an empty PREFIX."""
+    faults = []
+    for target in ("install", "uninstall"):
+        ended = subprocess.run(["make", "-C", TOP, target, "PREFIX=", f"PROGRAM={program}", f"DESTDIR={folder}/root"], capture_output=True, timeout=60)
+        faults += differs(**{target: ((ended.returncode, b"PREFIX is empty" in ended.stderr, os.path.exists(f"{folder}/root")), (2, True, False))})
+    return faults
+
+
+def dead_links(top):
+    """What is wrong with the documents in a folder: README isn't there, or a link of a document leads to no file there."""
+    faults = [] if os.path.isfile(f"{top}/README.md") else ["README.md isn't there"]
+    for path in glob.glob(f"{top}/*.md") + glob.glob(f"{top}/docs/*.md"):
+        with open(path, encoding="utf-8") as file:
+            targets = re.findall(r"\]\(([^)#\s]+)", file.read())
+        for target in targets:
+            if "://" not in target and not os.path.exists(os.path.join(os.path.dirname(path), target)):
+                faults.append(f"{os.path.relpath(path, top)} links {target}, which isn't there")
+    linked = re.findall(r"\]\((docs/[^)#\s]+)", text_of("README.md"))
+    return faults + [f"{name} isn't there" for name in linked if not os.path.isfile(f"{top}/{name}")]
+
+
+def wrong_modes(top):
+    """The files and folders that not everybody may read, or that others may write."""
+    modes = {}
+    for above, folders, names in os.walk(top):
+        modes.update({name: os.stat(os.path.join(above, name)).st_mode & 0o777 for name in (*folders, *names)})
+    return [f"{name} has mode {mode:o}" for name, mode in modes.items() if mode not in (0o644, 0o755)]
+
+
 def archived(program, folder):
     """The archive has all that its sums name, and its program runs."""
-    path = done("sh", f"{TOP}/tools/dist.sh", program, f"{folder}/dist").strip()
+    path = done("sh", "-c", 'umask 077; exec sh "$@"', "sh", f"{TOP}/tools/dist.sh", program, f"{folder}/dist").strip()
     with tarfile.open(path) as archive:
         archive.extractall(folder)
     top = f"{folder}/{os.path.basename(path).removesuffix('.tar.gz')}"
     sums = dict(reversed(line.split("  ", 1)) for line in open(f"{top}/SHA256SUMS", encoding="utf-8").read().splitlines())
-    faults = differs(listed=(set(sums), text_files(top) - {"SHA256SUMS"}))
+    faults = differs(listed=(set(sums), text_files(top) - {"SHA256SUMS"})) + dead_links(top) + wrong_modes(top)
     for name, digest in sums.items():
         with open(f"{top}/{name}", "rb") as file:
             faults += differs(**{name: (hashlib.sha256(file.read()).hexdigest(), digest)})
@@ -179,11 +213,12 @@ def packaged(program, folder):
     """The Debian package, installed into an empty root, where the program runs."""
     if not shutil.which("dpkg-deb") or not shutil.which("dpkg"):
         return None
-    done("sh", f"{TOP}/tools/deb.sh", program, f"{folder}/deb")
+    done("sh", "-c", 'umask 077; exec sh "$@"', "sh", f"{TOP}/tools/deb.sh", program, f"{folder}/deb")
     (path,) = glob.glob(f"{folder}/deb/*.deb")
     fields = done("dpkg-deb", "-f", path, "Package", "Version", "Depends")
     number = done(program, "-V").split()[1]
-    faults = differs(version=(f"Version: {number}\n" in fields, True), depends=("Depends: libc6" in fields, True))
+    faults = differs(version=(f"Version: {number}\n" in fields, True), depends=("Depends: libc6 (>= 2.34), python3\n" in fields, True))
+    faults += differs(library=(newest_symbol(program) <= (2, 34), True))
     root = f"{folder}/empty"
     for above in ("var/lib/dpkg/info", "var/lib/dpkg/updates", "var/lib/dpkg/triggers"):
         os.makedirs(f"{root}/{above}")
@@ -196,7 +231,26 @@ def packaged(program, folder):
         done(*command, env={**os.environ, "PATH": f"{os.environ['PATH']}:/usr/sbin:/sbin"})
     faults += differs(runs=(done(f"{root}/usr/bin/pairtree2ocfl", "names", "abc"), "ab/c\nba7/816/bf8/abc\n"))
     files = {name.removesuffix(".gz") for name in text_files(f"{root}/usr")}
+    faults += dead_links(f"{root}/usr/share/doc/pairtree2ocfl") + wrong_modes(f"{root}/usr")
     return faults + differs(missing=(INSTALLED - files, set()))
+
+
+def linted(program, folder):
+    """lintian says nothing of the package but what is answered in tools/deb.sh."""
+    if not shutil.which("dpkg-deb") or not shutil.which("lintian"):
+        return None
+    done("sh", f"{TOP}/tools/deb.sh", program, f"{folder}/deb")
+    (path,) = glob.glob(f"{folder}/deb/*.deb")
+    said = subprocess.run(["lintian", path], capture_output=True, timeout=300).stdout.decode()
+    answered = re.findall(r"^# lintian: ([\w-]+): ", text_of("tools/deb.sh"), re.MULTILINE)
+    left = [line for line in said.splitlines() if re.match("[EW]: ", line) and not any(f": {tag} " in f"{line} " for tag in answered)]
+    return differs(said=(left, []))
+
+
+def newest_symbol(program):
+    """The newest version of the C library that the program names."""
+    with open(program, "rb") as file:
+        return max((int(major), int(minor)) for major, minor in re.findall(rb"\0GLIBC_(\d+)\.(\d+)", file.read()))
 
 
 CASES = [
@@ -207,8 +261,10 @@ CASES = [
     Alone("one version", versions),
     Alone("licences", licences),
     Alone("install and uninstall", installed),
+    Alone("no PREFIX", no_prefix),
     Alone("the archive", archived),
     Alone("the Debian package", packaged),
+    Alone("what lintian says of the package", linted),
 ]
 
 

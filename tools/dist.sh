@@ -2,6 +2,7 @@
 # Makes an archive of the program given, with its man page, completions, documents and licences, in the folder given.
 #   dist.sh PROGRAM FOLDER
 set -eu
+umask 022
 program=$1
 folder=$2
 top=$(dirname "$0")/..
@@ -12,8 +13,10 @@ trap 'rm -rf "$work"' EXIT
 
 mkdir -p "$work/$name" "$folder"
 sh "$top/tools/install.sh" "$program" "$work/$name"
-cp "$top/README.md" "$top/CHANGELOG.md" "$top/LICENSE-MIT" "$top/LICENSE-APACHE" "$work/$name"
-cp -R "$top/LICENSES" "$top/docs" "$work/$name"
+cp "$top/CHANGELOG.md" "$top/LICENSE-MIT" "$top/LICENSE-APACHE" "$work/$name"
+cp -R "$top/LICENSES" "$work/$name"
+python3 "$top/tools/shipped.py" "$top" "$work/$name"
+chmod -R u=rwX,go=rX "$work/$name"
 (cd "$work/$name" && find . -type f ! -name SHA256SUMS | LC_ALL=C sort | sed 's|^\./||' | tr '\n' '\0' | xargs -0 sha256sum > ../SHA256SUMS)
 mv "$work/SHA256SUMS" "$work/$name/SHA256SUMS"
 tar -C "$work" --sort=name --owner=0 --group=0 --numeric-owner --mtime='2026-11-23 00:00Z' -czf "$folder/$name.tar.gz" "$name"

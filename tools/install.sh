@@ -2,8 +2,9 @@
 # Installs the program given, with its man page and completions, below a folder; `--remove` in place of the program takes them away.
 #   install.sh PROGRAM|--remove PREFIX
 set -eu
+umask 022
 program=$1
-prefix=$2
+prefix=${2:?name the folder to install to}
 top=$(dirname "$0")/..
 
 put() {

@@ -1,169 +1,411 @@
 #!/usr/bin/env python3
-"""What the guide does with storage roots that pairtree2ocfl made. Python 3.8 or later, and nothing else.
+"""What the guide does with storage roots that pairtree2ocfl made. Python 3.8 or later on Linux, and nothing else.
 
 roots.py damaged ROOT          lists the places in ROOT of objects that aren't whole, a line each, and says why on standard error
-roots.py join ROOT OTHER..     moves the objects of the other roots into ROOT, and lists those whose place is taken there; they stay
+roots.py join ROOT OTHER..     renames the objects of the other roots into ROOT, and lists those whose place is taken; they stay
 
-ROOT is the folder `ocfl`. Of an object that is whole the inventories and their sidecars agree, and exactly the files stand there
-that the inventory has, with their digests. The status is 0 where nothing was listed, 1 where something was, and 2 where a root's own
-files aren't those that pairtree2ocfl makes, or two roots have different tuples; then nothing was moved.
+ROOT and OTHER are folders `ocfl` that pairtree2ocfl made, all with the same tuples. No link is followed, and nothing is written over,
+copied or deleted.
+
+`damaged` reads every file. An object is whole where its two inventories and their sidecars agree and exactly the files stand there
+that the inventory has, with their digests. Only folders below tuple folders that belong to their names are listed. What can't be read,
+an object of another version of OCFL, and one that has more than one version, are told on standard error and not listed.
+
+`join` reads no file's content but the inventories. It holds the locks of the folders that ROOT and each OTHER stand in, as a run does,
+and moves nothing to another file system. Stopped at any moment, it goes on when the same command is given again.
+
+The status is 0 where nothing was listed, 1 where something was, and 2 where something was refused or could not be looked at or moved.
 """
 
+import contextlib
+import errno
+import fcntl
 import hashlib
 import json
 import os
 import re
-import shutil
+import stat
 import sys
+import urllib.parse
 
 EXTENSION = "0003-hash-and-id-n-tuple-storage-layout"
-CONFIG = f"extensions/{EXTENSION}/config.json"
-ROOT_FILES = ("0=ocfl_1.1", "ocfl_layout.json", CONFIG)
 LAYOUT = (
     '{"description":"SHA-256 of the identifier in tuples, then the encoded identifier",'
     f'"extension":"{EXTENSION}"}}'
 ).encode()
-DECLARATION = b"ocfl_object_1.1\n"
-OWN_PLACE = re.compile("[A-Za-z0-9_%/-]+")
+DECLARATION = "0=ocfl_object_1.1"
+NAME = re.compile("(?=.{1,100}$)(?:[A-Za-z0-9_-]|%[0-9a-f]{2})+")
+LONG_NAME = re.compile("[A-Za-z0-9_%-]{100}-([0-9a-f]{64})")
+NO_LOCKS = (errno.ENOLCK, errno.ENOSYS, errno.EOPNOTSUPP)
+ENDS = (errno.EXDEV, errno.ENOSPC, errno.EDQUOT, errno.EROFS, errno.EPIPE)
+FOLDER = os.O_RDONLY | os.O_DIRECTORY | os.O_NOFOLLOW | os.O_CLOEXEC
+FILE = os.O_RDONLY | os.O_NOFOLLOW | os.O_NONBLOCK | os.O_CLOEXEC
 
 
-class NoRoot(Exception):
-    """Why a folder isn't a storage root of the program."""
+class Refused(Exception):
+    """Why nothing more is done."""
 
 
-def content(path):
-    """The bytes of a file; None where there is no file or a link."""
-    if os.path.islink(path) or not os.path.isfile(path):
-        return None
-    with open(path, "rb") as file:
-        return file.read()
+class Unlike(Exception):
+    """Why an object isn't whole."""
 
 
-def tuples_of(root):
-    """The number of tuples of a storage root, by its own files."""
-    for path, wanted in (("0=ocfl_1.1", b"ocfl_1.1\n"), ("ocfl_layout.json", LAYOUT)):
-        if content(f"{root}/{path}") != wanted:
-            raise NoRoot(f"{root}/{path} isn't the program's")
+class Foreign(Exception):
+    """Why an object isn't one that this script can judge."""
+
+
+def say(text):
+    """A line on standard error."""
+    with contextlib.suppress(OSError):
+        os.write(2, os.fsencode(f"roots.py: {text}\n"))
+
+
+def show(text):
+    """A line on standard output."""
+    os.write(1, os.fsencode(f"{text}\n"))
+
+
+@contextlib.contextmanager
+def folder(path, above=None):
+    """A folder, open. No link is followed at the end of its path."""
+    fd = os.open(path, FOLDER, dir_fd=above)
     try:
-        config = json.loads(content(f"{root}/{CONFIG}") or b"")
-        return int(config["numberOfTuples"])
-    except (ValueError, KeyError, TypeError) as error:
-        raise NoRoot(f"{root}/{CONFIG} isn't the program's") from error
+        yield fd
+    finally:
+        os.close(fd)
 
 
-def places(root, depth):
-    """What stands where objects do: `depth` names below the top."""
-    waiting = [("", depth)]
-    while waiting:
-        above, left = waiting.pop()
-        for name in sorted(os.listdir(f"{root}/{above}"), reverse=True):
-            path = above + name
-            if above == "" and (path in ROOT_FILES or path == "extensions"):
-                continue
-            if left == 0:
-                yield path
-            elif os.path.isdir(f"{root}/{path}") and not os.path.islink(f"{root}/{path}"):
-                waiting.append((path + "/", left - 1))
+def pieces(path, above):
+    """The bytes of a file in pieces; `Unlike` where there is no file."""
+    try:
+        fd = os.open(path, FILE, dir_fd=above)
+    except OSError as error:
+        if error.errno in (errno.ENOENT, errno.ENOTDIR, errno.ELOOP, errno.ENXIO):
+            raise Unlike(f"{path!r} isn't there") from error
+        raise
+    try:
+        if not stat.S_ISREG(os.fstat(fd).st_mode):
+            raise Unlike(f"{path!r} is no file")
+        while piece := os.read(fd, 1 << 20):
+            yield piece
+    finally:
+        os.close(fd)
 
 
-def digest_of(path, algorithm):
+def content(path, above):
+    """The bytes of a file."""
+    return b"".join(pieces(path, above))
+
+
+def digest_of(path, above, algorithm):
     """The digest of a file, in hex."""
     digest = hashlib.new(algorithm)
-    with open(path, "rb") as file:
-        while piece := file.read(1 << 20):
-            digest.update(piece)
+    for piece in pieces(path, above):
+        digest.update(piece)
     return digest.hexdigest()
+
+
+class Root:
+    """A storage root that the program made: where it is, how its places are cut, and the folder, open."""
+
+    def __init__(self, path, last):
+        self.path = path.rstrip("/") or "/"
+        try:
+            self.fd = last.enter_context(folder(self.path))
+        except NotADirectoryError as error:
+            raise Refused(f"{path} is no folder, or a link: name the folder itself") from error
+        found = os.fstat(self.fd)
+        self.device, self.key = found.st_dev, (found.st_dev, found.st_ino)
+        self.size, self.count = self.tuples()
+        self.unjudged = 0
+
+    def tuples(self):
+        """The layout's two numbers, by the root's own files, which have to be the program's."""
+        config = f"extensions/{EXTENSION}/config.json"
+        try:
+            for name, wanted in (("0=ocfl_1.1", b"ocfl_1.1\n"), ("ocfl_layout.json", LAYOUT)):
+                if content(name, self.fd) != wanted:
+                    raise Refused(f"{self.path}/{name} isn't the program's")
+            for above in ("extensions", f"extensions/{EXTENSION}"):
+                with folder(above, self.fd):
+                    pass
+            text = content(config, self.fd)
+            found = re.fullmatch(rb'.*"numberOfTuples":(\d{1,2}),"tupleSize":(\d{1,2})}', text)
+        except (Unlike, FileNotFoundError, NotADirectoryError) as error:
+            raise Refused(f"{self.path} isn't a storage root of the program: {error}") from error
+        if not found or text != config_of(*map(int, found.groups())):
+            raise Refused(f"{self.path}/{config} isn't the program's")
+        return int(found[2]), int(found[1])
+
+    def __str__(self):
+        return self.path
+
+    def places(self, names=(), above=None):
+        """The folders at objects' places, by place, last name and the tuple folder, open. What can't be listed is told and counted."""
+        above = self.fd if above is None else above
+        for name in sorted(os.listdir(above)):
+            whole = "/".join((*names, name))
+            if whole in ("0=ocfl_1.1", "ocfl_layout.json", "extensions"):
+                continue
+            if not self.belongs(names, name) or not is_folder(name, above):
+                say(f"{self}/{whole}: it isn't a place of the program's, and is left out")
+            elif len(names) == self.count:
+                yield whole, name, above
+            else:
+                yield from self.entered(names, name, above)
+
+    def entered(self, names, name, above):
+        """The same below a tuple folder."""
+        try:
+            with folder(name, above) as fd:
+                yield from self.places((*names, name), fd)
+        except OSError as error:
+            self.unjudged += 1
+            say(f"{self}/{'/'.join((*names, name))}: {error.strerror}")
+
+    def belongs(self, names, name):
+        """Whether a name belongs below these: a tuple, or the last name of an object with these tuples."""
+        if len(names) < self.count:
+            return re.fullmatch(f"[0-9a-f]{{{self.size}}}", name) is not None
+        long = LONG_NAME.fullmatch(name)
+        if not long and not NAME.fullmatch(name):
+            return False
+        digest = long[1] if long else hashlib.sha256(urllib.parse.unquote_to_bytes(name)).hexdigest()
+        return digest.startswith("".join(names))
+
+
+def config_of(count, size):
+    """The configuration of a layout as the program writes it."""
+    return (
+        f'{{"digestAlgorithm":"sha256","extensionName":"{EXTENSION}","numberOfTuples":{count},"tupleSize":{size}}}'
+    ).encode()
+
+
+def is_folder(name, above):
+    """Whether a name is that of a folder, and no link."""
+    return stat.S_ISDIR(os.stat(name, dir_fd=above, follow_symlinks=False).st_mode)
+
+
+def last_name_of(identifier):
+    """The last name of an identifier's place."""
+    plain = re.compile("[A-Za-z0-9_-]")
+    encoded = "".join(chr(byte) if plain.match(chr(byte)) else f"%{byte:02x}" for byte in identifier)
+    return encoded if len(encoded) <= 100 else f"{encoded[:100]}-{hashlib.sha256(identifier).hexdigest()}"
 
 
 def files_below(top):
     """The paths of all that stands below a folder and is no folder, and of folders with nothing in them."""
-    for above, folders, names in os.walk(top):
-        links = [name for name in folders if os.path.islink(os.path.join(above, name))]
-        for name in (*names, *links, *([""] if not folders and not names else [])):
-            yield os.path.relpath(os.path.join(above, name) if name else above, top)
+    found, waiting = set(), [""]
+    while waiting:
+        above = waiting.pop()
+        with folder(above or ".", top) as fd:
+            names = os.listdir(fd)
+            if not names:
+                found.add(above.rstrip("/"))
+            for name in names:
+                (waiting.append(f"{above}{name}/") if is_folder(name, fd) else found.add(above + name))
+    return found
 
 
-def fault_of(top):
-    """Why an object isn't whole, or None."""
-    if os.path.islink(top) or not os.path.isdir(top):
-        return "it is no folder"
-    if content(f"{top}/0=ocfl_object_1.1") != DECLARATION:
-        return "its declaration isn't whole"
-    text = content(f"{top}/inventory.json")
+def inventory_of(top, name):
+    """The digest algorithm and the manifest of an object, by its inventory, which has to be the program's with its sidecar."""
+    names = os.listdir(top)
+    other = [it for it in names if it.startswith("0=ocfl_object_") and it != DECLARATION]
+    if other or any(re.fullmatch("v0*([2-9]|[1-9][0-9]+)", it) for it in names):
+        raise Foreign("it is of another version of OCFL, or has later versions")
+    if {"logs", "extensions"} & set(names):
+        raise Foreign("another program has written in it")
+    if content(DECLARATION, top) != b"ocfl_object_1.1\n":
+        raise Unlike("its declaration isn't whole")
+    text = content("inventory.json", top)
     try:
-        inventory = json.loads(text or b"")
+        inventory = json.loads(text)
+        if inventory["head"] != "v1" or list(inventory["versions"]) != ["v1"]:
+            raise Foreign("it has later versions, or isn't the program's")
+        if last_name_of(inventory["id"].encode()) != name:
+            raise Unlike("its inventory has the identifier of another place")
         algorithm, manifest = inventory["digestAlgorithm"], inventory["manifest"]
+        if algorithm not in ("sha512", "sha256"):
+            raise Foreign("its digests aren't the program's")
         stored = {path: digest for digest, paths in manifest.items() for path in paths}
         sidecar = f"{hashlib.new(algorithm, text).hexdigest()} inventory.json\n".encode()
-    except (ValueError, KeyError, TypeError, AttributeError):
-        return "its inventory isn't whole"
-    own = {"0=ocfl_object_1.1"}
-    for folder in ("", "v1/"):
-        if content(f"{top}/{folder}inventory.json") != text:
-            return f"{folder}inventory.json isn't the inventory"
-        if content(f"{top}/{folder}inventory.json.{algorithm}") != sidecar:
-            return f"{folder}inventory.json.{algorithm} isn't that of the inventory"
-        own |= {f"{folder}inventory.json", f"{folder}inventory.json.{algorithm}"}
-    found = set(files_below(top))
-    for path in sorted(found - own - stored.keys()):
-        return f"no inventory has {path!r}"
-    for path, digest in sorted(stored.items()):
-        if content_differs(f"{top}/{path}", algorithm, digest):
-            return f"{path!r} isn't there, or isn't whole"
-    return None
+    except (ValueError, KeyError, TypeError, AttributeError, RecursionError) as error:
+        raise Unlike("its inventory isn't whole") from error
+    for above in ("", "v1/"):
+        if content(f"{above}inventory.json", top) != text:
+            raise Unlike(f"{above}inventory.json isn't the inventory")
+        if content(f"{above}inventory.json.{algorithm}", top) != sidecar:
+            raise Unlike(f"{above}inventory.json.{algorithm} isn't that of the inventory")
+    return algorithm, stored
 
 
-def content_differs(path, algorithm, digest):
-    """Whether a stored file isn't there or has another digest."""
-    return os.path.islink(path) or not os.path.isfile(path) or digest_of(path, algorithm) != digest
+def look_at(name, above, reads):
+    """Looks at an object: `Unlike` where it isn't whole, `Foreign` where it isn't one of the program's. Contents are read if asked."""
+    with folder(name, above) as top:
+        found = files_below(top)
+        algorithm, stored = inventory_of(top, name)
+        own = {DECLARATION, *(f"{it}inventory.json{end}" for it in ("", "v1/") for end in ("", f".{algorithm}"))}
+        for path in sorted(found ^ (own | stored.keys()), key=str):
+            raise Unlike(f"{path!r} isn't there" if path in stored else f"no inventory has {path!r}")
+        for path, digest in stored.items() if reads else ():
+            if digest_of(path, top, algorithm) != digest:
+                raise Unlike(f"{path!r} isn't whole")
 
 
-def damaged(root):
-    """Lists the objects that aren't whole, and gives how many there are."""
+def damaged(path):
+    """Lists the objects of a root that aren't whole, and gives the status."""
     count = 0
-    for place in places(root, tuples_of(root)):
-        if not OWN_PLACE.fullmatch(place):
-            print(f"{place!r} isn't a place of the program's, and isn't listed", file=sys.stderr)
-            continue
-        fault = fault_of(f"{root}/{place}")
-        if fault:
-            count += 1
-            print(place)
-            print(f"{place}: {fault}", file=sys.stderr)
-    return count
+    with contextlib.ExitStack() as last:
+        root = Root(path, last)
+        for place, name, above in root.places():
+            try:
+                look_at(name, above, reads=True)
+            except Unlike as fault:
+                count += 1
+                show(place)
+                say(f"{root}/{place}: {fault}")
+            except (Foreign, OSError) as error:
+                root.unjudged += 1
+                say(f"{root}/{place}: it isn't judged: {reason(error)}")
+        return 2 if root.unjudged else min(count, 1)
 
 
-def join(root, others):
-    """Moves the objects of other roots into a root, and gives how many could not be."""
-    depth, taken = tuples_of(root), 0
-    for other in others:
-        tuples_of(other)
-        if any(content(f"{other}/{path}") != content(f"{root}/{path}") for path in ROOT_FILES):
-            raise NoRoot(f"{other} has other tuples than {root}")
-    for other in others:
-        for place in list(places(other, depth)):
-            if not OWN_PLACE.fullmatch(place):
-                continue
-            if os.path.lexists(f"{root}/{place}"):
+def reason(error):
+    """What an error says."""
+    return error.strerror if isinstance(error, OSError) else error
+
+
+def hold(root, held, last):
+    """Holds the lock of the folder that a root stands in, as a run into it does, and sees to it that none broke off there."""
+    fd = last.enter_context(folder("..", root.fd))
+    key = os.fstat(fd)[1:3]
+    if key not in held:
+        lock(fd, root)
+        held.add(key)
+    if "staging" in os.listdir(fd):
+        raise Refused(f"staging is left beside {root}: let its migration come to its end first")
+
+
+def lock(fd, root):
+    """Locks the open folder of a root. Where its file system has no locks, that is told."""
+    try:
+        fcntl.flock(fd, fcntl.LOCK_EX | fcntl.LOCK_NB)
+    except OSError as error:
+        if error.errno == errno.EWOULDBLOCK:
+            raise Refused(f"another run has the folder of {root}") from error
+        if error.errno not in NO_LOCKS:
+            raise
+        say(f"the folder of {root} can't be locked ({error.strerror}): see to it that no run is under way")
+
+
+def agree(roots):
+    """Sees to it that roots can be joined: each is given once, none lies in another, with one layout on one file system."""
+    first, seen = roots[0], set()
+    for root in roots:
+        if root.key in seen:
+            raise Refused(f"{root} is given twice")
+        seen.add(root.key)
+        if (root.size, root.count) != (first.size, first.count):
+            raise Refused(f"{root} has other tuples than {first}")
+        if root.device != first.device:
+            raise Refused(f"{root} is on another file system than {first}: copy its folder there first, by cp -a, and join the copy")
+        above = os.path.realpath(root.path)
+        while above != os.path.dirname(above):
+            above = os.path.dirname(above)
+            if any(os.path.samestat(os.stat(above), os.fstat(other.fd)) for other in roots):
+                raise Refused(f"{root} lies in another of the roots")
+
+
+def stands(root, names):
+    """Whether something stands at a place."""
+    with contextlib.ExitStack() as last:
+        above = root.fd
+        try:
+            for name in names[:-1]:
+                above = last.enter_context(folder(name, above))
+            os.stat(names[-1], dir_fd=above, follow_symlinks=False)
+        except FileNotFoundError:
+            return False
+    return True
+
+
+@contextlib.contextmanager
+def made(root, names):
+    """The tuple folder of these names, open. What was made of it is taken away where what is done there fails."""
+    above, new = root.fd, []
+    with contextlib.ExitStack() as last:
+        try:
+            for name in names:
+                with contextlib.suppress(FileExistsError):
+                    os.mkdir(name, dir_fd=above)
+                    new.append((name, above))
+                above = last.enter_context(folder(name, above))
+            yield above
+        except OSError:
+            for name, above in reversed(new):
+                with contextlib.suppress(OSError):
+                    os.rmdir(name, dir_fd=above)
+            raise
+
+
+def move(root, place, above):
+    """Renames a whole object of another root into a root. False where its place is taken."""
+    *tuples, name = place.split("/")
+    if stands(root, [*tuples, name]):
+        return False
+    look_at(name, above, reads=False)
+    with made(root, tuples) as to:
+        os.rename(name, name, src_dir_fd=above, dst_dir_fd=to)
+    return True
+
+
+def move_all(root, other):
+    """Moves the objects of another root, and gives how many places were taken. What stays is told and counted."""
+    taken = 0
+    for place, _, above in other.places():
+        try:
+            if not move(root, place, above):
                 taken += 1
-                print(f"{other}/{place}")
-                continue
-            os.makedirs(os.path.dirname(f"{root}/{place}"), exist_ok=True)
-            shutil.move(f"{other}/{place}", f"{root}/{place}")
+                show(f"{other}/{place}")
+        except (Unlike, Foreign, OSError) as error:
+            if getattr(error, "errno", None) in ENDS:
+                raise
+            other.unjudged += 1
+            say(f"{other}/{place}: it stays: {reason(error)}")
     return taken
 
 
+def join(paths):
+    """Moves the objects of other roots into the first, and gives the status."""
+    with contextlib.ExitStack() as last:
+        root, *others = roots = [Root(path, last) for path in paths]
+        agree(roots)
+        held = set()
+        for it in roots:
+            hold(it, held, last)
+        taken = sum([move_all(root, other) for other in others])
+        return 2 if any(other.unjudged for other in others) else min(taken, 1)
+
+
+def run(words):
+    """Does what the words ask for, and gives the status."""
+    if len(words) == 2 and words[0] == "damaged":
+        return damaged(words[1])
+    if len(words) > 2 and words[0] == "join":
+        return join(words[1:])
+    raise Refused(f"the words are wrong\n\n{__doc__}")
+
+
 def main():
-    words = sys.argv[1:]
     try:
-        if len(words) == 2 and words[0] == "damaged":
-            return min(damaged(words[1]), 1)
-        if len(words) > 2 and words[0] == "join":
-            return min(join(words[1], words[2:]), 1)
-    except (NoRoot, FileNotFoundError) as error:
-        print(f"roots.py: {error}", file=sys.stderr)
-        return 2
-    print(__doc__, file=sys.stderr)
+        return run(sys.argv[1:])
+    except (Refused, Unlike) as error:
+        say(error)
+    except OSError as error:
+        copied = "; copy the root there by cp -a, and join the copy" if error.errno == errno.EXDEV else ""
+        say(f"{f'{error.filename}: ' if error.filename else ''}{error.strerror}{copied}")
+    except KeyboardInterrupt:
+        say("stopped; the same command goes on")
     return 2
 
 

@@ -1,0 +1,223 @@
+"""Tests of tools/roots.py, over storage roots that the tests write: joining, and telling objects that aren't whole."""
+
+import contextlib
+import fcntl
+import os
+import re
+import subprocess
+import sys
+
+import stores
+from options import Alone, differs
+from running import mounted
+from stores import DIR, GONE, Link, build, place, read_tree, root, stored
+
+TOP = os.path.dirname(os.path.dirname(os.path.abspath(__file__)))
+ROOTS = [sys.executable, "-B", f"{TOP}/tools/roots.py"]
+LONG = "é" * 60
+NOBODY = 65534
+
+
+def roots(folder, *words, **options):
+    """What roots.py answers: its status, its lines and what it said; a traceback is never one of them."""
+    options = {"stdout": subprocess.PIPE, "stderr": subprocess.PIPE, **options}
+    done = subprocess.run([*ROOTS, *words], cwd=folder, timeout=120, **options)
+    said = done.stderr.decode(errors="replace")
+    if "Traceback" in said:
+        raise OSError(said)
+    return done.returncode, (done.stdout or b"").decode(errors="replace").splitlines(), said
+
+
+def an_object(identifier, mark=b"", **options):
+    """An object with two files."""
+    return stored(identifier, {"a.txt": identifier.encode(), "b/c": b"same" + mark}, **options)
+
+
+def three(folder):
+    """Three roots, of which each has an identifier that another has."""
+    several = {
+        "a": [an_object("aa"), an_object("cc", b"a")],
+        "b": [an_object("ba"), an_object("cc", b"b"), an_object(LONG)],
+        "c": [an_object("ca"), an_object("ba", b"c"), an_object("a/b:c")],
+    }
+    for name, objects in several.items():
+        build(folder, {name: DIR, **{f"{name}/{path}": held for path, held in root(*objects).items()}})
+
+
+def inodes(folder):
+    """The files below a folder by their numbers."""
+    return {os.lstat(f"{above}/{name}").st_ino for above, _, names in os.walk(folder) for name in names}
+
+
+def only(tree, name):
+    """What stands in one folder of a tree but for folders."""
+    return {path[len(name) + 1 :]: held for path, held in tree.items() if path.startswith(f"{name}/") and held != DIR}
+
+
+def joins(program, folder):
+    """Objects are renamed, not copied; those whose place is taken stay and are listed, with status 1, and once more the next time."""
+    three(folder)
+    numbers = inodes(folder)
+    taken = [f"b/ocfl/{place('cc')}", f"c/ocfl/{place('ba')}"]
+    status, listed, said = roots(folder, "join", "a/ocfl", "b/ocfl/", "c/ocfl")
+    faults = differs(status=(status, 1), listed=(listed, taken), said=(said, ""), files=(inodes(folder), numbers))
+    found = read_tree(folder)
+    kept = root(an_object("aa"), an_object("cc", b"a"), an_object("ba"), an_object(LONG), an_object("ca"), an_object("a/b:c"))
+    faults += list(stores.differences(only(found, "a"), kept))
+    faults += list(stores.differences(only(found, "b"), root(an_object("cc", b"b"))))
+    faults += list(stores.differences(only(found, "c"), root(an_object("ba", b"c"))))
+    faults += differs(again=(roots(folder, "join", "a/ocfl", "b/ocfl", "c/ocfl")[:2], (1, taken)))
+    return faults + differs(same=(read_tree(folder) == found, True), whole=(roots(folder, "damaged", "a/ocfl"), (0, [], "")))
+
+
+def refusals(program, folder):
+    """A root that is given twice, of another layout, not the program's, a link, in another, locked or in use: nothing is moved."""
+    three(folder)
+    build(folder, {f"t/{path}": held for path, held in root(layout=(2, 3)).items()})
+    os.symlink("b/ocfl", f"{folder}/link")
+    os.symlink("b", f"{folder}/lb")
+    build(folder, {f"b/ocfl/in/{path}": held for path, held in root().items()})
+    build(folder, {f"m/{path}": held for path, held in root().items()})
+    build(folder, {"m/ocfl/0=ocfl_1.1": GONE, "m/ocfl/0=ocfl_1.1 ": b"ocfl_1.1\n"})
+    build(folder, {f"p/{path}": held for path, held in root().items()})
+    build(folder, {"p/ocfl/ocfl_layout.json": GONE, "p/ocfl/ocfl_layout.json ": b"{}"})
+    os.mkfifo(f"{folder}/p/ocfl/ocfl_layout.json")
+    build(folder, {f"u/{path}": held for path, held in root().items()})
+    build(folder, {"u/staging": DIR})
+    before, faults = read_tree(folder), []
+    for words, reason in {
+        ("a/ocfl", "a/ocfl"): "given twice",
+        ("a/ocfl", "b/ocfl", "b/../b/ocfl"): "given twice",
+        ("a/ocfl", "b/ocfl", "lb/ocfl"): "given twice",
+        ("a/ocfl", "link"): "no folder, or a link",
+        ("a/ocfl", "b/ocfl", "t/ocfl"): "other tuples",
+        ("t/ocfl", "b/ocfl"): "other tuples",
+        ("a/ocfl", "m/ocfl"): "isn't a storage root",
+        ("p/ocfl", "b/ocfl"): "isn't a storage root",
+        ("a/ocfl", "b/ocfl", "b/ocfl/in/ocfl"): "lies in another",
+        ("a/ocfl", "b/ocfl", "u/ocfl"): "staging is left",
+        ("a/ocfl", "b/ocfl", "none/ocfl"): "No such file",
+        ("a/ocfl", "b"): "isn't a storage root",
+        ("a/ocfl",): "the words are wrong",
+    }.items():
+        status, listed, said = roots(folder, "join", *words)
+        faults += differs(**{" ".join(words): ((status, listed, reason in said), (2, [], True))})
+    for held in "ab":
+        lock = os.open(f"{folder}/{held}", os.O_RDONLY)
+        fcntl.flock(lock, fcntl.LOCK_EX | fcntl.LOCK_NB)
+        status, listed, said = roots(folder, "join", "a/ocfl", "b/ocfl")
+        os.close(lock)
+        faults += differs(lock=((status, listed, "another run has" in said), (2, [], True)))
+    return faults + differs(same=(read_tree(folder) == before, True))
+
+
+def leaves(program, folder):
+    """What is no whole object of the program's stays, what stands in the way too; the rest is moved, and the status is 2."""
+    three(folder)
+    bad = {"v1/content/more": b"1"}
+    for name, damage in {"da": bad, "db": {"v1/content/a.txt": GONE}, "dc": {"v2": DIR}, "dd": {"0=ocfl_object_1.1": b""}}.items():
+        build(folder, {f"b/{path}": held for path, held in an_object(name).items()})
+        build(f"{folder}/b/ocfl/{place(name)}", damage)
+    build(f"{folder}/b/ocfl", {place("df"): Link("../../.."), "zzz/x": b"", "notes.txt": b"1", f"{place('dg')}x/y": b""})
+    first = place("dh").split("/")[0]
+    build(folder, {f"b/{path}": held for path, held in an_object("dh").items()})
+    build(f"{folder}/a/ocfl", {first: Link("../../elsewhere")})
+    build(folder, {"elsewhere": DIR})
+    names = place("di").split("/")
+    build(folder, {f"b/{path}": held for path, held in an_object("di").items()})
+    build(f"{folder}/a/ocfl", {"/".join(names[:2]): b"a file"})
+    wrong = an_object("dj")
+    build(folder, {f"b/{path}".replace(place("dj"), place("dk")): held for path, held in wrong.items()})
+    status, listed, said = roots(folder, "join", "a/ocfl", "b/ocfl")
+    faults = differs(status=(status, 2), listed=(listed, [f"b/ocfl/{place('cc')}"]))
+    there = {name for name in ("aa", "ba", "cc", LONG) if os.path.isdir(f"{folder}/a/ocfl/{place(name)}")}
+    faults += differs(moved=(there, {"aa", "ba", "cc", LONG}), elsewhere=(os.listdir(f"{folder}/elsewhere"), []))
+    for name in ("da", "db", "dc", "dd", "dh", "di", "dk"):
+        stays = os.path.isdir(f"{folder}/b/ocfl/{place(name)}") and not os.path.lexists(f"{folder}/a/ocfl/{place(name)}")
+        faults += differs(**{name: ((stays, f"{place(name)}: it stays" in said), (True, True))})
+    empty = [above for above, folders, names in os.walk(f"{folder}/a/ocfl") if not folders and not names]
+    return faults + differs(empty=(empty, []), link=(os.path.islink(f"{folder}/b/ocfl/{place('df')}"), True))
+
+
+def other_systems(program, folder):
+    """Roots on another file system, or behind another mount of it, are refused, and nothing is moved; None where nothing can be mounted."""
+    with contextlib.ExitStack() as last:
+        three(folder)
+        os.mkdir(f"{folder}/f")
+        if not mounted(("-t", "tmpfs", "-o", "size=1m", "none", "f"), folder, last):
+            return None
+        build(folder, {f"f/{path}": held for path, held in root(an_object("fa")).items()})
+        os.mkdir(f"{folder}/g")
+        if not mounted(("--bind", f"{folder}/b", "g"), folder, last):
+            return None
+        before, faults = read_tree(folder), []
+        for other, reason in {"f/ocfl": "cp -a", "g/ocfl": "cp -a"}.items():
+            status, _, said = roots(folder, "join", "a/ocfl", other)
+            faults += differs(**{other: ((status, reason in said), (2, True))})
+            faults += [f"{other}: {text}" for text in stores.differences(read_tree(folder), before)]
+        status, _, said = roots(folder, "join", "b/ocfl", "g/ocfl")
+        faults += differs(twice=((status, "given twice" in said), (2, True)))
+        return faults + [f"at last: {text}" for text in stores.differences(read_tree(folder), before)]
+
+
+def outputs(program, folder):
+    """A closed or full output is an error and no traceback, and the same command goes on."""
+    three(folder)
+    reading, writing = os.pipe()
+    os.close(reading)
+    full = os.open("/dev/full", os.O_WRONLY)
+    faults = differs(pipe=(roots(folder, "join", "a/ocfl", "b/ocfl", stdout=writing)[0], 2))
+    faults += differs(full=(roots(folder, "join", "a/ocfl", "b/ocfl", stdout=full)[0], 2))
+    for fd in (writing, full):
+        os.close(fd)
+    taken = [f"b/ocfl/{place('cc')}"]
+    faults += differs(again=(roots(folder, "join", "a/ocfl", "b/ocfl")[:2], (1, taken)))
+    return faults + differs(moved=(os.path.isdir(f"{folder}/a/ocfl/{place(LONG)}"), True))
+
+
+def killed(program, folder):
+    """Ended at 200 moments no object is lost or in part, and the same command again does the rest."""
+    os.mkdir(f"{folder}/before")
+    three(f"{folder}/before")
+    done = subprocess.run([sys.executable, "-B", f"{TOP}/tests/kills.py", ROOTS[-1], folder, "200"], capture_output=True, timeout=280)
+    *faults, count = done.stdout.decode().splitlines() or ["nothing was said"]
+    return faults[:5] + differs(count=(count, "200"), errors=(done.stderr, b""))
+
+
+def tells(program, folder):
+    """`damaged` lists places below tuple folders alone; another version and what can't be read are told apart, and the rest is looked at."""
+    three(folder)
+    top = f"{folder}/b/ocfl"
+    tuples = place("ba").rsplit("/", 1)[0]
+    build(top, {f"{tuples}/notes": DIR, f"{tuples}/Thumbs.db": b"1", "notes": DIR, "abc": b"1", "zzz": DIR})
+    faults = differs(nothing=(roots(folder, "damaged", "b/ocfl")[:2], (0, [])))
+    build(f"{top}/{place('ba')}", {"v1/content/a.txt": b"other"})
+    faults += differs(one=(roots(folder, "damaged", "b/ocfl")[:2], (1, [place("ba")])))
+    build(folder, {f"b/{path}": held for path, held in {**an_object("va"), **an_object("vb"), **an_object("vc"), **an_object("vd")}.items()})
+    build(f"{top}/{place('va')}", {"0=ocfl_object_1.1": GONE, "0=ocfl_object_1.0": b"ocfl_object_1.0\n"})
+    build(f"{top}/{place('vb')}", {"v2": DIR, "inventory.json": b""})
+    build(f"{top}/{place('vd')}", {"logs/fixity": b"1"})
+    status, listed, said = roots(folder, "damaged", "b/ocfl")
+    faults += differs(status=(status, 2), listed=(listed, [place("ba")]))
+    faults += differs(apart=(sorted(re.findall(r"/(v[a-d]): it isn't judged", said)), ["va", "vb", "vd"]))
+    if os.geteuid() == 0:
+        os.chmod(folder, 0o755)
+        os.chmod(f"{top}/{place('vc')}/v1/content/a.txt", 0)
+        os.chmod(f"{top}/{place('cc').split('/')[0]}", 0)
+        script = f"import sys, os\nsys.path.insert(0, {TOP + '/tools'!r})\nimport roots\nos.setuid({NOBODY})\nsys.exit(roots.main())"
+        command = [sys.executable, "-B", "-c", script, "damaged", "b/ocfl"]
+        done = subprocess.run(command, cwd=folder, capture_output=True, timeout=120)
+        unread = (done.returncode, done.stdout.decode().splitlines(), done.stderr.count(b"Permission denied"))
+        faults += differs(unread=(unread, (2, [place("ba")], 2)))
+    return faults
+
+
+CASES = [
+    Alone("roots are joined", joins),
+    Alone("roots that can't be joined", refusals),
+    Alone("what stays when roots are joined", leaves),
+    Alone("roots on several file systems", other_systems),
+    Alone("joining with an output that fails", outputs),
+    Alone("joining, killed at 200 moments", killed),
+    Alone("what damaged tells apart", tells),
+]

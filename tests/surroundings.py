@@ -1,0 +1,231 @@
+"""Cases of what is around a run: mounts and working folders that hide where folders are, locks and logs that can't be had, outputs that
+nobody reads, and prefixes and paths that look otherwise than they are."""
+
+import contextlib
+import os
+import shutil
+import subprocess
+import sys
+import time
+
+import stores
+from options import OVERLAP, Alone, differs, run
+from running import MEANT, mounted, started
+from stores import DIR, FIFO, ONE, build, read_tree
+
+HIDDEN = b"pairtree2ocfl: the system cannot tell where SOURCE and DEST lie\n"
+NOBODY = 65534
+ALLOWED = os.geteuid() == 0
+
+
+def second_mounts(program, folder):
+    """A second mount of the store, or of a folder above or below it, is no other folder; the other way round too. Nothing is made."""
+    build(folder, {"mine": DIR, "m": DIR, "other/ocfl/in": DIR, "other/staging/in": DIR, "t/pairtree_root": DIR})
+    for place in ("mine/s", "other/ocfl/in", "other/staging/in"):
+        build(f"{folder}/{place}", ONE)
+    build(folder, {"t/pairtree_version0_1": stores.DECLARATION})
+    refused = {
+        ("mine/s", "mine/s", "m"): "the store",
+        ("mine/s", "mine/s", "m/pairtree_root/ab"): "below the store",
+        ("mine", "mine/s", "m/s"): "above the store",
+        ("mine", "mine/s", "m/s/pairtree_root"): "above, and below",
+        ("mine/s/pairtree_root", "mine/s", "m/ab"): "pairtree_root",
+        ("other", "m/ocfl/in", "other"): "a store in ocfl",
+        ("other/ocfl", "m/in", "other"): "a store in ocfl itself",
+        ("other/staging", "m/in", "other"): "a store in staging",
+    }
+    before, faults = read_tree(folder), []
+    for (what, source, dest), name in refused.items():
+        with contextlib.ExitStack() as last:
+            if not mounted(("--bind", f"{folder}/{what}", "m"), folder, last):
+                return None
+            done = subprocess.run([program, "migrate", *MEANT, source, dest], cwd=folder, capture_output=True, timeout=120)
+        faults += differs(**{name: ((done.returncode, done.stdout, done.stderr), (2, b"", OVERLAP))})
+        faults += [f"{name}: {text}" for text in stores.differences(read_tree(folder), before)]
+    with contextlib.ExitStack() as last:
+        if not mounted(("--bind", f"{folder}/other/ocfl", "t/pairtree_root"), folder, last):
+            return None
+        done = subprocess.run([program, "migrate", *MEANT, "t", "other"], cwd=folder, capture_output=True, timeout=120)
+        faults += differs(tree=((done.returncode, done.stderr), (2, OVERLAP)))
+    with contextlib.ExitStack() as last:
+        if not mounted(("--bind", f"{folder}/d", "m"), folder, last):
+            return None
+        done = subprocess.run([program, "migrate", *MEANT, "mine/s", "m"], cwd=folder, capture_output=True, timeout=120)
+        faults += differs(apart=(done.returncode, 0))
+    return faults
+
+
+DEEP = """
+import os, sys
+program, *words = sys.argv[1:]
+for _ in range(21):
+    os.mkdir("d" * 200)
+    os.chdir("d" * 200)
+os.makedirs("s/pairtree_root/ab/c/obj")
+for path in ("s/pairtree_version0_1", "s/pairtree_root/ab/c/obj/a.txt"):
+    open(path, "w").close()
+os.mkdir("d")
+sys.stdout.flush()
+os.execv(program, [program, *words])
+"""
+
+
+def deep_folder(program, folder):
+    """In a working folder whose path is too long for the system the store isn't written into."""
+    faults = []
+    for dest in ("s", "s/pairtree_root", "d"):
+        words = [sys.executable, "-c", DEEP, program, "migrate", *MEANT, "s", dest]
+        os.mkdir(f"{folder}/in")
+        done = subprocess.run(words, cwd=f"{folder}/in", capture_output=True, timeout=120)
+        faults += differs(**{dest: ((done.returncode, done.stdout, done.stderr), (2, b"", HIDDEN))})
+        found = subprocess.run(["find", "in", "-name", "ocfl*", "-o", "-name", "staging"], cwd=folder, capture_output=True, check=True)
+        faults += differs(made=(found.stdout, b""))
+        subprocess.run(["rm", "-rf", f"{folder}/in"], check=True)
+    return faults
+
+
+def no_lock(program, folder):
+    """A destination that can't be locked, since it can't be opened: that is told with --verbose, and the run goes on."""
+    if not ALLOWED:
+        return None
+    faults = []
+    line = b"pairtree2ocfl: d: it is not locked: Permission denied (os error 13)\n"
+    for words, err in {(): b"", ("-v",): line}.items():
+        subprocess.run(["rm", "-rf", f"{folder}/d"], check=True)
+        os.mkdir(f"{folder}/d")
+        shutil.copy(program, f"{folder}/program")
+        subprocess.run(["chmod", "-R", "a+rX", folder], check=True)
+        os.chmod(f"{folder}/d", 0o333)
+        command = [f"{folder}/program", "migrate", *MEANT, *words, "s", "d"]
+        done = subprocess.run(command, cwd=folder, capture_output=True, preexec_fn=lambda: os.setuid(NOBODY), timeout=120)
+        faults += differs(**{" ".join(words): ((done.returncode, done.stderr), (0, err))})
+    return faults
+
+
+def another_users_log(program, folder):
+    """With --sync a log that is open, and that the program can't open again, is written, and told before the run as one that isn't synced."""
+    if not ALLOWED:
+        return None
+    os.mkdir(f"{folder}/logs", 0o700)
+    os.chmod(f"{folder}/d", 0o777)
+    with open(f"{folder}/logs/log", "wb", opener=lambda path, flags: os.open(path, flags | os.O_APPEND, 0o600)) as log:
+        subprocess.run(["chmod", "a+rX", folder], check=True)
+        shutil.copy(program, f"{folder}/program")
+        os.chmod(f"{folder}/program", 0o755)
+        subprocess.run(["chmod", "-R", "a+rX", f"{folder}/s"], check=True)
+        command = [f"{folder}/program", "migrate", *MEANT, "--sync", "s", "d"]
+        options = {"stdout": log, "stderr": subprocess.PIPE, "timeout": 120, "preexec_fn": lambda: os.setuid(NOBODY)}
+        done = subprocess.run(command, cwd=folder, **options)
+    with open(f"{folder}/logs/log", "rb") as file:
+        lines = file.read().splitlines()
+    said = b"pairtree2ocfl: the log's file will not be put onto its disk: Permission denied (os error 13)\n"
+    return differs(status=((done.returncode, done.stderr), (0, said)), lines=(len(lines), 2))
+
+
+def sync_to_pipes(program, folder):
+    """With --sync an output that has no disk, as a pipe, is written as ever."""
+    done = run(program, folder, "--sync")
+    return differs(pipe=((done.returncode, done.stderr, len(done.stdout.splitlines())), (0, b"", 2)))
+
+
+def nobody_reads(program, folder):
+    """Help and the version end well where nobody reads them to their end; the log of a run and names don't."""
+    faults = []
+    for words in (["--help"], ["migrate", "--help"], ["-V"]):
+        faults += differs(**{" ".join(words): (started([program, *words], folder, "a closed pipe"), (0, b"", b""))})
+    status, _, err = started([program, "names", "abc"], folder, "a closed pipe")
+    return faults + differs(names=((status, err), (3, b"pairtree2ocfl: fault 3: cannot write the output\n")))
+
+
+def prefixes(program, folder):
+    """With --verbose a prefix with what can't be seen is told at the start of a run; without it, and of another prefix, nothing is."""
+    line = b"pairtree2ocfl: s/pairtree_prefix: the prefix holds a control character, a blank at an end, or a byte order mark\n"
+    faults = []
+    for prefix, told in {
+        b"ark:/": False,
+        b"ark:/13030\r\n": False,
+        b"a b\n\n": False,
+        b"\xef\xbb\xbfark:": True,
+        b"ark: ": True,
+        b" ark:": True,
+        b"one\ntwo": True,
+        b"a\0b": True,
+        b"a\tb": True,
+    }.items():
+        with open(f"{folder}/s/pairtree_prefix", "wb") as file:
+            file.write(prefix)
+        for words, said in {("-n", "-v"): line if told else b"", ("-n",): b""}.items():
+            done = run(program, folder, *words)
+            faults += differs(**{repr((prefix, words)): ((done.returncode, done.stderr), (0, said))})
+    return faults
+
+
+def strange_prefixes(program, folder):
+    """A prefix that is no file doesn't hold up the warning."""
+    build(f"{folder}/s", {"pairtree_prefix": FIFO})
+    done = run(program, folder, "-v")
+    return differs(said=((done.returncode, done.stderr.count(b"\n"), b"fault 6" in done.stderr), (3, 2, True)))
+
+
+def directions(program, folder):
+    """Characters that turn the text around are escaped in the path of a fault."""
+    name = "x\u202ey\u2066z\u2069"
+    done = subprocess.run([program, "migrate", *MEANT, "-v", "s", name], cwd=folder, capture_output=True, timeout=120)
+    shown = b"pairtree2ocfl: x\\u{202e}y\\u{2066}z\\u{2069}/staging: "
+    return differs(shown=(done.stderr.splitlines()[-1].startswith(shown), True))
+
+
+def long_path(program, folder):
+    """A rehearsal names the path that would end a run."""
+    path = "/".join(["d" * 249] * 15 + ["f" * 180])
+    build(f"{folder}/s", {f"pairtree_root/lo/ng/obj/{path}": b"1"})
+    done = run(program, folder, "-n", "-v")
+    shown = f"pairtree2ocfl: d/staging/v1/content/{path}: the path would be too long at its place in ocfl".encode()
+    return differs(said=((done.returncode, done.stderr.splitlines()[1:]), (3, [shown])), made=(os.listdir(f"{folder}/d"), []))
+
+
+def pipe_in_a_files_place(program, folder):
+    """A pipe that is put in a file's place after its folder was listed ends the run, and doesn't make it wait."""
+    inside = "s/pairtree_root/ab/c/obj"
+    os.makedirs(f"{folder}/{inside}", exist_ok=True)
+    with open(f"{folder}/{inside}/a", "wb") as first:
+        first.truncate(1 << 29)
+    open(f"{folder}/{inside}/b", "wb").close()
+    command = [program, "migrate", *MEANT, "-v", "s", "d"]
+    with subprocess.Popen(command, cwd=folder, stdout=subprocess.DEVNULL, stderr=subprocess.PIPE) as going:
+        try:
+            for _ in range(2000):
+                if f"{folder}/{inside}/a" in open_files(going.pid):
+                    break
+                time.sleep(0.005)
+            os.unlink(f"{folder}/{inside}/b")
+            os.mkfifo(f"{folder}/{inside}/b")
+            stderr = going.communicate(timeout=120)[1]
+        finally:
+            going.kill()
+    said = [b"pairtree2ocfl: fault 1: cannot read the source", f"pairtree2ocfl: {inside}/b: it is no longer a file".encode()]
+    return differs(said=((going.returncode, stderr.splitlines()), (3, said)))
+
+
+def open_files(process):
+    """The paths of the files that a process has open."""
+    paths, fds = set(), f"/proc/{process}/fd"
+    for fd in os.listdir(fds):
+        with contextlib.suppress(OSError):
+            paths.add(os.readlink(f"{fds}/{fd}"))
+    return paths
+
+
+CASES = [
+    Alone("a pipe in a file's place", pipe_in_a_files_place),
+    Alone("second mounts of folders", second_mounts),
+    Alone("a working folder that is too deep", deep_folder),
+    Alone("a lock that can't be had", no_lock),
+    Alone("a log of another user, with --sync", another_users_log),
+    Alone("a pipe, with --sync", sync_to_pipes),
+    Alone("help that nobody reads", nobody_reads),
+    Alone("prefixes with what can't be seen", prefixes),
+    Alone("a prefix that is a pipe", strange_prefixes),
+    Alone("characters that turn text around", directions),
+    Alone("a path that is too long, rehearsed", long_path),
+]
