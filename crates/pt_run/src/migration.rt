@@ -11,7 +11,7 @@ use crate::{prefix, reason};
 use pt_folder::{HostDest, HostSource, Rehearsal, System};
 use pt_guard::{GuardFault, Lockable, begin};
 use pt_move::{Fault, Job, Report};
-use std::fs::OpenOptions;
+use std::fs::{OpenFile, OpenOptions};
 use std::io;
 use std::io::ErrorKind;
 use std::rt::{Clock, Files};

@@ -1,4 +1,4 @@
-use Rattle.std.proofs.Common.{length, take, sym, subst, ap}
+use Rattle.std.proofs.Common.{length, take, sym, subst}
 use Rattle.std.proofs.Math.Seq.{take-length}
 use Rattle.std.specs.Io.KnownBytes.{Appends}
 use Rattle.pt_run.proofs.log.DurableLogLog.put.Goals as goal
