@@ -130,9 +130,8 @@ walks_change : (job : Job) (prefix : List ℕ) (here : Phase) (held new : Held) 
 walks_change job prefix _ held _ _ _ (walk.OpensRoot _ items) = changes_trail held _ (moves_entered items held.trail) refl refl
 walks_change job prefix _ held _ _ _ (walk.LeadsOn _ found) = changes_none held
 walks_change job prefix _ held _ _ _ (walk.IsSkipped _ why found) = changes_none held
-walks_change job prefix _ held _ _ _ (walk.HasNoIdentifier _ index why found id) = changes_none held
-walks_change job prefix _ held _ _ _ (walk.IsPresent _ index id here found named) = changes_none held
-walks_change job prefix _ held _ _ _ (walk.IsNew _ index id found named) = changes_trail held _ (moves_object index held.trail) refl refl
+walks_change job prefix _ held _ _ _ (walk.IsPresent _ index id here found) = changes_none held
+walks_change job prefix _ held _ _ _ (walk.IsNew _ index id found) = changes_trail held _ (moves_object index held.trail) refl refl
 walks_change job prefix _ held _ _ _ (walk.IsPast _ name at short last) = changes_trail held _ (moves_advanced held.trail) refl refl
 walks_change job prefix _ held _ _ _ (walk.IsDeep _ name at short last deep) = changes_trail held _ (moves_advanced held.trail) refl refl
 walks_change job prefix _ held _ _ _ (walk.EntersSite _ name items at short last shallow) = changes_trail held _ (moves_entered items held.trail) refl refl
@@ -256,9 +255,8 @@ walks_line : (job : Job) (counts : Counts) (prefix : List ℕ) (here : Phase) (h
 walks_line job counts prefix _ held _ _ _ (walk.OpensRoot _ items) = tt
 walks_line job counts prefix _ held _ _ _ (walk.LeadsOn _ found) = tt
 walks_line job counts prefix _ held _ _ _ (walk.IsSkipped _ why found) = tt
-walks_line job counts prefix _ held _ _ _ (walk.HasNoIdentifier _ index why found id) = tt
-walks_line job counts prefix _ held _ _ _ (walk.IsPresent _ index id here found named) = tt
-walks_line job counts prefix _ held _ _ _ (walk.IsNew _ index id found named) = tt
+walks_line job counts prefix _ held _ _ _ (walk.IsPresent _ index id here found) = tt
+walks_line job counts prefix _ held _ _ _ (walk.IsNew _ index id found) = tt
 walks_line job counts prefix _ held _ _ _ (walk.IsPast _ name at short last) = tt
 walks_line job counts prefix _ held _ _ _ (walk.IsDeep _ name at short last deep) = tt
 walks_line job counts prefix _ held _ _ _ (walk.EntersSite _ name items at short last shallow) = tt
@@ -344,9 +342,8 @@ walks_end : (job : Job) (counts : Counts) (prefix : List ℕ) (here : Phase) (he
 walks_end job counts prefix _ held _ _ _ (walk.OpensRoot _ items) = tt
 walks_end job counts prefix _ held _ _ _ (walk.LeadsOn _ found) = tt
 walks_end job counts prefix _ held _ _ _ (walk.IsSkipped _ why found) = tt
-walks_end job counts prefix _ held _ _ _ (walk.HasNoIdentifier _ index why found id) = tt
-walks_end job counts prefix _ held _ _ _ (walk.IsPresent _ index id here found named) = tt
-walks_end job counts prefix _ held _ _ _ (walk.IsNew _ index id found named) = tt
+walks_end job counts prefix _ held _ _ _ (walk.IsPresent _ index id here found) = tt
+walks_end job counts prefix _ held _ _ _ (walk.IsNew _ index id found) = tt
 walks_end job counts prefix _ held _ _ _ (walk.IsPast _ name at short last) = tt
 walks_end job counts prefix _ held _ _ _ (walk.IsDeep _ name at short last deep) = tt
 walks_end job counts prefix _ held _ _ _ (walk.EntersSite _ name items at short last shallow) = tt

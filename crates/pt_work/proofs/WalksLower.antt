@@ -18,7 +18,7 @@ use Rattle.pt_plan.specs.Job.{Job}
 use Rattle.pt_plan.specs.Run.{Held, with_trail}
 use Rattle.pt_plan.specs.Store.{pairtree_of, prefix_of, sites_of}
 use Rattle.pt_plan.specs.TurnScan.{to_site}
-use Rattle.pt_plan.specs.TurnWalk.{EndsWalk, EntersSite, HasNoIdentifier, IsDeep, IsNew, IsPast, IsPresent, IsSkipped, LeadsOn, LeavesSite, OpensRoot, PassesEntry, at_object, new_object}
+use Rattle.pt_plan.specs.TurnWalk.{EndsWalk, EntersSite, IsDeep, IsNew, IsPast, IsPresent, IsSkipped, LeadsOn, LeavesSite, OpensRoot, PassesEntry, at_object, new_object}
 use Rattle.pt_plan.specs.Work.{work_on_item, work_on_object}
 use Rattle.pt_plan.specs.World.{Answers}
 use Rattle.pt_plan.specs.declared.object.Object.{Object}
@@ -130,10 +130,9 @@ walks_lower job past s new root prefix here next held after calls (OpensRoot was
     omega (arith, none)
 walks_lower job past s new root prefix here next held after calls (LeadsOn was found) answers at part free = let walked = site_walked job s.tree root was.trail past.count part.at.2 in omega (arith, walked)
 walks_lower job past s new root prefix here next held after calls (IsSkipped was why found) answers at part free = let walked = site_walked job s.tree root was.trail past.count part.at.2 in omega (arith, walked)
-walks_lower job past s new root prefix here next held after calls (HasNoIdentifier was index why found reads) answers at part free = let walked = site_walked job s.tree root was.trail past.count part.at.2 in omega (arith, walked)
-walks_lower job past s new root prefix here next held after calls (IsPresent was index id kind found reads) answers at part free = let walked = site_walked job s.tree root was.trail past.count part.at.2 in omega (arith, walked)
-walks_lower job past s new root prefix here next held after calls (IsNew was index id found reads) answers at part free =
-    let it = new_object_there job s.tree prefix was.trail index id past.count (pairtree_proper s.tree part.at.1.store part.proper) found reads part.at.2 in
+walks_lower job past s new root prefix here next held after calls (IsPresent was index id kind found) answers at part free = let walked = site_walked job s.tree root was.trail past.count part.at.2 in omega (arith, walked)
+walks_lower job past s new root prefix here next held after calls (IsNew was index id found) answers at part free =
+    let it = new_object_there job s.tree prefix was.trail index id past.count (pairtree_proper s.tree part.at.1.store part.proper) found part.at.2 in
     object_next job s.tree root prefix (new_object job id index was.trail) (at_object index was.trail) (still_listed (parent was.trail)) past.count (with_trail was (at_object index was.trail)) part.at.1 it.stands it.at_site refl (same_parent index was.trail) free
 walks_lower job past s new root prefix here next held after calls (IsPast was name e short last) answers at part free =
     let less = advanced_less was.trail _ e in
