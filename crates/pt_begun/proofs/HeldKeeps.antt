@@ -8,11 +8,11 @@ use Rattle.pt_plan.specs.Job.{Job, form_of}
 use Rattle.pt_plan.specs.Run.{Held}
 use Rattle.pt_plan.specs.TurnPlace.{MakesTuple, FindsTuple, RenamesObject, TellsDone, TellsEnd}
 use Rattle.pt_plan.specs.TurnStart.{IsStore, HasNoPrefix, HasPrefix, HasNoStaging, HasNoRoot, HasRoot, MakesRoot, RenamesRoot, IsSame}
-use Rattle.pt_plan.specs.TurnWalk.{OpensRoot, LeadsOn, IsSkipped, IsPresent, IsNew, IsPast, IsDeep, EntersSite, PassesEntry, LeavesSite, EndsWalk, at_object, found_at}
+use Rattle.pt_plan.specs.TurnWalk.{OpensRoot, LeadsOn, IsSkipped, IsPresent, IsNew, IsPast, IsDeep, EntersSite, PassesEntry, LeavesSite, EndsWalk, at_object, found_at, has_object}
 use Rattle.pt_plan.specs.declared.object.Object.{Object}
 use Rattle.pt_plan.specs.declared.phase.Phase.{Phase}
 use Rattle.pt_plan.specs.declared.phase.Phase.TheVariants as phase
-use Rattle.pt_begun.proofs.NewObject.{has_object, named_found}
+use Rattle.pt_begun.proofs.NewObject.{named_found}
 use Rattle.pt_begun.specs.BegunHeld.{AreRows, EndsAt, HoldsNoRows, IsObject, NumbersAt, RowsAt, ScansInOrder}
 use Rattle.pt_begun.specs.HeldLaws.{PlacingKeepsHeld, StartingKeepsHeld, WalkingKeepsHeld}
 use Rattle.pt_begun.proofs.Feeding.{places_feed, starts_feed, walks_feed}

@@ -31,7 +31,7 @@ use Rattle.pt_plan.specs.Items.{Interior, Named, PairtreeObject, Skip, Verdict, 
 use Rattle.pt_plan.specs.Job.{Job, form_of}
 use Rattle.pt_plan.specs.Store.{pairtree_of}
 use Rattle.pt_plan.specs.TurnScan.{to_site}
-use Rattle.pt_plan.specs.TurnWalk.{at_object, found_at, identifier_at, identifier_by, judged_at, judged_by_finding, judged_by_identifier, new_object}
+use Rattle.pt_plan.specs.TurnWalk.{at_object, found_at, has_object, identifier_at, identifier_by, judged_at, judged_by_finding, judged_by_identifier, new_object}
 use Rattle.pt_plan.specs.declared.object.Object.{Object}
 
 -- ---- an identifier is that of the verdict
@@ -90,11 +90,6 @@ encapsulated_is site (dir n d after) name inside rest e =
     ∙ ap (λ (f : Forest). Some (record { at = site ++ name ∷ []; gathered = false; inside = f })) insides
 
 -- ---- the object of a site that was judged
-
--- a site has an object, which is encapsulated in the entry of this index, or gathered
-abbrev pub has_object : Option ℕ → Finding
-has_object (Some index) = finding.Candidate index
-has_object None = finding.Gathered
 
 pub found_there : (job : Job) (top : Forest) (frame : Frame) (frames : List Frame) (what : Finding) → is_proper top ≡ true → Fits top (frame ∷ frames) → found frame.listing (at_of (names_to frames)) (form_of job) ≡ what
     → found (listing_of (inside_at top (names_to frames))) (at_of (names_to frames)) (form_of job) ≡ what

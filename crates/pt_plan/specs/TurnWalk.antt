@@ -37,6 +37,11 @@ abbrev pub found_at : Form → List Frame → Finding
 found_at form [] = finding.Interior
 found_at form (frame ∷ frames) = found frame.listing (at_of (names_to frames)) form
 
+-- a site has an object, which is encapsulated in the entry of this index, or gathered
+abbrev pub has_object : Option ℕ → Finding
+has_object (Some index) = finding.Candidate index
+has_object None = finding.Gathered
+
 -- the identifier, unless its place is reserved
 abbrev pub unless_reserved : Job → List ℕ → Result (List ℕ) Cause
 unless_reserved job id = cond (is_reserved job id) (Err cause.Reserved) (Ok id)

@@ -30,6 +30,7 @@ use Rattle.pt_begun.proofs.InObject.{site_itself}
 use Rattle.pt_begun.proofs.InPairtree.{pairtree_proper, some_same}
 use Rattle.pt_begun.proofs.ItemLines.{mark_of}
 use Rattle.pt_begun.proofs.NewObject.{new_object_there}
+use Rattle.pt_begun.proofs.WalksKeep.{done_at_shorty, none_at_end, none_at_entry}
 use Rattle.pt_begun.proofs.ScansTell.{free_mark, item_of_site, named_so}
 use Rattle.pt_work.specs.WorkLaws.{WalkingLowers}
 use Rattle.pt_work.specs.WorkLeft.{before_scan, items_left, left, still_listed}
@@ -137,12 +138,20 @@ walks_lower job past s new root prefix here next held after calls (IsNew was ind
 walks_lower job past s new root prefix here next held after calls (IsPast was name e short last) answers at part free =
     let less = advanced_less was.trail _ e in
     let few = items_fewer job s.tree root past.count in
-    omega (arith, less, few)
+    let more = ap (items_left job s.tree root) (done_at_shorty was.trail name past.count e short) in
+    omega (arith, less, few, more)
 walks_lower job past s new root prefix here next held after calls (IsDeep was name e short last deep) answers at part free =
     let less = advanced_less was.trail _ e in
     let few = items_fewer job s.tree root past.count in
-    omega (arith, less, few)
+    let more = ap (items_left job s.tree root) (done_at_shorty was.trail name past.count e short) in
+    omega (arith, less, few, more)
 walks_lower job past s new root prefix here next held after calls (EntersSite was name items e short last shallow) answers at part free = omega arith
-walks_lower job past s new root prefix here next held after calls (PassesEntry was item e other) answers at part free = let less = advanced_less was.trail item e in omega (arith, less)
-walks_lower job past s new root prefix here next held after calls (LeavesSite was e long) answers at part free = let less = left_less was.trail at.trail.is_one long in omega (arith, less)
+walks_lower job past s new root prefix here next held after calls (PassesEntry was item e other) answers at part free =
+    let less = advanced_less was.trail item e in
+    let same = ap (items_left job s.tree root) (none_at_entry was.trail item past.count e other) in
+    omega (arith, less, same)
+walks_lower job past s new root prefix here next held after calls (LeavesSite was e long) answers at part free =
+    let less = left_less was.trail at.trail.is_one long in
+    let same = ap (items_left job s.tree root) (none_at_end was.trail past.count e) in
+    omega (arith, less, same)
 walks_lower job past s new root prefix here next held after calls (EndsWalk was e outer) answers at part free = omega arith
