@@ -247,3 +247,48 @@ fn identifiers_are_read_from_joined_names(rt: HostRuntime) -> Result<(), Fail> {
     assert!(rt; concatenated(alloc, &NamePath::new(alloc))?.is_empty());
     Ok(())
 }
+
+// An identifier, and the numbers of the shares that it is of where there are 1, 2, 3, 4, 7, 100 and 4,096: computed from its
+// SHA-256 by another program.
+const SHARES: [(&[u8], [u32; 7]); 8] = [
+    (b"abc", [1, 2, 3, 3, 6, 73, 2984]),
+    (b"abcd", [1, 2, 2, 3, 4, 54, 2190]),
+    (b"abcde", [1, 1, 1, 1, 2, 22, 876]),
+    (b"", [1, 2, 3, 4, 7, 89, 3644]),
+    (b"ark:/13030/xt12t3", [1, 1, 1, 2, 3, 30, 1209]),
+    (b"\xc3\xa9", [1, 1, 1, 2, 3, 30, 1194]),
+    (b"a", [1, 2, 3, 4, 6, 80, 3242]),
+    (b"ab", [1, 2, 3, 4, 7, 99, 4025]),
+];
+
+#[test]
+fn shares_of_identifiers(rt: HostRuntime) -> Result<(), Fail> {
+    let counts = [1, 2, 3, 4, 7, 100, 4096];
+    for (id, numbers) in SHARES {
+        for (count, number) in counts.iter().zip(numbers.iter()) {
+            assert!(rt; Share::of(*number, *count)?.holds(id), "{id:?} of {count}");
+        }
+    }
+    assert!(rt; !Share::of(1, 2)?.holds(b"abc"), "another share");
+    assert!(rt; !Share::of(3, 4)?.holds(b"ab"), "the share before");
+    assert!(rt; Share::whole().is_first(), "the whole");
+    Ok(())
+}
+
+#[test]
+fn shares_that_are_refused(rt: HostRuntime) {
+    let rows = [
+        (0, 0, 1),
+        (0, 5000, 1),
+        (1, 0, 1),
+        (1, 4097, 2),
+        (5000, 4097, 2),
+        (2, 1, 3),
+        (4097, 4096, 3),
+    ];
+    for (index, count, number) in rows {
+        let fault = Share::of(index, count).unwrap_err();
+        assert_eq!(rt; fault.number(), number, "{index} of {count}");
+    }
+    assert!(rt; Share::of(4096, 4096).is_ok(), "the most");
+}

@@ -1,6 +1,7 @@
 -- What a turn of the walk or of the scan leaves that breaks off may be left by a fault.
-use Rattle.std.proofs.Common.{◌≡◌, ℕ, List, [], refl}
-use Rattle.std.specs.Prelude.{Some, Ok}
+use Rattle.std.proofs.Common.{◌≡◌, ℕ, Bool, true, false, List, [], cond, refl, subst}
+use Rattle.std.specs.Prelude.{Option, None, Some, Ok}
+use Rattle.pt_name.specs.Share.{is_first}
 use Rattle.pt_object.specs.Holding.{IsFree}
 use Rattle.pt_object.specs.Scripts.{staging}
 use Rattle.pt_tree.specs.Dest.{Writing}
@@ -14,7 +15,7 @@ use Rattle.pt_plan.specs.Lines.{Line}
 use Rattle.pt_plan.specs.Roots.{root_in, with_root}
 use Rattle.pt_plan.specs.Run.{Counts, Held}
 use Rattle.pt_plan.specs.TurnScan.{Scans, StartsInSite, EntersObject, IsTooDeep, PassesShorty, EntersDirectory, MeetsDeep, OpensFile, MeetsLimit, MeetsOther, EndsSite, EndsObject, LeavesDirectory, ReadsOn, IsTooLong, EndsFile}
-use Rattle.pt_plan.specs.TurnWalk.{Walks, OpensRoot, LeadsOn, IsSkipped, HasNoIdentifier, IsPresent, IsNew, IsPast, IsDeep, EntersSite, PassesEntry, LeavesSite, EndsWalk}
+use Rattle.pt_plan.specs.TurnWalk.{Walks, OpensRoot, LeadsOn, IsSkipped, IsPresent, IsNew, IsPast, IsDeep, EntersSite, PassesEntry, LeavesSite, EndsWalk}
 use Rattle.pt_plan.specs.World.{Answers, Calls, Changes, LeavesFront, LeavesPart}
 use Rattle.pt_plan.specs.declared.object.Object.{Object}
 use Rattle.pt_plan.specs.declared.phase.Phase.{Phase}
@@ -43,9 +44,16 @@ module _ (job : Job) (past : Past) (s : Reading) (start : Tree) (prefix : List �
       → Changes calls.change (Some old) (Some old) → IsFree start staging → old.tree ≡ with_root start (after job s.tree (root_in start) past.count) → new.tree ≡ old.tree → LeavesFront (Some line) (Some log) (Some last) → Left
   walk_told held later here calls line turn before is placed found free tree same put =
       let known = before.known in
-      left_skipped job past s start prefix counts old new first log last held here phase.Walk calls.line line (done_after here calls.line phase.Walk past.count) before refl
+      left_skipped job past s start prefix counts old new first log last held here phase.Walk calls.line line (done_after here held.trail phase.Walk past.count) before refl
       (walks_tell job past s prefix start old old here phase.Walk held later calls turn known.held_at.trail.is_one known.source (roots_have_no_gaps start known.dest.started).1 placed known.dest.at found)
       is free tree same put
+
+  -- or none
+  walk_passed : (told : Bool) (held later : Held) (here : Phase) (calls : Calls) (line : Line) → Walks job prefix here held later calls (Ok phase.Walk) → Before held here → calls.line ≡ cond told (Some line) None → past.placed ≡ carried_among job s.tree (root_in start) (items_placed here past.count)
+      → Changes calls.change (Some old) (Some old) → IsFree start staging → old.tree ≡ with_root start (after job s.tree (root_in start) past.count) → new.tree ≡ old.tree → LeavesFront calls.line (Some log) (Some last) → (LeavesFront None (Some log) (Some last) → Left) → Left
+  walk_passed true held later here calls line turn before is placed found free tree same put quiet =
+      walk_told held later here calls line turn before is placed found free tree same (subst (λ (l : Option Line). LeavesFront l (Some log) (Some last)) is put)
+  walk_passed false held later here calls line turn before is placed found free tree same put quiet = quiet (subst (λ (l : Option Line). LeavesFront l (Some log) (Some last)) is put)
 
   pub walks_broken : (here : Phase) (held later : Held) (calls : Calls) (answer : Answer) → Walks job prefix here held later calls answer → Before held here → WereAnswered calls s old → LeavesPart (Some old) (Some new) calls.change → LeavesFront calls.line (Some log) (Some last) → Left
   unfolding Changes
@@ -53,15 +61,15 @@ module _ (job : Job) (past : Past) (s : Reading) (start : Tree) (prefix : List �
   walks_broken here held later calls answer (LeadsOn was is) before answered left put = left_quiet job past s start prefix counts old new first log last held here before (plain_same calls.change old new refl left) put
   walks_broken here held later calls answer (IsSkipped was why is) before answered left put =
       walk_told held later here calls _ (IsSkipped was why is) before refl before.known.items.places.placed refl before.known.dest.at.root.free (tree_between job s.tree start past.placed past.count old before.known.items.places.placed before.known.dest.at) (plain_same calls.change old new refl left) put
-  walks_broken here held later calls answer (HasNoIdentifier was index why is read) before answered left put =
-      walk_told held later here calls _ (HasNoIdentifier was index why is read) before refl before.known.items.places.placed refl before.known.dest.at.root.free (tree_between job s.tree start past.placed past.count old before.known.items.places.placed before.known.dest.at) (plain_same calls.change old new refl left) put
-  walks_broken here held later calls answer (IsPresent was index id kind is read) before answered left put =
-      walk_told held later here calls _ (IsPresent was index id kind is read) before refl before.known.items.places.placed (answered.found, refl) before.known.dest.at.root.free (tree_between job s.tree start past.placed past.count old before.known.items.places.placed before.known.dest.at) (plain_same calls.change old new refl left) put
-  walks_broken here held later calls answer (IsNew was index id is read) before answered left put = left_quiet job past s start prefix counts old new first log last held here before (plain_same calls.change old new refl left) put
+  walks_broken here held later calls answer (IsPresent was index id kind is) before answered left put =
+      walk_told held later here calls _ (IsPresent was index id kind is) before refl before.known.items.places.placed (answered.found, refl) before.known.dest.at.root.free (tree_between job s.tree start past.placed past.count old before.known.items.places.placed before.known.dest.at) (plain_same calls.change old new refl left) put
+  walks_broken here held later calls answer (IsNew was index id is) before answered left put = left_quiet job past s start prefix counts old new first log last held here before (plain_same calls.change old new refl left) put
   walks_broken here held later calls answer (IsPast was name e short outermost) before answered left put =
-      walk_told held later here calls _ (IsPast was name e short outermost) before refl before.known.items.places.placed refl before.known.dest.at.root.free (tree_between job s.tree start past.placed past.count old before.known.items.places.placed before.known.dest.at) (plain_same calls.change old new refl left) put
+      walk_passed (is_first job.share) held later here calls _ (IsPast was name e short outermost) before refl before.known.items.places.placed refl before.known.dest.at.root.free (tree_between job s.tree start past.placed past.count old before.known.items.places.placed before.known.dest.at) (plain_same calls.change old new refl left) put
+      (left_quiet job past s start prefix counts old new first log last held here before (plain_same calls.change old new refl left))
   walks_broken here held later calls answer (IsDeep was name e short inner deep) before answered left put =
-      walk_told held later here calls _ (IsDeep was name e short inner deep) before refl before.known.items.places.placed refl before.known.dest.at.root.free (tree_between job s.tree start past.placed past.count old before.known.items.places.placed before.known.dest.at) (plain_same calls.change old new refl left) put
+      walk_passed (is_first job.share) held later here calls _ (IsDeep was name e short inner deep) before refl before.known.items.places.placed refl before.known.dest.at.root.free (tree_between job s.tree start past.placed past.count old before.known.items.places.placed before.known.dest.at) (plain_same calls.change old new refl left) put
+      (left_quiet job past s start prefix counts old new first log last held here before (plain_same calls.change old new refl left))
   walks_broken here held later calls answer (EntersSite was name items e short inner deep) before answered left put = left_quiet job past s start prefix counts old new first log last held here before (plain_same calls.change old new refl left) put
   walks_broken here held later calls answer (PassesEntry was item e apart) before answered left put = left_quiet job past s start prefix counts old new first log last held here before (plain_same calls.change old new refl left) put
   walks_broken here held later calls answer (LeavesSite was e long) before answered left put = left_quiet job past s start prefix counts old new first log last held here before (plain_same calls.change old new refl left) put
@@ -73,7 +81,7 @@ module _ (job : Job) (past : Past) (s : Reading) (start : Tree) (prefix : List �
       → past.placed ≡ carried_among job s.tree (root_in start) past.count → IsMakingObject job start past.placed object [] 0 old → new.tree ≡ old.tree → LeavesFront (Some line) (Some log) (Some last) → Left
   scan_told held later here object calls line read turn before is answers placed making same put =
       let known = before.known in
-      left_skipped job past s start prefix counts old new first log last held here phase.Walk calls.line line (done_after here calls.line phase.Walk past.count) before refl
+      left_skipped job past s start prefix counts old new first log last held here phase.Walk calls.line line (done_after here held.trail phase.Walk past.count) before refl
       (scans_tell job past s prefix (root_in start) here phase.Walk held later calls turn known.held_at.trail.is_one known.source known.items.places.next read answers)
       is making.root.free (tree_entered job s.tree start past.placed past.count object old placed making) same put
 

@@ -15,7 +15,7 @@ use Rattle.pt_plan.specs.Job.{Job}
 use Rattle.pt_plan.specs.Run.{Held}
 use Rattle.pt_plan.specs.Roots.{root_in, with_root}
 use Rattle.pt_plan.specs.TurnScan.{Scans, StartsInSite, EntersObject, IsTooDeep, PassesShorty, EntersDirectory, MeetsDeep, OpensFile, MeetsLimit, MeetsOther, EndsSite, EndsObject, LeavesDirectory, ReadsOn, IsTooLong, EndsFile, none_listed}
-use Rattle.pt_plan.specs.TurnWalk.{Walks, OpensRoot, LeadsOn, IsSkipped, HasNoIdentifier, IsPresent, IsNew, IsPast, IsDeep, EntersSite, PassesEntry, LeavesSite, EndsWalk, in_root, new_object}
+use Rattle.pt_plan.specs.TurnWalk.{Walks, OpensRoot, LeadsOn, IsSkipped, IsPresent, IsNew, IsPast, IsDeep, EntersSite, PassesEntry, LeavesSite, EndsWalk, in_root, new_object}
 use Rattle.pt_plan.specs.World.{Calls, Changes}
 use Rattle.pt_plan.specs.declared.object.Object.{Object}
 use Rattle.pt_plan.specs.declared.phase.Phase.{Phase}
@@ -83,9 +83,8 @@ unfolding Changes IsKindAt
 walks_keep job start past later old new prefix here next held after calls placed (OpensRoot was items) at change = between job start past.placed later.placed old new placed change at
 walks_keep job start past later old new prefix here next held after calls placed (LeadsOn was is) at change = between job start past.placed later.placed old new placed change at
 walks_keep job start past later old new prefix here next held after calls placed (IsSkipped was why is) at change = between job start past.placed later.placed old new placed change at
-walks_keep job start past later old new prefix here next held after calls placed (HasNoIdentifier was index why is read) at change = between job start past.placed later.placed old new placed change at
-walks_keep job start past later old new prefix here next held after calls placed (IsPresent was index id kind is read) at change = between job start past.placed later.placed old new placed change.1 at
-walks_keep job start past later old new prefix here next held after calls placed (IsNew was index id is read) at change =
+walks_keep job start past later old new prefix here next held after calls placed (IsPresent was index id kind is) at change = between job start past.placed later.placed old new placed change.1 at
+walks_keep job start past later old new prefix here next held after calls placed (IsNew was index id is) at change =
     let object = new_object job id index was.trail in
     making job start past.placed later.placed object old new placed change.1 (new_making job start past.placed object old (change.0 old refl) at)
 walks_keep job start past later old new prefix here next held after calls placed (IsPast was name e short last) at change = between job start past.placed later.placed old new placed change at
@@ -126,9 +125,8 @@ unfolding Changes
 same_walking job prefix old new here next held after calls (OpensRoot was items) change = some_same new old change
 same_walking job prefix old new here next held after calls (LeadsOn was is) change = some_same new old change
 same_walking job prefix old new here next held after calls (IsSkipped was why is) change = some_same new old change
-same_walking job prefix old new here next held after calls (HasNoIdentifier was index why is read) change = some_same new old change
-same_walking job prefix old new here next held after calls (IsPresent was index id kind is read) change = some_same new old change.1
-same_walking job prefix old new here next held after calls (IsNew was index id is read) change = some_same new old change.1
+same_walking job prefix old new here next held after calls (IsPresent was index id kind is) change = some_same new old change.1
+same_walking job prefix old new here next held after calls (IsNew was index id is) change = some_same new old change.1
 same_walking job prefix old new here next held after calls (IsPast was name e short last) change = some_same new old change
 same_walking job prefix old new here next held after calls (IsDeep was name e short last deep) change = some_same new old change
 same_walking job prefix old new here next held after calls (EntersSite was name items e short last deep) change = some_same new old change
@@ -155,13 +153,12 @@ same_scanning job old new here next held after calls (IsTooLong was object bytes
 same_scanning job old new here next held after calls (EndsFile was object bytes) change = some_same new old change
 
 -- nor the objects placed
-walking_places : (job : Job) (prefix : List ℕ) (past : Past) (here next : Phase) (held after : Held) (calls : Calls) → Walks job prefix here held after calls (Ok next) → (past_after here calls.line next held past).placed ≡ past.placed
+walking_places : (job : Job) (prefix : List ℕ) (past : Past) (here next : Phase) (held after : Held) (calls : Calls) → Walks job prefix here held after calls (Ok next) → (past_after here next held past).placed ≡ past.placed
 walking_places job prefix past here next held after calls (OpensRoot was items) = refl
 walking_places job prefix past here next held after calls (LeadsOn was is) = refl
 walking_places job prefix past here next held after calls (IsSkipped was why is) = refl
-walking_places job prefix past here next held after calls (HasNoIdentifier was index why is read) = refl
-walking_places job prefix past here next held after calls (IsPresent was index id kind is read) = refl
-walking_places job prefix past here next held after calls (IsNew was index id is read) = refl
+walking_places job prefix past here next held after calls (IsPresent was index id kind is) = refl
+walking_places job prefix past here next held after calls (IsNew was index id is) = refl
 walking_places job prefix past here next held after calls (IsPast was name e short last) = refl
 walking_places job prefix past here next held after calls (IsDeep was name e short last deep) = refl
 walking_places job prefix past here next held after calls (EntersSite was name items e short last deep) = refl
@@ -169,7 +166,7 @@ walking_places job prefix past here next held after calls (PassesEntry was item 
 walking_places job prefix past here next held after calls (LeavesSite was e long) = refl
 walking_places job prefix past here next held after calls (EndsWalk was e short) = refl
 
-scanning_places : (job : Job) (past : Past) (here next : Phase) (held after : Held) (calls : Calls) → Scans job here held after calls (Ok next) → (past_after here calls.line next held past).placed ≡ past.placed
+scanning_places : (job : Job) (past : Past) (here next : Phase) (held after : Held) (calls : Calls) → Scans job here held after calls (Ok next) → (past_after here next held past).placed ≡ past.placed
 scanning_places job past here next held after calls (StartsInSite was object gathered) = refl
 scanning_places job past here next held after calls (EntersObject was object items apart shallow) = refl
 scanning_places job past here next held after calls (IsTooDeep was object apart deep) = refl
@@ -190,12 +187,12 @@ pub walks_dest : WalkingKeepsDest
 walks_dest job past start old new prefix here next held after calls turn change at part = record {
   started = part.started;
   tree = subst (λ (w : Writing). IsTree w.tree) (sym (same_walking job prefix old new here next held after calls turn change)) part.tree;
-  at = walks_keep job start past (past_after here calls.line next held past) old new prefix here next held after calls (walking_places job prefix past here next held after calls turn) turn part.at change;
+  at = walks_keep job start past (past_after here next held past) old new prefix here next held after calls (walking_places job prefix past here next held after calls turn) turn part.at change;
 }
 
 pub scans_dest : ScanningKeepsDest
 scans_dest job past start old new here next held after calls turn change at part = record {
   started = part.started;
   tree = subst (λ (w : Writing). IsTree w.tree) (sym (same_scanning job old new here next held after calls turn change)) part.tree;
-  at = scans_keep job start past (past_after here calls.line next held past) old new here next held after calls (scanning_places job past here next held after calls turn) turn part.at change;
+  at = scans_keep job start past (past_after here next held past) old new here next held after calls (scanning_places job past here next held after calls turn) turn part.at change;
 }

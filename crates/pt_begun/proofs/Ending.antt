@@ -26,7 +26,7 @@ use Rattle.pt_plan.specs.TurnMake.{Makings, MakesStaging, MakesDeclaration, Make
 use Rattle.pt_plan.specs.TurnPlace.{Places, MakesTuple, FindsTuple, RenamesObject, TellsDone, TellsEnd, last_line}
 use Rattle.pt_plan.specs.TurnScan.{Scans, StartsInSite, EntersObject, IsTooDeep, PassesShorty, EntersDirectory, MeetsDeep, OpensFile, MeetsLimit, MeetsOther, EndsSite, EndsObject, LeavesDirectory, ReadsOn, IsTooLong, EndsFile}
 use Rattle.pt_plan.specs.TurnStart.{Starts, IsStore, HasNoPrefix, HasPrefix, HasNoStaging, HasNoRoot, HasRoot, MakesRoot, RenamesRoot, IsSame}
-use Rattle.pt_plan.specs.TurnWalk.{Walks, OpensRoot, LeadsOn, IsSkipped, HasNoIdentifier, IsPresent, IsNew, IsPast as is_past, IsDeep, EntersSite, PassesEntry, LeavesSite, EndsWalk}
+use Rattle.pt_plan.specs.TurnWalk.{Walks, OpensRoot, LeadsOn, IsSkipped, IsPresent, IsNew, IsPast as is_past, IsDeep, EntersSite, PassesEntry, LeavesSite, EndsWalk}
 use Rattle.pt_plan.specs.World.{Calls, Changes, ChangesNothing, Puts, World, tells}
 use Rattle.pt_plan.specs.declared.phase.Phase.{Phase}
 use Rattle.pt_plan.specs.declared.phase.Phase.TheVariants as phase
@@ -66,9 +66,8 @@ walks_go : (job : Job) (prefix : List ℕ) (here next : Phase) (held after : Hel
 walks_go job prefix here next held after calls (OpensRoot was items) = refl
 walks_go job prefix here next held after calls (LeadsOn was is) = refl
 walks_go job prefix here next held after calls (IsSkipped was why is) = refl
-walks_go job prefix here next held after calls (HasNoIdentifier was index why is read) = refl
-walks_go job prefix here next held after calls (IsPresent was index id kind is read) = refl
-walks_go job prefix here next held after calls (IsNew was index id is read) = refl
+walks_go job prefix here next held after calls (IsPresent was index id kind is) = refl
+walks_go job prefix here next held after calls (IsNew was index id is) = refl
 walks_go job prefix here next held after calls (is_past was name e short last) = refl
 walks_go job prefix here next held after calls (IsDeep was name e short last deep) = refl
 walks_go job prefix here next held after calls (EntersSite was name items e short last deep) = refl

@@ -9,7 +9,7 @@ use Rattle.pt_plan.specs.TurnMake.{Makings, MakesStaging, MakesDeclaration, Make
 use Rattle.pt_plan.specs.TurnPlace.{Places, MakesTuple, FindsTuple, RenamesObject, TellsDone, TellsEnd}
 use Rattle.pt_plan.specs.TurnScan.{Scans, StartsInSite, EntersObject, IsTooDeep, PassesShorty, EntersDirectory, MeetsDeep, OpensFile, MeetsLimit, MeetsOther, EndsSite, EndsObject, LeavesDirectory, ReadsOn, IsTooLong, EndsFile}
 use Rattle.pt_plan.specs.TurnStart.{Starts, IsStore, HasNoPrefix, HasPrefix, HasNoStaging, HasNoRoot, HasRoot, MakesRoot, RenamesRoot, IsSame}
-use Rattle.pt_plan.specs.TurnWalk.{Walks, OpensRoot, LeadsOn, IsSkipped, HasNoIdentifier, IsPresent, IsNew, IsPast, IsDeep, EntersSite, PassesEntry, LeavesSite, EndsWalk}
+use Rattle.pt_plan.specs.TurnWalk.{Walks, OpensRoot, LeadsOn, IsSkipped, IsPresent, IsNew, IsPast, IsDeep, EntersSite, PassesEntry, LeavesSite, EndsWalk}
 use Rattle.pt_plan.specs.World.{Calls}
 use Rattle.pt_plan.specs.declared.object.Object.{Object}
 use Rattle.pt_plan.specs.declared.phase.Part.TheVariants as part
@@ -43,9 +43,8 @@ pub walks_feed : (job : Job) (here : Phase) (prefix : List ℕ) (held after : He
 walks_feed job here prefix held after calls next (OpensRoot was items) = tt
 walks_feed job here prefix held after calls next (LeadsOn was is) = tt
 walks_feed job here prefix held after calls next (IsSkipped was why is) = tt
-walks_feed job here prefix held after calls next (HasNoIdentifier was index why is read) = tt
-walks_feed job here prefix held after calls next (IsPresent was index id kind is read) = tt
-walks_feed job here prefix held after calls next (IsNew was index id is read) = tt
+walks_feed job here prefix held after calls next (IsPresent was index id kind is) = tt
+walks_feed job here prefix held after calls next (IsNew was index id is) = tt
 walks_feed job here prefix held after calls next (IsPast was name e short last) = tt
 walks_feed job here prefix held after calls next (IsDeep was name e short last deep) = tt
 walks_feed job here prefix held after calls next (EntersSite was name items e short last deep) = tt

@@ -18,7 +18,7 @@ use Rattle.pt_plan.specs.Turn.{FailsAtFirst, FailsLater, Follows, IsHalted, IsRe
 use Rattle.pt_plan.specs.TurnMake.{CopiesOn, EndsCopy, MakesDeclaration, MakesFolder, MakesInventory, MakesSidecar, MakesStaging, MakesVersion, MakesVersionInventory, MakesVersionSidecar, Makings, OpensCopy, PassesRow, ReadsMore, ReadsOther}
 use Rattle.pt_plan.specs.TurnPlace.{FindsTuple, IsInTheWay, MakesTuple, Places, RenamesObject, TellsDone, TellsEnd}
 use Rattle.pt_plan.specs.TurnScan.{EndsFile, EndsObject, EndsSite, EntersDirectory, EntersObject, IsTooDeep, IsTooLong, LeavesDirectory, MeetsDeep, MeetsLimit, MeetsOther, OpensFile, PassesShorty, ReadsOn, Scans, StartsInSite, logical_path, with_file}
-use Rattle.pt_plan.specs.TurnWalk.{EndsWalk, EntersSite, HasNoIdentifier, IsDeep, IsNew, IsPast, IsPresent, IsSkipped, LeadsOn, LeavesSite, OpensRoot, PassesEntry, Walks}
+use Rattle.pt_plan.specs.TurnWalk.{EndsWalk, EntersSite, IsDeep, IsNew, IsPast, IsPresent, IsSkipped, LeadsOn, LeavesSite, OpensRoot, PassesEntry, Walks}
 use Rattle.pt_plan.specs.World.{Answers, Calls, Reads, asks}
 use Rattle.pt_plan.specs.declared.object.Object.{Object}
 use Rattle.pt_plan.specs.declared.phase.Phase.{Phase}
@@ -61,7 +61,7 @@ few_with_file job past prefix held object bytes s new at known answers =
     let calls = asks (Reads []) in
     let v = after_next s in
     let said : Answers (Reads []) (Some s) (Some v) = (answers.0, refl) in
-    let later = past_after here calls.line next held past in
+    let later = past_after here next held past in
     let at_next = scans_hold job past (Some s) (Some v) here next held after calls (EndsFile held object bytes) said at in
     let known_next = scans_source job past s v prefix here next held after calls (EndsFile held object bytes) said at known in
     let few = within job later next prefix after v at_next known_next refl in
@@ -73,9 +73,8 @@ walks_few : (job : Job) (source : Forest) (prefix : List ℕ) (here : Phase) (he
 walks_few job source prefix here held new calls answer (OpensRoot was items) few = few
 walks_few job source prefix here held new calls answer (LeadsOn was found) few = few
 walks_few job source prefix here held new calls answer (IsSkipped was why found) few = few
-walks_few job source prefix here held new calls answer (HasNoIdentifier was index why found none) few = few
-walks_few job source prefix here held new calls answer (IsPresent was index id kind found named) few = few
-walks_few job source prefix here held new calls answer (IsNew was index id found named) few = few
+walks_few job source prefix here held new calls answer (IsPresent was index id kind found) few = few
+walks_few job source prefix here held new calls answer (IsNew was index id found) few = few
 walks_few job source prefix here held new calls answer (IsPast was name e short last) few = few
 walks_few job source prefix here held new calls answer (IsDeep was name e short last deep) few = few
 walks_few job source prefix here held new calls answer (EntersSite was name items e short last shallow) few = few

@@ -8,10 +8,11 @@ use Rattle.pt_plan.specs.Job.{Job, form_of}
 use Rattle.pt_plan.specs.Run.{Held}
 use Rattle.pt_plan.specs.TurnPlace.{MakesTuple, FindsTuple, RenamesObject, TellsDone, TellsEnd}
 use Rattle.pt_plan.specs.TurnStart.{IsStore, HasNoPrefix, HasPrefix, HasNoStaging, HasNoRoot, HasRoot, MakesRoot, RenamesRoot, IsSame}
-use Rattle.pt_plan.specs.TurnWalk.{OpensRoot, LeadsOn, IsSkipped, HasNoIdentifier, IsPresent, IsNew, IsPast, IsDeep, EntersSite, PassesEntry, LeavesSite, EndsWalk, at_object, found_at, has_object}
+use Rattle.pt_plan.specs.TurnWalk.{OpensRoot, LeadsOn, IsSkipped, IsPresent, IsNew, IsPast, IsDeep, EntersSite, PassesEntry, LeavesSite, EndsWalk, at_object, found_at, has_object}
 use Rattle.pt_plan.specs.declared.object.Object.{Object}
 use Rattle.pt_plan.specs.declared.phase.Phase.{Phase}
 use Rattle.pt_plan.specs.declared.phase.Phase.TheVariants as phase
+use Rattle.pt_begun.proofs.NewObject.{named_found}
 use Rattle.pt_begun.specs.BegunHeld.{AreRows, EndsAt, HoldsNoRows, IsObject, NumbersAt, RowsAt, ScansInOrder}
 use Rattle.pt_begun.specs.HeldLaws.{PlacingKeepsHeld, StartingKeepsHeld, WalkingKeepsHeld}
 use Rattle.pt_begun.proofs.Feeding.{places_feed, starts_feed, walks_feed}
@@ -72,12 +73,10 @@ walks_hold job past old new prefix here next held after calls (LeadsOn was is) a
     record { trail = trail.walks_keep job old new prefix here next held after calls (LeadsOn was is) answers at.trail; ends = tt; rows = record { rows = at.rows.rows; contents = at.rows.contents }; behind = tt; numbers = tt; fed = walks_feed job here prefix held after calls next (LeadsOn was is) }
 walks_hold job past old new prefix here next held after calls (IsSkipped was why is) answers at =
     record { trail = trail.walks_keep job old new prefix here next held after calls (IsSkipped was why is) answers at.trail; ends = tt; rows = record { rows = at.rows.rows; contents = at.rows.contents }; behind = tt; numbers = tt; fed = walks_feed job here prefix held after calls next (IsSkipped was why is) }
-walks_hold job past old new prefix here next held after calls (HasNoIdentifier was index why is read) answers at =
-    record { trail = trail.walks_keep job old new prefix here next held after calls (HasNoIdentifier was index why is read) answers at.trail; ends = tt; rows = record { rows = at.rows.rows; contents = at.rows.contents }; behind = tt; numbers = tt; fed = walks_feed job here prefix held after calls next (HasNoIdentifier was index why is read) }
-walks_hold job past old new prefix here next held after calls (IsPresent was index id kind is read) answers at =
-    record { trail = trail.walks_keep job old new prefix here next held after calls (IsPresent was index id kind is read) answers at.trail; ends = tt; rows = record { rows = at.rows.rows; contents = at.rows.contents }; behind = tt; numbers = tt; fed = walks_feed job here prefix held after calls next (IsPresent was index id kind is read) }
-walks_hold job past old new prefix here next held after calls (IsNew was index id is read) answers at =
-    record { trail = trail.walks_keep job old new prefix here next held after calls (IsNew was index id is read) answers at.trail; ends = (record { some = some_listing job was.trail index is; place = refl }, as_long index was.trail); rows = record { rows = at.rows.rows; contents = at.rows.contents }; behind = tt; numbers = tt; fed = walks_feed job here prefix held after calls next (IsNew was index id is read) }
+walks_hold job past old new prefix here next held after calls (IsPresent was index id kind is) answers at =
+    record { trail = trail.walks_keep job old new prefix here next held after calls (IsPresent was index id kind is) answers at.trail; ends = tt; rows = record { rows = at.rows.rows; contents = at.rows.contents }; behind = tt; numbers = tt; fed = walks_feed job here prefix held after calls next (IsPresent was index id kind is) }
+walks_hold job past old new prefix here next held after calls (IsNew was index id is) answers at =
+    record { trail = trail.walks_keep job old new prefix here next held after calls (IsNew was index id is) answers at.trail; ends = (record { some = some_listing job was.trail index (named_found job prefix was.trail index id is); place = refl }, as_long index was.trail); rows = record { rows = at.rows.rows; contents = at.rows.contents }; behind = tt; numbers = tt; fed = walks_feed job here prefix held after calls next (IsNew was index id is) }
 walks_hold job past old new prefix here next held after calls (IsPast was name e short last) answers at =
     record { trail = trail.walks_keep job old new prefix here next held after calls (IsPast was name e short last) answers at.trail; ends = tt; rows = record { rows = at.rows.rows; contents = at.rows.contents }; behind = tt; numbers = tt; fed = walks_feed job here prefix held after calls next (IsPast was name e short last) }
 walks_hold job past old new prefix here next held after calls (IsDeep was name e short last deep) answers at =

@@ -1,5 +1,5 @@
 -- The item that a turn ends, with its line.
-use Rattle.std.proofs.Common.{◌≡◌, ◌+◌, ℕ, suc, Bool, true, false, List, [], ◌∷◌, ◌++◌, ap, sym, ◌∙◌, append-nil, append_assoc, arith}
+use Rattle.std.proofs.Common.{◌≡◌, ◌+◌, ℕ, suc, Bool, true, false, List, [], ◌∷◌, ◌++◌, ap, sym, ◌∙◌, append-nil, append_assoc, arith, cond}
 use Rattle.std.specs.Prelude.{Option, None, Some, count_by, flat_map, is_some, option_to_list, slice_get, take}
 use Rattle.std.specs.Option.{option_map}
 use Rattle.pt_name.specs.Place.{place_of}
@@ -127,6 +127,12 @@ skipped_item job source root count item why is what = record {
   told = ap (line_by_verdict job item.path (is_taken job root (take count (items job source)) item.verdict)) what;
   gained = ap (carried_by job (is_taken job root (take count (items job source)) item.verdict)) what;
 }
+
+-- it is passed over and told, or only leads on
+pub passed_item : (told : Bool) (job : Job) (source : Forest) (root : Tree) (count : ℕ) (item : Item) (why : Cause) → slice_get (items job source) count ≡ Some item → item.verdict ≡ cond told (Skip why) Interior
+    → EndsItem job source root count (cond told (Some (Skipped item.path why)) None) []
+passed_item true job source root count item why is what = skipped_item job source root count item why is what
+passed_item false job source root count item why is what = interior_item job source root count item is what
 
 -- whether its place is taken is whether something stands there
 pub mark_where_stands : (job : Job) (source : Forest) (root : Tree) (count : ℕ) (item : Item) (id : List ℕ) (object : PairtreeObject) → IsRooted root → slice_get (items job source) count ≡ Some item → item.verdict ≡ Named id object

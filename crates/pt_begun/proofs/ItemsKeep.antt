@@ -18,7 +18,7 @@ use Rattle.pt_plan.specs.TurnMake.{Makings, MakesStaging, MakesDeclaration, Make
 use Rattle.pt_plan.specs.TurnPlace.{Places, MakesTuple, FindsTuple, RenamesObject, TellsDone, TellsEnd, tuple_folder}
 use Rattle.pt_plan.specs.TurnScan.{Scans, StartsInSite, EntersObject, IsTooDeep, PassesShorty, EntersDirectory, MeetsDeep, OpensFile, MeetsLimit, MeetsOther, EndsSite, EndsObject, LeavesDirectory, ReadsOn, IsTooLong, EndsFile}
 use Rattle.pt_plan.specs.TurnStart.{Starts, IsStore, HasNoPrefix, HasPrefix, HasNoStaging, HasNoRoot, HasRoot, MakesRoot, RenamesRoot, IsSame, kind_in}
-use Rattle.pt_plan.specs.TurnWalk.{Walks, OpensRoot, LeadsOn, IsSkipped, HasNoIdentifier, IsPresent, IsNew, IsPast, IsDeep, EntersSite, PassesEntry, LeavesSite, EndsWalk}
+use Rattle.pt_plan.specs.TurnWalk.{Walks, OpensRoot, LeadsOn, IsSkipped, IsPresent, IsNew, IsPast, IsDeep, EntersSite, PassesEntry, LeavesSite, EndsWalk}
 use Rattle.pt_plan.specs.World.{Calls, Change, Changes, Finds, FindsNoneAndMakes, Makes, Peeks, does}
 use Rattle.pt_plan.specs.declared.object.Object.{Object}
 use Rattle.pt_plan.specs.declared.phase.Part.TheVariants as part
@@ -37,12 +37,12 @@ abbrev ToldBefore : Job → Forest → Tree → Past → Phase → Type 0
 ToldBefore job source root past here = (log old : List ℕ) → HasTold job source root past here log old → old ≡ log ++ text job source root past.count
 
 -- what a turn tells keeps the counts and the log
-kept : (job : Job) (past : Past) (s : Reading) (start : Tree) (here next : Phase) (held : Held) (counts : Counts) (calls : Calls) (gained : List Carried) → Tells job s.tree (root_in start) past.count next calls.line (done_after here calls.line next past.count) gained
-    → ToldBefore job s.tree (root_in start) past here → ItemsPart job past here counts s.tree (root_in start) → PlacesItems job s.tree (root_in start) (past_after here calls.line next held past) next
+kept : (job : Job) (past : Past) (s : Reading) (start : Tree) (here next : Phase) (held : Held) (counts : Counts) (calls : Calls) (gained : List Carried) → Tells job s.tree (root_in start) past.count next calls.line (done_after here held.trail next past.count) gained
+    → ToldBefore job s.tree (root_in start) past here → ItemsPart job past here counts s.tree (root_in start) → PlacesItems job s.tree (root_in start) (past_after here next held past) next
     → KeepsItems job past here held counts s start calls next × KeepsLog job past here held s start calls next
 kept job past s start here next held counts calls gained tells told items places = (
-  record { places = places; lines_are = counts_kept job s.tree (root_in start) past.count (done_after here calls.line next past.count) next calls.line counts gained tells items.lines_are },
-  λ log old new had puts. log_kept job s.tree (root_in start) past (past_after here calls.line next held past) next calls.line (done_after here calls.line next past.count) log old new gained refl tells (told log old had) puts,
+  record { places = places; lines_are = counts_kept job s.tree (root_in start) past.count (done_after here held.trail next past.count) next calls.line counts gained tells items.lines_are },
+  λ log old new had puts. log_kept job s.tree (root_in start) past (past_after here next held past) next calls.line (done_after here held.trail next past.count) log old new gained refl tells (told log old had) puts,
 )
 
 -- ---- the turns begin where the run hasn't ended
@@ -62,9 +62,8 @@ walks_told : (job : Job) (source : Forest) (root : Tree) (past : Past) (prefix :
 walks_told job source root past prefix here next held after calls (OpensRoot was items) = λ log old had. had
 walks_told job source root past prefix here next held after calls (LeadsOn was is) = λ log old had. had
 walks_told job source root past prefix here next held after calls (IsSkipped was why is) = λ log old had. had
-walks_told job source root past prefix here next held after calls (HasNoIdentifier was index why is read) = λ log old had. had
-walks_told job source root past prefix here next held after calls (IsPresent was index id kind is read) = λ log old had. had
-walks_told job source root past prefix here next held after calls (IsNew was index id is read) = λ log old had. had
+walks_told job source root past prefix here next held after calls (IsPresent was index id kind is) = λ log old had. had
+walks_told job source root past prefix here next held after calls (IsNew was index id is) = λ log old had. had
 walks_told job source root past prefix here next held after calls (IsPast was name e short last) = λ log old had. had
 walks_told job source root past prefix here next held after calls (IsDeep was name e short last deep) = λ log old had. had
 walks_told job source root past prefix here next held after calls (EntersSite was name items e short last deep) = λ log old had. had
@@ -161,51 +160,47 @@ unfolding Changes IsKindAt
 walks_items job past s prefix start now new here next held after counts calls (OpensRoot was items) change known =
     let tells = walks_tell job past s prefix start now new here next held after calls (OpensRoot was items) known.held_at.trail.is_one known.source (roots_have_no_gaps start known.dest.started).1 known.items.places.placed known.dest.at change in
     kept job past s start here next held counts calls [] tells (walks_told job s.tree (root_in start) past prefix here next held after calls (OpensRoot was items)) known.items
-    (record { placed = placed_kept job s.tree (root_in start) past.count (done_after here calls.line next past.count) next calls.line [] past.placed refl tells known.items.places.placed; next = tt })
+    (record { placed = placed_kept job s.tree (root_in start) past.count (done_after here held.trail next past.count) next calls.line [] past.placed refl tells known.items.places.placed; next = tt })
 walks_items job past s prefix start now new here next held after counts calls (LeadsOn was is) change known =
     let tells = walks_tell job past s prefix start now new here next held after calls (LeadsOn was is) known.held_at.trail.is_one known.source (roots_have_no_gaps start known.dest.started).1 known.items.places.placed known.dest.at change in
     kept job past s start here next held counts calls [] tells (walks_told job s.tree (root_in start) past prefix here next held after calls (LeadsOn was is)) known.items
-    (record { placed = placed_kept job s.tree (root_in start) past.count (done_after here calls.line next past.count) next calls.line [] past.placed refl tells known.items.places.placed; next = tt })
+    (record { placed = placed_kept job s.tree (root_in start) past.count (done_after here held.trail next past.count) next calls.line [] past.placed refl tells known.items.places.placed; next = tt })
 walks_items job past s prefix start now new here next held after counts calls (IsSkipped was why is) change known =
     let tells = walks_tell job past s prefix start now new here next held after calls (IsSkipped was why is) known.held_at.trail.is_one known.source (roots_have_no_gaps start known.dest.started).1 known.items.places.placed known.dest.at change in
     kept job past s start here next held counts calls [] tells (walks_told job s.tree (root_in start) past prefix here next held after calls (IsSkipped was why is)) known.items
-    (record { placed = placed_kept job s.tree (root_in start) past.count (done_after here calls.line next past.count) next calls.line [] past.placed refl tells known.items.places.placed; next = tt })
-walks_items job past s prefix start now new here next held after counts calls (HasNoIdentifier was index why is read) change known =
-    let tells = walks_tell job past s prefix start now new here next held after calls (HasNoIdentifier was index why is read) known.held_at.trail.is_one known.source (roots_have_no_gaps start known.dest.started).1 known.items.places.placed known.dest.at change in
-    kept job past s start here next held counts calls [] tells (walks_told job s.tree (root_in start) past prefix here next held after calls (HasNoIdentifier was index why is read)) known.items
-    (record { placed = placed_kept job s.tree (root_in start) past.count (done_after here calls.line next past.count) next calls.line [] past.placed refl tells known.items.places.placed; next = tt })
-walks_items job past s prefix start now new here next held after counts calls (IsPresent was index id kind is read) change known =
-    let tells = walks_tell job past s prefix start now new here next held after calls (IsPresent was index id kind is read) known.held_at.trail.is_one known.source (roots_have_no_gaps start known.dest.started).1 known.items.places.placed known.dest.at change in
-    kept job past s start here next held counts calls [] tells (walks_told job s.tree (root_in start) past prefix here next held after calls (IsPresent was index id kind is read)) known.items
-    (record { placed = placed_kept job s.tree (root_in start) past.count (done_after here calls.line next past.count) next calls.line [] past.placed refl tells known.items.places.placed; next = tt })
-walks_items job past s prefix start now new here next held after counts calls (IsNew was index id is read) change known =
-    let tells = walks_tell job past s prefix start now new here next held after calls (IsNew was index id is read) known.held_at.trail.is_one known.source (roots_have_no_gaps start known.dest.started).1 known.items.places.placed known.dest.at change in
-    kept job past s start here next held counts calls [] tells (walks_told job s.tree (root_in start) past prefix here next held after calls (IsNew was index id is read)) known.items
-    (record { placed = placed_kept job s.tree (root_in start) past.count (done_after here calls.line next past.count) next calls.line [] past.placed refl tells known.items.places.placed; next = new_is_free job past s prefix start now was index id known.source is read (roots_have_no_gaps start known.dest.started).1 known.items.places.placed known.dest.at (change.0 now refl) })
+    (record { placed = placed_kept job s.tree (root_in start) past.count (done_after here held.trail next past.count) next calls.line [] past.placed refl tells known.items.places.placed; next = tt })
+walks_items job past s prefix start now new here next held after counts calls (IsPresent was index id kind is) change known =
+    let tells = walks_tell job past s prefix start now new here next held after calls (IsPresent was index id kind is) known.held_at.trail.is_one known.source (roots_have_no_gaps start known.dest.started).1 known.items.places.placed known.dest.at change in
+    kept job past s start here next held counts calls [] tells (walks_told job s.tree (root_in start) past prefix here next held after calls (IsPresent was index id kind is)) known.items
+    (record { placed = placed_kept job s.tree (root_in start) past.count (done_after here held.trail next past.count) next calls.line [] past.placed refl tells known.items.places.placed; next = tt })
+walks_items job past s prefix start now new here next held after counts calls (IsNew was index id is) change known =
+    let tells = walks_tell job past s prefix start now new here next held after calls (IsNew was index id is) known.held_at.trail.is_one known.source (roots_have_no_gaps start known.dest.started).1 known.items.places.placed known.dest.at change in
+    kept job past s start here next held counts calls [] tells (walks_told job s.tree (root_in start) past prefix here next held after calls (IsNew was index id is)) known.items
+    (record { placed = placed_kept job s.tree (root_in start) past.count (done_after here held.trail next past.count) next calls.line [] past.placed refl tells known.items.places.placed; next = new_is_free job past s prefix start now was index id known.source is (roots_have_no_gaps start known.dest.started).1 known.items.places.placed known.dest.at (change.0 now refl) })
 walks_items job past s prefix start now new here next held after counts calls (IsPast was name e short last) change known =
     let tells = walks_tell job past s prefix start now new here next held after calls (IsPast was name e short last) known.held_at.trail.is_one known.source (roots_have_no_gaps start known.dest.started).1 known.items.places.placed known.dest.at change in
     kept job past s start here next held counts calls [] tells (walks_told job s.tree (root_in start) past prefix here next held after calls (IsPast was name e short last)) known.items
-    (record { placed = placed_kept job s.tree (root_in start) past.count (done_after here calls.line next past.count) next calls.line [] past.placed refl tells known.items.places.placed; next = tt })
+    (record { placed = placed_kept job s.tree (root_in start) past.count (done_after here held.trail next past.count) next calls.line [] past.placed refl tells known.items.places.placed; next = tt })
 walks_items job past s prefix start now new here next held after counts calls (IsDeep was name e short last deep) change known =
     let tells = walks_tell job past s prefix start now new here next held after calls (IsDeep was name e short last deep) known.held_at.trail.is_one known.source (roots_have_no_gaps start known.dest.started).1 known.items.places.placed known.dest.at change in
     kept job past s start here next held counts calls [] tells (walks_told job s.tree (root_in start) past prefix here next held after calls (IsDeep was name e short last deep)) known.items
-    (record { placed = placed_kept job s.tree (root_in start) past.count (done_after here calls.line next past.count) next calls.line [] past.placed refl tells known.items.places.placed; next = tt })
+    (record { placed = placed_kept job s.tree (root_in start) past.count (done_after here held.trail next past.count) next calls.line [] past.placed refl tells known.items.places.placed; next = tt })
 walks_items job past s prefix start now new here next held after counts calls (EntersSite was name items e short last deep) change known =
     let tells = walks_tell job past s prefix start now new here next held after calls (EntersSite was name items e short last deep) known.held_at.trail.is_one known.source (roots_have_no_gaps start known.dest.started).1 known.items.places.placed known.dest.at change in
     kept job past s start here next held counts calls [] tells (walks_told job s.tree (root_in start) past prefix here next held after calls (EntersSite was name items e short last deep)) known.items
-    (record { placed = placed_kept job s.tree (root_in start) past.count (done_after here calls.line next past.count) next calls.line [] past.placed refl tells known.items.places.placed; next = tt })
+    (record { placed = placed_kept job s.tree (root_in start) past.count (done_after here held.trail next past.count) next calls.line [] past.placed refl tells known.items.places.placed; next = tt })
 walks_items job past s prefix start now new here next held after counts calls (PassesEntry was item e apart) change known =
     let tells = walks_tell job past s prefix start now new here next held after calls (PassesEntry was item e apart) known.held_at.trail.is_one known.source (roots_have_no_gaps start known.dest.started).1 known.items.places.placed known.dest.at change in
     kept job past s start here next held counts calls [] tells (walks_told job s.tree (root_in start) past prefix here next held after calls (PassesEntry was item e apart)) known.items
-    (record { placed = placed_kept job s.tree (root_in start) past.count (done_after here calls.line next past.count) next calls.line [] past.placed refl tells known.items.places.placed; next = tt })
+    (record { placed = placed_kept job s.tree (root_in start) past.count (done_after here held.trail next past.count) next calls.line [] past.placed refl tells known.items.places.placed; next = tt })
 walks_items job past s prefix start now new here next held after counts calls (LeavesSite was e long) change known =
     let tells = walks_tell job past s prefix start now new here next held after calls (LeavesSite was e long) known.held_at.trail.is_one known.source (roots_have_no_gaps start known.dest.started).1 known.items.places.placed known.dest.at change in
     kept job past s start here next held counts calls [] tells (walks_told job s.tree (root_in start) past prefix here next held after calls (LeavesSite was e long)) known.items
-    (record { placed = placed_kept job s.tree (root_in start) past.count (done_after here calls.line next past.count) next calls.line [] past.placed refl tells known.items.places.placed; next = tt })
+    (record { placed = placed_kept job s.tree (root_in start) past.count (done_after here held.trail next past.count) next calls.line [] past.placed refl tells known.items.places.placed; next = tt })
 walks_items job past s prefix start now new here next held after counts calls (EndsWalk was e short) change known =
     let tells = walks_tell job past s prefix start now new here next held after calls (EndsWalk was e short) known.held_at.trail.is_one known.source (roots_have_no_gaps start known.dest.started).1 known.items.places.placed known.dest.at change in
     kept job past s start here next held counts calls [] tells (walks_told job s.tree (root_in start) past prefix here next held after calls (EndsWalk was e short)) known.items
-    (record { placed = placed_kept job s.tree (root_in start) past.count (done_after here calls.line next past.count) next calls.line [] past.placed refl tells known.items.places.placed; next = tt })
+    (record { placed = placed_kept job s.tree (root_in start) past.count (done_after here held.trail next past.count) next calls.line [] past.placed refl tells known.items.places.placed; next = tt })
 
 -- ---- the scan
 
@@ -213,63 +208,63 @@ pub scans_items : ScanningKeepsItems
 scans_items job past s new prefix start now here next held after counts calls (StartsInSite was object gathered) answers known =
     let tells = scans_tell job past s prefix (root_in start) here next held after calls (StartsInSite was object gathered) known.held_at.trail.is_one known.source known.items.places.next new answers in
     kept job past s start here next held counts calls [] tells (scans_told job s.tree (root_in start) past here next held after calls (StartsInSite was object gathered)) known.items
-    (record { placed = placed_kept job s.tree (root_in start) past.count (done_after here calls.line next past.count) next calls.line [] past.placed refl tells known.items.places.placed; next = known.items.places.next })
+    (record { placed = placed_kept job s.tree (root_in start) past.count (done_after here held.trail next past.count) next calls.line [] past.placed refl tells known.items.places.placed; next = known.items.places.next })
 scans_items job past s new prefix start now here next held after counts calls (EntersObject was object items apart shallow) answers known =
     let tells = scans_tell job past s prefix (root_in start) here next held after calls (EntersObject was object items apart shallow) known.held_at.trail.is_one known.source known.items.places.next new answers in
     kept job past s start here next held counts calls [] tells (scans_told job s.tree (root_in start) past here next held after calls (EntersObject was object items apart shallow)) known.items
-    (record { placed = placed_kept job s.tree (root_in start) past.count (done_after here calls.line next past.count) next calls.line [] past.placed refl tells known.items.places.placed; next = known.items.places.next })
+    (record { placed = placed_kept job s.tree (root_in start) past.count (done_after here held.trail next past.count) next calls.line [] past.placed refl tells known.items.places.placed; next = known.items.places.next })
 scans_items job past s new prefix start now here next held after counts calls (IsTooDeep was object apart deep) answers known =
     let tells = scans_tell job past s prefix (root_in start) here next held after calls (IsTooDeep was object apart deep) known.held_at.trail.is_one known.source known.items.places.next new answers in
     kept job past s start here next held counts calls [] tells (scans_told job s.tree (root_in start) past here next held after calls (IsTooDeep was object apart deep)) known.items
-    (record { placed = placed_kept job s.tree (root_in start) past.count (done_after here calls.line next past.count) next calls.line [] past.placed refl tells known.items.places.placed; next = tt })
+    (record { placed = placed_kept job s.tree (root_in start) past.count (done_after here held.trail next past.count) next calls.line [] past.placed refl tells known.items.places.placed; next = tt })
 scans_items job past s new prefix start now here next held after counts calls (PassesShorty was object item e passed) answers known =
     let tells = scans_tell job past s prefix (root_in start) here next held after calls (PassesShorty was object item e passed) known.held_at.trail.is_one known.source known.items.places.next new answers in
     kept job past s start here next held counts calls [] tells (scans_told job s.tree (root_in start) past here next held after calls (PassesShorty was object item e passed)) known.items
-    (record { placed = placed_kept job s.tree (root_in start) past.count (done_after here calls.line next past.count) next calls.line [] past.placed refl tells known.items.places.placed; next = known.items.places.next })
+    (record { placed = placed_kept job s.tree (root_in start) past.count (done_after here held.trail next past.count) next calls.line [] past.placed refl tells known.items.places.placed; next = known.items.places.next })
 scans_items job past s new prefix start now here next held after counts calls (EntersDirectory was object name items e apart shallow) answers known =
     let tells = scans_tell job past s prefix (root_in start) here next held after calls (EntersDirectory was object name items e apart shallow) known.held_at.trail.is_one known.source known.items.places.next new answers in
     kept job past s start here next held counts calls [] tells (scans_told job s.tree (root_in start) past here next held after calls (EntersDirectory was object name items e apart shallow)) known.items
-    (record { placed = placed_kept job s.tree (root_in start) past.count (done_after here calls.line next past.count) next calls.line [] past.placed refl tells known.items.places.placed; next = known.items.places.next })
+    (record { placed = placed_kept job s.tree (root_in start) past.count (done_after here held.trail next past.count) next calls.line [] past.placed refl tells known.items.places.placed; next = known.items.places.next })
 scans_items job past s new prefix start now here next held after counts calls (MeetsDeep was object name e apart deep) answers known =
     let tells = scans_tell job past s prefix (root_in start) here next held after calls (MeetsDeep was object name e apart deep) known.held_at.trail.is_one known.source known.items.places.next new answers in
     kept job past s start here next held counts calls [] tells (scans_told job s.tree (root_in start) past here next held after calls (MeetsDeep was object name e apart deep)) known.items
-    (record { placed = placed_kept job s.tree (root_in start) past.count (done_after here calls.line next past.count) next calls.line [] past.placed refl tells known.items.places.placed; next = tt })
+    (record { placed = placed_kept job s.tree (root_in start) past.count (done_after here held.trail next past.count) next calls.line [] past.placed refl tells known.items.places.placed; next = tt })
 scans_items job past s new prefix start now here next held after counts calls (OpensFile was object name e room) answers known =
     let tells = scans_tell job past s prefix (root_in start) here next held after calls (OpensFile was object name e room) known.held_at.trail.is_one known.source known.items.places.next new answers in
     kept job past s start here next held counts calls [] tells (scans_told job s.tree (root_in start) past here next held after calls (OpensFile was object name e room)) known.items
-    (record { placed = placed_kept job s.tree (root_in start) past.count (done_after here calls.line next past.count) next calls.line [] past.placed refl tells known.items.places.placed; next = known.items.places.next })
+    (record { placed = placed_kept job s.tree (root_in start) past.count (done_after here held.trail next past.count) next calls.line [] past.placed refl tells known.items.places.placed; next = known.items.places.next })
 scans_items job past s new prefix start now here next held after counts calls (MeetsLimit was object name e room) answers known =
     let tells = scans_tell job past s prefix (root_in start) here next held after calls (MeetsLimit was object name e room) known.held_at.trail.is_one known.source known.items.places.next new answers in
     kept job past s start here next held counts calls [] tells (scans_told job s.tree (root_in start) past here next held after calls (MeetsLimit was object name e room)) known.items
-    (record { placed = placed_kept job s.tree (root_in start) past.count (done_after here calls.line next past.count) next calls.line [] past.placed refl tells known.items.places.placed; next = tt })
+    (record { placed = placed_kept job s.tree (root_in start) past.count (done_after here held.trail next past.count) next calls.line [] past.placed refl tells known.items.places.placed; next = tt })
 scans_items job past s new prefix start now here next held after counts calls (MeetsOther was object name e) answers known =
     let tells = scans_tell job past s prefix (root_in start) here next held after calls (MeetsOther was object name e) known.held_at.trail.is_one known.source known.items.places.next new answers in
     kept job past s start here next held counts calls [] tells (scans_told job s.tree (root_in start) past here next held after calls (MeetsOther was object name e)) known.items
-    (record { placed = placed_kept job s.tree (root_in start) past.count (done_after here calls.line next past.count) next calls.line [] past.placed refl tells known.items.places.placed; next = tt })
+    (record { placed = placed_kept job s.tree (root_in start) past.count (done_after here held.trail next past.count) next calls.line [] past.placed refl tells known.items.places.placed; next = tt })
 scans_items job past s new prefix start now here next held after counts calls (EndsSite was object e there) answers known =
     let tells = scans_tell job past s prefix (root_in start) here next held after calls (EndsSite was object e there) known.held_at.trail.is_one known.source known.items.places.next new answers in
     kept job past s start here next held counts calls [] tells (scans_told job s.tree (root_in start) past here next held after calls (EndsSite was object e there)) known.items
-    (record { placed = placed_kept job s.tree (root_in start) past.count (done_after here calls.line next past.count) next calls.line [] past.placed refl tells known.items.places.placed; next = known.items.places.next })
+    (record { placed = placed_kept job s.tree (root_in start) past.count (done_after here held.trail next past.count) next calls.line [] past.placed refl tells known.items.places.placed; next = known.items.places.next })
 scans_items job past s new prefix start now here next held after counts calls (EndsObject was object e apart own) answers known =
     let tells = scans_tell job past s prefix (root_in start) here next held after calls (EndsObject was object e apart own) known.held_at.trail.is_one known.source known.items.places.next new answers in
     kept job past s start here next held counts calls [] tells (scans_told job s.tree (root_in start) past here next held after calls (EndsObject was object e apart own)) known.items
-    (record { placed = placed_kept job s.tree (root_in start) past.count (done_after here calls.line next past.count) next calls.line [] past.placed refl tells known.items.places.placed; next = known.items.places.next })
+    (record { placed = placed_kept job s.tree (root_in start) past.count (done_after here held.trail next past.count) next calls.line [] past.placed refl tells known.items.places.placed; next = known.items.places.next })
 scans_items job past s new prefix start now here next held after counts calls (LeavesDirectory was object e apart outside) answers known =
     let tells = scans_tell job past s prefix (root_in start) here next held after calls (LeavesDirectory was object e apart outside) known.held_at.trail.is_one known.source known.items.places.next new answers in
     kept job past s start here next held counts calls [] tells (scans_told job s.tree (root_in start) past here next held after calls (LeavesDirectory was object e apart outside)) known.items
-    (record { placed = placed_kept job s.tree (root_in start) past.count (done_after here calls.line next past.count) next calls.line [] past.placed refl tells known.items.places.placed; next = known.items.places.next })
+    (record { placed = placed_kept job s.tree (root_in start) past.count (done_after here held.trail next past.count) next calls.line [] past.placed refl tells known.items.places.placed; next = known.items.places.next })
 scans_items job past s new prefix start now here next held after counts calls (ReadsOn was object bytes byte block short) answers known =
     let tells = scans_tell job past s prefix (root_in start) here next held after calls (ReadsOn was object bytes byte block short) known.held_at.trail.is_one known.source known.items.places.next new answers in
     kept job past s start here next held counts calls [] tells (scans_told job s.tree (root_in start) past here next held after calls (ReadsOn was object bytes byte block short)) known.items
-    (record { placed = placed_kept job s.tree (root_in start) past.count (done_after here calls.line next past.count) next calls.line [] past.placed refl tells known.items.places.placed; next = known.items.places.next })
+    (record { placed = placed_kept job s.tree (root_in start) past.count (done_after here held.trail next past.count) next calls.line [] past.placed refl tells known.items.places.placed; next = known.items.places.next })
 scans_items job past s new prefix start now here next held after counts calls (IsTooLong was object bytes byte block long) answers known =
     let tells = scans_tell job past s prefix (root_in start) here next held after calls (IsTooLong was object bytes byte block long) known.held_at.trail.is_one known.source known.items.places.next new answers in
     kept job past s start here next held counts calls [] tells (scans_told job s.tree (root_in start) past here next held after calls (IsTooLong was object bytes byte block long)) known.items
-    (record { placed = placed_kept job s.tree (root_in start) past.count (done_after here calls.line next past.count) next calls.line [] past.placed refl tells known.items.places.placed; next = tt })
+    (record { placed = placed_kept job s.tree (root_in start) past.count (done_after here held.trail next past.count) next calls.line [] past.placed refl tells known.items.places.placed; next = tt })
 scans_items job past s new prefix start now here next held after counts calls (EndsFile was object bytes) answers known =
     let tells = scans_tell job past s prefix (root_in start) here next held after calls (EndsFile was object bytes) known.held_at.trail.is_one known.source known.items.places.next new answers in
     kept job past s start here next held counts calls [] tells (scans_told job s.tree (root_in start) past here next held after calls (EndsFile was object bytes)) known.items
-    (record { placed = placed_kept job s.tree (root_in start) past.count (done_after here calls.line next past.count) next calls.line [] past.placed refl tells known.items.places.placed; next = known.items.places.next })
+    (record { placed = placed_kept job s.tree (root_in start) past.count (done_after here held.trail next past.count) next calls.line [] past.placed refl tells known.items.places.placed; next = known.items.places.next })
 
 -- ---- an object is made
 

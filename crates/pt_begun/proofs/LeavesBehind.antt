@@ -21,7 +21,7 @@ use Rattle.pt_plan.specs.TurnMake.{Makings, MakesStaging, MakesDeclaration, Make
 use Rattle.pt_plan.specs.TurnPlace.{Places, MakesTuple, FindsTuple, IsInTheWay, RenamesObject, TellsDone, TellsEnd}
 use Rattle.pt_plan.specs.TurnScan.{Scans, StartsInSite, EntersObject, IsTooDeep, PassesShorty, EntersDirectory, MeetsDeep, OpensFile, MeetsLimit, MeetsOther, EndsSite, EndsObject, LeavesDirectory, ReadsOn, IsTooLong, EndsFile}
 use Rattle.pt_plan.specs.TurnStart.{Starts, IsStore, IsNoStore, HasNoPrefix, IsNoPrefixFile, HasPrefix, IsNoPrefix, HasNoStaging, HasStaging, HasNoRoot, HasRoot, IsNoRoot, MakesRoot, RenamesRoot, IsSame, IsNoFile, Differs}
-use Rattle.pt_plan.specs.TurnWalk.{Walks, OpensRoot, LeadsOn, IsSkipped, HasNoIdentifier, IsPresent, IsNew, IsPast, IsDeep, EntersSite, PassesEntry, LeavesSite, EndsWalk}
+use Rattle.pt_plan.specs.TurnWalk.{Walks, OpensRoot, LeadsOn, IsSkipped, IsPresent, IsNew, IsPast, IsDeep, EntersSite, PassesEntry, LeavesSite, EndsWalk}
 use Rattle.pt_plan.specs.World.{Adds, Calls, Change, ChangesNothing, Creates, Finds, FindsNoneAndMakes, Finishes, LeavesPart, Makes, NewFile, OfFile, OfPiece, Peeks, Renames, Untouched}
 use Rattle.pt_plan.specs.declared.object.Object.{Object}
 use Rattle.pt_plan.specs.declared.phase.Part.{Part}
@@ -174,9 +174,8 @@ walks_left : (job : Job) (past : Past) (start : Tree) (prefix : List ℕ) (here 
 walks_left job past start prefix here held after calls answer old new (OpensRoot was items) at dest left = same_left job past start here held old new at dest (plain_same calls.change old new refl left)
 walks_left job past start prefix here held after calls answer old new (LeadsOn was is) at dest left = same_left job past start here held old new at dest (plain_same calls.change old new refl left)
 walks_left job past start prefix here held after calls answer old new (IsSkipped was why is) at dest left = same_left job past start here held old new at dest (plain_same calls.change old new refl left)
-walks_left job past start prefix here held after calls answer old new (HasNoIdentifier was index why is read) at dest left = same_left job past start here held old new at dest (plain_same calls.change old new refl left)
-walks_left job past start prefix here held after calls answer old new (IsPresent was index id kind is read) at dest left = same_left job past start here held old new at dest (plain_same calls.change old new refl left)
-walks_left job past start prefix here held after calls answer old new (IsNew was index id is read) at dest left = same_left job past start here held old new at dest (plain_same calls.change old new refl left)
+walks_left job past start prefix here held after calls answer old new (IsPresent was index id kind is) at dest left = same_left job past start here held old new at dest (plain_same calls.change old new refl left)
+walks_left job past start prefix here held after calls answer old new (IsNew was index id is) at dest left = same_left job past start here held old new at dest (plain_same calls.change old new refl left)
 walks_left job past start prefix here held after calls answer old new (IsPast was name e short last) at dest left = same_left job past start here held old new at dest (plain_same calls.change old new refl left)
 walks_left job past start prefix here held after calls answer old new (IsDeep was name e short last deep) at dest left = same_left job past start here held old new at dest (plain_same calls.change old new refl left)
 walks_left job past start prefix here held after calls answer old new (EntersSite was name items e short last deep) at dest left = same_left job past start here held old new at dest (plain_same calls.change old new refl left)

@@ -37,7 +37,7 @@ stays : (job : Job) (s new : Reading) (prefix : List ℕ) (object : Object) (hel
 stays job s new prefix object held count same it = subst (λ (r : Reading). Scanned job r prefix object held count) (sym (some_same new s same)) it
 
 after_sidecar : (job : Job) (s : Reading) (prefix : List ℕ) (object : Object) (held : Held) (count : ℕ) (flat : Bool) → Scanned job s prefix object held count
-    → SourceAt job s prefix (done_after (phase.Make object part.Sidecar) None (cond flat (phase.Rename object) (phase.Tuples object 0)) count) (cond flat (phase.Rename object) (phase.Tuples object 0)) held
+    → SourceAt job s prefix (done_after (phase.Make object part.Sidecar) held.trail (cond flat (phase.Rename object) (phase.Tuples object 0)) count) (cond flat (phase.Rename object) (phase.Tuples object 0)) held
 after_sidecar job s prefix object held count true it = it
 after_sidecar job s prefix object held count false it = it
 
@@ -77,7 +77,7 @@ copies_on s object held position left block fits read it =
     }
 
 pub makes_keep : (job : Job) (s new : Reading) (prefix : List ℕ) (count : ℕ) (here : Phase) (held after : Held) (calls : Calls) (next : Phase) → is_proper s.tree ≡ true → Makings job here held after calls (Ok next)
-    → SourceAt job s prefix count here held → Answers calls.asked (Some s) (Some new) → SourceAt job new prefix (done_after here calls.line next count) next after
+    → SourceAt job s prefix count here held → Answers calls.asked (Some s) (Some new) → SourceAt job new prefix (done_after here held.trail next count) next after
 unfolding Answers IsRead
 makes_keep job s new prefix count here held after calls next proper (MakesStaging was object) at answers = stays job s new prefix object was count answers at
 makes_keep job s new prefix count here held after calls next proper (MakesDeclaration was object) at answers = stays job s new prefix object was count answers at

@@ -4,6 +4,7 @@ use Rattle.std.specs.Prelude.{Option, None, Some, Result, Ok, Err, is_none, ◌+
 use Rattle.std.specs.List.{concat}
 use Rattle.std.specs.Str.{is_utf8}
 use Rattle.pt_name.specs.Reading.{reading_of}
+use Rattle.pt_name.specs.Share.{Portion, holds, is_first}
 use Rattle.pt_tree.specs.Forest.{Forest, Node, Dir, none, file, other, dir, is_proper, listing_of}
 use Rattle.pt_tree.specs.Listing.{Item}
 use Rattle.pt_tree.specs.Path.{Path}
@@ -26,11 +27,11 @@ use Rattle.pt_walk.specs.declared.site.Form.{Form}
 use Rattle.pt_walk.specs.declared.site.Finding.{Finding}
 use Rattle.pt_walk.specs.declared.site.Finding.TheVariants as finding
 use Rattle.pt_begun.specs.BegunSource.{IsInObject, IsOnWay, IsSiteOf, IsToJudge, inside_object, object_at}
-use Rattle.pt_plan.specs.Items.{Named, PairtreeObject, Skip, encapsulated, gathered_from, is_reserved, verdict_by_finding, verdict_by_reading, verdict_of, verdict_on_candidate}
+use Rattle.pt_plan.specs.Items.{Interior, Named, PairtreeObject, Skip, Verdict, VerdictOn, encapsulated, gathered_from, is_reserved, ours, verdict_by_finding, verdict_by_reading, verdict_by_visit, verdict_of, verdict_on_candidate}
 use Rattle.pt_plan.specs.Job.{Job, form_of}
 use Rattle.pt_plan.specs.Store.{pairtree_of}
 use Rattle.pt_plan.specs.TurnScan.{to_site}
-use Rattle.pt_plan.specs.TurnWalk.{at_object, found_at, has_object, identifier_at, identifier_by, new_object}
+use Rattle.pt_plan.specs.TurnWalk.{at_object, found_at, has_object, identifier_at, identifier_by, judged_at, judged_by_finding, judged_by_identifier, new_object}
 use Rattle.pt_plan.specs.declared.object.Object.{Object}
 
 -- ---- an identifier is that of the verdict
@@ -98,7 +99,7 @@ found_there job top frame frames what proper fits is =
 -- it is named so
 pub named_there : (job : Job) (source : Forest) (prefix : List ℕ) (frame : Frame) (frames : List Frame) (index : Option ℕ) (id : List ℕ) → is_proper (pairtree_of source) ≡ true → Fits (pairtree_of source) (frame ∷ frames)
     → found_at (form_of job) (frame ∷ frames) ≡ has_object index → identifier_at job prefix (names_to frames) ≡ Ok id
-    → verdict_of job prefix (names_to frames) (Listed (inside_at (pairtree_of source) (names_to frames))) ≡ Named id (object_at source (new_object job id index (frame ∷ frames)) (at_object index (frame ∷ frames)))
+    → verdict_by_visit job prefix (names_to frames) (Listed (inside_at (pairtree_of source) (names_to frames))) ≡ Named id (object_at source (new_object job id index (frame ∷ frames)) (at_object index (frame ∷ frames)))
 named_there job source prefix frame frames None id proper fits is reads =
     let top = pairtree_of source in
     let site = names_to frames in
@@ -124,7 +125,7 @@ named_there job source prefix frame frames (Some i) id proper fits is reads =
 -- it is passed over
 pub nameless_there : (job : Job) (source : Forest) (prefix : List ℕ) (frame : Frame) (frames : List Frame) (index : Option ℕ) (why : Cause) → is_proper (pairtree_of source) ≡ true → Fits (pairtree_of source) (frame ∷ frames)
     → found_at (form_of job) (frame ∷ frames) ≡ has_object index → identifier_at job prefix (names_to frames) ≡ Err why
-    → verdict_of job prefix (names_to frames) (Listed (inside_at (pairtree_of source) (names_to frames))) ≡ Skip why
+    → verdict_by_visit job prefix (names_to frames) (Listed (inside_at (pairtree_of source) (names_to frames))) ≡ Skip why
 nameless_there job source prefix frame frames None why proper fits is reads =
     let site = names_to frames in
     let inside = inside_at (pairtree_of source) site in
@@ -143,6 +144,76 @@ nameless_there job source prefix frame frames (Some i) why proper fits is reads 
     ap (verdict_by_finding job prefix site inside) (found_there job top frame frames (finding.Candidate i) proper fits is)
     ∙ ap (verdict_on_candidate job prefix site) held
     ∙ unidentified job prefix object (reading_of (concat site)) why reads
+
+-- what an item comes to whose site is judged to be this where the trail stands
+abbrev pub verdict_there : Job → Forest → List Frame → VerdictOn (Option ℕ) → Verdict
+verdict_there job source t Interior = Interior
+verdict_there job source t (Skip why) = Skip why
+verdict_there job source t (Named id index) = Named id (object_at source (new_object job id index t) (at_object index t))
+
+by_identifier : (job : Job) (source : Forest) (prefix : List ℕ) (frame : Frame) (frames : List Frame) (index : Option ℕ) (read : Result (List ℕ) Cause) → is_proper (pairtree_of source) ≡ true → Fits (pairtree_of source) (frame ∷ frames)
+    → found_at (form_of job) (frame ∷ frames) ≡ has_object index → identifier_at job prefix (names_to frames) ≡ read
+    → verdict_by_visit job prefix (names_to frames) (Listed (inside_at (pairtree_of source) (names_to frames))) ≡ verdict_there job source (frame ∷ frames) (judged_by_identifier index read)
+by_identifier job source prefix frame frames index (Ok id) proper fits is reads = named_there job source prefix frame frames index id proper fits is reads
+by_identifier job source prefix frame frames index (Err why) proper fits is reads = nameless_there job source prefix frame frames index why proper fits is reads
+
+by_found : (job : Job) (source : Forest) (prefix : List ℕ) (frame : Frame) (frames : List Frame) (what : Finding) → is_proper (pairtree_of source) ≡ true → Fits (pairtree_of source) (frame ∷ frames) → found_at (form_of job) (frame ∷ frames) ≡ what
+    → verdict_by_visit job prefix (names_to frames) (Listed (inside_at (pairtree_of source) (names_to frames))) ≡ verdict_there job source (frame ∷ frames) (judged_by_finding job prefix (names_to frames) what)
+by_found job source prefix frame frames finding.Interior proper fits is =
+    ap (verdict_by_finding job prefix (names_to frames) (inside_at (pairtree_of source) (names_to frames))) (found_there job (pairtree_of source) frame frames finding.Interior proper fits is)
+by_found job source prefix frame frames (finding.Skip why) proper fits is =
+    ap (verdict_by_finding job prefix (names_to frames) (inside_at (pairtree_of source) (names_to frames))) (found_there job (pairtree_of source) frame frames (finding.Skip why) proper fits is)
+by_found job source prefix frame frames (finding.Candidate i) proper fits is = by_identifier job source prefix frame frames (Some i) (identifier_at job prefix (names_to frames)) proper fits is refl
+by_found job source prefix frame frames finding.Gathered proper fits is = by_identifier job source prefix frame frames None (identifier_at job prefix (names_to frames)) proper fits is refl
+
+-- as far as it is of the share
+ours_there : (job : Job) (source : Forest) (t : List Frame) (what : VerdictOn (Option ℕ)) → ours job.share (verdict_there job source t what) ≡ verdict_there job source t (ours job.share what)
+ours_there job source t Interior = refl
+ours_there job source t (Skip why) = either (is_first job.share)
+  where
+    either : (b : Bool) → cond b (Skip why) Interior ≡ verdict_there job source t (cond b (Skip why) Interior)
+    either true = refl
+    either false = refl
+ours_there job source t (Named id index) = either (holds job.share id)
+  where
+    either : (b : Bool) → cond b (verdict_there job source t (Named id index)) Interior ≡ verdict_there job source t (cond b (Named id index) Interior)
+    either true = refl
+    either false = refl
+
+-- the verdict on the site is what it is judged to be
+pub judged_there : (job : Job) (source : Forest) (prefix : List ℕ) (frame : Frame) (frames : List Frame) → is_proper (pairtree_of source) ≡ true → Fits (pairtree_of source) (frame ∷ frames)
+    → verdict_of job prefix (names_to frames) (Listed (inside_at (pairtree_of source) (names_to frames))) ≡ verdict_there job source (frame ∷ frames) (judged_at job prefix (frame ∷ frames))
+judged_there job source prefix frame frames proper fits =
+    let what = found_at (form_of job) (frame ∷ frames) in
+    ap (λ (v : Verdict). ours job.share v) (by_found job source prefix frame frames what proper fits refl)
+    ∙ ours_there job source (frame ∷ frames) (judged_by_finding job prefix (names_to frames) what)
+
+-- what is named is found to have an object
+ours_named : (share : Portion) (what : VerdictOn (Option ℕ)) (id : List ℕ) (index : Option ℕ) → ours share what ≡ Named id index → what ≡ Named id index
+ours_named share Interior id index is = absurd (cc)
+ours_named share (Skip why) id index is = absurd (either (is_first share) is)
+  where
+    either : (b : Bool) → cond b (Skip why) Interior ≡ Named id index → ⊥
+    either true h = cc
+    either false h = cc
+ours_named share (Named i o) id index is = either (holds share i) is
+  where
+    either : (b : Bool) → cond b (Named i o) Interior ≡ Named id index → Named i o ≡ Named id index
+    either true h = h
+    either false h = absurd (cc)
+
+named_identifier : (own index : Option ℕ) (read : Result (List ℕ) Cause) (id : List ℕ) → judged_by_identifier own read ≡ Named id index → own ≡ index
+named_identifier own index (Ok i) id is = cc
+named_identifier own index (Err why) id is = absurd (cc)
+
+pub named_found : (job : Job) (prefix : List ℕ) (t : List Frame) (index : Option ℕ) (id : List ℕ) → judged_at job prefix t ≡ Named id index → found_at (form_of job) t ≡ has_object index
+named_found job prefix t index id is = by (found_at (form_of job) t) (ours_named job.share (judged_by_finding job prefix (trail_path t) (found_at (form_of job) t)) id index is)
+  where
+    by : (what : Finding) → judged_by_finding job prefix (trail_path t) what ≡ Named id index → what ≡ has_object index
+    by finding.Interior h = absurd (cc)
+    by (finding.Skip why) h = absurd (cc)
+    by (finding.Candidate i) h = ap has_object (named_identifier (Some i) index (identifier_at job prefix (trail_path t)) id h)
+    by finding.Gathered h = ap has_object (named_identifier None index (identifier_at job prefix (trail_path t)) id h)
 
 -- an object that is encapsulated stands at a directory
 leads_there : (job : Job) (frame : Frame) (frames : List Frame) (index : Option ℕ) → found_at (form_of job) (frame ∷ frames) ≡ has_object index
@@ -209,10 +280,10 @@ pub record IsNewObject (job : Job) (source : Forest) (prefix : List ℕ) (object
   pub at_site : length trail ≡ object.site
 
 pub new_object_there : (job : Job) (source : Forest) (prefix : List ℕ) (trail : List Frame) (index : Option ℕ) (id : List ℕ) (count : ℕ) → is_proper (pairtree_of source) ≡ true
-    → found_at (form_of job) trail ≡ has_object index → identifier_at job prefix (trail_path trail) ≡ Ok id → IsToJudge job source trail count
+    → judged_at job prefix trail ≡ Named id index → IsToJudge job source trail count
     → IsNewObject job source prefix (new_object job id index trail) (at_object index trail) count
-new_object_there job source prefix [] index id count proper is reads judge = absurd (omega (arith, judge.way.entered))
-new_object_there job source prefix (frame ∷ frames) index id count proper is reads judge =
+new_object_there job source prefix [] index id count proper is judge = absurd (omega (arith, judge.way.entered))
+new_object_there job source prefix (frame ∷ frames) index id count proper is judge =
     let top = pairtree_of source in
     let trail = frame ∷ frames in
     let object = new_object job id index trail in
@@ -220,13 +291,14 @@ new_object_there job source prefix (frame ∷ frames) index id count proper is r
     let long = long_at index trail in
     let no_more : length there - length trail ≡ 0 = omega (arith, long) in
     let site : to_site object there ≡ there = ap (λ (n : ℕ). drop n there) no_more in
-    let named = named_there job source prefix frame frames index id proper judge.way.fits is reads in
+    let found = named_found job prefix trail index id is in
+    let named = judged_there job source prefix frame frames proper judge.way.fits ∙ ap (verdict_there job source trail) is in
     let here : IsSiteOf job source prefix object there count = record {
       here = record { site = judge.here.site ∙ ap (λ (p : Path). Some (p, Listed (inside_at top p))) (sym (path_at index trail)) };
       way = subst (λ (t : List Frame). IsOnWay job source t (suc count)) (judge.first ∙ sym (first_at index trail)) judge.way;
       named = ap (λ (p : Path). verdict_of job prefix p (Listed (inside_at top p))) (path_at index trail) ∙ named;
-      leads = leads_there job frame frames index is;
-      filled = filled_there job source frame frames index id proper judge.way.fits is;
+      leads = leads_there job frame frames index found;
+      filled = filled_there job source frame frames index id proper judge.way.fits found;
     } in
     record {
       stands = record {

@@ -21,13 +21,13 @@ stays : (job : Job) (s new : Reading) (prefix : List ℕ) (object : Object) (hel
 stays job s new prefix object held count same it = subst (λ (r : Reading). HasStarted r.tree prefix × IsScanned job r.tree prefix object held count) (sym (some_same new s same)) it
 
 after_a_tuple : (job : Job) (s : Reading) (prefix : List ℕ) (object : Object) (held : Held) (count number : ℕ) (more : Bool) → HasStarted s.tree prefix × IsScanned job s.tree prefix object held count
-    → SourceAt job s prefix (done_after (phase.Tuples object number) None (cond more (phase.Tuples object (number + 1)) (phase.Rename object)) count) (cond more (phase.Tuples object (number + 1)) (phase.Rename object)) held
+    → SourceAt job s prefix (done_after (phase.Tuples object number) held.trail (cond more (phase.Tuples object (number + 1)) (phase.Rename object)) count) (cond more (phase.Tuples object (number + 1)) (phase.Rename object)) held
 after_a_tuple job s prefix object held count number true it = it
 after_a_tuple job s prefix object held count number false it = it
 
 pub places_keep : (job : Job) (counts : Counts) (s new : Reading) (prefix : List ℕ) (count : ℕ) (here next : Phase) (held after : Held) (calls : Calls)
     → Places job counts here held after calls (Ok next) → SourceAt job s prefix count here held
-    → Answers calls.asked (Some s) (Some new) → SourceAt job new prefix (done_after here calls.line next count) next after
+    → Answers calls.asked (Some s) (Some new) → SourceAt job new prefix (done_after here held.trail next count) next after
 unfolding Answers
 places_keep job counts s new prefix count here next held after calls (MakesTuple was object number) at answers =
     after_a_tuple job new prefix object was count number (nat_lt (number + 1) job.tuples.count) (stays job s new prefix object was count answers at)

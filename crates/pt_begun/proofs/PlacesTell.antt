@@ -116,12 +116,12 @@ done_told job past source object held at it =
 -- ---- each turn
 
 after_a_tuple : (job : Job) (source : Forest) (root : Tree) (count number : ℕ) (object : Object) (more : Bool)
-    → Tells job source root count (cond more (phase.Tuples object (number + 1)) (phase.Rename object)) None (done_after (phase.Tuples object number) None (cond more (phase.Tuples object (number + 1)) (phase.Rename object)) count) []
+    → Tells job source root count (cond more (phase.Tuples object (number + 1)) (phase.Rename object)) None (done_after (phase.Tuples object number) [] (cond more (phase.Tuples object (number + 1)) (phase.Rename object)) count) []
 after_a_tuple job source root count number object true = Nothing (phase.Tuples object (number + 1))
 after_a_tuple job source root count number object false = Nothing (phase.Rename object)
 
 pub places_tell : (job : Job) (counts : Counts) (past : Past) (s : Reading) (prefix : List ℕ) (root : Tree) (here next : Phase) (held after : Held) (calls : Calls) → Places job counts here held after calls (Ok next) → HeldAt job past here held → SourcePart job past here prefix held s
-    → IsFreeAt here job s.tree root past.count → (gained : List Carried) × Tells job s.tree root past.count next calls.line (done_after here calls.line next past.count) gained
+    → IsFreeAt here job s.tree root past.count → (gained : List Carried) × Tells job s.tree root past.count next calls.line (done_after here held.trail next past.count) gained
 places_tell job counts past s prefix root here next held after calls (MakesTuple was object number) at part free = ([], after_a_tuple job s.tree root past.count number object (nat_lt (number + 1) job.tuples.count))
 places_tell job counts past s prefix root here next held after calls (FindsTuple was object number) at part free = ([], after_a_tuple job s.tree root past.count number object (nat_lt (number + 1) job.tuples.count))
 places_tell job counts past s prefix root here next held after calls (RenamesObject was object) at part free = ([], Nothing (phase.Line object))

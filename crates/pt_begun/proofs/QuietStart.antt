@@ -9,7 +9,7 @@ use Rattle.pt_plan.specs.TurnMake.{Makings, MakesStaging, MakesDeclaration, Make
 use Rattle.pt_plan.specs.TurnPlace.{Places, MakesTuple, FindsTuple, RenamesObject, TellsDone, TellsEnd}
 use Rattle.pt_plan.specs.TurnScan.{Scans, StartsInSite, EntersObject, IsTooDeep, PassesShorty, EntersDirectory, MeetsDeep, OpensFile, MeetsLimit, MeetsOther, EndsSite, EndsObject, LeavesDirectory, ReadsOn, IsTooLong, EndsFile}
 use Rattle.pt_plan.specs.TurnStart.{Starts, IsStore, HasNoPrefix, HasPrefix, HasNoStaging, HasNoRoot, HasRoot, MakesRoot, RenamesRoot, IsSame}
-use Rattle.pt_plan.specs.TurnWalk.{Walks, OpensRoot, LeadsOn, IsSkipped, HasNoIdentifier, IsPresent, IsNew, IsPast, IsDeep, EntersSite, PassesEntry, LeavesSite, EndsWalk}
+use Rattle.pt_plan.specs.TurnWalk.{Walks, OpensRoot, LeadsOn, IsSkipped, IsPresent, IsNew, IsPast, IsDeep, EntersSite, PassesEntry, LeavesSite, EndsWalk}
 use Rattle.pt_plan.specs.World.{Calls}
 use Rattle.pt_plan.specs.declared.phase.Phase.{Phase}
 use Rattle.pt_plan.specs.declared.phase.Phase.TheVariants as phase
@@ -98,9 +98,8 @@ walks_later : (job : Job) (prefix : List ℕ) (here next : Phase) (held after : 
 walks_later job prefix here next held after calls (OpensRoot was items) = refl
 walks_later job prefix here next held after calls (LeadsOn was is) = refl
 walks_later job prefix here next held after calls (IsSkipped was why is) = refl
-walks_later job prefix here next held after calls (HasNoIdentifier was index why is read) = refl
-walks_later job prefix here next held after calls (IsPresent was index id kind is read) = refl
-walks_later job prefix here next held after calls (IsNew was index id is read) = refl
+walks_later job prefix here next held after calls (IsPresent was index id kind is) = refl
+walks_later job prefix here next held after calls (IsNew was index id is) = refl
 walks_later job prefix here next held after calls (IsPast was name e short last) = refl
 walks_later job prefix here next held after calls (IsDeep was name e short last deep) = refl
 walks_later job prefix here next held after calls (EntersSite was name items e short last deep) = refl

@@ -314,7 +314,7 @@ tree_same new old same = ap (λ (r : Reading). r.tree) (some_same new old same)
 
 pub scans_keep : (job : Job) (s new : Reading) (prefix : List ℕ) (count : ℕ) (here next : Phase) (held after : Held) (calls : Calls)
     → is_proper s.tree ≡ true → is_trail held.trail ≡ true → Scans job here held after calls (Ok next) → SourceAt job s prefix count here held
-    → Answers calls.asked (Some s) (Some new) → SourceAt job new prefix (done_after here calls.line next count) next after
+    → Answers calls.asked (Some s) (Some new) → SourceAt job new prefix (done_after here held.trail next count) next after
 unfolding Answers IsListed IsRead
 scans_keep job s new prefix count here next held after calls proper is_one (StartsInSite was object gathered) at answers =
     to_scan job s.tree new.tree prefix object (with_trail was (sought 0 was.trail)) count (tree_same new s answers) at.1

@@ -133,7 +133,7 @@ moved_beside job source bytes object held t same less there room = record {
 }
 
 scans_beside : (job : Job) (past : Past) (s : Reading) (prefix : List ℕ) (here next : Phase) (held after : Held) (calls : Calls) → Scans job here held after calls (Ok next) → (new : Reading) → Answers calls.asked (Some s) (Some new) → HeldAt job past here held
-    → SourcePart job past here prefix held s → BesideAt job s.tree (past_after here calls.line next held past).bytes next after
+    → SourcePart job past here prefix held s → BesideAt job s.tree (past_after here next held past).bytes next after
 unfolding Answers IsListed IsRead
 scans_beside job past s prefix here next held after calls (StartsInSite was object gathered) new answers at part =
     record {
@@ -189,5 +189,5 @@ scans_beside job past s prefix here next held after calls (EndsFile was object b
 
 pub scans_source : ScanningKeepsSource
 scans_source job past s new prefix here next held after calls turn answers at part =
-    with_beside job (past_after here calls.line next held past) next prefix after calls.asked s new answers part.proper (scans_keep job s new prefix past.count here next held after calls part.proper at.trail.is_one turn part.at answers)
+    with_beside job (past_after here next held past) next prefix after calls.asked s new answers part.proper (scans_keep job s new prefix past.count here next held after calls part.proper at.trail.is_one turn part.at answers)
     (scans_beside job past s prefix here next held after calls turn new answers at part)

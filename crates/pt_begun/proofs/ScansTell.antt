@@ -153,7 +153,7 @@ too_long most count more long is within = let above = ltb-true most (count + mor
 -- ---- each turn
 
 pub scans_tell : (job : Job) (past : Past) (s : Reading) (prefix : List ℕ) (root : Tree) (here next : Phase) (held after : Held) (calls : Calls) → Scans job here held after calls (Ok next) → is_trail held.trail ≡ true → SourcePart job past here prefix held s
-    → IsFreeAt here job s.tree root past.count → (new : Reading) → Answers calls.asked (Some s) (Some new) → Tells job s.tree root past.count next calls.line (done_after here calls.line next past.count) []
+    → IsFreeAt here job s.tree root past.count → (new : Reading) → Answers calls.asked (Some s) (Some new) → Tells job s.tree root past.count next calls.line (done_after here held.trail next past.count) []
 unfolding Answers IsRead
 scans_tell job past s prefix root here next held after calls (StartsInSite was object gathered) is_one source_part free new answers = Nothing (phase.Scan object)
 scans_tell job past s prefix root here next held after calls (EntersObject was object items apart shallow) is_one source_part free new answers = Nothing (phase.Scan (with_directory object items))

@@ -18,7 +18,7 @@ use Rattle.pt_plan.specs.TurnMake.{MakesStaging, MakesDeclaration, MakesVersion,
 use Rattle.pt_plan.specs.TurnPlace.{MakesTuple, FindsTuple, RenamesObject, TellsDone, TellsEnd, restarted}
 use Rattle.pt_plan.specs.TurnScan.{to_site}
 use Rattle.pt_plan.specs.TurnStart.{Starts, IsStore, HasNoPrefix, HasPrefix, HasNoStaging, HasNoRoot, HasRoot, MakesRoot, RenamesRoot, IsSame}
-use Rattle.pt_plan.specs.TurnWalk.{OpensRoot, LeadsOn, IsSkipped, HasNoIdentifier, IsPresent, IsNew, IsPast, IsDeep, EntersSite, PassesEntry, LeavesSite, EndsWalk, at_object}
+use Rattle.pt_plan.specs.TurnWalk.{OpensRoot, LeadsOn, IsSkipped, IsPresent, IsNew, IsPast, IsDeep, EntersSite, PassesEntry, LeavesSite, EndsWalk, at_object}
 use Rattle.pt_plan.specs.World.{Answers, Asked, AsksNothing, Lists, Opens, Reads, OpensAndReads, Calls}
 use Rattle.pt_plan.specs.declared.object.Object.{Object}
 use Rattle.pt_plan.specs.declared.phase.Phase.{Phase}
@@ -79,8 +79,8 @@ starts_beside job source known prefix read here next held calls (IsSame was numb
 
 pub starts_source : StartingKeepsSource
 starts_source job past s new prefix read here next held calls turn answers at part =
-    with_beside job (past_after here calls.line next held past) next read held calls.asked s new answers part.proper (starts_keep job s new prefix read past.count here next held calls turn part.at answers)
-    (starts_beside job s.tree (past_after here calls.line next held past).bytes prefix read here next held calls turn part.few)
+    with_beside job (past_after here next held past) next read held calls.asked s new answers part.proper (starts_keep job s new prefix read past.count here next held calls turn part.at answers)
+    (starts_beside job s.tree (past_after here next held past).bytes prefix read here next held calls turn part.few)
 
 -- ---- the walk
 
@@ -102,40 +102,37 @@ behind_parent t = let one = entries_advanced (parent t) in let two = entries_par
 pub walks_source : WalkingKeepsSource
 unfolding Answers
 walks_source job past s new prefix here next held after calls (OpensRoot was items) answers at part =
-    with_beside job (past_after here calls.line next held past) next prefix after calls.asked s new answers part.proper (walks_keep job s new prefix past.count here next held after calls part.proper at.trail.is_one (OpensRoot was items) part.at answers)
+    with_beside job (past_after here next held past) next prefix after calls.asked s new answers part.proper (walks_keep job s new prefix past.count here next held after calls part.proper at.trail.is_one (OpensRoot was items) part.at answers)
     (record { bytes_are = tt; few = listed_now job s.tree was (entered items was.trail) at.rows (room_at_site job s.tree (entered items was.trail) past.count (walks_hold job past (Some s) (Some s) prefix here next held after calls (OpensRoot was items) (answers.0, answers.1, refl) at).trail.is_one (walks_keep job s s prefix past.count here next held after calls part.proper at.trail.is_one (OpensRoot was items) part.at (answers.0, answers.1, refl)).2) })
 walks_source job past s new prefix here next held after calls (LeadsOn was is) answers at part =
-    with_beside job (past_after here calls.line next held past) next prefix after calls.asked s new answers part.proper (walks_keep job s new prefix past.count here next held after calls part.proper at.trail.is_one (LeadsOn was is) part.at answers)
+    with_beside job (past_after here next held past) next prefix after calls.asked s new answers part.proper (walks_keep job s new prefix past.count here next held after calls part.proper at.trail.is_one (LeadsOn was is) part.at answers)
     (record { bytes_are = tt; few = part.few })
 walks_source job past s new prefix here next held after calls (IsSkipped was why is) answers at part =
-    with_beside job (past_after here calls.line next held past) next prefix after calls.asked s new answers part.proper (walks_keep job s new prefix past.count here next held after calls part.proper at.trail.is_one (IsSkipped was why is) part.at answers)
+    with_beside job (past_after here next held past) next prefix after calls.asked s new answers part.proper (walks_keep job s new prefix past.count here next held after calls part.proper at.trail.is_one (IsSkipped was why is) part.at answers)
     (record { bytes_are = tt; few = part.few })
-walks_source job past s new prefix here next held after calls (HasNoIdentifier was index why is read) answers at part =
-    with_beside job (past_after here calls.line next held past) next prefix after calls.asked s new answers part.proper (walks_keep job s new prefix past.count here next held after calls part.proper at.trail.is_one (HasNoIdentifier was index why is read) part.at answers)
+walks_source job past s new prefix here next held after calls (IsPresent was index id kind is) answers at part =
+    with_beside job (past_after here next held past) next prefix after calls.asked s new answers part.proper (walks_keep job s new prefix past.count here next held after calls part.proper at.trail.is_one (IsPresent was index id kind is) part.at answers)
     (record { bytes_are = tt; few = part.few })
-walks_source job past s new prefix here next held after calls (IsPresent was index id kind is read) answers at part =
-    with_beside job (past_after here calls.line next held past) next prefix after calls.asked s new answers part.proper (walks_keep job s new prefix past.count here next held after calls part.proper at.trail.is_one (IsPresent was index id kind is read) part.at answers)
-    (record { bytes_are = tt; few = part.few })
-walks_source job past s new prefix here next held after calls (IsNew was index id is read) answers at part =
-    with_beside job (past_after here calls.line next held past) next prefix after calls.asked s new answers part.proper (walks_keep job s new prefix past.count here next held after calls part.proper at.trail.is_one (IsNew was index id is read) part.at answers)
+walks_source job past s new prefix here next held after calls (IsNew was index id is) answers at part =
+    with_beside job (past_after here next held past) next prefix after calls.asked s new answers part.proper (walks_keep job s new prefix past.count here next held after calls part.proper at.trail.is_one (IsNew was index id is) part.at answers)
     (record { bytes_are = tt; few = fewer job s.tree was (with_trail was (at_object index was.trail)) refl refl (let same = object_sought index was.trail in omega (arith, same)) part.few })
 walks_source job past s new prefix here next held after calls (IsPast was name e short last) answers at part =
-    with_beside job (past_after here calls.line next held past) next prefix after calls.asked s new answers part.proper (walks_keep job s new prefix past.count here next held after calls part.proper at.trail.is_one (IsPast was name e short last) part.at answers)
+    with_beside job (past_after here next held past) next prefix after calls.asked s new answers part.proper (walks_keep job s new prefix past.count here next held after calls part.proper at.trail.is_one (IsPast was name e short last) part.at answers)
     (record { bytes_are = tt; few = fewer job s.tree was (with_trail was (advanced was.trail)) refl refl (let same = entries_advanced was.trail in omega (arith, same)) part.few })
 walks_source job past s new prefix here next held after calls (IsDeep was name e short last deep) answers at part =
-    with_beside job (past_after here calls.line next held past) next prefix after calls.asked s new answers part.proper (walks_keep job s new prefix past.count here next held after calls part.proper at.trail.is_one (IsDeep was name e short last deep) part.at answers)
+    with_beside job (past_after here next held past) next prefix after calls.asked s new answers part.proper (walks_keep job s new prefix past.count here next held after calls part.proper at.trail.is_one (IsDeep was name e short last deep) part.at answers)
     (record { bytes_are = tt; few = fewer job s.tree was (with_trail was (advanced was.trail)) refl refl (let same = entries_advanced was.trail in omega (arith, same)) part.few })
 walks_source job past s new prefix here next held after calls (EntersSite was name items e short last deep) answers at part =
-    with_beside job (past_after here calls.line next held past) next prefix after calls.asked s new answers part.proper (walks_keep job s new prefix past.count here next held after calls part.proper at.trail.is_one (EntersSite was name items e short last deep) part.at answers)
+    with_beside job (past_after here next held past) next prefix after calls.asked s new answers part.proper (walks_keep job s new prefix past.count here next held after calls part.proper at.trail.is_one (EntersSite was name items e short last deep) part.at answers)
     (record { bytes_are = tt; few = listed_now job s.tree was (entered items was.trail) at.rows (room_at_site job s.tree (entered items was.trail) past.count (walks_hold job past (Some s) (Some s) prefix here next held after calls (EntersSite was name items e short last deep) (answers.0, answers.1, refl) at).trail.is_one (walks_keep job s s prefix past.count here next held after calls part.proper at.trail.is_one (EntersSite was name items e short last deep) part.at (answers.0, answers.1, refl)).2) })
 walks_source job past s new prefix here next held after calls (PassesEntry was item e apart) answers at part =
-    with_beside job (past_after here calls.line next held past) next prefix after calls.asked s new answers part.proper (walks_keep job s new prefix past.count here next held after calls part.proper at.trail.is_one (PassesEntry was item e apart) part.at answers)
+    with_beside job (past_after here next held past) next prefix after calls.asked s new answers part.proper (walks_keep job s new prefix past.count here next held after calls part.proper at.trail.is_one (PassesEntry was item e apart) part.at answers)
     (record { bytes_are = tt; few = fewer job s.tree was (with_trail was (advanced was.trail)) refl refl (let same = entries_advanced was.trail in omega (arith, same)) part.few })
 walks_source job past s new prefix here next held after calls (LeavesSite was e long) answers at part =
-    with_beside job (past_after here calls.line next held past) next prefix after calls.asked s new answers part.proper (walks_keep job s new prefix past.count here next held after calls part.proper at.trail.is_one (LeavesSite was e long) part.at answers)
+    with_beside job (past_after here next held past) next prefix after calls.asked s new answers part.proper (walks_keep job s new prefix past.count here next held after calls part.proper at.trail.is_one (LeavesSite was e long) part.at answers)
     (record { bytes_are = tt; few = fewer job s.tree was (with_trail was (advanced (parent was.trail))) refl refl (behind_parent was.trail) part.few })
 walks_source job past s new prefix here next held after calls (EndsWalk was e short) answers at part =
-    with_beside job (past_after here calls.line next held past) next prefix after calls.asked s new answers part.proper (walks_keep job s new prefix past.count here next held after calls part.proper at.trail.is_one (EndsWalk was e short) part.at answers)
+    with_beside job (past_after here next held past) next prefix after calls.asked s new answers part.proper (walks_keep job s new prefix past.count here next held after calls part.proper at.trail.is_one (EndsWalk was e short) part.at answers)
     (record { bytes_are = tt; few = part.few })
 
 -- ---- an object at its place
@@ -150,19 +147,19 @@ at_site_again job source held few = let same = entries_sought 0 held.trail in om
 
 pub places_source : PlacingKeepsSource
 places_source job counts past s new prefix here next held after calls (MakesTuple was object number) answers at part =
-    with_beside job (past_after here calls.line next held past) next prefix after calls.asked s new answers part.proper (places_keep job counts s new prefix past.count here next held after calls (MakesTuple was object number) part.at answers)
+    with_beside job (past_after here next held past) next prefix after calls.asked s new answers part.proper (places_keep job counts s new prefix past.count here next held after calls (MakesTuple was object number) part.at answers)
     (tuple_or_rename job s.tree past.bytes object was number (nat_lt (number + 1) job.tuples.count) part.bytes part.few)
 places_source job counts past s new prefix here next held after calls (FindsTuple was object number) answers at part =
-    with_beside job (past_after here calls.line next held past) next prefix after calls.asked s new answers part.proper (places_keep job counts s new prefix past.count here next held after calls (FindsTuple was object number) part.at answers)
+    with_beside job (past_after here next held past) next prefix after calls.asked s new answers part.proper (places_keep job counts s new prefix past.count here next held after calls (FindsTuple was object number) part.at answers)
     (tuple_or_rename job s.tree past.bytes object was number (nat_lt (number + 1) job.tuples.count) part.bytes part.few)
 places_source job counts past s new prefix here next held after calls (RenamesObject was object) answers at part =
-    with_beside job (past_after here calls.line next held past) next prefix after calls.asked s new answers part.proper (places_keep job counts s new prefix past.count here next held after calls (RenamesObject was object) part.at answers)
+    with_beside job (past_after here next held past) next prefix after calls.asked s new answers part.proper (places_keep job counts s new prefix past.count here next held after calls (RenamesObject was object) part.at answers)
     (record { bytes_are = part.bytes; few = part.few })
 places_source job counts past s new prefix here next held after calls (TellsDone was object) answers at part =
-    with_beside job (past_after here calls.line next held past) next prefix after calls.asked s new answers part.proper (places_keep job counts s new prefix past.count here next held after calls (TellsDone was object) part.at answers)
+    with_beside job (past_after here next held past) next prefix after calls.asked s new answers part.proper (places_keep job counts s new prefix past.count here next held after calls (TellsDone was object) part.at answers)
     (record { bytes_are = tt; few = at_site_again job s.tree was part.few })
 places_source job counts past s new prefix here next held after calls (TellsEnd was) answers at part =
-    with_beside job (past_after here calls.line next held past) next prefix after calls.asked s new answers part.proper (places_keep job counts s new prefix past.count here next held after calls (TellsEnd was) part.at answers)
+    with_beside job (past_after here next held past) next prefix after calls.asked s new answers part.proper (places_keep job counts s new prefix past.count here next held after calls (TellsEnd was) part.at answers)
     (record { bytes_are = tt; few = tt })
 
 -- ---- an object that is made
@@ -191,38 +188,38 @@ copied_whole s object held position left row is ended it =
 pub makes_source : MakingKeepsSource
 unfolding Answers IsRead
 makes_source job past s new prefix here held after calls next (MakesStaging was object) answers at part =
-    with_beside job (past_after here calls.line next held past) next prefix after calls.asked s new answers part.proper (makes_keep job s new prefix past.count here held after calls next part.proper (MakesStaging was object) part.at answers)
+    with_beside job (past_after here next held past) next prefix after calls.asked s new answers part.proper (makes_keep job s new prefix past.count here held after calls next part.proper (MakesStaging was object) part.at answers)
     (record { bytes_are = part.bytes; few = part.few })
 makes_source job past s new prefix here held after calls next (MakesDeclaration was object) answers at part =
-    with_beside job (past_after here calls.line next held past) next prefix after calls.asked s new answers part.proper (makes_keep job s new prefix past.count here held after calls next part.proper (MakesDeclaration was object) part.at answers)
+    with_beside job (past_after here next held past) next prefix after calls.asked s new answers part.proper (makes_keep job s new prefix past.count here held after calls next part.proper (MakesDeclaration was object) part.at answers)
     (record { bytes_are = part.bytes; few = part.few })
 makes_source job past s new prefix here held after calls next (MakesVersion was object) answers at part =
-    with_beside job (past_after here calls.line next held past) next prefix after calls.asked s new answers part.proper (makes_keep job s new prefix past.count here held after calls next part.proper (MakesVersion was object) part.at answers)
+    with_beside job (past_after here next held past) next prefix after calls.asked s new answers part.proper (makes_keep job s new prefix past.count here held after calls next part.proper (MakesVersion was object) part.at answers)
     (record { bytes_are = part.bytes; few = part.few })
 makes_source job past s new prefix here held after calls next (PassesRow was object position row is other) answers at part =
-    with_beside job (past_after here calls.line next held past) next prefix after calls.asked s new answers part.proper (makes_keep job s new prefix past.count here held after calls next part.proper (PassesRow was object position row is other) part.at answers)
+    with_beside job (past_after here next held past) next prefix after calls.asked s new answers part.proper (makes_keep job s new prefix past.count here held after calls next part.proper (PassesRow was object position row is other) part.at answers)
     (record { bytes_are = part.bytes; few = part.few })
 makes_source job past s new prefix here held after calls next (MakesFolder was object position row is stored more) answers at part =
-    with_beside job (past_after here calls.line next held past) next prefix after calls.asked s new answers part.proper (makes_keep job s new prefix past.count here held after calls next part.proper (MakesFolder was object position row is stored more) part.at answers)
+    with_beside job (past_after here next held past) next prefix after calls.asked s new answers part.proper (makes_keep job s new prefix past.count here held after calls next part.proper (MakesFolder was object position row is stored more) part.at answers)
     (record { bytes_are = part.bytes; few = part.few })
 makes_source job past s new prefix here held after calls next (OpensCopy was object position row is stored all) answers at part =
-    with_beside job (past_after here calls.line next held past) next prefix after calls.asked s new answers part.proper (makes_keep job s new prefix past.count here held after calls next part.proper (OpensCopy was object position row is stored all) part.at answers)
+    with_beside job (past_after here next held past) next prefix after calls.asked s new answers part.proper (makes_keep job s new prefix past.count here held after calls next part.proper (OpensCopy was object position row is stored all) part.at answers)
     (record { bytes_are = part.bytes; few = part.few })
 makes_source job past s new prefix here held after calls next (CopiesOn was object position left byte block fits) answers at part =
-    with_beside job (past_after here calls.line next held past) next prefix after calls.asked s new answers part.proper (makes_keep job s new prefix past.count here held after calls next part.proper (CopiesOn was object position left byte block fits) part.at answers)
+    with_beside job (past_after here next held past) next prefix after calls.asked s new answers part.proper (makes_keep job s new prefix past.count here held after calls next part.proper (CopiesOn was object position left byte block fits) part.at answers)
     (record { bytes_are = part.bytes; few = part.few })
 makes_source job past s new prefix here held after calls next (EndsCopy was object position row left is same) answers at part =
-    with_beside job (past_after here calls.line next held past) next prefix after calls.asked s new answers part.proper (makes_keep job s new prefix past.count here held after calls next part.proper (EndsCopy was object position row left is same) part.at answers)
+    with_beside job (past_after here next held past) next prefix after calls.asked s new answers part.proper (makes_keep job s new prefix past.count here held after calls next part.proper (EndsCopy was object position row left is same) part.at answers)
     (record { bytes_are = read_again job s past.bytes object was position.row left row is at.rows.order (site_itself object was.trail at.ends.1) (copied_whole s object was position left row is answers.0 part.at.2) part.bytes; few = part.few })
 makes_source job past s new prefix here held after calls next (MakesVersionInventory was object) answers at part =
-    with_beside job (past_after here calls.line next held past) next prefix after calls.asked s new answers part.proper (makes_keep job s new prefix past.count here held after calls next part.proper (MakesVersionInventory was object) part.at answers)
+    with_beside job (past_after here next held past) next prefix after calls.asked s new answers part.proper (makes_keep job s new prefix past.count here held after calls next part.proper (MakesVersionInventory was object) part.at answers)
     (record { bytes_are = part.bytes; few = part.few })
 makes_source job past s new prefix here held after calls next (MakesVersionSidecar was object) answers at part =
-    with_beside job (past_after here calls.line next held past) next prefix after calls.asked s new answers part.proper (makes_keep job s new prefix past.count here held after calls next part.proper (MakesVersionSidecar was object) part.at answers)
+    with_beside job (past_after here next held past) next prefix after calls.asked s new answers part.proper (makes_keep job s new prefix past.count here held after calls next part.proper (MakesVersionSidecar was object) part.at answers)
     (record { bytes_are = part.bytes; few = part.few })
 makes_source job past s new prefix here held after calls next (MakesInventory was object) answers at part =
-    with_beside job (past_after here calls.line next held past) next prefix after calls.asked s new answers part.proper (makes_keep job s new prefix past.count here held after calls next part.proper (MakesInventory was object) part.at answers)
+    with_beside job (past_after here next held past) next prefix after calls.asked s new answers part.proper (makes_keep job s new prefix past.count here held after calls next part.proper (MakesInventory was object) part.at answers)
     (record { bytes_are = part.bytes; few = part.few })
 makes_source job past s new prefix here held after calls next (MakesSidecar was object) answers at part =
-    with_beside job (past_after here calls.line next held past) next prefix after calls.asked s new answers part.proper (makes_keep job s new prefix past.count here held after calls next part.proper (MakesSidecar was object) part.at answers)
+    with_beside job (past_after here next held past) next prefix after calls.asked s new answers part.proper (makes_keep job s new prefix past.count here held after calls next part.proper (MakesSidecar was object) part.at answers)
     (after_sidecar job s.tree past.bytes object (with_fed was []) (job.tuples.count == 0) part.bytes part.few)

@@ -103,7 +103,7 @@ own_root job start tree files =
 -- ---- each turn
 
 made_next : (job : Job) (past : Past) (start : Tree) (held : Held) (old new : Writing) (number : ℕ) (item : Item) (line : Option Line) (last : Bool) → (number == 5) ≡ last → new ≡ after_make item old → slice_get (root_script job.tuples) number ≡ Some item
-    → DestPart job past (phase.RootMake number) held start old → DestPart job (past_after (phase.RootMake number) line (cond last phase.RootRename (phase.RootMake (number + 1))) held past) (cond last phase.RootRename (phase.RootMake (number + 1))) held start new
+    → DestPart job past (phase.RootMake number) held start old → DestPart job (past_after (phase.RootMake number) (cond last phase.RootRename (phase.RootMake (number + 1))) held past) (cond last phase.RootRename (phase.RootMake (number + 1))) held start new
 made_next job past start held old new number item line last is change item_is part =
     let can = root_item_made job start number item old part.started item_is part.at in
     let tree_is : new.tree ≡ done item old.tree = ap (λ (w : Writing). w.tree) change ∙ tree_made item old in
@@ -113,7 +113,7 @@ made_next job past start held old new number item line last is change item_is pa
     by last is tree now
   where
     by : (b : Bool) → (number == 5) ≡ b → IsTree new.tree → new.tree ≡ made (take (suc number) (root_script job.tuples)) start
-        → DestPart job (past_after (phase.RootMake number) line (cond b phase.RootRename (phase.RootMake (number + 1))) held past) (cond b phase.RootRename (phase.RootMake (number + 1))) held start new
+        → DestPart job (past_after (phase.RootMake number) (cond b phase.RootRename (phase.RootMake (number + 1))) held past) (cond b phase.RootRename (phase.RootMake (number + 1))) held start new
     by true is tree now =
         let five = eqb-true number 5 is in
         record { started = part.started; tree = tree; at = record { free = part.at.free; root = part.at.root; tree = now ∙ ap (λ n. made (take (suc n) (root_script job.tuples)) start) five } }
@@ -123,43 +123,43 @@ made_next job past start held old new number item line last is change item_is pa
 
 checked_next : (job : Job) (past : Past) (start : Tree) (held : Held) (old new : Writing) (number : ℕ) (path : Path) (bytes : List ℕ) (line : Option Line) (last : Bool) → (number == 2) ≡ last → IsLayout job.tuples → slice_get (root_files_of job.tuples) number ≡ Some (path, bytes)
     → option_map (take 8192) (bytes_of (old.tree (storage_root ++ path))) ≡ Some bytes → new ≡ old → DestPart job past (phase.RootCheck number) held start old
-    → DestPart job (past_after (phase.RootCheck number) line (cond last phase.OpenRoot (phase.RootCheck (number + 1))) held past) (cond last phase.OpenRoot (phase.RootCheck (number + 1))) held start new
+    → DestPart job (past_after (phase.RootCheck number) (cond last phase.OpenRoot (phase.RootCheck (number + 1))) held past) (cond last phase.OpenRoot (phase.RootCheck (number + 1))) held start new
 checked_next job past start held old new number path bytes line last is layout file read change part =
     let stands = peeked_whole (old.tree (storage_root ++ path)) bytes read (file_short job.tuples number path bytes layout file) in
     let here : root_in start path ≡ Some (Bytes bytes) = sym (ap (λ (t : Tree). t (storage_root ++ path)) part.at.tree) ∙ stands in
     by last is (one_more_file job (root_in start) number path bytes file here part.at.files)
   where
     by : (b : Bool) → (number == 2) ≡ b → HasRootFiles job (root_in start) (number + 1)
-        → DestPart job (past_after (phase.RootCheck number) line (cond b phase.OpenRoot (phase.RootCheck (number + 1))) held past) (cond b phase.OpenRoot (phase.RootCheck (number + 1))) held start new
+        → DestPart job (past_after (phase.RootCheck number) (cond b phase.OpenRoot (phase.RootCheck (number + 1))) held past) (cond b phase.OpenRoot (phase.RootCheck (number + 1))) held start new
     by true is files =
         let two = eqb-true number 2 is in
         let all : HasRootFiles job (root_in start) 3 = subst (λ (n : ℕ). HasRootFiles job (root_in start) (n + 1)) two files in
-        subst (λ (w : Writing). DestPart job (past_after (phase.RootCheck number) line phase.OpenRoot held past) phase.OpenRoot held start w) (sym change)
+        subst (λ (w : Writing). DestPart job (past_after (phase.RootCheck number) phase.OpenRoot held past) phase.OpenRoot held start w) (sym change)
         (record { started = part.started; tree = part.tree; at = record { root = record { free = part.at.free; root = inr all }; came = refl; tree = part.at.tree ∙ own_root job start part.started all } })
     by false is files =
-        subst (λ (w : Writing). DestPart job (past_after (phase.RootCheck number) line (phase.RootCheck (number + 1)) held past) (phase.RootCheck (number + 1)) held start w) (sym change)
+        subst (λ (w : Writing). DestPart job (past_after (phase.RootCheck number) (phase.RootCheck (number + 1)) held past) (phase.RootCheck (number + 1)) held start w) (sym change)
         (record { started = part.started; tree = part.tree; at = record { free = part.at.free; top = part.at.top; files = files; tree = part.at.tree } })
 
 pub starts_dest : StartingKeepsDest
 unfolding Changes IsKindAt IsPeeked
-starts_dest job past start old new prefix read here next held calls layout (IsStore was entries is) change at part = subst (λ (w : Writing). DestPart job (past_after here calls.line next held past) next held start w) (sym (some_same new old change)) (record { started = part.started; tree = part.tree; at = part.at })
-starts_dest job past start old new prefix read here next held calls layout (HasNoPrefix was) change at part = subst (λ (w : Writing). DestPart job (past_after here calls.line next held past) next held start w) (sym (some_same new old change)) (record { started = part.started; tree = part.tree; at = part.at })
-starts_dest job past start old new prefix read here next held calls layout (HasPrefix was block good) change at part = subst (λ (w : Writing). DestPart job (past_after here calls.line next held past) next held start w) (sym (some_same new old change)) (record { started = part.started; tree = part.tree; at = part.at })
+starts_dest job past start old new prefix read here next held calls layout (IsStore was entries is) change at part = subst (λ (w : Writing). DestPart job (past_after here next held past) next held start w) (sym (some_same new old change)) (record { started = part.started; tree = part.tree; at = part.at })
+starts_dest job past start old new prefix read here next held calls layout (HasNoPrefix was) change at part = subst (λ (w : Writing). DestPart job (past_after here next held past) next held start w) (sym (some_same new old change)) (record { started = part.started; tree = part.tree; at = part.at })
+starts_dest job past start old new prefix read here next held calls layout (HasPrefix was block good) change at part = subst (λ (w : Writing). DestPart job (past_after here next held past) next held start w) (sym (some_same new old change)) (record { started = part.started; tree = part.tree; at = part.at })
 starts_dest job past start old new prefix read here next held calls layout (HasNoStaging was) change at part =
     let none = sym (ap (λ (t : Tree). t staging) part.at.tree) ∙ no_kind (old.tree staging) (change.0 old refl) in
-    subst (λ (w : Writing). DestPart job (past_after here calls.line next held past) next held start w) (sym (some_same new old change.1)) (record { started = part.started; tree = part.tree; at = (part.at, free_below start (codes "staging") part.started none) })
+    subst (λ (w : Writing). DestPart job (past_after here next held past) next held start w) (sym (some_same new old change.1)) (record { started = part.started; tree = part.tree; at = (part.at, free_below start (codes "staging") part.started none) })
 starts_dest job past start old new prefix read here next held calls layout (HasNoRoot was) change at part =
     let none = sym (ap (λ (t : Tree). t storage_root) part.at.0.tree) ∙ no_kind (old.tree storage_root) (change.0 old refl) in
-    subst (λ (w : Writing). DestPart job (past_after here calls.line next held past) next held start w) (sym (some_same new old change.1))
+    subst (λ (w : Writing). DestPart job (past_after here next held past) next held start w) (sym (some_same new old change.1))
     (record { started = part.started; tree = part.tree; at = record { free = part.at.1; root = free_below start (codes "ocfl") part.started none; tree = part.at.0.tree } })
 starts_dest job past start old new prefix read here next held calls layout (HasRoot was) change at part =
     let folder = sym (ap (λ (t : Tree). t storage_root) part.at.0.tree) ∙ folder_kind (old.tree storage_root) (change.0 old refl) in
-    subst (λ (w : Writing). DestPart job (past_after here calls.line next held past) next held start w) (sym (some_same new old change.1))
+    subst (λ (w : Writing). DestPart job (past_after here next held past) next held start w) (sym (some_same new old change.1))
     (record { started = part.started; tree = part.tree; at = record { free = part.at.1; top = folder; files = λ k d h. absurd (omega (arith, h)); tree = part.at.0.tree } })
 starts_dest job past start old new prefix read here next held calls layout (MakesRoot was number item is) change at part = made_next job past start held old new number item None (number == 5) refl (some_same new (after_make item old) change) is part
 starts_dest job past start old new prefix read here next held calls layout (RenamesRoot was) change at part =
     let is = some_same new (after_rename staging storage_root old) change in
-    subst (λ (w : Writing). DestPart job (past_after here calls.line next held past) next held start w) (sym is)
+    subst (λ (w : Writing). DestPart job (past_after here next held past) next held start w) (sym is)
     (record {
       started = part.started;
       tree = tree_moved old.tree staging storage_root part.tree (root_may_move job start old part.started part.at);

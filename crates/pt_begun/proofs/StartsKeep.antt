@@ -94,17 +94,17 @@ goes_on : (job : Job) (s new : Reading) (prefix : List ℕ) (count : ℕ) (held 
 goes_on job s new prefix count held at same = subst (λ (r : Reading). Started job r prefix count held) (sym (some_same new s same)) at
 
 after_makes : (job : Job) (s : Reading) (prefix : List ℕ) (count number : ℕ) (held : Held) (last : Bool) → Started job s prefix count held
-    → SourceAt job s prefix (done_after (phase.RootMake number) None (cond last phase.RootRename (phase.RootMake (number + 1))) count) (cond last phase.RootRename (phase.RootMake (number + 1))) held
+    → SourceAt job s prefix (done_after (phase.RootMake number) held.trail (cond last phase.RootRename (phase.RootMake (number + 1))) count) (cond last phase.RootRename (phase.RootMake (number + 1))) held
 after_makes job s prefix count number held true at = at
 after_makes job s prefix count number held false at = at
 
 after_checks : (job : Job) (s : Reading) (prefix : List ℕ) (count number : ℕ) (held : Held) (last : Bool) → Started job s prefix count held
-    → SourceAt job s prefix (done_after (phase.RootCheck number) None (cond last phase.OpenRoot (phase.RootCheck (number + 1))) count) (cond last phase.OpenRoot (phase.RootCheck (number + 1))) held
+    → SourceAt job s prefix (done_after (phase.RootCheck number) held.trail (cond last phase.OpenRoot (phase.RootCheck (number + 1))) count) (cond last phase.OpenRoot (phase.RootCheck (number + 1))) held
 after_checks job s prefix count number held true at = at
 after_checks job s prefix count number held false at = at
 
 pub starts_keep : (job : Job) (s new : Reading) (prefix read : List ℕ) (count : ℕ) (here next : Phase) (held : Held) (calls : Calls)
-    → Starts job here prefix read calls (Ok next) → SourceAt job s prefix count here held → Answers calls.asked (Some s) (Some new) → SourceAt job new read (done_after here calls.line next count) next held
+    → Starts job here prefix read calls (Ok next) → SourceAt job s prefix count here held → Answers calls.asked (Some s) (Some new) → SourceAt job new read (done_after here held.trail next count) next held
 unfolding Answers IsListed IsRead
 starts_keep job s new prefix read count here next held calls (IsStore was entries is) at answers =
     let same : new ≡ s = some_same new s answers.2 in

@@ -10,6 +10,7 @@ use Rattle.pt_walk.proofs.Findings.{candidate}
 use Rattle.pt_walk.specs.Sites.{at_of}
 use Rattle.pt_walk.specs.Trail.{advanced, are_outer, current_entry, entered, entry_at, is_dir_entry, is_frame, is_trail, names_to, parent, sought}
 use Rattle.pt_walk.specs.declared.frame.Frame.{Frame}
+use Rattle.pt_begun.proofs.NewObject.{named_found}
 use Rattle.pt_begun.specs.BegunHeld.{TrailAt}
 use Rattle.pt_plan.specs.Job.{Job, form_of}
 use Rattle.pt_plan.specs.Run.{Counts, Held, with_fed}
@@ -17,7 +18,7 @@ use Rattle.pt_plan.specs.TurnMake.{Makings, MakesStaging, MakesDeclaration, Make
 use Rattle.pt_plan.specs.TurnPlace.{Places, MakesTuple, FindsTuple, RenamesObject, TellsDone, TellsEnd}
 use Rattle.pt_plan.specs.TurnScan.{Scans, StartsInSite, EntersObject, IsTooDeep, PassesShorty, EntersDirectory, MeetsDeep, OpensFile, MeetsLimit, MeetsOther, EndsSite, EndsObject, LeavesDirectory, ReadsOn, IsTooLong, EndsFile, to_site}
 use Rattle.pt_plan.specs.TurnStart.{Starts, IsStore, HasNoPrefix, HasPrefix, HasNoStaging, HasNoRoot, HasRoot, MakesRoot, RenamesRoot, IsSame}
-use Rattle.pt_plan.specs.TurnWalk.{Walks, OpensRoot, LeadsOn, IsSkipped, HasNoIdentifier, IsPresent, IsNew, IsPast, IsDeep, EntersSite, PassesEntry, LeavesSite, EndsWalk, at_object, found_at, has_object, new_object as new_object_of}
+use Rattle.pt_plan.specs.TurnWalk.{Walks, OpensRoot, LeadsOn, IsSkipped, IsPresent, IsNew, IsPast, IsDeep, EntersSite, PassesEntry, LeavesSite, EndsWalk, at_object, found_at, has_object, new_object as new_object_of}
 use Rattle.pt_plan.specs.World.{Answers, Calls}
 use Rattle.pt_plan.specs.declared.object.Object.{Object}
 use Rattle.pt_plan.specs.declared.phase.Phase.{Phase}
@@ -149,9 +150,8 @@ walks_keep job old new prefix here next held after calls (OpensRoot was items) a
     record { is_one = trail_entered items was.trail answers.1 (subst (λ (t : List Frame). are_outer t ≡ true) (sym at.none) refl); none = tt; entry = tt }
 walks_keep job old new prefix here next held after calls (LeadsOn was is) answers at = record { is_one = at.is_one; none = tt; entry = tt }
 walks_keep job old new prefix here next held after calls (IsSkipped was why is) answers at = record { is_one = at.is_one; none = tt; entry = tt }
-walks_keep job old new prefix here next held after calls (HasNoIdentifier was index why is read) answers at = record { is_one = at.is_one; none = tt; entry = tt }
-walks_keep job old new prefix here next held after calls (IsPresent was index id kind is read) answers at = record { is_one = at.is_one; none = tt; entry = tt }
-walks_keep job old new prefix here next held after calls (IsNew was index id is read) answers at = new_object job was (new_object_of job id index was.trail) index refl at.is_one is
+walks_keep job old new prefix here next held after calls (IsPresent was index id kind is) answers at = record { is_one = at.is_one; none = tt; entry = tt }
+walks_keep job old new prefix here next held after calls (IsNew was index id is) answers at = new_object job was (new_object_of job id index was.trail) index refl at.is_one (named_found job prefix was.trail index id is)
 walks_keep job old new prefix here next held after calls (IsPast was name e short last) answers at = record { is_one = trail_advanced was.trail (name, kind.Dir) at.is_one e; none = tt; entry = tt }
 walks_keep job old new prefix here next held after calls (IsDeep was name e short last deep) answers at = record { is_one = trail_advanced was.trail (name, kind.Dir) at.is_one e; none = tt; entry = tt }
 walks_keep job old new prefix here next held after calls (EntersSite was name items e short last deep) answers at =

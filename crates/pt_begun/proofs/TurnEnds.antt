@@ -16,7 +16,7 @@ use Rattle.pt_plan.specs.TurnMake.{Makings, MakesStaging, MakesDeclaration, Make
 use Rattle.pt_plan.specs.TurnPlace.{Places, MakesTuple, FindsTuple, IsInTheWay, RenamesObject, TellsDone, TellsEnd}
 use Rattle.pt_plan.specs.TurnScan.{Scans, StartsInSite, EntersObject, IsTooDeep, PassesShorty, EntersDirectory, MeetsDeep, OpensFile, MeetsLimit, MeetsOther, EndsSite, EndsObject, LeavesDirectory, ReadsOn, IsTooLong, EndsFile}
 use Rattle.pt_plan.specs.TurnStart.{Starts, IsStore, IsNoStore, HasNoPrefix, IsNoPrefixFile, HasPrefix, IsNoPrefix, HasNoStaging, HasStaging, HasNoRoot, HasRoot, IsNoRoot, MakesRoot, RenamesRoot, IsSame, IsNoFile, Differs}
-use Rattle.pt_plan.specs.TurnWalk.{Walks, OpensRoot, LeadsOn, IsSkipped, HasNoIdentifier, IsPresent, IsNew, IsPast, IsDeep, EntersSite, PassesEntry, LeavesSite, EndsWalk}
+use Rattle.pt_plan.specs.TurnWalk.{Walks, OpensRoot, LeadsOn, IsSkipped, IsPresent, IsNew, IsPast, IsDeep, EntersSite, PassesEntry, LeavesSite, EndsWalk}
 use Rattle.pt_plan.specs.World.{Answers, Asked, AsksNothing, Calls, Change, Changes, LeavesFront, LeavesPart, Lists, NewFile, OfFile, OfPiece, Opens, OpensAndReads, Puts, Reads, Untouched, World, source_tree}
 use Rattle.pt_plan.specs.declared.halt.Halt.{Halt}
 use Rattle.pt_plan.specs.declared.phase.Phase.{Phase}
@@ -65,9 +65,8 @@ unfolding Changes
 walks_same job prefix here held after calls answer old new (OpensRoot was items) halts change = absurd (cc)
 walks_same job prefix here held after calls answer old new (LeadsOn was is) halts change = absurd (cc)
 walks_same job prefix here held after calls answer old new (IsSkipped was why is) halts change = absurd (cc)
-walks_same job prefix here held after calls answer old new (HasNoIdentifier was index why is read) halts change = absurd (cc)
-walks_same job prefix here held after calls answer old new (IsPresent was index id kind is read) halts change = absurd (cc)
-walks_same job prefix here held after calls answer old new (IsNew was index id is read) halts change = absurd (cc)
+walks_same job prefix here held after calls answer old new (IsPresent was index id kind is) halts change = absurd (cc)
+walks_same job prefix here held after calls answer old new (IsNew was index id is) halts change = absurd (cc)
 walks_same job prefix here held after calls answer old new (IsPast was name e short last) halts change = absurd (cc)
 walks_same job prefix here held after calls answer old new (IsDeep was name e short last deep) halts change = absurd (cc)
 walks_same job prefix here held after calls answer old new (EntersSite was name items e short last deep) halts change = absurd (cc)

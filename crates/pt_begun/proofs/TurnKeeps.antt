@@ -87,7 +87,7 @@ told_log (Some line) old (Some now) puts = (now, refl)
 
 module _ (job : Job) (past : Past) where
   follows_held : (counts : Counts) (here : Phase) (prefix : List ℕ) (held : Held) (read : List ℕ) (after : Held) (calls : Calls) (next : Phase) (old new : Option Reading) → Follows job counts here prefix held read after calls (Ok next)
-      → Answers calls.asked old new → HeldAt job past here held → HeldAt job (past_after here calls.line next held past) next after
+      → Answers calls.asked old new → HeldAt job past here held → HeldAt job (past_after here next held past) next after
   follows_held counts here prefix held read after calls next old new (a_start h p r w c a turn) answers at = starts_hold job past prefix read here next held calls turn at
   follows_held counts here prefix held read after calls next old new (Walk h p w n c a turn) answers at = walks_hold job past old new prefix here next held after calls turn answers at
   follows_held counts here prefix held read after calls next old new (Scan h p w n c a turn) answers at = scans_hold job past old new here next held after calls turn answers at
@@ -95,7 +95,7 @@ module _ (job : Job) (past : Past) where
   follows_held counts here prefix held read after calls next old new (Place h p w n c a turn) answers at = places_hold job counts past here next held after calls turn at
 
   follows_source : (counts : Counts) (here : Phase) (prefix : List ℕ) (held : Held) (read : List ℕ) (after : Held) (calls : Calls) (next : Phase) (s new : Reading) → Follows job counts here prefix held read after calls (Ok next)
-      → Answers calls.asked (Some s) (Some new) → HeldAt job past here held → SourcePart job past here prefix held s → SourcePart job (past_after here calls.line next held past) next read after new
+      → Answers calls.asked (Some s) (Some new) → HeldAt job past here held → SourcePart job past here prefix held s → SourcePart job (past_after here next held past) next read after new
   follows_source counts here prefix held read after calls next s new (a_start h p r w c a turn) answers at known = starts_source job past s new prefix read here next held calls turn answers at known
   follows_source counts here prefix held read after calls next s new (Walk h p w n c a turn) answers at known = walks_source job past s new prefix here next held after calls turn answers at known
   follows_source counts here prefix held read after calls next s new (Scan h p w n c a turn) answers at known = scans_source job past s new prefix here next held after calls turn answers at known
@@ -103,7 +103,7 @@ module _ (job : Job) (past : Past) where
   follows_source counts here prefix held read after calls next s new (Place h p w n c a turn) answers at known = places_source job counts past s new prefix here next held after calls turn answers at known
 
   follows_dest : (counts : Counts) (here : Phase) (prefix : List ℕ) (held : Held) (read : List ℕ) (after : Held) (calls : Calls) (next : Phase) (start : Tree) (w v : Writing) → IsLayout job.tuples → Follows job counts here prefix held read after calls (Ok next)
-      → Changes calls.change (Some w) (Some v) → HeldAt job past here held → DestPart job past here held start w → DestPart job (past_after here calls.line next held past) next after start v
+      → Changes calls.change (Some w) (Some v) → HeldAt job past here held → DestPart job past here held start w → DestPart job (past_after here next held past) next after start v
   follows_dest counts here prefix held read after calls next start w v layout (a_start h p r x c a turn) change at known = starts_dest job past start w v prefix read here next held calls layout turn change at known
   follows_dest counts here prefix held read after calls next start w v layout (Walk h p x n c a turn) change at known = walks_dest job past start w v prefix here next held after calls turn change at known
   follows_dest counts here prefix held read after calls next start w v layout (Scan h p x n c a turn) change at known = scans_dest job past start w v here next held after calls turn change at known
@@ -129,7 +129,7 @@ module _ (job : Job) (past : Past) (start : Start) (old new : World) (run : Run)
   before = turning run.kept
 
   abbrev later : Past
-  later = past_after run.phase calls.line next run.kept.held past
+  later = past_after run.phase next run.kept.held past
 
   abbrev Turned : Type 0
   Turned = Follows job before.counts run.phase run.kept.prefix run.kept.held after.prefix after.held calls (Ok next)
@@ -228,4 +228,4 @@ module _ (job : Job) (past : Past) (start : Start) (old new : World) (run : Run)
 pub turn_keeps_begun : TurnKeepsBegun
 unfolding Begun Did
 turn_keeps_begun job start old new run after next (past, is) (GoesOn calls to turn did counts) =
-    (past_after run.phase calls.line next run.kept.held past, turned job past start old new run after next calls turn did.0 counts is)
+    (past_after run.phase next run.kept.held past, turned job past start old new run after next calls turn did.0 counts is)

@@ -15,13 +15,14 @@ use Rattle.pt_walk.specs.Sites.{Site, Visit, Listed, Past, Deep, at_of, is_last,
 use Rattle.pt_walk.specs.Trail.{advanced, current_entry, entered, entry_at, is_trail, names_to, parent, trail_path}
 use Rattle.pt_walk.specs.declared.frame.Frame.{Frame}
 use Rattle.pt_begun.specs.BegunSource.{HasStarted, HoldsNoObject, IsInObject, IsOnWay, IsToJudge, SourceAt}
-use Rattle.pt_begun.specs.Past.{done_after}
+use Rattle.pt_begun.specs.Past.{done_after, is_shorty_there}
 use Rattle.pt_plan.specs.Job.{Job}
 use Rattle.pt_plan.specs.Store.{is_store, pairtree_of, sites_of}
 use Rattle.pt_plan.specs.Run.{Held, with_trail}
-use Rattle.pt_plan.specs.TurnWalk.{Walks, OpensRoot, LeadsOn, IsSkipped, HasNoIdentifier, IsPresent, IsNew, IsPast, IsDeep, EntersSite, PassesEntry, LeavesSite, EndsWalk, at_object, new_object}
+use Rattle.pt_plan.specs.TurnWalk.{Walks, OpensRoot, LeadsOn, IsSkipped, IsPresent, IsNew, IsPast, IsDeep, EntersSite, PassesEntry, LeavesSite, EndsWalk, at_object, new_object}
 use Rattle.pt_plan.specs.World.{Answers, Calls}
 use Rattle.pt_plan.specs.declared.phase.Phase.{Phase}
+use Rattle.pt_plan.specs.declared.phase.Phase.TheVariants as phase
 use Rattle.pt_begun.proofs.NewObject.{new_object_there}
 use Rattle.pt_begun.proofs.InPairtree.{listing_in, pairtree_proper, sites_there, some_same, split_left}
 
@@ -182,6 +183,19 @@ ends_walk job source [] count e short way = absurd (omega (arith, way.entered))
 ends_walk job source (frame ∷ []) count e short way = sym way.left ∙ ends job.limits.depth (pairtree_of source) frame way.fits e
 ends_walk job source (frame ∷ outer ∷ frames) count e short way = absurd (let few = ltb-false 1 (length (frame ∷ outer ∷ frames)) short in omega (arith, few))
 
+-- ---- whether an item ends
+
+-- at a shorty one does
+pub done_at_shorty : (trail : List Frame) (name : List ℕ) (count : ℕ) → current_entry trail ≡ Some (name, kind.Dir) → is_short name ≡ true → done_after phase.Walk trail phase.Walk count ≡ suc count
+done_at_shorty trail name count e short = ap (λ (o : Option Item). cond (is_shorty_there o) (suc count) count) e ∙ ap (λ b. cond b (suc count) count) short
+
+-- elsewhere none
+pub none_at_entry : (trail : List Frame) (item : Item) (count : ℕ) → current_entry trail ≡ Some item → is_shorty item ≡ false → done_after phase.Walk trail phase.Walk count ≡ count
+none_at_entry trail item count e apart = ap (λ (o : Option Item). cond (is_shorty_there o) (suc count) count) e ∙ ap (λ b. cond b (suc count) count) apart
+
+pub none_at_end : (trail : List Frame) (count : ℕ) → current_entry trail ≡ None → done_after phase.Walk trail phase.Walk count ≡ count
+none_at_end trail count e = ap (λ (o : Option Item). cond (is_shorty_there o) (suc count) count) e
+
 -- ---- each turn
 
 judged : (job : Job) (s new : Reading) (prefix : List ℕ) (held : Held) (count : ℕ) → HoldsNoObject held × HasStarted s.tree prefix × IsToJudge job s.tree held.trail count → Some new ≡ Some s
@@ -195,9 +209,14 @@ walked job s new prefix held trail count none started same way =
     subst (λ (r : Reading). HoldsNoObject (with_trail held trail) × HasStarted r.tree prefix × IsOnWay job r.tree trail count) (sym (some_same new s same))
     (record { rows = none.rows; contents = none.contents }, started, way)
 
+-- with the number of items that are done
+at_walk : (job : Job) (new : Reading) (prefix : List ℕ) (held : Held) (count n : ℕ) {trail : List Frame} → n ≡ count → HoldsNoObject (with_trail held trail) × HasStarted new.tree prefix × IsOnWay job new.tree trail count
+    → HoldsNoObject (with_trail held trail) × HasStarted new.tree prefix × IsOnWay job new.tree trail n
+at_walk job new prefix held count n {trail} same at = subst (λ (k : ℕ). HoldsNoObject (with_trail held trail) × HasStarted new.tree prefix × IsOnWay job new.tree trail k) (sym same) at
+
 pub walks_keep : (job : Job) (s new : Reading) (prefix : List ℕ) (count : ℕ) (here next : Phase) (held after : Held) (calls : Calls)
     → is_proper s.tree ≡ true → is_trail held.trail ≡ true → Walks job prefix here held after calls (Ok next) → SourceAt job s prefix count here held
-    → Answers calls.asked (Some s) (Some new) → SourceAt job new prefix (done_after here calls.line next count) next after
+    → Answers calls.asked (Some s) (Some new) → SourceAt job new prefix (done_after here held.trail next count) next after
 unfolding Answers IsListed
 walks_keep job s new prefix count here next held after calls proper is_one (OpensRoot was items) at answers =
     let same : new ≡ s = some_same new s answers.2 in
@@ -207,30 +226,33 @@ walks_keep job s new prefix count here next held after calls proper is_one (Open
     (record { rows = at.0.rows; contents = at.0.contents }, at.2, opens_root job s.tree was.trail items count store at.0.trail at.1 listed)
 walks_keep job s new prefix count here next held after calls proper is_one (LeadsOn was is) at answers = judged job s new prefix was count at answers
 walks_keep job s new prefix count here next held after calls proper is_one (IsSkipped was why is) at answers = judged job s new prefix was count at answers
-walks_keep job s new prefix count here next held after calls proper is_one (HasNoIdentifier was index why is read) at answers = judged job s new prefix was count at answers
-walks_keep job s new prefix count here next held after calls proper is_one (IsPresent was index id kind is read) at answers = judged job s new prefix was count at answers
-walks_keep job s new prefix count here next held after calls proper is_one (IsNew was index id is read) at answers =
+walks_keep job s new prefix count here next held after calls proper is_one (IsPresent was index id kind is) at answers = judged job s new prefix was count at answers
+walks_keep job s new prefix count here next held after calls proper is_one (IsNew was index id is) at answers =
     let same : new ≡ s = some_same new s answers in
     let object = new_object job id index was.trail in
-    let it = new_object_there job s.tree prefix was.trail index id count (pairtree_proper s.tree at.1.store proper) is read at.2 in
+    let it = new_object_there job s.tree prefix was.trail index id count (pairtree_proper s.tree at.1.store proper) is at.2 in
     subst (λ (r : Reading). HoldsNoObject (with_trail was (at_object index was.trail)) × HasStarted r.tree prefix × IsInObject job r.tree prefix object (at_object index was.trail) count × (length (at_object index was.trail) ≡ length was.trail) × (object.empty ≡ 0)) (sym same)
     (record { rows = at.0.rows; contents = at.0.contents }, at.1, it.stands, it.at_site, refl)
 walks_keep job s new prefix count here next held after calls proper is_one (IsPast was name e short last) at answers =
-    walked job s new prefix was (advanced was.trail) (suc count) at.0 at.1 answers
-    (passes_past job s.tree was.trail name count (pairtree_proper s.tree at.1.store proper) e short last at.2)
+    at_walk job new prefix was _ _ (done_at_shorty was.trail name count e short)
+    (walked job s new prefix was (advanced was.trail) (suc count) at.0 at.1 answers
+    (passes_past job s.tree was.trail name count (pairtree_proper s.tree at.1.store proper) e short last at.2))
 walks_keep job s new prefix count here next held after calls proper is_one (IsDeep was name e short last deep) at answers =
-    walked job s new prefix was (advanced was.trail) (suc count) at.0 at.1 answers
-    (passes_deep job s.tree was.trail name count (pairtree_proper s.tree at.1.store proper) is_one e short last deep at.2)
+    at_walk job new prefix was _ _ (done_at_shorty was.trail name count e short)
+    (walked job s new prefix was (advanced was.trail) (suc count) at.0 at.1 answers
+    (passes_deep job s.tree was.trail name count (pairtree_proper s.tree at.1.store proper) is_one e short last deep at.2))
 walks_keep job s new prefix count here next held after calls proper is_one (EntersSite was name items e short last deep) at answers =
     let same : new ≡ s = some_same new s answers.2 in
     let listed : listing_at (pairtree_of s.tree) (names_to was.trail) ≡ Some items = sym (listing_in s.tree (names_to was.trail) at.1.store) ∙ answers.0 s refl in
     subst (λ (r : Reading). HoldsNoObject (with_trail was (entered items was.trail)) × HasStarted r.tree prefix × IsToJudge job r.tree (entered items was.trail) count) (sym same)
     (record { rows = at.0.rows; contents = at.0.contents }, at.1, enters_site job s.tree was.trail name items count (pairtree_proper s.tree at.1.store proper) is_one e short last deep listed at.2)
 walks_keep job s new prefix count here next held after calls proper is_one (PassesEntry was item e apart) at answers =
-    walked job s new prefix was (advanced was.trail) count at.0 at.1 answers
-    (passes_entry job s.tree was.trail item count (pairtree_proper s.tree at.1.store proper) e apart at.2)
+    at_walk job new prefix was _ _ (none_at_entry was.trail item count e apart)
+    (walked job s new prefix was (advanced was.trail) count at.0 at.1 answers
+    (passes_entry job s.tree was.trail item count (pairtree_proper s.tree at.1.store proper) e apart at.2))
 walks_keep job s new prefix count here next held after calls proper is_one (LeavesSite was e long) at answers =
-    walked job s new prefix was (advanced (parent was.trail)) count at.0 at.1 answers (leaves_site job s.tree was.trail count e long at.2)
+    at_walk job new prefix was _ _ (none_at_end was.trail count e)
+    (walked job s new prefix was (advanced (parent was.trail)) count at.0 at.1 answers (leaves_site job s.tree was.trail count e long at.2))
 walks_keep job s new prefix count here next held after calls proper is_one (EndsWalk was e short) at answers =
     subst (λ (r : Reading). HoldsNoObject was × HasStarted r.tree prefix × (drop count (sites_of job.limits.depth r.tree) ≡ [])) (sym (some_same new s answers))
     (at.0, at.1, ends_walk job s.tree was.trail count e short at.2)

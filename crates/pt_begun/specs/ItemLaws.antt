@@ -29,12 +29,12 @@ pub record KnowsItems (job : Job) (past : Past) (here : Phase) (prefix : List �
 
 -- after a turn the items are those that are done then
 abbrev pub KeepsItems : Job → Past → Phase → Held → Counts → Reading → Tree → Calls → Phase → Type 0
-KeepsItems job past here held counts s start calls next = ItemsPart job (past_after here calls.line next held past) next (counted calls.line counts) s.tree (root_in start)
+KeepsItems job past here held counts s start calls next = ItemsPart job (past_after here next held past) next (counted calls.line counts) s.tree (root_in start)
 
 -- and the log has got their lines
 abbrev pub KeepsLog : Job → Past → Phase → Held → Reading → Tree → Calls → Phase → Type 0
 KeepsLog job past here held s start calls next =
-    (log old new : List ℕ) → HasTold job s.tree (root_in start) past here log old → Puts calls.line (Some old) (Some new) → HasTold job s.tree (root_in start) (past_after here calls.line next held past) next log new
+    (log old new : List ℕ) → HasTold job s.tree (root_in start) past here log old → Puts calls.line (Some old) (Some new) → HasTold job s.tree (root_in start) (past_after here next held past) next log new
 
 -- the turns of the start
 abbrev pub StartingKeepsItems : Type 0

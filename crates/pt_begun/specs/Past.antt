@@ -1,10 +1,13 @@
 -- What a run in progress has behind it, and what a turn adds to it. No run keeps it: that there is such a past is what is said of a run in progress.
-use Rattle.std.specs.Prelude.{ℕ, suc, ◌&&◌, ◌||◌, Bool, true, false, cond, not, List, [], ◌∷◌, ◌++◌, map, Option, None, Some, is_some, slice_get}
+use Rattle.std.specs.Prelude.{ℕ, suc, ◌&&◌, ◌||◌, Bool, true, false, cond, not, List, [], ◌∷◌, ◌++◌, map, Option, None, Some, slice_get}
 use Rattle.pt_object.specs.FilePaths.{File}
 use Rattle.pt_object.specs.declared.rows.Row.{Row}
+use Rattle.pt_tree.specs.Listing.{Item}
 use Rattle.pt_tree.specs.Path.{Path, same_path}
+use Rattle.pt_walk.specs.Site.{is_shorty}
+use Rattle.pt_walk.specs.Trail.{current_entry}
+use Rattle.pt_walk.specs.declared.frame.Frame.{Frame}
 use Rattle.pt_plan.specs.Carried.{Carried}
-use Rattle.pt_plan.specs.Lines.{Line}
 use Rattle.pt_plan.specs.Run.{Held}
 use Rattle.pt_plan.specs.TurnScan.{logical_path}
 use Rattle.pt_plan.specs.declared.object.Object.{Object}
@@ -27,13 +30,18 @@ abbrev pub is_walk : Phase → Bool
 is_walk phase.Walk = true
 is_walk _ = false
 
--- a turn from this phase to that one, in which this line is told, is the last one of its item
-abbrev pub ends_item : Phase → Option Line → Phase → Bool
-ends_item here line next = is_walk next && (not (is_walk here) || is_some line)
+-- this entry is a shorty
+abbrev pub is_shorty_there : Option Item → Bool
+is_shorty_there None = false
+is_shorty_there (Some item) = is_shorty item
+
+-- a turn from this phase to that one is the last one of its item: the walk goes on behind a site, or passes a shorty, at which this trail stood
+abbrev pub ends_item : Phase → List Frame → Phase → Bool
+ends_item here trail next = is_walk next && (not (is_walk here) || is_shorty_there (current_entry trail))
 
 -- how many items are done after the turn
-abbrev pub done_after : Phase → Option Line → Phase → ℕ → ℕ
-done_after here line next count = cond (ends_item here line next) (suc count) count
+abbrev pub done_after : Phase → List Frame → Phase → ℕ → ℕ
+done_after here trail next count = cond (ends_item here trail next) (suc count) count
 
 -- ---- what the files hold
 
@@ -80,10 +88,10 @@ placed_after _ next held past = past.placed
 
 -- ---- a turn
 
--- what is behind a run after a turn from this phase to that one, in which this line is told
-abbrev pub past_after : Phase → Option Line → Phase → Held → Past → Past
-past_after here line next held past = record {
-  count = done_after here line next past.count;
+-- what is behind a run after a turn from this phase to that one, before which this was held
+abbrev pub past_after : Phase → Phase → Held → Past → Past
+past_after here next held past = record {
+  count = done_after here held.trail next past.count;
   placed = placed_after here next held past;
   bytes = bytes_after here next held past.bytes;
 }

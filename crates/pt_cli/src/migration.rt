@@ -4,6 +4,7 @@ ghost use Rattle.pt_run.specs.Ends.{Ends};
 use crate::Migrate;
 use pt_guard::Lockable;
 use pt_move::Job;
+use pt_name::Share;
 use pt_run::{Terminals, Wanted};
 use pt_walk::Limits;
 use std::rt::{Clock, Files};
@@ -21,6 +22,7 @@ where
         algorithm: words.algorithm,
         limits: Limits::greatest(),
         gather: words.gather,
+        share: Share::whole(),
     };
     let wanted = Wanted {
         job,

@@ -67,9 +67,8 @@ walks_few : (job : Job) (prefix : List ℕ) (here : Phase) (held new : Held) (ca
 walks_few job prefix _ held _ _ _ (walk.OpensRoot _ items) few = few_same job held _ few refl
 walks_few job prefix _ held _ _ _ (walk.LeadsOn _ found) few = few
 walks_few job prefix _ held _ _ _ (walk.IsSkipped _ why found) few = few
-walks_few job prefix _ held _ _ _ (walk.HasNoIdentifier _ index why found id) few = few
-walks_few job prefix _ held _ _ _ (walk.IsPresent _ index id here found named) few = few
-walks_few job prefix _ held _ _ _ (walk.IsNew _ index id found named) few = few_same job held _ few refl
+walks_few job prefix _ held _ _ _ (walk.IsPresent _ index id here found) few = few
+walks_few job prefix _ held _ _ _ (walk.IsNew _ index id found) few = few_same job held _ few refl
 walks_few job prefix _ held _ _ _ (walk.IsPast _ name at short last) few = few_same job held _ few refl
 walks_few job prefix _ held _ _ _ (walk.IsDeep _ name at short last deep) few = few_same job held _ few refl
 walks_few job prefix _ held _ _ _ (walk.EntersSite _ name items at short last shallow) few = few_same job held _ few refl
@@ -158,9 +157,8 @@ walks_within : (job : Job) (prefix : List ℕ) (here : Phase) (held new : Held) 
 walks_within job prefix _ held _ _ _ turns (walk.OpensRoot _ items) = tt
 walks_within job prefix _ held _ _ _ turns (walk.LeadsOn _ found) = tt
 walks_within job prefix _ held _ _ _ turns (walk.IsSkipped _ why found) = tt
-walks_within job prefix _ held _ _ _ turns (walk.HasNoIdentifier _ index why found id) = tt
-walks_within job prefix _ held _ _ _ turns (walk.IsPresent _ index id here found named) = tt
-walks_within job prefix _ held _ _ _ turns (walk.IsNew _ index id found named) = omega (arith)
+walks_within job prefix _ held _ _ _ turns (walk.IsPresent _ index id here found) = tt
+walks_within job prefix _ held _ _ _ turns (walk.IsNew _ index id found) = omega (arith)
 walks_within job prefix _ held _ _ _ turns (walk.IsPast _ name at short last) = tt
 walks_within job prefix _ held _ _ _ turns (walk.IsDeep _ name at short last deep) = tt
 walks_within job prefix _ held _ _ _ turns (walk.EntersSite _ name items at short last shallow) = tt

@@ -4,13 +4,16 @@ use Rattle.std.specs.Prelude.{Option, None, Some, Ok, Err, nat_lt, ⊤}
 use Rattle.pt_object.specs.Contents.{content_of, is_noted, noted}
 use Rattle.pt_object.specs.declared.contents.Content.{Content}
 use Rattle.pt_object.specs.declared.rows.Row.{Row}
+use Rattle.pt_name.specs.Share.{is_first}
 use Rattle.pt_tree.specs.Listing.{Item}
 use Rattle.pt_tree.specs.Path.{Path}
-use Rattle.pt_walk.specs.Trail.{advanced, entered, parent, sought}
+use Rattle.pt_walk.specs.Trail.{advanced, entered, names_to, parent, sought}
+use Rattle.pt_walk.specs.declared.cause.Cause.{Cause}
+use Rattle.pt_walk.specs.declared.cause.Cause.TheVariants as cause
 use Rattle.pt_walk.specs.declared.frame.Frame.{Frame}
 use Rattle.pt_plan.specs.Answer.{Answer}
 use Rattle.pt_plan.specs.Job.{Job}
-use Rattle.pt_plan.specs.Lines.{Line, End}
+use Rattle.pt_plan.specs.Lines.{Line, End, Skipped}
 use Rattle.pt_plan.specs.Run.{Counts, Held}
 use Rattle.pt_plan.specs.Turn.{Follows, Make, Place, Scan, Start, Walk}
 use Rattle.pt_plan.specs.TurnMake.{Makings}
@@ -130,9 +133,8 @@ walks_change : (job : Job) (prefix : List ℕ) (here : Phase) (held new : Held) 
 walks_change job prefix _ held _ _ _ (walk.OpensRoot _ items) = changes_trail held _ (moves_entered items held.trail) refl refl
 walks_change job prefix _ held _ _ _ (walk.LeadsOn _ found) = changes_none held
 walks_change job prefix _ held _ _ _ (walk.IsSkipped _ why found) = changes_none held
-walks_change job prefix _ held _ _ _ (walk.HasNoIdentifier _ index why found id) = changes_none held
-walks_change job prefix _ held _ _ _ (walk.IsPresent _ index id here found named) = changes_none held
-walks_change job prefix _ held _ _ _ (walk.IsNew _ index id found named) = changes_trail held _ (moves_object index held.trail) refl refl
+walks_change job prefix _ held _ _ _ (walk.IsPresent _ index id here found) = changes_none held
+walks_change job prefix _ held _ _ _ (walk.IsNew _ index id found) = changes_trail held _ (moves_object index held.trail) refl refl
 walks_change job prefix _ held _ _ _ (walk.IsPast _ name at short last) = changes_trail held _ (moves_advanced held.trail) refl refl
 walks_change job prefix _ held _ _ _ (walk.IsDeep _ name at short last deep) = changes_trail held _ (moves_advanced held.trail) refl refl
 walks_change job prefix _ held _ _ _ (walk.EntersSite _ name items at short last shallow) = changes_trail held _ (moves_entered items held.trail) refl refl
@@ -252,15 +254,19 @@ starts_line job counts _ _ _ _ _ (start.IsSame _ number path bytes is) = tt
 starts_line job counts _ _ _ _ _ (start.IsNoFile _ number path bytes here is other) = tt
 starts_line job counts _ _ _ _ _ (start.Differs _ number path bytes block is other) = tt
 
+-- of a shorty that is passed over there may be one
+skip_line : (counts : Counts) (told : Bool) (at : Path) (why : Cause) → LineOf counts (cond told (Some (Skipped at why)) None)
+skip_line counts true at why = tt
+skip_line counts false at why = tt
+
 walks_line : (job : Job) (counts : Counts) (prefix : List ℕ) (here : Phase) (held new : Held) (calls : Calls) (answer : Answer) → Walks job prefix here held new calls answer → LineOf counts calls.line
 walks_line job counts prefix _ held _ _ _ (walk.OpensRoot _ items) = tt
 walks_line job counts prefix _ held _ _ _ (walk.LeadsOn _ found) = tt
 walks_line job counts prefix _ held _ _ _ (walk.IsSkipped _ why found) = tt
-walks_line job counts prefix _ held _ _ _ (walk.HasNoIdentifier _ index why found id) = tt
-walks_line job counts prefix _ held _ _ _ (walk.IsPresent _ index id here found named) = tt
-walks_line job counts prefix _ held _ _ _ (walk.IsNew _ index id found named) = tt
-walks_line job counts prefix _ held _ _ _ (walk.IsPast _ name at short last) = tt
-walks_line job counts prefix _ held _ _ _ (walk.IsDeep _ name at short last deep) = tt
+walks_line job counts prefix _ held _ _ _ (walk.IsPresent _ index id here found) = tt
+walks_line job counts prefix _ held _ _ _ (walk.IsNew _ index id found) = tt
+walks_line job counts prefix _ held _ _ _ (walk.IsPast _ name at short last) = skip_line counts (is_first job.share) (names_to held.trail) cause.Past
+walks_line job counts prefix _ held _ _ _ (walk.IsDeep _ name at short last deep) = skip_line counts (is_first job.share) (names_to held.trail) cause.Limit
 walks_line job counts prefix _ held _ _ _ (walk.EntersSite _ name items at short last shallow) = tt
 walks_line job counts prefix _ held _ _ _ (walk.PassesEntry _ item at other) = tt
 walks_line job counts prefix _ held _ _ _ (walk.LeavesSite _ at more) = tt
@@ -344,9 +350,8 @@ walks_end : (job : Job) (counts : Counts) (prefix : List ℕ) (here : Phase) (he
 walks_end job counts prefix _ held _ _ _ (walk.OpensRoot _ items) = tt
 walks_end job counts prefix _ held _ _ _ (walk.LeadsOn _ found) = tt
 walks_end job counts prefix _ held _ _ _ (walk.IsSkipped _ why found) = tt
-walks_end job counts prefix _ held _ _ _ (walk.HasNoIdentifier _ index why found id) = tt
-walks_end job counts prefix _ held _ _ _ (walk.IsPresent _ index id here found named) = tt
-walks_end job counts prefix _ held _ _ _ (walk.IsNew _ index id found named) = tt
+walks_end job counts prefix _ held _ _ _ (walk.IsPresent _ index id here found) = tt
+walks_end job counts prefix _ held _ _ _ (walk.IsNew _ index id found) = tt
 walks_end job counts prefix _ held _ _ _ (walk.IsPast _ name at short last) = tt
 walks_end job counts prefix _ held _ _ _ (walk.IsDeep _ name at short last deep) = tt
 walks_end job counts prefix _ held _ _ _ (walk.EntersSite _ name items at short last shallow) = tt

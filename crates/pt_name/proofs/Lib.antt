@@ -7,4 +7,5 @@ pub mod PlaceNames
 pub mod Places
 pub mod Readings
 pub mod Spelled
+pub mod Shares
 pub mod Tuples

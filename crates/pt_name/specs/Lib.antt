@@ -3,5 +3,6 @@ pub mod Clean
 pub mod Tuples
 pub mod Layout
 pub mod Place
+pub mod Share
 pub mod Prefix
 pub mod Reading

@@ -10,6 +10,7 @@ pub mod laws;
 mod layout;
 mod prefix;
 mod reading;
+mod share;
 
 pub use cleaning::{clean, pairpath};
 pub use encoding::{encoded, last_name};
@@ -17,3 +18,4 @@ pub use joining::concatenated;
 pub use layout::{Layout, LayoutFault};
 pub use prefix::{PrefixFault, read_prefix};
 pub use reading::{UncleanFault, unclean};
+pub use share::{Share, ShareFault};

@@ -22,7 +22,7 @@ use Rattle.pt_walk.specs.declared.cause.Cause.TheVariants as cause
 use Rattle.pt_walk.specs.declared.site.Finding.TheVariants as finding
 use Rattle.pt_plan.specs.Carried.{Carried, Marked, carried, carried_by, carried_by_outcome, marked, marked_after}
 use Rattle.pt_plan.specs.FileLaws.{CarriedFilesComeInOrder, comes_in_order}
-use Rattle.pt_plan.specs.Items.{Interior, Item, Named, PairtreeObject, Skip, Verdict, cause_of, encapsulated, gathered_from, is_reserved, item_of, items, named, outcome_by, verdict_by_finding, verdict_by_reading, verdict_of, verdict_on_candidate}
+use Rattle.pt_plan.specs.Items.{Interior, Item, Named, PairtreeObject, Skip, Verdict, cause_of, encapsulated, gathered_from, is_ours, is_reserved, item_of, items, named, outcome_by, verdict_by_finding, verdict_by_reading, verdict_by_visit, verdict_of, verdict_on_candidate}
 use Rattle.pt_plan.specs.Job.{Job, form_of}
 use Rattle.pt_plan.specs.Store.{pairtree_root, prefix_of, sites_in_root, sites_of}
 use Rattle.pt_plan.proofs.FilesInOrder.{files_come_in_order}
@@ -79,10 +79,18 @@ good_visit Deep = true
 abbrev good_site : Site → Bool
 good_site site = good_visit site.1
 
+good_by_visit : (job : Job) (prefix : List ℕ) (path : Path) (visit : Visit) → good_visit visit ≡ true → good (verdict_by_visit job prefix path visit) ≡ true
+good_by_visit job prefix path (Listed inside) h = good_by_finding job prefix path inside (found (listing_of inside) (at_of path) (form_of job)) h
+good_by_visit job prefix path Past h = refl
+good_by_visit job prefix path Deep h = refl
+
+-- whether it is of the share or not
+good_if : (b : Bool) (v : Verdict) → good v ≡ true → good (cond b v Interior) ≡ true
+good_if true v h = h
+good_if false v h = refl
+
 good_verdict : (job : Job) (prefix : List ℕ) (path : Path) (visit : Visit) → good_visit visit ≡ true → good (verdict_of job prefix path visit) ≡ true
-good_verdict job prefix path (Listed inside) h = good_by_finding job prefix path inside (found (listing_of inside) (at_of path) (form_of job)) h
-good_verdict job prefix path Past h = refl
-good_verdict job prefix path Deep h = refl
+good_verdict job prefix path visit h = good_if (is_ours job.share (verdict_by_visit job prefix path visit)) (verdict_by_visit job prefix path visit) (good_by_visit job prefix path visit h)
 
 visit_either : (b : Bool) (v w : Visit) → good_visit v ≡ true → good_visit w ≡ true → good_visit (cond b v w) ≡ true
 visit_either true v w x y = x

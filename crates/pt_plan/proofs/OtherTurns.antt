@@ -19,7 +19,7 @@ use Rattle.pt_walk.specs.declared.cause.Cause.TheVariants as cause
 use Rattle.pt_walk.specs.declared.site.Finding.{Finding}
 use Rattle.pt_walk.specs.declared.site.Finding.TheVariants as finding
 use Rattle.pt_plan.specs.Carried.{Carried, Marked, all_carried, carried, carried_by, carried_by_outcome, entry_of_object, entry_of_objects, folder_where, has_place, is_on_the_way, is_taken, is_way_free, marked, marked_after, with_objects}
-use Rattle.pt_plan.specs.Items.{Interior, Item, Named, PairtreeObject, Skip, Verdict, cause_of, encapsulated, gathered_from, is_too_deep, item_of, items, outcome_by, verdict_by_finding, verdict_by_reading, verdict_of, verdict_on_candidate}
+use Rattle.pt_plan.specs.Items.{Interior, Item, Named, PairtreeObject, Skip, Verdict, cause_of, encapsulated, gathered_from, is_too_deep, item_of, items, ours, outcome_by, verdict_by_finding, verdict_by_reading, verdict_by_visit, verdict_of, verdict_on_candidate}
 use Rattle.pt_plan.specs.Job.{Job, form_of}
 use Rattle.pt_plan.specs.Lines.{line_by_outcome, line_by_verdict, line_of}
 use Rattle.pt_plan.specs.RerunLaws.{IsTarget, TurnsHaveNoPart, with_turns}
@@ -57,10 +57,13 @@ finding_same job turns prefix site inside (finding.Skip why) = refl
 finding_same job turns prefix site inside (finding.Candidate i) = candidate_same job turns prefix site (encapsulated site (entries_from i inside))
 finding_same job turns prefix site inside finding.Gathered = reading_same job turns prefix (gathered_from site inside) (reading_of (concat site))
 
+visit_same : (job : Job) (turns : ℕ) (prefix : List ℕ) (path : Path) (visit : Visit) → verdict_by_visit (with_turns job turns) prefix path visit ≡ verdict_by_visit job prefix path visit
+visit_same job turns prefix path (Listed inside) = finding_same job turns prefix path inside (found (listing_of inside) (at_of path) (form_of job))
+visit_same job turns prefix path Past = refl
+visit_same job turns prefix path Deep = refl
+
 verdict_same : (job : Job) (turns : ℕ) (prefix : List ℕ) (path : Path) (visit : Visit) → verdict_of (with_turns job turns) prefix path visit ≡ verdict_of job prefix path visit
-verdict_same job turns prefix path (Listed inside) = finding_same job turns prefix path inside (found (listing_of inside) (at_of path) (form_of job))
-verdict_same job turns prefix path Past = refl
-verdict_same job turns prefix path Deep = refl
+verdict_same job turns prefix path visit = ap (λ (v : Verdict). ours job.share v) (visit_same job turns prefix path visit)
 
 items_same_on : (job : Job) (turns : ℕ) (prefix : List ℕ) (ways : List Site) → map (item_of (with_turns job turns) prefix) ways ≡ map (item_of job prefix) ways
 items_same_on job turns prefix [] = refl

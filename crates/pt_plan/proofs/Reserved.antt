@@ -13,7 +13,7 @@ use Rattle.pt_walk.specs.Sites.{Site, Visit, Listed, Past, Deep, at_of}
 use Rattle.pt_walk.specs.declared.cause.Cause.TheVariants as cause
 use Rattle.pt_walk.specs.declared.site.Finding.{Finding}
 use Rattle.pt_walk.specs.declared.site.Finding.TheVariants as finding
-use Rattle.pt_plan.specs.Items.{Interior, Item, Named, PairtreeObject, Skip, Verdict, encapsulated, gathered_from, is_reserved, item_of, items, named, verdict_by_finding, verdict_by_reading, verdict_of, verdict_on_candidate}
+use Rattle.pt_plan.specs.Items.{Interior, Item, Named, PairtreeObject, Skip, Verdict, encapsulated, gathered_from, is_ours, is_reserved, item_of, items, named, verdict_by_finding, verdict_by_reading, verdict_by_visit, verdict_of, verdict_on_candidate}
 use Rattle.pt_plan.specs.Job.{Job, form_of}
 use Rattle.pt_plan.specs.PlaceLaws.{NamedIsNotReserved}
 use Rattle.pt_plan.specs.Store.{prefix_of, sites_of}
@@ -49,10 +49,18 @@ free_by_finding job prefix site inside (finding.Skip why) = refl
 free_by_finding job prefix site inside (finding.Candidate i) = free_candidate job prefix site (encapsulated site (entries_from i inside))
 free_by_finding job prefix site inside finding.Gathered = free_by_reading job prefix (gathered_from site inside) (reading_of (concat site))
 
+free_by_visit : (job : Job) (prefix : List ℕ) (path : Path) (visit : Visit) → free job (verdict_by_visit job prefix path visit) ≡ true
+free_by_visit job prefix path (Listed inside) = free_by_finding job prefix path inside (found (listing_of inside) (at_of path) (form_of job))
+free_by_visit job prefix path Past = refl
+free_by_visit job prefix path Deep = refl
+
+-- whether it is of the share or not
+free_if : (job : Job) (b : Bool) (v : Verdict) → free job v ≡ true → free job (cond b v Interior) ≡ true
+free_if job true v h = h
+free_if job false v h = refl
+
 free_verdict : (job : Job) (prefix : List ℕ) (path : Path) (visit : Visit) → free job (verdict_of job prefix path visit) ≡ true
-free_verdict job prefix path (Listed inside) = free_by_finding job prefix path inside (found (listing_of inside) (at_of path) (form_of job))
-free_verdict job prefix path Past = refl
-free_verdict job prefix path Deep = refl
+free_verdict job prefix path visit = free_if job (is_ours job.share (verdict_by_visit job prefix path visit)) (verdict_by_visit job prefix path visit) (free_by_visit job prefix path visit)
 
 free_at : (job : Job) (prefix : List ℕ) (ways : List Site) (k : ℕ) (item : Item) → slice_get (map (item_of job prefix) ways) k ≡ Some item → free job item.verdict ≡ true
 free_at job prefix [] k item is = absurd (cc)

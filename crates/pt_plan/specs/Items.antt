@@ -5,6 +5,7 @@ use Rattle.std.specs.Option.{option_map}
 use Rattle.std.specs.Str.{is_utf8}
 use Rattle.pt_name.specs.Place.{place_of}
 use Rattle.pt_name.specs.Reading.{reading_of}
+use Rattle.pt_name.specs.Share.{Portion, holds, is_first}
 use Rattle.pt_object.specs.FilePaths.{File}
 use Rattle.pt_tree.specs.Forest.{Forest, none, file, other, dir, listing_of}
 use Rattle.pt_tree.specs.Path.{Path, same_path}
@@ -27,10 +28,14 @@ pub record PairtreeObject : Type 0 where
   pub inside : Forest
 
 -- what a directory on the way comes to: it only leads on; it is passed over; or it has an object with an identifier
-pub data Verdict : Type 0 where
-  Interior : Verdict
-  Skip : (why : Cause) → Verdict
-  Named : (id : List ℕ) → (object : PairtreeObject) → Verdict
+pub data VerdictOn (A : Type 0) : Type 0 where
+  Interior : VerdictOn A
+  Skip : (why : Cause) → VerdictOn A
+  Named : (id : List ℕ) → (object : A) → VerdictOn A
+
+-- of an item: with all that its object holds
+abbrev pub Verdict : Type 0
+Verdict = VerdictOn PairtreeObject
 
 -- what comes of an object: it is passed over for a cause, or its files are carried
 pub data Outcome : Type 0 where
@@ -42,6 +47,18 @@ pub record Item : Type 0 where
   pub path : Path
   pub visit : Visit
   pub verdict : Verdict
+
+-- ---- shares
+
+-- what has an identifier is of the share that has that; what is passed over before one is carried is of the first
+abbrev pub is_ours : {A : Type 0} → Portion → VerdictOn A → Bool
+is_ours share Interior = true
+is_ours share (Skip why) = is_first share
+is_ours share (Named id object) = holds share id
+
+-- what isn't of the share only leads on in it
+abbrev pub ours : {A : Type 0} → Portion → VerdictOn A → VerdictOn A
+ours share verdict = cond (is_ours share verdict) verdict Interior
 
 -- ---- the outcome of an object
 
@@ -109,10 +126,14 @@ verdict_by_finding job prefix site inside (finding.Candidate i) = verdict_on_can
 verdict_by_finding job prefix site inside finding.Gathered = verdict_on_object job prefix site (gathered_from site inside)
 
 -- a site that is listed comes to what it is found to be; a shorty below a name of one byte, or too deep, is passed over
+abbrev pub verdict_by_visit : Job → List ℕ → Path → Visit → Verdict
+verdict_by_visit job prefix path (Listed inside) = verdict_by_finding job prefix path inside (found (listing_of inside) (at_of path) (form_of job))
+verdict_by_visit job prefix path Past = Skip cause.Past
+verdict_by_visit job prefix path Deep = Skip cause.Limit
+
+-- the verdict, as far as it is of the job's share
 abbrev pub verdict_of : Job → List ℕ → Path → Visit → Verdict
-verdict_of job prefix path (Listed inside) = verdict_by_finding job prefix path inside (found (listing_of inside) (at_of path) (form_of job))
-verdict_of job prefix path Past = Skip cause.Past
-verdict_of job prefix path Deep = Skip cause.Limit
+verdict_of job prefix path visit = ours job.share (verdict_by_visit job prefix path visit)
 
 -- the directory on the way, with its verdict
 abbrev pub item_of : Job → List ℕ → Site → Item

@@ -4,6 +4,7 @@ use Rattle.std.specs.List.{concat}
 use Rattle.std.specs.Str.{is_utf8}
 use Rattle.pt_name.specs.Place.{place_of}
 use Rattle.pt_name.specs.Reading.{reading_of}
+use Rattle.pt_name.specs.Share.{is_first}
 use Rattle.pt_tree.specs.Listing.{Item}
 use Rattle.pt_tree.specs.Path.{Path}
 use Rattle.pt_tree.specs.declared.kind.Kind.{Kind}
@@ -18,13 +19,13 @@ use Rattle.pt_walk.specs.declared.site.Finding.{Finding}
 use Rattle.pt_walk.specs.declared.site.Finding.TheVariants as finding
 use Rattle.pt_walk.specs.declared.site.Form.{Form}
 use Rattle.pt_plan.specs.Answer.{Answer}
-use Rattle.pt_plan.specs.Items.{is_reserved}
+use Rattle.pt_plan.specs.Items.{Interior, Named, Skip, VerdictOn, is_reserved, ours}
 use Rattle.pt_plan.specs.Job.{Job, form_of}
 use Rattle.pt_plan.specs.Lines.{Present, Skipped}
 use Rattle.pt_plan.specs.Run.{Held, with_trail}
 use Rattle.pt_plan.specs.Store.{pairtree_root}
 use Rattle.pt_plan.specs.Roots.{storage_root}
-use Rattle.pt_plan.specs.World.{AsksNothing, Calls, Finds, Lists, asks, does, no_calls, tells}
+use Rattle.pt_plan.specs.World.{AsksNothing, Calls, Finds, Lists, asks, does, no_calls, tells, tells_if}
 use Rattle.pt_plan.specs.declared.object.Object.{Object}
 use Rattle.pt_plan.specs.declared.phase.Phase.{Phase}
 use Rattle.pt_plan.specs.declared.phase.Phase.TheVariants as phase
@@ -52,6 +53,22 @@ identifier_by job prefix (Some read) = cond (is_utf8 read) (unless_reserved job 
 -- the identifier that the names of a site's path read, behind the prefix, or why none is carried (Pairtree 0.1, "Identifier string cleaning")
 abbrev pub identifier_at : Job → List ℕ → Path → Result (List ℕ) Cause
 identifier_at job prefix site = identifier_by job prefix (reading_of (concat site))
+
+-- the object at the entry of this index, or of the site itself, by its identifier
+abbrev pub judged_by_identifier : Option ℕ → Result (List ℕ) Cause → VerdictOn (Option ℕ)
+judged_by_identifier index (Ok id) = Named id index
+judged_by_identifier index (Err why) = Skip why
+
+-- the site, by what it was found to be: an object is encapsulated in the entry of an index, or gathered
+abbrev pub judged_by_finding : Job → List ℕ → Path → Finding → VerdictOn (Option ℕ)
+judged_by_finding job prefix site finding.Interior = Interior
+judged_by_finding job prefix site (finding.Skip why) = Skip why
+judged_by_finding job prefix site (finding.Candidate index) = judged_by_identifier (Some index) (identifier_at job prefix site)
+judged_by_finding job prefix site finding.Gathered = judged_by_identifier None (identifier_at job prefix site)
+
+-- the site that the innermost listing is of, as far as it is of the job's share
+abbrev pub judged_at : Job → List ℕ → List Frame → VerdictOn (Option ℕ)
+judged_at job prefix trail = ours job.share (judged_by_finding job prefix (trail_path trail) (found_at (form_of job) trail))
 
 -- the trail at the site's object: its place at the entry of this index, if there is one
 abbrev pub at_object : Option ℕ → List Frame → List Frame
@@ -82,28 +99,25 @@ pub data Walks (job : Job) (prefix : List ℕ) : Phase → Held → Held → Cal
   -- the pairtree's directory is listed and entered
   OpensRoot : (held : Held) (items : List Item)
       → Walks job prefix phase.OpenRoot held (with_trail held (entered items held.trail)) (asks (Lists (in_pairtree []) items)) (Ok phase.Judge)
-  -- the site only leads on
-  LeadsOn : (held : Held) → found_at (form_of job) held.trail ≡ finding.Interior
+  -- the site only leads on, or is of another share
+  LeadsOn : (held : Held) → judged_at job prefix held.trail ≡ Interior
       → Walks job prefix phase.Judge held held no_calls (Ok phase.Walk)
-  -- there is a cause against the site
-  IsSkipped : (held : Held) (why : Cause) → found_at (form_of job) held.trail ≡ finding.Skip why
-      → Walks job prefix phase.Judge held held (tells (Skipped (trail_path held.trail) why)) (Ok phase.Walk)
-  -- it has an object, but no identifier that can be carried
-  HasNoIdentifier : (held : Held) (index : Option ℕ) (why : Cause) → found_at (form_of job) held.trail ≡ has_object index → identifier_at job prefix (trail_path held.trail) ≡ Err why
+  -- there is a cause against the site, or its object has no identifier that can be carried
+  IsSkipped : (held : Held) (why : Cause) → judged_at job prefix held.trail ≡ Skip why
       → Walks job prefix phase.Judge held held (tells (Skipped (trail_path held.trail) why)) (Ok phase.Walk)
   -- its place is taken
-  IsPresent : (held : Held) (index : Option ℕ) (id : List ℕ) (here : Kind) → found_at (form_of job) held.trail ≡ has_object index → identifier_at job prefix (trail_path held.trail) ≡ Ok id
+  IsPresent : (held : Held) (index : Option ℕ) (id : List ℕ) (here : Kind) → judged_at job prefix held.trail ≡ Named id index
       → Walks job prefix phase.Judge held held
       (record { asked = AsksNothing; change = Finds (in_root (place_of job.tuples id)) (Some here); line = Some (Present (path_of_object index held.trail) id (place_of job.tuples id)) }) (Ok phase.Walk)
   -- its place is free
-  IsNew : (held : Held) (index : Option ℕ) (id : List ℕ) → found_at (form_of job) held.trail ≡ has_object index → identifier_at job prefix (trail_path held.trail) ≡ Ok id
+  IsNew : (held : Held) (index : Option ℕ) (id : List ℕ) → judged_at job prefix held.trail ≡ Named id index
       → Walks job prefix phase.Judge held (with_trail held (at_object index held.trail)) (does (Finds (in_root (place_of job.tuples id)) None)) (Ok (phase.OpenObject (new_object job id index held.trail)))
-  -- a shorty below a name of one byte
+  -- a shorty below a name of one byte, which the first share tells
   IsPast : (held : Held) (name : List ℕ) → current_entry held.trail ≡ Some (name, kind.Dir) → is_short name ≡ true → is_last (at_of (trail_path held.trail)) ≡ true
-      → Walks job prefix phase.Walk held (with_trail held (advanced held.trail)) (tells (Skipped (names_to held.trail) cause.Past)) (Ok phase.Walk)
-  -- a shorty that is too deep
+      → Walks job prefix phase.Walk held (with_trail held (advanced held.trail)) (tells_if (is_first job.share) (Skipped (names_to held.trail) cause.Past)) (Ok phase.Walk)
+  -- a shorty that is too deep, which the first share tells
   IsDeep : (held : Held) (name : List ℕ) → current_entry held.trail ≡ Some (name, kind.Dir) → is_short name ≡ true → is_last (at_of (trail_path held.trail)) ≡ false → nat_lt job.limits.depth (length held.trail) ≡ true
-      → Walks job prefix phase.Walk held (with_trail held (advanced held.trail)) (tells (Skipped (names_to held.trail) cause.Limit)) (Ok phase.Walk)
+      → Walks job prefix phase.Walk held (with_trail held (advanced held.trail)) (tells_if (is_first job.share) (Skipped (names_to held.trail) cause.Limit)) (Ok phase.Walk)
   -- any other shorty is listed and entered
   EntersSite : (held : Held) (name : List ℕ) (items : List Item) → current_entry held.trail ≡ Some (name, kind.Dir) → is_short name ≡ true → is_last (at_of (trail_path held.trail)) ≡ false → nat_lt job.limits.depth (length held.trail) ≡ false
       → Walks job prefix phase.Walk held (with_trail held (entered items held.trail)) (asks (Lists (in_pairtree (names_to held.trail)) items)) (Ok phase.Judge)

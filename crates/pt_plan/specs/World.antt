@@ -1,5 +1,5 @@
 -- What stands outside a run, as far as its devices tell, and how one turn finds and leaves it.
-use Rattle.std.specs.Prelude.{◌≡◌, ℕ, true, List, [], take, Option, None, Some, ⊤}
+use Rattle.std.specs.Prelude.{◌≡◌, ℕ, Bool, true, cond, List, [], take, Option, None, Some, ⊤}
 use Rattle.std.specs.Io.KnownBytes.{Appends}
 use Rattle.std.specs.Option.{option_map}
 use Rattle.pt_object.specs.Script.{Item, MakeFolder, MakeFile, done}
@@ -66,6 +66,10 @@ does change = record { asked = AsksNothing; change = change; line = None }
 
 abbrev pub tells : Line → Calls
 tells line = record { asked = AsksNothing; change = ChangesNothing; line = Some line }
+
+-- the line is told, or nothing is
+abbrev pub tells_if : Bool → Line → Calls
+tells_if told line = record { asked = AsksNothing; change = ChangesNothing; line = cond told (Some line) None }
 
 -- ---- how the devices answer, and what they are left with, where they tell
 

@@ -3,6 +3,8 @@ use Rattle.std.proofs.Common.{refl}
 use Rattle.std.specs.Prelude.{[], ◌∷◌, codes, Some}
 use Rattle.std.specs.Str.{chars, is_utf8}
 use lib.Utf8.{encode}
+use Rattle.sha2.specs.Sha256.{compress, digest_bytes, first_words, hash_after, rounds, schedule, sha256}
+use Rattle.pt_name.specs.Share.{digest_number}
 use Rattle.pt_tree.specs.Forest.{listing_of}
 use Rattle.pt_tree.specs.declared.kind.Kind.TheVariants as kind
 use Rattle.pt_plan.specs.Run.{nothing_held}
@@ -34,9 +36,9 @@ empty_store_turns = (
 )
 
 pub one_object_turns : OneObjectTurns
-unfolding is_utf8 chars encode
+unfolding is_utf8 chars encode first_words schedule rounds compress hash_after digest_bytes sha256 digest_number
 one_object_turns = (
-  Walk _ _ _ _ _ _ (walk.IsNew at_site (Some 0) (codes "abc") refl refl),
+  Walk _ _ _ _ _ _ (walk.IsNew at_site (Some 0) (codes "abc") refl),
   Scan _ _ _ _ _ _ (scan.EntersObject at_site object_abc_under_way ((codes "a.txt", kind.File) ∷ []) refl refl),
   Scan _ _ _ _ _ _ (scan.OpensFile at_file object_abc_under_way (codes "a.txt") refl refl),
   Scan _ _ _ _ _ _ (scan.ReadsOn at_file object_abc_under_way 0 97 (98 ∷ 99 ∷ []) refl),

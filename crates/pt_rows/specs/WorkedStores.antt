@@ -1,6 +1,7 @@
 -- The worked stores and the jobs that they are carried by.
 use Rattle.std.specs.Prelude.{ℕ, zero, suc, true, false, List, [], codes, None}
 use Rattle.pt_rows.specs.WorkedObjects.{worked_meta}
+use Rattle.pt_name.specs.Share.{whole}
 use Rattle.pt_object.specs.declared.algorithm.Algorithm.TheVariants.{Sha512}
 use Rattle.pt_tree.specs.Forest.{Forest, none, file, dir}
 use Rattle.pt_tree.specs.Tree.{Tree}
@@ -11,7 +12,7 @@ use Rattle.pt_plan.specs.Job.{Job}
 
 -- tuples of three digits, three of them, and the greatest limits
 abbrev pub worked_job : Job
-worked_job = record { meta = worked_meta; tuples = record { size = 3; count = 3 }; algorithm = Sha512; limits = greatest_limits; gather = false }
+worked_job = record { meta = worked_meta; tuples = record { size = 3; count = 3 }; algorithm = Sha512; limits = greatest_limits; gather = false; share = whole }
 
 -- with no tuples
 abbrev pub flat_job : Job

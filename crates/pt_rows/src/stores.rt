@@ -6,7 +6,7 @@ ghost use Rattle.pt_state.specs.Outside.{world};
 
 use pt_memory::{MemDest, MemLog, MemSource};
 use pt_move::{Fault, Job, Mover, Report, Turn, migrate};
-use pt_name::Layout;
+use pt_name::{Layout, Share};
 use pt_object::{Algorithm, Meta};
 use pt_tree::{Dest, Log, Name, NamePath, Source};
 use pt_walk::Limits;
@@ -114,6 +114,7 @@ pub fn job(alloc: Global) -> Result<Job, Fail> {
         algorithm: Algorithm::Sha512,
         limits: limits(),
         gather: false,
+        share: Share::whole(),
     })
 }
 

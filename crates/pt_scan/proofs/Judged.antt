@@ -12,6 +12,7 @@ use Rattle.std.proofs.lemmas.Str.{IsUtf8-from_is_utf8, IsUtf8-string_bytes, is_u
 use Rattle.pt_name.specs.Place.{place_of}
 use Rattle.pt_name.specs.Tuples.{Tuples}
 use Rattle.pt_name.specs.Reading.{GivesReading, before, hex_value, read_character, reading_of}
+use Rattle.pt_name.specs.Share.{holds, is_first}
 use Rattle.pt_name.specs.declared.reading.UncleanFault.TheVariants as unclean
 use Rattle.pt_tree.specs.Listing.{Item}
 use Rattle.pt_tree.specs.Name.{is_name}
@@ -23,15 +24,17 @@ use Rattle.pt_walk.specs.Trail.{has_place, innermost_listing, is_dir_entry, name
 use Rattle.pt_walk.specs.declared.cause.Cause.{Cause}
 use Rattle.pt_walk.specs.declared.cause.Cause.TheVariants as cause
 use Rattle.pt_walk.specs.declared.frame.Frame.{Frame}
+use Rattle.pt_walk.specs.declared.site.Finding.{Finding}
 use Rattle.pt_walk.specs.declared.site.Finding.TheVariants as finding
 use Rattle.pt_walk.specs.declared.site.Form.{Form}
 use Rattle.pt_walk.proofs.Findings.{candidate as one_candidate}
 use Rattle.pt_plan.specs.Answer.{Answer}
+use Rattle.pt_plan.specs.Items.{Interior, Named, Skip, VerdictOn, ours}
 use Rattle.pt_plan.specs.Job.{Job, form_of}
 use Rattle.pt_plan.specs.Lines.{Present, Skipped}
 use Rattle.pt_plan.specs.Run.{with_trail}
 use Rattle.pt_plan.specs.Turn.{Did, LeavesSome, Walk}
-use Rattle.pt_plan.specs.TurnWalk.{Walks, LeadsOn, IsSkipped, HasNoIdentifier, IsPresent, IsNew, at_object, found_at, has_object, identifier_at, identifier_by, in_root, path_of_object, unless_reserved}
+use Rattle.pt_plan.specs.TurnWalk.{Walks, LeadsOn, IsSkipped, IsPresent, IsNew, at_object, found_at, has_object, identifier_at, identifier_by, in_root, judged_at, judged_by_finding, judged_by_identifier, path_of_object, unless_reserved}
 use Rattle.pt_plan.specs.World.{Finds, World, does, no_calls, tells}
 use Rattle.pt_plan.specs.declared.halt.Halt.{Halt}
 use Rattle.pt_plan.specs.declared.halt.Halt.TheVariants as halt
@@ -71,26 +74,38 @@ finds_gathered s is = sym is
 
 pub skips_site : (s : State) (why : Cause) → finding.Skip why ≡ found_at (form_of (job_of s.job)) s.trail → PassesSite s why
 unfolding PassesSite
-skips_site s why is = λ fed. IsSkipped (held_of s fed) why (sym is)
+skips_site s why is = ap (judged_by_finding (job_of s.job) (string_bytes s.prefix) (trail_path s.trail)) (sym is)
 
 pub led_on : (s s' : State) (w : World) → finding.Interior ≡ found_at (form_of (job_of s.job)) s.trail → Moved s.trail s.counts s s' → Turned phase.Judge s s' w w (Ok phase.Walk)
 led_on s s' w is to =
     moves phase.Judge phase.Walk s s' w w no_calls s.trail s.counts
-    (λ fed. Walk phase.Judge (string_bytes s.prefix) (held_of s fed) _ _ _ (LeadsOn (held_of s fed) (sym is))) (did_nothing w) refl to
+    (λ fed. Walk phase.Judge (string_bytes s.prefix) (held_of s fed) _ _ _ (LeadsOn (held_of s fed) (ap (λ (f : Finding). ours s.job.share (judged_by_finding (job_of s.job) (string_bytes s.prefix) (trail_path s.trail) f)) (sym is)))) (did_nothing w) refl to
 
 -- ---- a site that is passed over
 
-pub passed_site : (s s' : State) (a b : World) (path : Path) (why : Cause) → PassesSite s why → Did (tells (Skipped path why)) a b → path ≡ trail_path s.trail → Moved s.trail (with_skipped s.counts) s s' → Turned phase.Judge s s' a b (Ok phase.Walk)
+-- it is of the first share
+skipped_first : (s : State) (why : Cause) → PassesSite s why → true ≡ is_first s.job.share → judged_at (job_of s.job) (string_bytes s.prefix) s.trail ≡ Skip why
 unfolding PassesSite
-passed_site s s' a b path why line told is to =
-    moves phase.Judge phase.Walk s s' a b (tells (Skipped (trail_path s.trail) why)) s.trail (with_skipped s.counts)
-    (λ fed. Walk phase.Judge (string_bytes s.prefix) (held_of s fed) _ _ _ (line fed)) (subst (λ (p : Path). Did (tells (Skipped p why)) a b) is told) refl to
+skipped_first s why is first = ap (λ (v : VerdictOn (Option ℕ)). ours s.job.share v) is ∙ ap (λ b. cond b (Skip why) Interior) (sym first)
 
-pub passed_site_front : (s s' : State) (a b : World) (path : Path) (why : Cause) (f : Halt) (result : Answer) → IsErrAnd result (λ h. h ≡ f) → PassesSite s why → LeavesSome (tells (Skipped path why)) f a b → path ≡ trail_path s.trail → KeepsAll s s' → Turned phase.Judge s s' a b result
+skipped_other : (s : State) (why : Cause) → PassesSite s why → false ≡ is_first s.job.share → judged_at (job_of s.job) (string_bytes s.prefix) s.trail ≡ Interior
 unfolding PassesSite
-passed_site_front s s' a b path why f result is line front there keeps =
+skipped_other s why is other = ap (λ (v : VerdictOn (Option ℕ)). ours s.job.share v) is ∙ ap (λ b. cond b (Skip why) Interior) (sym other)
+
+pub passed_site : (s s' : State) (a b : World) (path : Path) (why : Cause) → PassesSite s why → true ≡ is_first s.job.share → Did (tells (Skipped path why)) a b → path ≡ trail_path s.trail → Moved s.trail (with_skipped s.counts) s s' → Turned phase.Judge s s' a b (Ok phase.Walk)
+passed_site s s' a b path why line first told is to =
+    moves phase.Judge phase.Walk s s' a b (tells (Skipped (trail_path s.trail) why)) s.trail (with_skipped s.counts)
+    (λ fed. Walk phase.Judge (string_bytes s.prefix) (held_of s fed) _ _ _ (IsSkipped (held_of s fed) why (skipped_first s why line first))) (subst (λ (p : Path). Did (tells (Skipped p why)) a b) is told) refl to
+
+pub passed_site_front : (s s' : State) (a b : World) (path : Path) (why : Cause) (f : Halt) (result : Answer) → IsErrAnd result (λ h. h ≡ f) → PassesSite s why → true ≡ is_first s.job.share → LeavesSome (tells (Skipped path why)) f a b → path ≡ trail_path s.trail → KeepsAll s s' → Turned phase.Judge s s' a b result
+passed_site_front s s' a b path why f result is line first front there keeps =
     left_told phase.Judge s s' a b (tells (Skipped (trail_path s.trail) why)) _ f _ result is
-    (λ fed. Walk phase.Judge (string_bytes s.prefix) (held_of s fed) _ _ _ (line fed)) (subst (λ (p : Path). LeavesSome (tells (Skipped p why)) f a b) there front) keeps
+    (λ fed. Walk phase.Judge (string_bytes s.prefix) (held_of s fed) _ _ _ (IsSkipped (held_of s fed) why (skipped_first s why line first))) (subst (λ (p : Path). LeavesSome (tells (Skipped p why)) f a b) there front) keeps
+
+pub passed_site_quietly : (s s' : State) (w : World) (why : Cause) → PassesSite s why → false ≡ is_first s.job.share → Moved s.trail s.counts s s' → Turned phase.Judge s s' w w (Ok phase.Walk)
+passed_site_quietly s s' w why line other to =
+    moves phase.Judge phase.Walk s s' w w no_calls s.trail s.counts
+    (λ fed. Walk phase.Judge (string_bytes s.prefix) (held_of s fed) _ _ _ (LeadsOn (held_of s fed) (skipped_other s why line other))) (did_nothing w) refl to
 
 -- ---- identifiers
 
@@ -228,9 +243,30 @@ pub is_not_placed : (tuples : Tuples) (id : List ℕ) (place : Path) → place �
 unfolding IsPlaced
 is_not_placed tuples id place at own = (refl, ap (is_own_place tuples) (sym at) ∙ sym own)
 
+-- with an object the site is judged by its identifier
+by_object : (s : State) (index : Option ℕ) (read : Result (List ℕ) Cause) → FindsObject s index → identifier_at (job_of s.job) (string_bytes s.prefix) (trail_path s.trail) ≡ read
+    → judged_by_finding (job_of s.job) (string_bytes s.prefix) (trail_path s.trail) (found_at (form_of (job_of s.job)) s.trail) ≡ judged_by_identifier index read
+unfolding FindsObject
+by_object s None read found named = ap (judged_by_finding (job_of s.job) (string_bytes s.prefix) (trail_path s.trail)) found ∙ ap (judged_by_identifier None) named
+by_object s (Some i) read found named = ap (judged_by_finding (job_of s.job) (string_bytes s.prefix) (trail_path s.trail)) found ∙ ap (judged_by_identifier (Some i)) named
+
 pub skips_unnamed : (s : State) (index : Option ℕ) (why : Cause) → FindsObject s index → IsNamed s (verdict.Pass why) → PassesSite s why
-unfolding FindsObject IsNamed PassesSite
-skips_unnamed s index why found named = λ fed. HasNoIdentifier (held_of s fed) index why found named
+unfolding IsNamed PassesSite
+skips_unnamed s index why found named = by_object s index (Err why) found named
+
+-- it is of the share that has the identifier
+named_at : (s : State) (index : Option ℕ) (candidate : Candidate) → FindsObject s index → IsNamed s (verdict.Carry candidate) → IsTrue (holds s.job.share candidate.id) → judged_at (job_of s.job) (string_bytes s.prefix) s.trail ≡ Named candidate.id index
+unfolding IsNamed
+named_at s index candidate found (named, place) mine =
+    ap (λ (v : VerdictOn (Option ℕ)). ours s.job.share v) (by_object s index (Ok candidate.id) found named) ∙ ap (λ b. cond b (Named candidate.id index) Interior) mine
+
+-- another share passes it
+pub passed_object : (s s' : State) (w : World) (index : Option ℕ) (candidate : Candidate) → FindsObject s index → IsNamed s (verdict.Carry candidate) → false ≡ holds s.job.share candidate.id → Moved s.trail s.counts s s' → Turned phase.Judge s s' w w (Ok phase.Walk)
+unfolding IsNamed
+passed_object s s' w index candidate found (named, place) other to =
+    let judged = ap (λ (v : VerdictOn (Option ℕ)). ours s.job.share v) (by_object s index (Ok candidate.id) found named) ∙ ap (λ b. cond b (Named candidate.id index) Interior) (sym other) in
+    moves phase.Judge phase.Walk s s' w w no_calls s.trail s.counts
+    (λ fed. Walk phase.Judge (string_bytes s.prefix) (held_of s fed) _ _ _ (LeadsOn (held_of s fed) judged)) (did_nothing w) refl to
 
 -- ---- an object whose place was asked for
 
@@ -241,29 +277,29 @@ found_at_place path at here a b is did = subst (λ (p : Path). Did (does (Finds 
 pub looked_short : (s s' : State) (a b : World) (path : Path) (here : Option Kind) (result : Answer) → IsErrAnd result (λ h. h ≡ halt.Memory) → Did (does (Finds path here)) a b → KeepsAll s s' → Turned phase.Judge s s' a b result
 looked_short s s' a b path here result is did keeps = stayed phase.Judge s s' a b halt.Memory result is (looked_stays path here a b did) keeps
 
-present_follows : (s : State) (index : Option ℕ) (candidate : Candidate) (here : Kind) → FindsObject s index → IsNamed s (verdict.Carry candidate) → (fed : List ℕ)
+present_follows : (s : State) (index : Option ℕ) (candidate : Candidate) (here : Kind) → FindsObject s index → IsNamed s (verdict.Carry candidate) → IsTrue (holds s.job.share candidate.id) → (fed : List ℕ)
     → Walks (job_of s.job) (string_bytes s.prefix) phase.Judge (held_of s fed) (held_of s fed) (finds_and_tells (in_root candidate.place) (Some here) (Present (path_of_object index s.trail) candidate.id candidate.place)) (Ok phase.Walk)
-unfolding FindsObject IsNamed
-present_follows s index candidate here found (named, place) fed =
+unfolding IsNamed
+present_follows s index candidate here found (named, place) mine fed =
     subst (λ (p : Path). Walks (job_of s.job) (string_bytes s.prefix) phase.Judge (held_of s fed) (held_of s fed) (finds_and_tells (in_root p) (Some here) (Present (path_of_object index s.trail) candidate.id p)) (Ok phase.Walk)) (sym place)
-    (IsPresent (held_of s fed) index candidate.id here found named)
+    (IsPresent (held_of s fed) index candidate.id here (named_at s index candidate found (named, place) mine))
 
 -- something stands there
 there_is : (path at : Path) (here : Option Kind) (it : Kind) (a b : World) → path ≡ at → here ≡ Some it → Did (does (Finds path here)) a b → Did (does (Finds at (Some it))) a b
 there_is path at here it a b there is did = subst (λ (o : Option Kind). Did (does (Finds at o)) a b) is (found_at_place path at here a b there did)
 
-pub told_present : (s s' : State) (a b c : World) (path at : Path) (here : Option Kind) (it : Kind) (index : Option ℕ) (candidate : Candidate) → FindsObject s index → IsNamed s (verdict.Carry candidate)
+pub told_present : (s s' : State) (a b c : World) (path at : Path) (here : Option Kind) (it : Kind) (index : Option ℕ) (candidate : Candidate) → FindsObject s index → IsNamed s (verdict.Carry candidate) → IsTrue (holds s.job.share candidate.id)
     → Did (does (Finds path here)) a b → here ≡ Some it → path ≡ in_root candidate.place → Did (tells (Present at candidate.id candidate.place)) b c → at ≡ path_of_object index s.trail → Moved s.trail (with_present s.counts) s s' → Turned phase.Judge s s' a c (Ok phase.Walk)
-told_present s s' a b c path at here it index candidate found named did is there told place to =
+told_present s s' a b c path at here it index candidate found named mine did is there told place to =
     moves phase.Judge phase.Walk s s' a c (finds_and_tells (in_root candidate.place) (Some it) (Present (path_of_object index s.trail) candidate.id candidate.place)) s.trail (with_present s.counts)
-    (λ fed. Walk phase.Judge (string_bytes s.prefix) (held_of s fed) _ _ _ (present_follows s index candidate it found named fed))
+    (λ fed. Walk phase.Judge (string_bytes s.prefix) (held_of s fed) _ _ _ (present_follows s index candidate it found named mine fed))
     (looked_told (in_root candidate.place) (Some it) _ a b c (there_is path (in_root candidate.place) here it a b there is did) (subst (λ (p : Path). Did (tells (Present p candidate.id candidate.place)) b c) place told)) refl to
 
-pub told_present_front : (s s' : State) (a b c : World) (path at : Path) (here : Option Kind) (it : Kind) (index : Option ℕ) (candidate : Candidate) (f : Halt) (result : Answer) → IsErrAnd result (λ h. h ≡ f) → FindsObject s index → IsNamed s (verdict.Carry candidate)
+pub told_present_front : (s s' : State) (a b c : World) (path at : Path) (here : Option Kind) (it : Kind) (index : Option ℕ) (candidate : Candidate) (f : Halt) (result : Answer) → IsErrAnd result (λ h. h ≡ f) → FindsObject s index → IsNamed s (verdict.Carry candidate) → IsTrue (holds s.job.share candidate.id)
     → Did (does (Finds path here)) a b → here ≡ Some it → path ≡ in_root candidate.place → LeavesSome (tells (Present at candidate.id candidate.place)) f b c → at ≡ path_of_object index s.trail → KeepsAll s s' → Turned phase.Judge s s' a c result
-told_present_front s s' a b c path at here it index candidate f result error found named did is there front place keeps =
+told_present_front s s' a b c path at here it index candidate f result error found named mine did is there front place keeps =
     left_told phase.Judge s s' a c (finds_and_tells (in_root candidate.place) (Some it) (Present (path_of_object index s.trail) candidate.id candidate.place)) _ f _ result error
-    (λ fed. Walk phase.Judge (string_bytes s.prefix) (held_of s fed) _ _ _ (present_follows s index candidate it found named fed))
+    (λ fed. Walk phase.Judge (string_bytes s.prefix) (held_of s fed) _ _ _ (present_follows s index candidate it found named mine fed))
     (looked_left (in_root candidate.place) (Some it) _ f a b c (there_is path (in_root candidate.place) here it a b there is did) (subst (λ (p : Path). LeavesSome (tells (Present p candidate.id candidate.place)) f b c) place front)) keeps
 
 length-object : (index : Option ℕ) (trail : List Frame) → length (at_object index trail) ≡ length trail
@@ -271,22 +307,22 @@ length-object None trail = refl
 length-object (Some index) [] = refl
 length-object (Some index) (frame ∷ frames) = refl
 
-new_follows : (s : State) (index : Option ℕ) (candidate : Candidate) → FindsObject s index → IsNamed s (verdict.Carry candidate) → (fed : List ℕ)
+new_follows : (s : State) (index : Option ℕ) (candidate : Candidate) → FindsObject s index → IsNamed s (verdict.Carry candidate) → IsTrue (holds s.job.share candidate.id) → (fed : List ℕ)
     → Walks (job_of s.job) (string_bytes s.prefix) phase.Judge (held_of s fed) (with_trail (held_of s fed) (at_object index s.trail)) (does (Finds (in_root candidate.place) None)) (Ok (phase.OpenObject (record { id = candidate.id; place = candidate.place; gathered = is_none index; site = length s.trail; empty = 0 })))
-unfolding FindsObject IsNamed
-new_follows s index candidate found (named, place) fed =
+unfolding IsNamed
+new_follows s index candidate found (named, place) mine fed =
     subst (λ (p : Path). Walks (job_of s.job) (string_bytes s.prefix) phase.Judge (held_of s fed) (with_trail (held_of s fed) (at_object index s.trail)) (does (Finds (in_root p) None)) (Ok (phase.OpenObject (record { id = candidate.id; place = p; gathered = is_none index; site = length s.trail; empty = 0 })))) (sym place)
-    (IsNew (held_of s fed) index candidate.id found named)
+    (IsNew (held_of s fed) index candidate.id (named_at s index candidate found (named, place) mine))
 
-pub found_new : (s s' : State) (a b : World) (path : Path) (here : Option Kind) (index : Option ℕ) (candidate : Candidate) (gathered : Bool) (site : ℕ) (next : Phase) → FindsObject s index → IsNamed s (verdict.Carry candidate)
+pub found_new : (s s' : State) (a b : World) (path : Path) (here : Option Kind) (index : Option ℕ) (candidate : Candidate) (gathered : Bool) (site : ℕ) (next : Phase) → FindsObject s index → IsNamed s (verdict.Carry candidate) → IsTrue (holds s.job.share candidate.id)
     → Did (does (Finds path here)) a b → here ≡ None → path ≡ in_root candidate.place → next ≡ phase.OpenObject (record { id = candidate.id; place = candidate.place; gathered = gathered; site = site; empty = 0 }) → gathered ≡ is_none index → site ≡ length s'.trail
     → Moved (at_object index s.trail) s.counts s s' → Turned phase.Judge s s' a b (Ok next)
-found_new s s' a b path here index candidate gathered site next found named did is there then gather deep to =
+found_new s s' a b path here index candidate gathered site next found named mine did is there then gather deep to =
     let object_is : next ≡ phase.OpenObject (record { id = candidate.id; place = candidate.place; gathered = is_none index; site = length s.trail; empty = 0 }) =
     then ∙ (λ i. phase.OpenObject (record { id = candidate.id; place = candidate.place; gathered = gather i; site = (deep ∙ ap length to.trail_is ∙ length-object index s.trail) i; empty = 0 })) in
     subst (λ (p : Phase). Turned phase.Judge s s' a b (Ok p)) (sym object_is)
     (moves phase.Judge _ s s' a b (does (Finds (in_root candidate.place) None)) (at_object index s.trail) s.counts
-    (λ fed. Walk phase.Judge (string_bytes s.prefix) (held_of s fed) _ _ _ (new_follows s index candidate found named fed))
+    (λ fed. Walk phase.Judge (string_bytes s.prefix) (held_of s fed) _ _ _ (new_follows s index candidate found named mine fed))
     (subst (λ (o : Option Kind). Did (does (Finds (in_root candidate.place) o)) a b) is (found_at_place path (in_root candidate.place) here a b there did)) refl to)
 
 -- ---- the trail at the object
@@ -303,4 +339,4 @@ object_place s index is = by s.trail is
     by [] is = absurd (cc)
     by (frame ∷ frames) is = let only = one_candidate frame.listing (at_of (names_to frames)) (form_of (job_of s.job)) index is in listed index frame.listing (slice_get frame.listing index) refl (ap is_dir_entry only.1)
 
-pub ruleset judging = (found_inner, found_none, finds_candidate, finds_gathered, skips_site, led_on, moved, front_none, passed_site, passed_site_front, object_below, names_some, read_some, one_name, no_name, not_utf8_named, malformed_named, is_placed, is_not_placed, skips_unnamed, looked_short, looked_then, told_present, told_present_front, found_new, object_place)
+pub ruleset judging = (passed_site_quietly, passed_object, found_inner, found_none, finds_candidate, finds_gathered, skips_site, led_on, moved, front_none, passed_site, passed_site_front, object_below, names_some, read_some, one_name, no_name, not_utf8_named, malformed_named, is_placed, is_not_placed, skips_unnamed, looked_short, looked_then, told_present, told_present_front, found_new, object_place)

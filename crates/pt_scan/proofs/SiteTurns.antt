@@ -1,8 +1,9 @@
 -- The turns of the walk, from their calls.
-use Rattle.std.proofs.Common.{◌≡◌, ◌<◌, ◌≤◌, ℕ, true, false, List, [], ◌∷◌, refl, sym, subst, ap, ◌∙◌, length, cond, ◌==◌}
+use Rattle.std.proofs.Common.{◌≡◌, ◌<◌, ◌≤◌, ℕ, Bool, true, false, List, [], ◌∷◌, refl, sym, subst, ap, ◌∙◌, length, cond, ◌==◌}
 use Rattle.std.specs.Prelude.{Option, None, Some, Ok, IsErrAnd, IsSome}
 use Rattle.std.specs.String.{string_bytes}
 use Rattle.std.proofs.lemmas.Bool.{lt-ltb, le-ltb}
+use Rattle.pt_name.specs.Share.{is_first}
 use Rattle.pt_tree.specs.Listing.{Item}
 use Rattle.pt_tree.specs.Path.{Path, last_name, parent as parent_of, split_path}
 use Rattle.pt_tree.specs.Source.{Reading, CanList}
@@ -16,16 +17,17 @@ use Rattle.pt_walk.specs.declared.cause.Cause.TheVariants as cause
 use Rattle.pt_walk.specs.declared.site.At.TheVariants as at
 use Rattle.pt_walk.specs.declared.frame.Frame.{Frame}
 use Rattle.pt_plan.specs.Answer.{Answer}
-use Rattle.pt_plan.specs.Lines.{Skipped}
+use Rattle.pt_plan.specs.Lines.{Line, Skipped}
 use Rattle.pt_plan.specs.Permits.{MayEnter}
+use Rattle.pt_plan.specs.Run.{with_trail}
 use Rattle.pt_plan.specs.Turn.{Did, LeavesSome, Walk}
-use Rattle.pt_plan.specs.TurnWalk.{OpensRoot, IsPast, IsDeep, EntersSite as EntersSiteOf, PassesEntry, LeavesSite, EndsWalk, in_pairtree}
-use Rattle.pt_plan.specs.World.{Lists, World, asks, no_calls, tells}
+use Rattle.pt_plan.specs.TurnWalk.{Walks, OpensRoot, IsPast, IsDeep, EntersSite as EntersSiteOf, PassesEntry, LeavesSite, EndsWalk, in_pairtree}
+use Rattle.pt_plan.specs.World.{Calls, Lists, World, asks, no_calls, tells, tells_if}
 use Rattle.pt_plan.specs.declared.halt.Halt.{Halt}
 use Rattle.pt_plan.specs.declared.phase.Phase.TheVariants as phase
 use Rattle.pt_state.specs.Lines.{with_skipped}
 use Rattle.pt_state.specs.Outside.{Turned}
-use Rattle.pt_state.specs.States.{held_of}
+use Rattle.pt_state.specs.States.{held_of, job_of}
 use Rattle.pt_state.specs.declared.state.State.{State}
 use Rattle.pt_state.proofs.LineTexts.{front_none}
 use Rattle.pt_state.proofs.Together.{did_nothing}
@@ -108,17 +110,31 @@ pub enters_site : (s : State) (site : Path) → IsAtShorty s.trail → site ≡ 
 unfolding IsAtShorty EntersSite
 enters_site s site (name, (at, is)) there last shallow = λ fed items. EntersSiteOf (held_of s fed) name items at is (ap (λ (p : Path). is_last (at_of p)) (sym there) ∙ sym last) (le-ltb s.job.limits.depth (length s.trail) shallow)
 
-pub passed_shorty : (s s' : State) (a b : World) (path : Path) (why : Cause) → PassesShorty s why → Did (tells (Skipped path why)) a b → path ≡ names_to s.trail → Moved (advanced s.trail) (with_skipped s.counts) s s' → Turned phase.Walk s s' a b (Ok phase.Walk)
-unfolding PassesShorty
-passed_shorty s s' a b path why line got is to =
-    moves phase.Walk phase.Walk s s' a b (tells (Skipped (names_to s.trail) why)) (advanced s.trail) (with_skipped s.counts)
-    (λ fed. Walk phase.Walk (string_bytes s.prefix) (held_of s fed) _ _ _ (line fed)) (subst (λ (p : Path). Did (tells (Skipped p why)) a b) is got) refl to
+-- its line is told in the first share
+is_told : (told : Bool) (line : Line) → true ≡ told → tells line ≡ tells_if told line
+is_told told line is = ap (λ b. tells_if b line) is
 
-pub passed_front : (s s' : State) (a b : World) (path : Path) (why : Cause) (f : Halt) (result : Answer) → IsErrAnd result (λ h. h ≡ f) → PassesShorty s why → LeavesSome (tells (Skipped path why)) f a b → path ≡ names_to s.trail → KeepsAll s s' → Turned phase.Walk s s' a b result
+pub passed_shorty : (s s' : State) (a b : World) (path : Path) (why : Cause) → PassesShorty s why → true ≡ is_first s.job.share → Did (tells (Skipped path why)) a b → path ≡ names_to s.trail → Moved (advanced s.trail) (with_skipped s.counts) s s' → Turned phase.Walk s s' a b (Ok phase.Walk)
 unfolding PassesShorty
-passed_front s s' a b path why f result is line front there keeps =
+passed_shorty s s' a b path why line first got is to =
+    moves phase.Walk phase.Walk s s' a b (tells (Skipped (names_to s.trail) why)) (advanced s.trail) (with_skipped s.counts)
+    (λ fed. Walk phase.Walk (string_bytes s.prefix) (held_of s fed) _ _ _ (subst (λ (c : Calls). Walks (job_of s.job) (string_bytes s.prefix) phase.Walk (held_of s fed) (with_trail (held_of s fed) (advanced s.trail)) c (Ok phase.Walk)) (sym (is_told (is_first s.job.share) (Skipped (names_to s.trail) why) first)) (line fed)))
+    (subst (λ (p : Path). Did (tells (Skipped p why)) a b) is got) refl to
+
+pub passed_front : (s s' : State) (a b : World) (path : Path) (why : Cause) (f : Halt) (result : Answer) → IsErrAnd result (λ h. h ≡ f) → PassesShorty s why → true ≡ is_first s.job.share → LeavesSome (tells (Skipped path why)) f a b → path ≡ names_to s.trail → KeepsAll s s' → Turned phase.Walk s s' a b result
+unfolding PassesShorty
+passed_front s s' a b path why f result is line first front there keeps =
     left_told phase.Walk s s' a b (tells (Skipped (names_to s.trail) why)) _ f _ result is
-    (λ fed. Walk phase.Walk (string_bytes s.prefix) (held_of s fed) _ _ _ (line fed)) (subst (λ (p : Path). LeavesSome (tells (Skipped p why)) f a b) there front) keeps
+    (λ fed. Walk phase.Walk (string_bytes s.prefix) (held_of s fed) _ _ _ (subst (λ (c : Calls). Walks (job_of s.job) (string_bytes s.prefix) phase.Walk (held_of s fed) (with_trail (held_of s fed) (advanced s.trail)) c (Ok phase.Walk)) (sym (is_told (is_first s.job.share) (Skipped (names_to s.trail) why) first)) (line fed)))
+    (subst (λ (p : Path). LeavesSome (tells (Skipped p why)) f a b) there front) keeps
+
+-- in another share nothing is
+pub passed_quietly : (s s' : State) (w : World) (why : Cause) → PassesShorty s why → false ≡ is_first s.job.share → Moved (advanced s.trail) s.counts s s' → Turned phase.Walk s s' w w (Ok phase.Walk)
+unfolding PassesShorty
+passed_quietly s s' w why line other to =
+    let quiet : no_calls ≡ tells_if (is_first s.job.share) (Skipped (names_to s.trail) why) = ap (λ b. tells_if b (Skipped (names_to s.trail) why)) other in
+    moves phase.Walk phase.Walk s s' w w no_calls (advanced s.trail) s.counts
+    (λ fed. Walk phase.Walk (string_bytes s.prefix) (held_of s fed) _ _ _ (subst (λ (c : Calls). Walks (job_of s.job) (string_bytes s.prefix) phase.Walk (held_of s fed) (with_trail (held_of s fed) (advanced s.trail)) c (Ok phase.Walk)) (sym quiet) (line fed))) (did_nothing w) refl to
 
 pub entered_site : (s s' : State) (a b : World) (path : Path) (items : List Item) → EntersSite s → Did (asks (Lists path items)) a b → path ≡ in_pairtree (names_to s.trail) → Moved (entered items s.trail) s.counts s s' → Turned phase.Walk s s' a b (Ok phase.Judge)
 unfolding EntersSite
@@ -126,4 +142,4 @@ entered_site s s' a b path items line did is to =
     moves phase.Walk phase.Judge s s' a b (asks (Lists (in_pairtree (names_to s.trail)) items)) (entered items s.trail) s.counts
     (λ fed. Walk phase.Walk (string_bytes s.prefix) (held_of s fed) _ _ _ (line fed items)) (listed_at path (in_pairtree (names_to s.trail)) items a b is did) refl to
 
-pub ruleset walking = (at_split, moved, short_asked, opened_root, may_list_root, passed_entry, left_site, ended_walk, at_shorty, shorty_is_dir, shorty_is_some, may_enter_shorty, is_past, is_deep, enters_site, front_none, passed_shorty, passed_front, entered_site)
+pub ruleset walking = (at_split, moved, short_asked, opened_root, may_list_root, passed_entry, left_site, ended_walk, at_shorty, shorty_is_dir, shorty_is_some, may_enter_shorty, is_past, is_deep, enters_site, front_none, passed_shorty, passed_front, passed_quietly, entered_site)

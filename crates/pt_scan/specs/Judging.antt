@@ -8,19 +8,17 @@ use Rattle.pt_tree.specs.Path.{Path, same_path}
 use Rattle.pt_walk.specs.Trail.{trail_path}
 use Rattle.pt_walk.specs.declared.cause.Cause.{Cause}
 use Rattle.pt_walk.specs.declared.cause.Cause.TheVariants as cause
+use Rattle.pt_plan.specs.Items.{Skip}
 use Rattle.pt_plan.specs.Job.{form_of}
-use Rattle.pt_plan.specs.Lines.{Skipped}
-use Rattle.pt_plan.specs.TurnWalk.{Walks, found_at, has_object, identifier_at}
-use Rattle.pt_plan.specs.World.{tells}
-use Rattle.pt_plan.specs.declared.phase.Phase.TheVariants as phase
-use Rattle.pt_state.specs.States.{held_of, job_of}
+use Rattle.pt_plan.specs.TurnWalk.{found_at, has_object, identifier_at, judged_by_finding}
+use Rattle.pt_state.specs.States.{job_of}
 use Rattle.pt_state.specs.declared.state.State.{State}
 use Rattle.pt_scan.specs.declared.judging.Verdict.{Verdict}
 use Rattle.pt_scan.specs.declared.judging.Verdict.TheVariants as verdict
 
--- the site is to be passed over for this cause
+-- there is this cause against the site, or against its object's identifier
 unfoldable pub PassesSite : State → Cause → Type 0
-PassesSite s why = (fed : List ℕ) → Walks (job_of s.job) (string_bytes s.prefix) phase.Judge (held_of s fed) (held_of s fed) (tells (Skipped (trail_path s.trail) why)) (Ok phase.Walk)
+PassesSite s why = judged_by_finding (job_of s.job) (string_bytes s.prefix) (trail_path s.trail) (found_at (form_of (job_of s.job)) s.trail) ≡ Skip why
 
 -- the site has an object, which is the entry of this index, or else is gathered
 unfoldable pub FindsObject : State → Option ℕ → Type 0

@@ -1,6 +1,7 @@
 -- What the turns of the walk ask of where it stands.
 use Rattle.std.specs.Prelude.{◌≡◌, ℕ, List, true, Ok, Some}
 use Rattle.std.specs.String.{string_bytes}
+use Rattle.pt_name.specs.Share.{is_first}
 use Rattle.pt_tree.specs.Listing.{Item}
 use Rattle.pt_tree.specs.declared.kind.Kind.TheVariants as kind
 use Rattle.pt_walk.specs.Site.{is_short}
@@ -10,7 +11,7 @@ use Rattle.pt_walk.specs.declared.frame.Frame.{Frame}
 use Rattle.pt_plan.specs.Lines.{Skipped}
 use Rattle.pt_plan.specs.Run.{with_trail}
 use Rattle.pt_plan.specs.TurnWalk.{Walks, in_pairtree}
-use Rattle.pt_plan.specs.World.{Lists, asks, tells}
+use Rattle.pt_plan.specs.World.{Lists, asks, tells_if}
 use Rattle.pt_plan.specs.declared.phase.Phase.TheVariants as phase
 use Rattle.pt_state.specs.States.{held_of, job_of}
 use Rattle.pt_state.specs.declared.state.State.{State}
@@ -19,9 +20,9 @@ use Rattle.pt_state.specs.declared.state.State.{State}
 unfoldable pub IsAtShorty : List Frame → Type 0
 IsAtShorty trail = (name : List ℕ) × ((current_entry trail ≡ Some (name, kind.Dir)) × (is_short name ≡ true))
 
--- it is to be passed over for this cause
+-- it is to be passed over for this cause, which the first share tells
 unfoldable pub PassesShorty : State → Cause → Type 0
-PassesShorty s why = (fed : List ℕ) → Walks (job_of s.job) (string_bytes s.prefix) phase.Walk (held_of s fed) (with_trail (held_of s fed) (advanced s.trail)) (tells (Skipped (names_to s.trail) why)) (Ok phase.Walk)
+PassesShorty s why = (fed : List ℕ) → Walks (job_of s.job) (string_bytes s.prefix) phase.Walk (held_of s fed) (with_trail (held_of s fed) (advanced s.trail)) (tells_if (is_first s.job.share) (Skipped (names_to s.trail) why)) (Ok phase.Walk)
 
 -- it is to be entered
 unfoldable pub EntersSite : State → Type 0

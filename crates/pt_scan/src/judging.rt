@@ -2,6 +2,7 @@
 //! The turn that judges a site: what it is, and whether its object may be carried.
 ghost use Rattle.std.specs.Prelude.{◌≡◌, ◌<◌, ◌==◌, ◌&&◌, ◌++◌, ◌^◌, ◌∷◌, [], codes, cond, IfOk, IfSome, IsTrue, length};
 ghost use Rattle.std.specs.List.{concat};
+ghost use Rattle.pt_name.specs.Share.{holds};
 ghost use Rattle.pt_plan.specs.Job.{form_of as form_of_job};
 ghost use Rattle.pt_plan.specs.TurnWalk.{at_object, found_at, path_of_object};
 ghost use Rattle.pt_plan.specs.declared.phase.Phase.TheVariants as phase;
@@ -25,7 +26,8 @@ use std::alloc::Global;
 
 /// Judges the site that was entered: it only leads on, is told in the log and passed over, or has an object, whose place
 /// is asked for. An object whose place is free is to be entered next; one whose place is taken is told in the log as
-/// present.
+/// present. An object of another share is passed without a line, and so is, in another share than the first, a site
+/// without an object that can be carried.
 ///
 /// Halts for `Dest` where the place can't be asked for, for `Log` where a line can't be put, and for `Memory` where a
 /// growth is refused; what is held stays then.
@@ -63,7 +65,7 @@ fn form_of(gather: bool) -> Form
     if gather { Form::Gathering } else { Form::Plain }
 }
 
-// Tells that a site is passed over.
+// Passes over a site, and tells so in the first share.
 fn pass_over<O: Outside>(
     state: &mut State,
     site: &NamePath,
@@ -77,11 +79,15 @@ fn pass_over<O: Outside>(
         (O.world out.old) (O.world out.new) result }
     ensures calls { O.within 0 out.old out.new }
 {
+    if !state.job.share.is_first() {
+        return Ok(Phase::Walk);
+    }
     put_skip(state.alloc, out, site, cause, &mut state.counts)?;
     Ok(Phase::Walk)
 }
 
-// Reads the identifier of a site's object, which is the entry of this index, or else is gathered.
+// Reads the identifier of a site's object, which is the entry of this index, or else is gathered. One of another share is
+// passed.
 fn judge_object<O: Outside>(
     state: &mut State,
     site: &NamePath,
@@ -97,7 +103,12 @@ fn judge_object<O: Outside>(
     ensures calls { O.within 0 out.old out.new }
 {
     match named(state, site)? {
-        Verdict::Carry(candidate) => find_place(state, site, index, candidate, out),
+        Verdict::Carry(candidate) => {
+            if !state.job.share.holds(candidate.id.as_str().as_bytes()) {
+                return Ok(Phase::Walk);
+            }
+            find_place(state, site, index, candidate, out)
+        }
         Verdict::Pass(cause) => pass_over(state, site, cause, out),
     }
 }
@@ -127,6 +138,7 @@ fn find_place<O: Outside>(
     requires site { site.now ≡ trail_path state.old.trail }
     requires object { FindsObject state.old index }
     requires named { IsNamed state.old (verdict.Carry candidate) }
+    requires ours { IsTrue (holds state.old.job.share candidate.id) }
     requires present { state.old.counts.present < 2 ^ 40 }
     ensures turn { Turned phase.Judge state.old state.new
         (O.world out.old) (O.world out.new) result }

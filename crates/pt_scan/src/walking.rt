@@ -35,8 +35,8 @@ pub fn open_root<O: Outside>(state: &mut State, out: &mut O) -> Result<Phase, Ha
 }
 
 /// Looks at the next entry of a site. A shorty is listed and entered, to be judged next (Pairtree 0.1, "Mapping
-/// identifiers to paths"); one that is too deep, or stands below a name of one byte, is told in the log and passed
-/// over. Any other entry is passed. At its end the listing is left, and after the outermost the walk is done.
+/// identifiers to paths"); one that is too deep, or stands below a name of one byte, is passed over, and told in the log
+/// of the first share. Any other entry is passed. At its end the listing is left, and after the outermost the walk is done.
 ///
 /// Halts for `Source` where a shorty can't be listed, for `Log` where its line can't be put, and for `Memory` where a
 /// growth is refused; what is held stays then.
@@ -85,7 +85,7 @@ fn meet_shorty<O: Outside>(state: &mut State, out: &mut O) -> Result<Phase, Halt
     enter_site(state, out)
 }
 
-// Tells that the shorty at the trail's place is passed over.
+// Passes over the shorty at the trail's place, and tells so in the first share.
 fn pass_shorty<O: Outside>(state: &mut State, cause: Cause, out: &mut O) -> Result<Phase, Halt>
     requires line { PassesShorty state.old cause }
     requires shorty { IsAtShorty state.old.trail }
@@ -94,6 +94,10 @@ fn pass_shorty<O: Outside>(state: &mut State, cause: Cause, out: &mut O) -> Resu
         (O.world out.old) (O.world out.new) result }
     ensures calls { O.within 0 out.old out.new }
 {
+    if !state.job.share.is_first() {
+        state.trail.advance();
+        return Ok(Phase::Walk);
+    }
     let path = entry_path(&state.trail)?;
     put_skip(state.alloc, out, &path, cause, &mut state.counts)?;
     state.trail.advance();

@@ -9,7 +9,7 @@ use Rattle.pt_state.specs.declared.state.State.{State}
 
 -- what it was asked for
 abbrev pub job_of : own.Job → Job
-job_of job = record { meta = job.meta; tuples = job.layout; algorithm = job.algorithm; limits = job.limits; gather = job.gather }
+job_of job = record { meta = job.meta; tuples = job.layout; algorithm = job.algorithm; limits = job.limits; gather = job.gather; share = job.share }
 
 -- its counts
 abbrev pub counts_of : Report → Counts

@@ -1,4 +1,4 @@
-use pt_name::Layout;
+use pt_name::{Layout, Share};
 use pt_object::{Algorithm, Meta};
 use pt_walk::Limits;
 
@@ -15,6 +15,8 @@ pub struct Job {
     pub limits: Limits,
     /// Whether a site that holds more than one directory beside its shorties is carried as an object of its own.
     pub gather: bool,
+    /// The share of the store that is carried; another share's objects are passed without a line.
+    pub share: Share,
 }
 
 /// How far a run is: its lines of each kind, and the turns that it made.

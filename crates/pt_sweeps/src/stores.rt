@@ -1,7 +1,7 @@
 //! The stores that are swept, and devices in memory made from texts.
 use pt_memory::{MemDest, MemLog, MemSource};
 use pt_move::{Fault, Job, Report, migrate};
-use pt_name::Layout;
+use pt_name::{Layout, Share};
 use pt_object::{Algorithm, Meta};
 use pt_tree::{Name, NamePath};
 use pt_walk::Limits;
@@ -116,6 +116,7 @@ pub fn run(
         algorithm: Algorithm::Sha512,
         limits: Limits::of(1_000_000, 4_000, 600, 1 << 43, 1 << 40).ok()?,
         gather: false,
+        share: Share::whole(),
     };
     Some(migrate(alloc, source, dest, log, job))
 }

@@ -97,7 +97,7 @@ copy_lowers job s prefix past object held position left byte block part read =
 -- ---- each turn
 
 after_sidecar : (job : Job) (source : Forest) (root : Tree) (count : ℕ) (object : Object) (held : Held) (flat : Bool) → 0 < items_to_make job source object (to_site object held.trail) held.rows part.Sidecar
-    → Lowers job source root count (phase.Make object part.Sidecar) held None (cond flat (phase.Rename object) (phase.Tuples object 0)) (with_fed held [])
+    → Lowers job source root count (phase.Make object part.Sidecar) held (cond flat (phase.Rename object) (phase.Tuples object 0)) (with_fed held [])
 after_sidecar job source root count object held true some = omega (arith, some)
 after_sidecar job source root count object held false some = omega (arith, some)
 

@@ -15,7 +15,7 @@ use Rattle.pt_work.specs.WorkLaws.{Lowers, PlacingLowers}
 use Rattle.pt_work.specs.WorkLeft.{still_listed}
 
 passes_tuple : (job : Job) (source : Forest) (root : Tree) (count : ℕ) (held : Held) (object : Object) (number : ℕ) (more : Bool) → number < job.tuples.count
-    → Lowers job source root count (phase.Tuples object number) held None (cond more (phase.Tuples object (number + 1)) (phase.Rename object)) held
+    → Lowers job source root count (phase.Tuples object number) held (cond more (phase.Tuples object (number + 1)) (phase.Rename object)) held
 passes_tuple job source root count held object number true within = omega (arith, within)
 passes_tuple job source root count held object number false within = omega (arith, within)
 

@@ -10,11 +10,11 @@ use Rattle.pt_plan.specs.TurnStart.{HasNoPrefix, HasNoRoot, HasNoStaging, HasPre
 use Rattle.pt_plan.specs.declared.phase.Phase.TheVariants as phase
 use Rattle.pt_work.specs.WorkLaws.{Lowers, StartingLowers}
 
-makes_item : (job : Job) (source : Forest) (root : Tree) (count number : ℕ) (held : Held) (last : Bool) → (number == 5) ≡ last → number < 6 → Lowers job source root count (phase.RootMake number) held None (cond last phase.RootRename (phase.RootMake (number + 1))) held
+makes_item : (job : Job) (source : Forest) (root : Tree) (count number : ℕ) (held : Held) (last : Bool) → (number == 5) ≡ last → number < 6 → Lowers job source root count (phase.RootMake number) held (cond last phase.RootRename (phase.RootMake (number + 1))) held
 makes_item job source root count number held true is within = let five = eqb-true number 5 is in omega (arith, five)
 makes_item job source root count number held false is within = omega (arith, within)
 
-compares_file : (job : Job) (source : Forest) (root : Tree) (count number : ℕ) (held : Held) (last : Bool) → (number == 2) ≡ last → number < 3 → Lowers job source root count (phase.RootCheck number) held None (cond last phase.OpenRoot (phase.RootCheck (number + 1))) held
+compares_file : (job : Job) (source : Forest) (root : Tree) (count number : ℕ) (held : Held) (last : Bool) → (number == 2) ≡ last → number < 3 → Lowers job source root count (phase.RootCheck number) held (cond last phase.OpenRoot (phase.RootCheck (number + 1))) held
 compares_file job source root count number held true is within = let two = eqb-true number 2 is in omega (arith, two)
 compares_file job source root count number held false is within = omega (arith, within)
 

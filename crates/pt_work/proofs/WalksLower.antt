@@ -18,7 +18,7 @@ use Rattle.pt_plan.specs.Job.{Job}
 use Rattle.pt_plan.specs.Run.{Held, with_trail}
 use Rattle.pt_plan.specs.Store.{pairtree_of, prefix_of, sites_of}
 use Rattle.pt_plan.specs.TurnScan.{to_site}
-use Rattle.pt_plan.specs.TurnWalk.{EndsWalk, EntersSite, HasNoIdentifier, IsDeep, IsNew, IsPast, IsPresent, IsSkipped, LeadsOn, LeavesSite, OpensRoot, PassesEntry, at_object, new_object}
+use Rattle.pt_plan.specs.TurnWalk.{EndsWalk, EntersSite, IsDeep, IsNew, IsPast, IsPresent, IsSkipped, LeadsOn, LeavesSite, OpensRoot, PassesEntry, at_object, new_object}
 use Rattle.pt_plan.specs.Work.{work_on_item, work_on_object}
 use Rattle.pt_plan.specs.World.{Answers}
 use Rattle.pt_plan.specs.declared.object.Object.{Object}
@@ -30,6 +30,7 @@ use Rattle.pt_begun.proofs.InObject.{site_itself}
 use Rattle.pt_begun.proofs.InPairtree.{pairtree_proper, some_same}
 use Rattle.pt_begun.proofs.ItemLines.{mark_of}
 use Rattle.pt_begun.proofs.NewObject.{new_object_there}
+use Rattle.pt_begun.proofs.WalksKeep.{done_at_shorty, none_at_end, none_at_entry}
 use Rattle.pt_begun.proofs.ScansTell.{free_mark, item_of_site, named_so}
 use Rattle.pt_work.specs.WorkLaws.{WalkingLowers}
 use Rattle.pt_work.specs.WorkLeft.{before_scan, items_left, left, still_listed}
@@ -130,20 +131,27 @@ walks_lower job past s new root prefix here next held after calls (OpensRoot was
     omega (arith, none)
 walks_lower job past s new root prefix here next held after calls (LeadsOn was found) answers at part free = let walked = site_walked job s.tree root was.trail past.count part.at.2 in omega (arith, walked)
 walks_lower job past s new root prefix here next held after calls (IsSkipped was why found) answers at part free = let walked = site_walked job s.tree root was.trail past.count part.at.2 in omega (arith, walked)
-walks_lower job past s new root prefix here next held after calls (HasNoIdentifier was index why found reads) answers at part free = let walked = site_walked job s.tree root was.trail past.count part.at.2 in omega (arith, walked)
-walks_lower job past s new root prefix here next held after calls (IsPresent was index id kind found reads) answers at part free = let walked = site_walked job s.tree root was.trail past.count part.at.2 in omega (arith, walked)
-walks_lower job past s new root prefix here next held after calls (IsNew was index id found reads) answers at part free =
-    let it = new_object_there job s.tree prefix was.trail index id past.count (pairtree_proper s.tree part.at.1.store part.proper) found reads part.at.2 in
+walks_lower job past s new root prefix here next held after calls (IsPresent was index id kind found) answers at part free = let walked = site_walked job s.tree root was.trail past.count part.at.2 in omega (arith, walked)
+walks_lower job past s new root prefix here next held after calls (IsNew was index id found) answers at part free =
+    let it = new_object_there job s.tree prefix was.trail index id past.count (pairtree_proper s.tree part.at.1.store part.proper) found part.at.2 in
     object_next job s.tree root prefix (new_object job id index was.trail) (at_object index was.trail) (still_listed (parent was.trail)) past.count (with_trail was (at_object index was.trail)) part.at.1 it.stands it.at_site refl (same_parent index was.trail) free
 walks_lower job past s new root prefix here next held after calls (IsPast was name e short last) answers at part free =
     let less = advanced_less was.trail _ e in
     let few = items_fewer job s.tree root past.count in
-    omega (arith, less, few)
+    let more = ap (items_left job s.tree root) (done_at_shorty was.trail name past.count e short) in
+    omega (arith, less, few, more)
 walks_lower job past s new root prefix here next held after calls (IsDeep was name e short last deep) answers at part free =
     let less = advanced_less was.trail _ e in
     let few = items_fewer job s.tree root past.count in
-    omega (arith, less, few)
+    let more = ap (items_left job s.tree root) (done_at_shorty was.trail name past.count e short) in
+    omega (arith, less, few, more)
 walks_lower job past s new root prefix here next held after calls (EntersSite was name items e short last shallow) answers at part free = omega arith
-walks_lower job past s new root prefix here next held after calls (PassesEntry was item e other) answers at part free = let less = advanced_less was.trail item e in omega (arith, less)
-walks_lower job past s new root prefix here next held after calls (LeavesSite was e long) answers at part free = let less = left_less was.trail at.trail.is_one long in omega (arith, less)
+walks_lower job past s new root prefix here next held after calls (PassesEntry was item e other) answers at part free =
+    let less = advanced_less was.trail item e in
+    let same = ap (items_left job s.tree root) (none_at_entry was.trail item past.count e other) in
+    omega (arith, less, same)
+walks_lower job past s new root prefix here next held after calls (LeavesSite was e long) answers at part free =
+    let less = left_less was.trail at.trail.is_one long in
+    let same = ap (items_left job s.tree root) (none_at_end was.trail past.count e) in
+    omega (arith, less, same)
 walks_lower job past s new root prefix here next held after calls (EndsWalk was e outer) answers at part free = omega arith

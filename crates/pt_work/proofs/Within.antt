@@ -33,7 +33,7 @@ use Rattle.pt_work.proofs.WalksLower.{walks_lower}
 
 -- the groups together
 follows_lower : (job : Job) (past : Past) (s new : Reading) (root : Tree) (counts : Counts) (here : Phase) (prefix : List ℕ) (held : Held) (read : List ℕ) (after : Held) (calls : Calls) (next : Phase) → Follows job counts here prefix held read after calls (Ok next)
-    → Answers calls.asked (Some s) (Some new) → HeldAt job past here held → SourcePart job past here prefix held s → IsFreeAt next job s.tree root (done_after here calls.line next past.count) → Lowers job s.tree root past.count here held calls.line next after
+    → Answers calls.asked (Some s) (Some new) → HeldAt job past here held → SourcePart job past here prefix held s → IsFreeAt next job s.tree root (done_after here held.trail next past.count) → Lowers job s.tree root past.count here held next after
 follows_lower job past s new root counts here prefix held read after calls next (a_start h p r x c a turn) answers at known free = starts_lower job past s.tree root prefix read here next held calls turn at
 follows_lower job past s new root counts here prefix held read after calls next (Walk h p x n c a turn) answers at known free = walks_lower job past s new root prefix here next held after calls turn answers at known free
 follows_lower job past s new root counts here prefix held read after calls next (Scan h p x n c a turn) answers at known free = scans_lower job past s new root prefix here next held after calls turn answers at known
@@ -88,7 +88,7 @@ unfolding BegunWithinWork Did
 turn_keeps_within_work job start old new run after next (past, is, within) (GoesOn calls to turn did counts) = (later, is_later, stays)
   where
     later : Past
-    later = past_after run.phase calls.line next run.kept.held past
+    later = past_after run.phase next run.kept.held past
 
     goes_on : Run
     goes_on = record { phase = next; kept = after }

@@ -76,36 +76,36 @@ StopsWithinWork = (job : Job) (start : Start) (world : World) (run : Run) → Be
 
 -- ---- the turns of each group
 
--- a turn from this phase to that one, in which this line is told, lowers what is left
-abbrev pub Lowers : Job → Forest → Tree → ℕ → Phase → Held → Option Line → Phase → Held → Type 0
-Lowers job source root count here held line next after = left job source root (done_after here line next count) next after + 1 ≤ left job source root count here held
+-- a turn from this phase to that one lowers what is left
+abbrev pub Lowers : Job → Forest → Tree → ℕ → Phase → Held → Phase → Held → Type 0
+Lowers job source root count here held next after = left job source root (done_after here held.trail next count) next after + 1 ≤ left job source root count here held
 
 -- the turns of the start
 abbrev pub StartingLowers : Type 0
 StartingLowers =
     (job : Job) (past : Past) (source : Forest) (root : Tree) (prefix read : List ℕ) (here next : Phase) (held : Held) (calls : Calls) → Starts job here prefix read calls (Ok next) → HeldAt job past here held
-    → Lowers job source root past.count here held calls.line next held
+    → Lowers job source root past.count here held next held
 
 -- the turns of the walk; the place of an object that is entered next isn't taken
 abbrev pub WalkingLowers : Type 0
 WalkingLowers =
     (job : Job) (past : Past) (s new : Reading) (root : Tree) (prefix : List ℕ) (here next : Phase) (held after : Held) (calls : Calls) → Walks job prefix here held after calls (Ok next) → Answers calls.asked (Some s) (Some new)
-    → HeldAt job past here held → SourcePart job past here prefix held s → IsFreeAt next job s.tree root (done_after here calls.line next past.count) → Lowers job s.tree root past.count here held calls.line next after
+    → HeldAt job past here held → SourcePart job past here prefix held s → IsFreeAt next job s.tree root (done_after here held.trail next past.count) → Lowers job s.tree root past.count here held next after
 
 -- the turns of the scan of an object
 abbrev pub ScanningLowers : Type 0
 ScanningLowers =
     (job : Job) (past : Past) (s new : Reading) (root : Tree) (prefix : List ℕ) (here next : Phase) (held after : Held) (calls : Calls) → Scans job here held after calls (Ok next) → Answers calls.asked (Some s) (Some new)
-    → HeldAt job past here held → SourcePart job past here prefix held s → Lowers job s.tree root past.count here held calls.line next after
+    → HeldAt job past here held → SourcePart job past here prefix held s → Lowers job s.tree root past.count here held next after
 
 -- the turns that make an object
 abbrev pub MakingLowers : Type 0
 MakingLowers =
     (job : Job) (past : Past) (s new : Reading) (root : Tree) (prefix : List ℕ) (here : Phase) (held after : Held) (calls : Calls) (next : Phase) → Makings job here held after calls (Ok next) → Answers calls.asked (Some s) (Some new)
-    → HeldAt job past here held → SourcePart job past here prefix held s → Lowers job s.tree root past.count here held calls.line next after
+    → HeldAt job past here held → SourcePart job past here prefix held s → Lowers job s.tree root past.count here held next after
 
 -- the turns that bring an object to its place, and that tell of it and of the end
 abbrev pub PlacingLowers : Type 0
 PlacingLowers =
     (job : Job) (counts : Counts) (past : Past) (source : Forest) (root : Tree) (here next : Phase) (held after : Held) (calls : Calls) → Places job counts here held after calls (Ok next) → HeldAt job past here held
-    → Lowers job source root past.count here held calls.line next after
+    → Lowers job source root past.count here held next after

@@ -1,0 +1,138 @@
+ghost use Rattle.std.specs.Prelude.{◌≡◌, ◌≤◌, ◌<◌, ◌^◌};
+ghost use Rattle.pt_name.specs.Share.{digest_number, share_number};
+
+use sha2::{Digest, Sha256};
+use std::marker::Model;
+use thiserror::Error;
+
+const MOST: u32 = 4096;
+
+/// Why two numbers are no share.
+#[derive(Clone, Copy, Debug, PartialEq, Eq, Error)]
+pub enum ShareFault {
+    /// One of the two is zero.
+    #[error("a number of the share is zero")]
+    Zero,
+    /// There are more than 4,096 shares.
+    #[error("there are more than 4096 shares")]
+    TooMany,
+    /// The share's number is over how many there are.
+    #[error("the number of the share is over how many there are")]
+    OutOfRange,
+}
+
+impl ShareFault {
+    ghost use Rattle.pt_name.specs.Share.{share_number_of_fault};
+
+    /// The fault's number: 1 `Zero`, 2 `TooMany`, 3 `OutOfRange`.
+    pub fn number(&self) -> u8
+        ensures { result ≡ share_number_of_fault self.now }
+    {
+        match self {
+            ShareFault::Zero => 1,
+            ShareFault::TooMany => 2,
+            ShareFault::OutOfRange => 3,
+        }
+    }
+}
+
+/// One of the shares in which a store is carried, each by a run of its own: its number, from 1 on, and how many there are.
+/// An object is of the share that its identifier's SHA-256 gives.
+#[derive(Clone, Copy, Debug, PartialEq, Eq)]
+pub struct Share {
+    index: u32,
+    count: u32,
+}
+
+impl Model for Share {
+    ghost use Rattle.pt_name.specs.Share.{Portion, IsPortion};
+
+    ghost Value = { Portion };
+
+    ghost view = { λ s. record { index = s.index; count = s.count } };
+
+    ghost invariant = { λ s. IsPortion (record { index = s.index; count = s.count }) };
+
+    ghost inverse = { λ p. record { index = p.index; count = p.count } };
+}
+
+impl Share {
+    ghost use Rattle.pt_name.specs.Share.{IsPortion, holds, is_first, share_of, whole};
+
+    /// The whole store: the one share of one.
+    pub fn whole() -> Share
+        ensures { result ≡ whole }
+    {
+        Share { index: 1, count: 1 }
+    }
+
+    /// The share of this number, of `count` shares.
+    ///
+    /// Refused, in this order, as `Zero` (one of the two is zero), `TooMany` (more than 4,096 shares) and `OutOfRange`
+    /// (the number is over how many there are).
+    pub fn of(index: u32, count: u32) -> Result<Share, ShareFault>
+        ensures { result ≡ share_of index count }
+    {
+        if index == 0 || count == 0 {
+            return Err(ShareFault::Zero);
+        }
+        if count > MOST {
+            return Err(ShareFault::TooMany);
+        }
+        if index > count {
+            return Err(ShareFault::OutOfRange);
+        }
+        Ok(Share { index, count })
+    }
+
+    /// The number of the share, from 1 on.
+    pub fn index(&self) -> u32
+        ensures index { result ≡ self.now.index }
+        ensures share { IsPortion self.now }
+    {
+        self.index
+    }
+
+    /// How many shares there are, 1 to 4,096.
+    pub fn count(&self) -> u32
+        ensures count { result ≡ self.now.count }
+        ensures share { IsPortion self.now }
+    {
+        self.count
+    }
+
+    /// Whether it is the first: what is passed over before an identifier is read is told by the first share alone.
+    pub fn is_first(&self) -> bool
+        ensures { result ≡ is_first self.now }
+    {
+        self.index == 1
+    }
+
+    /// Whether the object with this identifier is of this share. The first four bytes of the identifier's SHA-256, as a number
+    /// whose first byte is the highest, times the count and divided by 2^32, are the share's number less one.
+    ///
+    /// Takes any bytes. Of the whole store each object is, and no digest is made.
+    pub fn holds(&self, id: &[u8]) -> bool
+        ensures { result ≡ holds self.now id.now }
+    {
+        self.count == 1 || number_of(self.count, id) == self.index
+    }
+}
+
+// The number of the share that an identifier is of.
+fn number_of(count: u32, id: &[u8]) -> u32
+    requires { count ≤ 4096 }
+    ensures { result ≡ share_number count id.now }
+{
+    let head = u64::from(digest_head(id)) * u64::from(count);
+    (head >> 32) as u32 + 1
+}
+
+// The first four bytes of an identifier's SHA-256, as a number whose first byte is the highest.
+fn digest_head(id: &[u8]) -> u32
+    ensures value { result ≡ digest_number id.now }
+    ensures small { result < 2 ^ 32 }
+{
+    let digest = Sha256::digest(id);
+    u32::from_be_bytes([digest[0], digest[1], digest[2], digest[3]])
+}
