@@ -1,61 +1,148 @@
 """Holds a run of `migrate` against the plainest work on the same bytes, `sha512sum` over the source and `cp -r` of it, and, where
 there is a `rustc`, against the same migration in plain Rust (peer.rs), whose log has to be the same.
 
-Usage: bench.py PROGRAM [STORE..], with stores of the table below; all of them where none is named. Each command is run
-three times in turn, and its least time counts. Only ratios are printed: times say more of the machine than of the
-program. A run reads each file twice, digests it twice and writes it once, so its due is sha512sum twice and cp -r once.
+Usage: bench.py [--instructions] [--million] PROGRAM [STORE..], with stores of the table below; all of them where none is named.
+
+What counts is processor time, of the user and of the system together, as the system counts it for a command and those it started:
+it says less of other work on the machine than time on a clock does. Each command is run seven times, the commands of a store in
+turn; its figure is the median, and beside it stand the least and the most. A run reads each file twice, digests it twice and writes
+it once, so its due is sha512sum twice and cp -r once. Objects and megabytes a second are those of a second of processor time.
+
+--instructions  counts also the instructions of one run each of the program and its peer, by callgrind of valgrind, over the small
+                stores. It would count each byte that `rep stosb` fills as one, so the C library is told to fill without it.
+--million       has also the store `million`, one object of a million files, in TMPDIR and not in memory; once each.
+
+The peer's digests are those of the crate sha2 where cargo finds it without a network (Debian: librust-sha2-dev); else they are its
+own, slower on large files, and that is said.
 """
 
+import argparse
 import os
 import random
 import shutil
+import statistics
 import subprocess
 import sys
 import tempfile
-import time
+from collections import namedtuple
 
-REPEATS = 3
-PEER = os.path.join(os.path.dirname(os.path.abspath(__file__)), "peer.rs")
+REPEATS = 7
+HERE = os.path.dirname(os.path.abspath(__file__))
+PEER = os.path.join(HERE, "peer.rs")
+DEBIAN = "/usr/share/cargo/registry"
 
-# Objects, files in each, bytes in each file on average.
+# Objects, files in each, bytes in each file on average, folders above each file within its object.
+Store = namedtuple("Store", "objects files size depth")
 STORES = {
-    "small": (2000, 4, 2_000),
-    "single": (6000, 1, 300),
-    "large": (4, 4, 16_000_000),
-    "wide": (1, 10_000, 200),
+    "small": Store(2000, 4, 2_000, 0),
+    "single": Store(6000, 1, 300, 0),
+    "large": Store(4, 4, 16_000_000, 0),
+    "wide": Store(1, 10_000, 200, 0),
+    "deep": Store(40, 20, 2_000, 300),
 }
+MILLION = {"million": Store(1, 1_000_000, 64, 0)}
+# More files than this in one object lie in folders of as many.
+IN_A_FOLDER = 10_000
+
+# The C library fills and copies without `rep stosb` and `rep movsb` below these lengths.
+WITHOUT_REP = "glibc.cpu.x86_rep_stosb_threshold=1099511627776:glibc.cpu.x86_rep_movsb_threshold=1099511627776"
+
+MANIFEST = """[package]
+name = "peer"
+version = "0.0.0"
+edition = "2021"
+[[bin]]
+name = "peer"
+path = "peer.rs"
+[features]
+default = ["sha2"]
+[dependencies]
+sha2 = { version = "0.10", optional = true }
+"""
 
 
-def make_store(folder, objects, files, size):
-    """Makes a store of this many objects, with noise in their files, and gives how many bytes it holds."""
+def folder_of(store, at, file):
+    """The folder of a file of an object at a folder."""
+    for level in range(store.depth):
+        at += f"/f{level % 10}"
+    if store.files > IN_A_FOLDER:
+        at += f"/{file // IN_A_FOLDER:04d}"
+    return at
+
+
+def make_store(folder, store):
+    """Makes a store with noise in its files, and gives how many bytes it holds."""
     noise = random.Random(1)
     os.makedirs(f"{folder}/pairtree_root")
     with open(f"{folder}/pairtree_version0_1", "w", encoding="ascii") as version:
         version.write("This directory conforms to Pairtree Version 0.1.\n")
     held = 0
-    for number in range(objects):
+    for number in range(store.objects):
         name = f"{number:06d}"
         at = f"{folder}/pairtree_root/{name[:2]}/{name[2:4]}/{name[4:]}/object"
-        os.makedirs(at)
-        for file in range(files):
-            content = noise.randbytes(noise.randrange(size // 2, size * 3 // 2))
-            with open(f"{at}/{file:06d}.bin", "wb") as made:
+        for file in range(store.files):
+            place = folder_of(store, at, file)
+            if file % IN_A_FOLDER == 0:
+                os.makedirs(place)
+            content = noise.randbytes(noise.randrange(store.size // 2, store.size * 3 // 2))
+            with open(f"{place}/{file:06d}.bin", "wb") as made:
                 made.write(content)
             held += len(content)
     return held
 
 
-def least_times(commands, dest):
-    """The least time of each command over an empty destination, and the last output of each."""
+def emptied(dest):
+    shutil.rmtree(dest, ignore_errors=True)
+    os.mkdir(dest)
+
+
+def processor_time(command, output):
+    """The processor seconds of a command and of those it started, its output in a file."""
+    with open(output, "wb") as out:
+        child = subprocess.Popen(command, stdout=out)
+        _, status, used = os.wait4(child.pid, 0)
+    child.returncode = os.waitstatus_to_exitcode(status)
+    if child.returncode:
+        sys.exit(f"status {child.returncode}: {' '.join(command)}")
+    return used.ru_utime + used.ru_stime
+
+
+def measure_times(commands, dest, repeats, output):
+    """The processor times of each command over an empty destination, in turn, and the last output of each."""
     times, outputs = {name: [] for name in commands}, {}
-    for _ in range(REPEATS):
+    for _ in range(repeats):
         for name, command in commands.items():
-            shutil.rmtree(dest, ignore_errors=True)
-            os.mkdir(dest)
-            begun = time.monotonic()
-            outputs[name] = subprocess.run(command, stdout=subprocess.PIPE, check=True).stdout
-            times[name].append(time.monotonic() - begun)
-    return {name: min(taken) for name, taken in times.items()}, outputs
+            emptied(dest)
+            times[name].append(processor_time(command, output))
+            with open(output, "rb") as said:
+                outputs[name] = said.read()
+    return times, outputs
+
+
+def instructions(command, dest, folder):
+    """How many instructions a run takes, by callgrind."""
+    emptied(dest)
+    counted = f"{folder}/callgrind.out"
+    words = ["valgrind", "--tool=callgrind", f"--callgrind-out-file={counted}", *command]
+    env = {**os.environ, "GLIBC_TUNABLES": WITHOUT_REP}
+    subprocess.run(words, env=env, stdout=subprocess.DEVNULL, stderr=subprocess.DEVNULL, check=True)
+    with open(counted, encoding="utf-8", errors="replace") as lines:
+        return next(int(line.split()[1]) for line in lines if line.startswith(("summary:", "totals:")))
+
+
+def build_with_crate(folder):
+    """The migration in plain Rust with the crate sha2, from where cargo finds it without a network; None where it doesn't."""
+    if not shutil.which("cargo"):
+        return None
+    shutil.copy(PEER, folder)
+    with open(f"{folder}/Cargo.toml", "w", encoding="ascii") as manifest:
+        manifest.write(MANIFEST)
+    from_debian = ["--config", 'source.crates-io.replace-with="debian"', "--config", f'source.debian.directory="{DEBIAN}"']
+    for source in ([], from_debian):
+        build = ["cargo", "build", "--quiet", "--release", "--offline", *source]
+        if subprocess.run(build, cwd=folder, stderr=subprocess.DEVNULL, check=False).returncode == 0:
+            return f"{folder}/target/release/peer"
+    return None
 
 
 def build_peer(folder):
@@ -63,15 +150,17 @@ def build_peer(folder):
     if not shutil.which("rustc"):
         print("no rustc is here, so the program isn't held against bench/peer.rs", flush=True)
         return None
+    peer = build_with_crate(folder)
+    if peer:
+        print("the peer's digests are those of the crate sha2", flush=True)
+        return peer
+    print("cargo finds no crate sha2 here: the peer's digests are its own code, slower on large files", flush=True)
     subprocess.run(["rustc", "--edition", "2021", "-O", "-o", f"{folder}/peer", PEER], check=True)
     return f"{folder}/peer"
 
 
-def measure(program, peer, name, folder):
-    """Prints the ratios for one store. The last line of the log must count every object as carried."""
-    objects, files, size = STORES[name]
-    source, dest = f"{folder}/store", f"{folder}/dest"
-    held = make_store(source, objects, files, size)
+def commands_of(program, peer, source, dest):
+    """What is measured over a store, each by its name."""
     words = ["migrate", "--created", "2024-05-01T12:00:00Z", "--name", "Ada"]
     commands = {
         "migrate": [program, *words, source, dest],
@@ -80,27 +169,63 @@ def measure(program, peer, name, folder):
     }
     if peer:
         commands["plain Rust"] = [peer, source, dest]
-    times, outputs = least_times(commands, dest)
-    if not outputs["migrate"].endswith(b'{"as":"end","done":%d,"present":0,"skip":0}\n' % objects):
+    return commands
+
+
+def check_outputs(name, store, outputs):
+    """The last line of the log must count every object as carried, and the peer's log be the same."""
+    if not outputs["migrate"].endswith(b'{"as":"end","done":%d,"present":0,"skip":0}\n' % store.objects):
         sys.exit(f"{name}: not every object was carried")
-    if peer and outputs["plain Rust"] != outputs["migrate"]:
+    if outputs.get("plain Rust", outputs["migrate"]) != outputs["migrate"]:
         sys.exit(f"{name}: the log of the migration in plain Rust is another one")
-    due = 2 * times["sha512sum"] + times["cp -r"]
-    ratios = {other: times["migrate"] / times[other] for other in commands if other != "migrate"}
-    against = ", ".join(f"{ratio:.2f} times {other}" for other, ratio in ratios.items())
-    print(f"{name} ({objects} objects, {files} files in each, {held} bytes): migrate takes {against},", end=" ")
-    print(f"{times['migrate'] / due:.2f} times its due", flush=True)
-    shutil.rmtree(source)
+
+
+def tell(name, store, held, times):
+    """Prints the figures of one store."""
+    middle = {command: statistics.median(taken) for command, taken in times.items()}
+    print(f"{name}: {store.objects} objects, {store.files} files in each, {held} bytes")
+    for command, taken in times.items():
+        print(f"    {command:10} {middle[command]:8.3f} s ({min(taken):.3f} to {max(taken):.3f})")
+    own = middle["migrate"]
+    due = 2 * middle["sha512sum"] + middle["cp -r"]
+    against = [f"{own / middle[other]:.2f} times {other}" for other in times if other != "migrate"]
+    print(f"    {store.objects / own:.0f} objects, {store.objects * store.files / own:.0f} files, {held / own / 1e6:.1f} MB a second")
+    print(f"    migrate takes {', '.join(against)}, {own / due:.2f} times its due", flush=True)
+
+
+def measure(program, peer, name, folder, counts):
+    """Measures one store in a folder, and prints its figures; counts says whether instructions are wanted."""
+    store = {**STORES, **MILLION}[name]
+    source, dest = f"{folder}/store", f"{folder}/dest"
+    held = make_store(source, store)
+    commands = commands_of(program, peer, source, dest)
+    times, outputs = measure_times(commands, dest, 1 if name in MILLION else REPEATS, f"{folder}/output")
+    check_outputs(name, store, outputs)
+    tell(name, store, held, times)
+    if counts and held < 1e8 and name not in MILLION:
+        for command in ("migrate", "plain Rust"):
+            if command in commands:
+                print(f"    {command:10} {instructions(commands[command], dest, folder) / 1e9:8.3f} thousand million instructions", flush=True)
 
 
 def main():
-    program, *names = sys.argv[1:]
+    parser = argparse.ArgumentParser(description="Holds the program against sha512sum, cp and plain Rust over made stores.")
+    parser.add_argument("program")
+    parser.add_argument("stores", nargs="*", metavar="STORE", help=f"of {', '.join([*STORES, *MILLION])}")
+    parser.add_argument("--instructions", action="store_true", help="count instructions too, where valgrind is")
+    parser.add_argument("--million", action="store_true", help="measure one object of a million files too")
+    given = parser.parse_args()
+    names = given.stores or list(STORES)
+    names += [name for name in MILLION if given.million and name not in names]
+    counts = given.instructions and bool(shutil.which("valgrind"))
+    if given.instructions and not counts:
+        print("no valgrind is here, so no instructions are counted", flush=True)
     memory = "/dev/shm" if os.access("/dev/shm", os.W_OK) else None
     with tempfile.TemporaryDirectory() as built:
         peer = build_peer(built)
-        for name in names or STORES:
-            with tempfile.TemporaryDirectory(dir=memory) as folder:
-                measure(os.path.abspath(program), peer, name, folder)
+        for name in names:
+            with tempfile.TemporaryDirectory(dir=None if name in MILLION else memory) as folder:
+                measure(os.path.abspath(given.program), peer, name, folder, counts)
 
 
 if __name__ == "__main__":

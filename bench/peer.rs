@@ -1,6 +1,7 @@
 //! The same migration in plain Rust: what `make bench` holds the program against. It makes the same promises about bytes (each
 //! file read twice, 8 KiB at a time, the second reading compared), proves none of them, and handles the good case alone: any
-//! fault is a panic. Rust's standard library is all that it stands on, so that `rustc -O` builds it anywhere.
+//! fault is a panic. Rust's standard library is all that it stands on, so that `rustc -O` builds it anywhere; with the feature
+//! `sha2` its digests are those of the crate of that name, which the bench asks for where it finds it.
 //! `peer SOURCE DEST`; the log goes to standard output.
 use std::collections::{BTreeMap, HashMap};
 use std::fs::{self, File};
@@ -8,10 +9,12 @@ use std::io::{self, Read, Write};
 use std::path::{Path, PathBuf};
 
 // The digests of FIPS 180-4. The constants of SHA-256 are the upper halves of those of SHA-512.
+#[cfg(not(feature = "sha2"))]
 const FIRST: [u64; 8] = [
     0x6a09_e667_f3bc_c908, 0xbb67_ae85_84ca_a73b, 0x3c6e_f372_fe94_f82b, 0xa54f_f53a_5f1d_36f1,
     0x510e_527f_ade6_82d1, 0x9b05_688c_2b3e_6c1f, 0x1f83_d9ab_fb41_bd6b, 0x5be0_cd19_137e_2179,
 ];
+#[cfg(not(feature = "sha2"))]
 const ROUNDS: [u64; 80] = [
     0x428a_2f98_d728_ae22, 0x7137_4491_23ef_65cd, 0xb5c0_fbcf_ec4d_3b2f, 0xe9b5_dba5_8189_dbbc,
     0x3956_c25b_f348_b538, 0x59f1_11f1_b605_d019, 0x923f_82a4_af19_4f9b, 0xab1c_5ed5_da6d_8118,
@@ -35,6 +38,20 @@ const ROUNDS: [u64; 80] = [
     0x4cc5_d4be_cb3e_42b6, 0x597f_299c_fc65_7e2a, 0x5fcb_6fab_3ad6_faec, 0x6c44_198c_4a47_5817,
 ];
 
+#[cfg(feature = "sha2")]
+macro_rules! hasher {
+    ($name:ident, $($own:tt)*) => {
+        struct $name(sha2::$name);
+
+        impl $name {
+            fn new() -> Self { Self(sha2::Digest::new()) }
+            fn feed(&mut self, bytes: &[u8]) { sha2::Digest::update(&mut self.0, bytes) }
+            fn end(self) -> Vec<u8> { sha2::Digest::finalize(self.0).to_vec() }
+        }
+    };
+}
+
+#[cfg(not(feature = "sha2"))]
 macro_rules! hasher {
     ($name:ident, $word:ty, $length:ty, $block:expr, $rounds:expr, $down:expr, $big0:expr, $big1:expr, $small0:expr, $small1:expr) => {
         struct $name {

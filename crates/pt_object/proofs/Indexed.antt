@@ -24,6 +24,16 @@ digest_at-item items p x within = get_or-map (λ (c : Content). c.digest) items 
 pub compared : (items : List Content) (p : ℕ) (x : Content) (digest : List ℕ) (o : Ordering) → p < length items → o ≡ digest_cmp (get_or items p x).digest digest → digest_cmp (digest_at items p) digest ≡ o
 compared items p x digest o within is = ap (λ (d : List ℕ). digest_cmp d digest) (digest_at-item items p x within) ∙ sym is
 
+-- the same of the item whose position stands at a place of the index
+pub compared_in : (items : List Content) (index : List ℕ) (middle p : ℕ) (x : Content) (digest : List ℕ) (o : Ordering) → IsIndex items index → middle < length index
+    → p ≡ slice_index index middle → o ≡ digest_cmp (get_or items p x).digest digest → digest_cmp (digest_in items index middle) digest ≡ o
+compared_in items index middle p x digest o ordered below at is =
+    let within : p < length items = omega (arith, ordered.within middle below) in
+    ap (λ (q : ℕ). digest_cmp (digest_at items q) digest) (sym at) ∙ compared items p x digest o within is
+
+pub in_index : (items : List Content) (index : List ℕ) (middle p : ℕ) → IsIndex items index → p ≡ slice_index index middle → middle < length index → p < length items
+in_index items index middle p ordered at below = omega (arith, ordered.within middle below)
+
 pub same_from_equal : (x y : List ℕ) → digest_cmp x y ≡ Equal → x ≡ y
 same_from_equal x y e = (bytes_decides x y).0 (texts_ties x y ∙ ap is_eq e)
 

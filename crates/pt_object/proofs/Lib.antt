@@ -2,6 +2,7 @@ mod Grouped
 mod Halving
 mod Indexed
 mod Inserting
+mod Rowed
 pub mod InventoryText
 pub mod Noting
 pub mod Texts

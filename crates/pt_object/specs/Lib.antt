@@ -14,6 +14,7 @@ pub mod MetaParts
 pub mod Moment
 pub mod Object
 pub mod ObjectLaws
+pub mod Positions
 pub mod Root
 pub mod RootFiles
 pub mod Rows

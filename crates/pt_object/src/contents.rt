@@ -5,6 +5,7 @@ ghost use Rattle.pt_object.specs.Index.{IsAt, IsWithinBinaryDigits};
 
 use crate::Digest;
 use crate::index::search;
+use crate::positions::Positions;
 use pt_tree::{MemoryFault, NamePath};
 use std::alloc::Global;
 use std::marker::Model;
@@ -21,7 +22,7 @@ pub struct Content {
 pub struct Contents {
     items: Vec<Content>,
     // The positions of the items, in the order of their digests.
-    index: Vec<usize>,
+    index: Positions,
 }
 
 impl Model for Contents {
@@ -33,7 +34,7 @@ impl Model for Contents {
 
     ghost view = { λ c. c.items.items };
 
-    ghost invariant = { λ c. IsIndex c.items.items c.index.items };
+    ghost invariant = { λ c. IsIndex c.items.items c.index };
 }
 
 impl Contents {
@@ -43,7 +44,7 @@ impl Contents {
     {
         Contents {
             items: Vec::new(alloc),
-            index: Vec::new(alloc),
+            index: Positions::new(alloc),
         }
     }
 
@@ -61,15 +62,13 @@ impl Contents {
         };
         let path = path.copy()?;
         self.items.reserve(1)?;
-        self.index.reserve(1)?;
-        let position = self.items.len();
+        self.index.insert(place, self.items.len())?;
         self.items
             .push(Content {
                 digest: *digest,
                 path,
             })
             .unwrap();
-        self.index.insert(place, position).unwrap();
         Ok(true)
     }
 

@@ -4,6 +4,7 @@ ghost use Rattle.pt_object.specs.Digest.{digest_cmp};
 ghost use Rattle.pt_object.specs.Contents.{is_noted};
 ghost use Rattle.pt_object.specs.Index.{IsAt, IsIndex, IsPlaceOf, IsWithinBinaryDigits};
 
+use crate::positions::Positions;
 use crate::{Content, Digest};
 use std::cmp::Ordering;
 
@@ -16,7 +17,7 @@ pub(crate) struct Searched {
 }
 
 // The one search: it halves the part of the index in which the digest can be, with the middle taken out.
-pub(crate) fn search(items: &[Content], index: &[usize], digest: &Digest) -> Searched
+pub(crate) fn search(items: &[Content], index: &Positions, digest: &Digest) -> Searched
     requires { IsIndex items.now index.now }
     ensures known { is_ok result.found ≡ is_noted items.now digest.now }
     ensures found { MatchResult result.found (IsAt items.now digest.now) (IsPlaceOf items.now index.now digest.now) }
@@ -25,10 +26,10 @@ pub(crate) fn search(items: &[Content], index: &[usize], digest: &Digest) -> Sea
 {
     let mut comparisons = 0;
     let mut low = 0;
-    let mut high = index.len();
+    let mut high = items.len();
     'halving: while low < high {
         let middle = low + (high - low) / 2;
-        let position = index[middle];
+        let position = index.get(middle);
         match compare(&items[position].digest, digest, &mut comparisons) {
             Ordering::Less => low = middle + 1,
             Ordering::Equal => {

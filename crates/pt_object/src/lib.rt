@@ -13,6 +13,8 @@ mod json_parts;
 pub mod laws;
 mod meta;
 mod moment;
+mod positions;
+mod ring;
 mod root;
 mod rows;
 

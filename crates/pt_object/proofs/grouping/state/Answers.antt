@@ -1,4 +1,3 @@
-use Rattle.std.proofs.Common.{◌∙◌}
 use Rattle.pt_object.proofs.Grouped.{state_more}
 use Rattle.pt_object.proofs.grouping.state.Goals as goal
 

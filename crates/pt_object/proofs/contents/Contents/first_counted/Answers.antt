@@ -11,6 +11,6 @@ returns-clause-path c =
           let at = rw (w.in-Ok.is, c.deref.ensures.value) at c.search-searched.ensures.found in
           ap option_copied w.path-is ∙ sym (first_path-at _ _ _ _ _ c.self.invariant at w.index.ensures)
       | in-Err w ↦
-          let place = rw (w.in-Err.is, c.deref.ensures.value, c.deref-2.ensures.value) at c.search-searched.ensures.found in
+          let place = rw (w.in-Err.is, c.deref.ensures.value) at c.search-searched.ensures.found in
           ap option_copied w.path-is ∙ sym (first_path-none _ _ _ _ c.self.invariant place)
     ])

@@ -5,8 +5,7 @@ use Rattle.pt_object.proofs.contents.Contents.note.Goals as goal
 pub invariant_of-self-2 : goal.invariant_of-self-2
 invariant_of-self-2 c =
     let pushed = rw c.unwrap.ensures at c.push.ensures.items in
-    let inserted = rw c.unwrap-2.ensures at c.insert.ensures.items in
-    let position = c.len-position.ensures ∙ c.reserve.ensures.len ∙ sym c.deref.ensures.len ∙ ap length c.deref.ensures.value in
-    let place = rw (c.in-Err.is, c.deref.ensures.value, c.deref-2.ensures.value) at c.search.ensures.found in
-    rw (pushed, inserted, c.reserve.ensures.items, c.reserve-2.ensures.items, position)
-    (IsIndex-insert c.self.inside.items.items c.self.inside.index.items _ c.in-Err.place c.self.invariant place)
+    let position = c.len.ensures ∙ c.reserve.ensures.len ∙ sym c.deref.ensures.len ∙ ap length c.deref.ensures.value in
+    let place = rw (c.in-Err.is, c.deref.ensures.value) at c.search.ensures.found in
+    rw (pushed, c.in_ok-insert.ensures.ok, c.reserve.ensures.items, position)
+    (IsIndex-insert c.self.inside.items.items c.self.inside.index _ c.in-Err.place c.self.invariant place)
