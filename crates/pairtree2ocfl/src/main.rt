@@ -4,5 +4,5 @@
 use std::process::ExitCode;
 
 fn main(rt: HostRuntime) -> ExitCode {
-    pt_cli::run(&rt)
+    pt_cli::run(&rt, &mut &rt)
 }

@@ -6,7 +6,6 @@ use Rattle.std.specs.Prelude.{⊤, codes}
 use Rattle.clap.specs.Words.{Kinds, IsAmong, HasKind, Row, Text, kind_of, is_simple, is_simple_and_free}
 use Rattle.clap.specs.declared.error.Error.{Error}
 use Rattle.clap.specs.declared.error.kind.ErrorKind.{ErrorKind}
-use Rattle.clap.specs.declared.error.kind.ErrorKind.TheVariants as kind
 use Rattle.clap.proofs.OnLiterals.{clap_on_literals}
 use Rattle.pt_name.specs.Layout.{layout_of}
 use Rattle.pt_name.specs.Tuples.{Tuples}

@@ -1,20 +1,25 @@
-// The command `migrate`: a run from one folder to another, whose log is the standard output.
-ghost use Rattle.pt_run.specs.Ends.{Ends};
+// The command `migrate`: what is wanted of a run by its words.
+ghost use Rattle.std.specs.Prelude.{◌≡◌};
+ghost use Rattle.pt_cli.specs.Calls.{wanted_of};
 
-use crate::Migrate;
-use pt_guard::Lockable;
+use crate::{Migrate, Text};
 use pt_move::Job;
-use pt_name::Share;
-use pt_run::{Terminals, Wanted};
+use pt_run::Wanted;
 use pt_walk::Limits;
-use std::rt::{Clock, Files};
 
-// Makes the run that the words ask for, and gives the exit status.
-pub(crate) fn migrate<R>(rt: &R, words: Migrate) -> u8
-where
-    R: Files + Clock + Print + Eprint + AllocGlobal + Terminals,
-    R::File: Lockable,
-    ensures { Ends result }
+/// A migration by its words: what is wanted of the run, and its two folders.
+#[derive(Drop)]
+pub(crate) struct Asked {
+    pub wanted: Wanted,
+    pub source: Text,
+    pub dest: Text,
+}
+
+// What the words of a migration ask of a run, and between which folders.
+pub(crate) fn run_asked_for(words: Migrate) -> Asked
+    ensures wanted { result.wanted ≡ wanted_of words }
+    ensures source { result.source ≡ words.source }
+    ensures dest { result.dest ≡ words.dest }
 {
     let job = Job {
         meta: words.meta,
@@ -22,7 +27,6 @@ where
         algorithm: words.algorithm,
         limits: Limits::greatest(),
         gather: words.gather,
-        share: Share::whole(),
     };
     let wanted = Wanted {
         job,
@@ -31,5 +35,9 @@ where
         verbose: words.verbose,
         progress: words.progress,
     };
-    pt_run::migrate(rt, wanted, words.source.as_str(), words.dest.as_str())
+    Asked {
+        wanted,
+        source: words.source,
+        dest: words.dest,
+    }
 }

@@ -1,11 +1,13 @@
 ghost use Rattle.std.specs.Prelude.{◌≡◌, ◌⊎◌, map, string_bytes};
 ghost use Rattle.std.specs.Process.{exit_status};
-ghost use Rattle.pt_cli.specs.Statuses.{Ends, EndsWith, NamesEnd};
+ghost use Rattle.pt_cli.specs.Calls.{TellsNames, names_status, wanted_of};
+ghost use Rattle.pt_cli.specs.Statuses.{Ends, EndsWith};
+ghost use Rattle.pt_run.specs.Made.{Runs};
 
-use crate::migration::migrate;
-use crate::{Command, Named, NamesFault, Text, WordsFault, names_to, read_words};
-use pt_guard::Lockable;
-use pt_run::Terminals;
+use crate::migration::{Asked, run_asked_for};
+use crate::{Command, Migrate, Named, NamesFault, Text, WordsFault, names_to, read_words};
+use pt_run::{Host, Terminals};
+use std::alloc::AllocGlobal;
 use std::env::Env;
 use std::process::ExitCode;
 use std::rt::{Clock, Files};
@@ -17,18 +19,24 @@ const REFUSED: u8 = 2;
 
 const FAILED: u8 = 3;
 
-/// Runs the program on the words that it was started with, and gives its exit status: 0 the names were written, all was
+/// Runs the program on the words that it was started with, on a machine, and gives its exit status: 0 the names were written, all was
 /// carried, or help or the version was asked for; 1 a run ended whose log has present or skip lines; 2 the words were
 /// refused, or the folders lie in one another; 3 a fault of the run, a destination that another run has, an output that
 /// failed, or want of memory.
-pub fn run<R>(rt: &R) -> ExitCode
+///
+/// The words of `names` lead to the call that writes the two names to the machine's output; those of `migrate` to the run that they
+/// ask for; and all others ask nothing of the machine.
+pub fn run<R, H: Host>(rt: &R, host: &mut H) -> ExitCode
 where
     R: Files + Clock + Print + Eprint + Env + AllocGlobal + Terminals,
-    R::File: Lockable,
-    ensures { Ends (exit_status result) }
+    ensures { Ends (TellsNames H.lends H.takes_back H.Output.contents)
+        (λ words. Runs H.resolves H.identifies H.holds H.releases H.finds H.File.syncs
+        H.lends H.takes_back H.Store.forest H.Folder.kept H.Output.contents
+        (wanted_of words) words.source words.dest)
+        host.old host.new (exit_status result) }
 {
     let status = match words(rt) {
-        Ok(words) => answer(rt, words.as_slice()),
+        Ok(words) => answer(rt, host, words.as_slice()),
         Err(error) if error.kind() == io::ErrorKind::OutOfMemory => failed(rt, NamesFault::Memory),
         Err(_) => refused(rt, "the arguments are not text"),
     };
@@ -40,15 +48,18 @@ fn words<R: Env + AllocGlobal>(rt: &R) -> io::Result<Vec<String>> {
 }
 
 // Does what the words ask for, and says how it went.
-fn answer<R>(rt: &R, words: &[String]) -> u8
+fn answer<R, H: Host>(rt: &R, host: &mut H, words: &[String]) -> u8
 where
     R: Files + Clock + Print + Eprint + AllocGlobal + Terminals,
-    R::File: Lockable,
-    ensures { EndsWith (map string_bytes words.now) result }
+    ensures { EndsWith (TellsNames H.lends H.takes_back H.Output.contents)
+        (λ words. Runs H.resolves H.identifies H.holds H.releases H.finds H.File.syncs
+        H.lends H.takes_back H.Store.forest H.Folder.kept H.Output.contents
+        (wanted_of words) words.source words.dest)
+        (map string_bytes words.now) host.old host.new result }
 {
     match read_words(rt.alloc(), words) {
-        Ok(Command::Names(asked)) => names(rt, &asked),
-        Ok(Command::Migrate(words)) => migrate(rt, words),
+        Ok(Command::Names(asked)) => names(rt, host, &asked),
+        Ok(Command::Migrate(words)) => migrate(rt, host, words),
         Err(WordsFault::Help(text)) => tell(rt, &text),
         Err(WordsFault::Version(text)) => tell(rt, &text),
         Err(WordsFault::Words(text)) => {
@@ -74,11 +85,39 @@ fn tell<R: Print + Eprint>(rt: &R, text: &Text) -> u8
     }
 }
 
-fn names<R: Print + Eprint + AllocGlobal>(rt: &R, asked: &Named) -> u8
-    ensures { NamesEnd asked.now.id result }
+// Makes the run that the words ask for, and gives its status.
+fn migrate<R, H: Host>(rt: &R, host: &mut H, words: Migrate) -> u8
+where
+    R: Files + Clock + Eprint + AllocGlobal + Terminals,
+    ensures { Runs H.resolves H.identifies H.holds H.releases H.finds H.File.syncs
+        H.lends H.takes_back H.Store.forest H.Folder.kept H.Output.contents
+        (wanted_of words) words.source words.dest host.old host.new result }
+{
+    let Asked {
+        wanted,
+        source,
+        dest,
+    } = run_asked_for(words);
+    pt_run::migrate(rt, host, wanted, source.as_str(), dest.as_str())
+}
+
+// Writes the names that are asked for to the machine's output, and gives the status of that.
+fn names<R: Eprint + AllocGlobal, H: Host>(rt: &R, host: &mut H, asked: &Named) -> u8
+    ensures { TellsNames H.lends H.takes_back H.Output.contents asked.now
+        host.old host.new result }
 {
     let (prefix, id) = (asked.prefix.as_str(), asked.id.as_str());
-    match names_to(rt.alloc(), &asked.layout, prefix, id, &mut io::writer(rt)) {
+    let mut ground = host.lend();
+    let written = names_to(rt.alloc(), &asked.layout, prefix, id, &mut ground.output);
+    host.take_back(ground);
+    told(rt, written)
+}
+
+// Says why the names weren't written, if they weren't, and gives the status.
+fn told(rt: &impl Eprint, written: Result<(), NamesFault>) -> u8
+    ensures { result ≡ names_status written }
+{
+    match written {
         Ok(()) => DONE,
         Err(NamesFault::Empty) => refused(rt, "the identifier is empty"),
         Err(fault) => failed(rt, fault),

@@ -104,6 +104,13 @@ impl<'a, S: System> HostDest<'a, S> {
         self.at.as_str()
     }
 
+    /// The system, as the calls left it; the open file is closed.
+    pub fn into_system(self) -> S
+        ensures { result ≡ self.entry.system }
+    {
+        self.system
+    }
+
     /// Whether `mkdir` and `create` would ask the system to make this entry: `Device` where its path is too long or the
     /// folder's is empty, `Memory` where a growth was refused. The system isn't asked.
     pub fn may_make(&mut self, path: &NamePath) -> Result<(), TreeFault>

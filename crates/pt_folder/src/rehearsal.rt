@@ -41,6 +41,13 @@ impl<'a, S: System> Rehearsal<'a, S> {
         &self.dest
     }
 
+    /// The destination that it looked at.
+    pub fn into_dest(self) -> HostDest<'a, S>
+        ensures { result ≡ self.entry.dest }
+    {
+        self.dest
+    }
+
     // Whether something was moved to a path; its text is made for that.
     fn known(&self, path: &NamePath) -> Result<bool, TreeFault>
         ensures known { IfOk result (λ known. known ≡ is_known self.now.moved path.now) }

@@ -65,6 +65,13 @@ impl<'a, S: System> HostSource<'a, S> {
     {
         self.at.as_str()
     }
+
+    /// The system, as the calls left it; the open file is closed.
+    pub fn into_system(self) -> S
+        ensures { result ≡ self.entry.system }
+    {
+        self.system
+    }
 }
 
 impl<'a, S: System> Source for HostSource<'a, S> {

@@ -1,3 +1,4 @@
 pub mod Apart
 pub mod Guard
+pub mod Hold
 pub mod Paths

@@ -1,11 +1,12 @@
 //! The calls of the system that look where folders are and lock them. Each has a ghost word of what it may answer, so that a
 //! contract over them says which calls are made and what becomes of their answers.
-ghost use Rattle.std.specs.Prelude.{⊤, ℕ, List};
+ghost use Rattle.std.specs.Prelude.{◌≡◌, ⊤, ℕ, Bool, List, MatchResult};
 ghost use Rattle.std.specs.declared.io.Error.{Error};
 ghost use Rattle.pt_guard.specs.Paths.{Place};
 ghost use Rattle.std.specs.declared.result.Result.{Result};
 ghost use Rattle.pt_guard.specs.declared.places.Folder.{Folder};
 ghost use Rattle.pt_guard.specs.declared.places.Hold.{Hold};
+ghost use Rattle.pt_guard.specs.Hold.{hold_of};
 
 use std::alloc::Global;
 use std::fs::{File, OpenOptions, TryLockError};
@@ -36,12 +37,18 @@ pub struct Folder {
 
 /// A file that can be locked.
 pub trait Lockable {
+    /// Asking for the lock may be answered so.
+    ghost answers: { Self → Result Bool Error → Type 0 };
+
     /// Asks for the lock that one open file at a time may have, and doesn't wait: false where another has it, `Err` where
     /// there are no locks.
-    fn ask_lock(&self) -> io::Result<bool>;
+    fn ask_lock(&self) -> io::Result<bool>
+        ensures { answers self.now result };
 }
 
 impl Lockable for File {
+    ghost answers = { λ _ _. ⊤ };
+
     fn ask_lock(&self) -> io::Result<bool> {
         match self.try_lock() {
             Ok(()) => Ok(true),
@@ -51,9 +58,9 @@ impl Lockable for File {
     }
 }
 
-/// A system with folders that are somewhere and can be locked.
+/// A system with folders that are somewhere and can be locked. A lock that is held can't be let go of but by giving it back.
 pub trait Places {
-    type Lock: Drop;
+    type Lock;
 
     /// Where a path leads, links resolved, may be this.
     ghost resolves: { Self → List ℕ → Result Place Error → Self → Type 0 };
@@ -63,6 +70,9 @@ pub trait Places {
 
     /// Asking for the lock of the folder at a path may come to this.
     ghost holds: { Self → List ℕ → Hold Self.Lock → Self → Type 0 };
+
+    /// Giving a lock back may leave it so.
+    ghost releases: { Self → Self.Lock → Self → Type 0 };
 
     /// Where a path leads, from the top, links resolved.
     fn resolve(&mut self, alloc: Global, path: &str) -> io::Result<PathBuf>
@@ -75,6 +85,10 @@ pub trait Places {
     /// Asks for the lock of the folder at a path.
     fn hold(&mut self, path: &str) -> Hold<Self::Lock>
         ensures { holds self.old path.now result self.new };
+
+    /// Gives a lock back, which isn't held from then on.
+    fn release(&mut self, lock: Self::Lock)
+        ensures { releases self.old lock self.new };
 }
 
 impl<'a, R: Files> Places for &'a R
@@ -88,6 +102,8 @@ where
     ghost identifies = { λ _ _ _ _. ⊤ };
 
     ghost holds = { λ _ _ _ _. ⊤ };
+
+    ghost releases = { λ _ _ _. ⊤ };
 
     fn resolve(&mut self, alloc: Global, path: &str) -> io::Result<PathBuf> {
         self.canonicalize(alloc, path)
@@ -104,15 +120,31 @@ where
     fn hold(&mut self, path: &str) -> Hold<R::File> {
         let mut options = OpenOptions::new();
         options.read(true);
-        match self.open_file(&options, path) {
-            Ok(folder) => asked(folder),
-            Err(error) => Hold::Unknown(error),
-        }
+        held(self.open_file(&options, path))
+    }
+
+    fn release(&mut self, lock: R::File) {
+        drop(lock);
+    }
+}
+
+// Asks for the lock of a folder, if it could be opened.
+fn held<F: Lockable + Drop>(opened: io::Result<F>) -> Hold<F>
+    ensures { MatchResult opened (λ folder. (answer : Result Bool Error)
+        × F.answers folder answer × (result ≡ hold_of folder answer))
+        (λ error. result ≡ Hold.Unknown error) }
+{
+    match opened {
+        Ok(folder) => asked(folder),
+        Err(error) => Hold::Unknown(error),
     }
 }
 
 // Asks for the lock of a folder that was opened.
-fn asked<F: Lockable + Drop>(folder: F) -> Hold<F> {
+fn asked<F: Lockable + Drop>(folder: F) -> Hold<F>
+    ensures { (answer : Result Bool Error)
+        × F.answers folder answer × (result ≡ hold_of folder answer) }
+{
     match folder.ask_lock() {
         Ok(true) => Hold::Held(folder),
         Ok(false) => Hold::Taken,

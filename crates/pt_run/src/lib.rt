@@ -2,16 +2,21 @@
 //! ends with.
 #![tactic(auto)]
 
+mod devices;
+mod host;
 mod log;
 mod migration;
 mod prefix;
 mod reason;
 mod room;
+mod running;
 mod shown;
 mod tally;
 mod terminal;
 mod watch;
 
+pub use host::{Ground, Host, OutputFile};
+pub use log::{DurableLog, Syncs};
 pub use migration::{Wanted, migrate};
 pub use room::longest_made;
 pub use terminal::Terminals;

@@ -1,12 +1,11 @@
-ghost use Rattle.std.specs.Prelude.{◌≡◌, ⊤, IfSome, Ok, OnErr, OnOk};
+ghost use Rattle.std.specs.Prelude.{◌≡◌, IfSome, MatchBool, Ok, OnErr, OnOk};
 ghost use Rattle.std.specs.declared.io.Error.{Error};
 ghost use Rattle.std.specs.declared.result.Result.{Result};
 ghost use Rattle.std.specs.Io.KnownBytes.{Appends};
 ghost use Rattle.pt_tree.specs.Failures.{HasRisen, IsCounted};
 ghost use Rattle.pt_tree.specs.Log.{AppendsFront};
 
-use pt_tree::{Log, TreeFault, WriterLog};
-use std::fs::OpenFile;
+use pt_tree::{Log, TreeFault};
 use std::io;
 use std::io::Write;
 
@@ -20,23 +19,10 @@ pub trait Syncs {
         ensures synced { syncs self.old result self.new };
 }
 
-/// A file that standard output goes to, opened once more. Having one opening of a file put onto its disk does that for what was written
-/// through any other.
-#[derive(Drop)]
-pub struct OutputFile<F>(pub F);
-
-impl<F: OpenFile> Syncs for OutputFile<F> {
-    ghost syncs = { λ _ _ _. ⊤ };
-
-    fn sync(&mut self) -> io::Result<()> {
-        self.0.sync_all()
-    }
-}
-
 /// A log over a writer whose output, where that is asked, is put onto its disk after each piece.
 #[derive(Drop)]
 pub struct DurableLog<W: Write, F: Syncs + Drop> {
-    log: WriterLog<W>,
+    writer: W,
     file: Option<F>,
     failures: u64,
 }
@@ -44,21 +30,28 @@ pub struct DurableLog<W: Write, F: Syncs + Drop> {
 impl<W: Write, F: Syncs + Drop> DurableLog<W, F> {
     /// A log over a writer, and the output that it writes to, if that is to be put onto its disk.
     pub fn new(writer: W, file: Option<F>) -> DurableLog<W, F>
-        ensures writer { result.log.writer ≡ writer }
+        ensures writer { result.writer ≡ writer }
         ensures file { result.file ≡ file }
         ensures failures { result.failures ≡ 0 }
     {
         DurableLog {
-            log: WriterLog::new(writer),
+            writer,
             file,
             failures: 0,
         }
     }
 
+    /// The writer, as the log left it.
+    pub fn into_writer(self) -> W
+        ensures { result ≡ self.writer }
+    {
+        self.writer
+    }
+
     // Counts a failure, and gives it.
     fn failed(&mut self) -> TreeFault
         ensures fault { result ≡ TreeFault.Device }
-        ensures same { self.new.log ≡ self.old.log }
+        ensures same { self.new.writer ≡ self.old.writer }
         ensures risen { HasRisen self.old.failures self.new.failures }
     {
         self.failures = self.failures.saturating_add(1);
@@ -67,7 +60,7 @@ impl<W: Write, F: Syncs + Drop> DurableLog<W, F> {
 }
 
 impl<W: Write, F: Syncs + Drop> Log for DurableLog<W, F> {
-    ghost told = { λ l. W.contents l.log.writer };
+    ghost told = { λ l. W.contents l.writer };
 
     ghost failed = { λ l. l.failures };
 
@@ -76,19 +69,35 @@ impl<W: Write, F: Syncs + Drop> Log for DurableLog<W, F> {
     }
 
     fn put(&mut self, piece: &[u8]) -> Result<(), TreeFault>
-        ensures ok { OnOk result (Appends (W.contents self.old.log.writer) (W.contents self.new.log.writer) piece.now) }
-        ensures part { OnErr result (AppendsFront (W.contents self.old.log.writer) (W.contents self.new.log.writer) piece.now) }
+        ensures ok { OnOk result (Appends (W.contents self.old.writer) (W.contents self.new.writer) piece.now) }
+        ensures part { OnErr result (AppendsFront (W.contents self.old.writer) (W.contents self.new.writer) piece.now) }
         ensures synced { OnOk result (IfSome self.old.file (λ file. (after : F) × F.syncs file (Ok tt) after)) }
         ensures failures { IsCounted self.old.failures self.new.failures result }
     {
-        match self.log.put(piece) {
-            Ok(()) => match sync_there(&mut self.file) {
-                Ok(()) => Ok(()),
-                Err(_) => Err(self.failed()),
-            },
+        if !write_out(&mut self.writer, piece) {
+            return Err(self.failed());
+        }
+        match sync_there(&mut self.file) {
+            Ok(()) => Ok(()),
             Err(_) => Err(self.failed()),
         }
     }
+}
+
+// Writes all the bytes and flushes, as a log over a writer does. An error, or zero for a piece that isn't empty, ends it; nothing is tried
+// again.
+fn write_out<W: Write>(out: &mut W, bytes: &[u8]) -> bool
+    ensures { MatchBool result (Appends (W.contents out.old) (W.contents out.new) bytes.now)
+        (AppendsFront (W.contents out.old) (W.contents out.new) bytes.now) }
+{
+    let mut done = 0;
+    while done < bytes.len() {
+        match out.write(&bytes[done..]) {
+            Ok(0) | Err(_) => return false,
+            Ok(taken) => done += taken,
+        }
+    }
+    out.flush().is_ok()
 }
 
 // Puts a file onto its disk, where there is one.

@@ -1,31 +1,25 @@
-//! A run from one folder to another, whose log is the standard output.
+//! A run from one folder to another, on a machine.
 ghost use Rattle.std.specs.Prelude.{◌≡◌};
-ghost use Rattle.pt_run.specs.Ends.{Ends, RunEnds, guard_status, run_status};
+ghost use Rattle.pt_run.specs.Ends.{guard_status};
+ghost use Rattle.pt_run.specs.Made.{FindsLog, GoesOver, Runs, RunsOver};
 
-use crate::log::{DurableLog, OutputFile};
-use crate::room::longest_made;
-use crate::tally::{TalliedLog, Tally};
+use crate::devices::equipped;
+use crate::host::Host;
+use crate::log::Syncs;
+use crate::running::{Ended, log_failed, run};
 use crate::terminal::Terminals;
-use crate::watch::{Progress, Watched};
+use crate::watch::Progress;
 use crate::{prefix, reason};
-use pt_folder::{HostDest, HostSource, Rehearsal, System};
-use pt_guard::{GuardFault, Lockable, begin};
-use pt_move::{Fault, Job, Report};
-use std::fs::{OpenFile, OpenOptions};
+use pt_guard::{GuardFault, begin};
+use pt_move::Job;
+use std::alloc::AllocGlobal;
 use std::io;
 use std::io::ErrorKind;
 use std::rt::{Clock, Files};
 
-const CARRIED: u8 = 0;
-
-const TOLD: u8 = 1;
-
 const REFUSED: u8 = 2;
 
 const FAILED: u8 = 3;
-
-// Where the system shows a program its own standard output.
-const OUTPUT: &str = "/dev/stdout";
 
 /// What a run is asked for, beside its folders.
 #[derive(Debug, Drop)]
@@ -42,27 +36,34 @@ pub struct Wanted {
     pub progress: Progress,
 }
 
-/// Carries a store into a destination, or rehearses that, and gives the exit status: 0 all was carried; 1 the log has lines
+/// Carries a store into a destination on a machine, or rehearses that, and gives the exit status: 0 all was carried; 1 the log has lines
 /// that tell of what was not; 2 the folders lie in one another, or it isn't known where; 3 a fault, or another run holds the
 /// destination. Standard error tells of 2 and 3.
-pub fn migrate<R>(rt: &R, wanted: Wanted, source: &str, dest: &str) -> u8
+///
+/// The guard is asked first. Where the run may begin it is made over what the machine lends, which is given back then; and at last the
+/// lock is given back.
+pub fn migrate<R, H: Host>(rt: &R, host: &mut H, wanted: Wanted, source: &str, dest: &str) -> u8
 where
-    R: Files + Clock + Print + Eprint + AllocGlobal + Terminals,
-    R::File: Lockable,
-    ensures { Ends result }
+    R: Files + Clock + Eprint + AllocGlobal + Terminals,
+    ensures { Runs H.resolves H.identifies H.holds H.releases H.finds H.File.syncs
+        H.lends H.takes_back H.Store.forest H.Folder.kept H.Output.contents
+        wanted source.now dest.now host.old host.new result }
 {
-    let mut system = rt;
-    match begin(&mut system, rt.alloc(), source, dest) {
-        Ok(lock) => {
+    match begin(host, rt.alloc(), source, dest) {
+        Ok(Ok(lock)) => {
             if wanted.verbose {
                 prefix::tell(rt, source);
-                if let Err(error) = &lock {
-                    reason::unlocked(rt, dest, error);
-                }
             }
-            let status = carry(rt, wanted, source, dest);
-            drop(lock);
+            let status = carry(rt, host, wanted, source, dest);
+            host.release(lock);
             status
+        }
+        Ok(Err(error)) => {
+            if wanted.verbose {
+                prefix::tell(rt, source);
+                reason::unlocked(rt, dest, &error);
+            }
+            carry(rt, host, wanted, source, dest)
         }
         Err(fault) => refused(rt, fault),
     }
@@ -82,49 +83,43 @@ fn refused(rt: &impl Eprint, fault: GuardFault) -> u8
     }
 }
 
-// Carries a store from folder to folder, or rehearses that.
-fn carry<R>(rt: &R, wanted: Wanted, store: &str, folder: &str) -> u8
+// Carries a store from folder to folder, or rehearses that, over what the machine lends.
+fn carry<R, H: Host>(rt: &R, host: &mut H, wanted: Wanted, store: &str, folder: &str) -> u8
 where
-    R: Files + Clock + Print + Eprint + AllocGlobal + Terminals,
-    ensures { RunEnds result }
+    R: Files + Clock + Eprint + AllocGlobal + Terminals,
+    ensures { (file : _) × (mid : H)
+        × FindsLog H.finds H.File.syncs wanted.sync host.old mid file
+        × GoesOver H.lends H.takes_back
+        (RunsOver H.Store.forest H.Folder.kept H.Output.contents wanted store.now folder.now)
+        file mid host.new result }
 {
-    let Ok(output) = synced_output(rt, wanted.sync) else {
-        failed(rt, &Fault::Log);
-        return status_of(&Err(Fault::Log));
+    let file = match synced_output(rt, host, wanted.sync) {
+        Ok(file) => file,
+        Err(_) => return log_failed(rt),
     };
-    let alloc = rt.alloc();
-    let tally = Tally::new();
-    let source = HostSource::new(rt, alloc, store);
-    let mut source = Watched::new(source, rt, alloc, &tally, wanted.progress);
-    let mut dest = HostDest::new(rt, alloc, folder)
-        .with_longest(longest_made(&wanted.job.layout))
-        .with_sync(wanted.sync);
-    let mut log = TalliedLog::new(DurableLog::new(io::writer(rt), output), &tally);
-    let verbose = wanted.verbose;
-    if wanted.rehearse {
-        let mut dest = Rehearsal::new(alloc, dest);
-        let ran = pt_move::migrate(alloc, &mut source, &mut dest, &mut log, wanted.job);
-        source.end();
-        return told(rt, &ran, verbose, source.source(), dest.dest(), store);
-    }
-    let ran = pt_move::migrate(alloc, &mut source, &mut dest, &mut log, wanted.job);
-    source.end();
-    told(rt, &ran, verbose, source.source(), &dest, store)
+    let ground = host.lend();
+    let devices = equipped(rt.alloc(), ground, file, &wanted, store, folder);
+    let Ended { status, ground } = run(rt, devices, wanted, store);
+    host.take_back(ground);
+    status
 }
 
-// The file that standard output goes to, where there is one and it is to be put onto its disk. Where that can't be had it is told; an error
-// where it fails.
-fn synced_output<R: Files + Eprint + Terminals>(
+// The file that the machine's output goes to, where there is one and it is to be put onto its disk. Where that can't be had it is told; an
+// error where it fails.
+fn synced_output<R: Eprint, H: Host>(
     rt: &R,
+    host: &mut H,
     sync: bool,
-) -> io::Result<Option<OutputFile<R::File>>> {
-    if !sync || rt.output_is_terminal() {
+) -> io::Result<Option<H::File>>
+    ensures { FindsLog H.finds H.File.syncs sync host.old host.new result }
+{
+    if !sync {
         return Ok(None);
     }
-    match output_file(rt) {
+    match host.output_file() {
         Ok(None) => Ok(None),
-        Ok(Some(file)) => match file.sync_all() {
-            Ok(()) => Ok(Some(OutputFile(file))),
+        Ok(Some(mut file)) => match file.sync() {
+            Ok(()) => Ok(Some(file)),
             Err(error) if error.kind() == ErrorKind::InvalidInput => {
                 reason::unsynced(rt, &error);
                 Ok(None)
@@ -135,57 +130,5 @@ fn synced_output<R: Files + Eprint + Terminals>(
             reason::unsynced(rt, &error);
             Ok(None)
         }
-    }
-}
-
-// The file that standard output goes to, opened once more; nothing where it goes to what isn't a file, as a pipe.
-fn output_file<R: Files>(rt: &R) -> io::Result<Option<R::File>> {
-    if !rt.metadata(OUTPUT)?.is_file() {
-        return Ok(None);
-    }
-    let mut appending = OpenOptions::new();
-    appending.append(true);
-    let mut reading = OpenOptions::new();
-    reading.read(true);
-    match rt.open_file(&appending, OUTPUT) {
-        Ok(file) => Ok(Some(file)),
-        Err(_) => Ok(Some(rt.open_file(&reading, OUTPUT)?)),
-    }
-}
-
-// Says what a run over these folders came to, if a fault ended it, and why, if that is asked for; and gives the status.
-fn told<R: Eprint + AllocGlobal, S: System, D: System>(
-    rt: &R,
-    ran: &Result<Report, Fault>,
-    verbose: bool,
-    source: &HostSource<'_, S>,
-    dest: &HostDest<'_, D>,
-    store: &str,
-) -> u8
-    ensures { result ≡ run_status ran.now }
-{
-    if let Err(fault) = ran {
-        failed(rt, fault);
-        if verbose {
-            reason::tell(rt, fault, source, dest, store);
-        }
-    }
-    status_of(ran)
-}
-
-// Says which fault ended a run.
-fn failed(rt: &impl Eprint, fault: &Fault) {
-    let number = fault.number();
-    let _ = eprintln!(rt; "pairtree2ocfl: fault {number}: {fault}");
-}
-
-// The exit status of a run.
-fn status_of(ran: &Result<Report, Fault>) -> u8
-    ensures { result ≡ run_status ran.now }
-{
-    match ran {
-        Ok(report) if report.present > 0 || report.skipped > 0 => TOLD,
-        Ok(_) => CARRIED,
-        Err(_) => FAILED,
     }
 }

@@ -78,6 +78,13 @@ impl<'a, L: Log> TalliedLog<'a, L> {
     {
         TalliedLog { log, tally }
     }
+
+    /// The log whose lines were counted, as the calls left it.
+    pub fn into_log(self) -> L
+        ensures { result ≡ self.entry.log }
+    {
+        self.log
+    }
 }
 
 impl<'a, L: Log> Log for TalliedLog<'a, L> {

@@ -80,6 +80,13 @@ impl<'a, S: Source, R: Clock + Eprint + Terminals> Watched<'a, S, R> {
         &self.source
     }
 
+    /// The source that was watched, as the calls left it.
+    pub fn into_source(self) -> S
+        ensures { result ≡ self.entry.source }
+    {
+        self.source
+    }
+
     /// Takes the line away that is shown on a terminal.
     pub fn end(&self) {
         if self.shows && self.on_terminal {

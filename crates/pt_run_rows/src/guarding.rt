@@ -28,6 +28,8 @@ impl<'a> Places for &'a Paths {
 
     ghost holds = { λ _ _ _ _. ⊤ };
 
+    ghost releases = { λ _ _ _. ⊤ };
+
     fn resolve(&mut self, alloc: Global, path: &str) -> io::Result<PathBuf> {
         for (from, to) in self.leads {
             if *from == path {
@@ -67,6 +69,8 @@ impl<'a> Places for &'a Paths {
             Hold::Held(7)
         }
     }
+
+    fn release(&mut self, _: u8) {}
 }
 
 fn map(leads: &'static [(&'static str, &'static str)], known: bool, taken: bool) -> Paths {

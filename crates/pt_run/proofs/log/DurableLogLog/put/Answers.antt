@@ -3,11 +3,12 @@ use Rattle.std.proofs.Math.Seq.{take-length}
 use Rattle.std.specs.Io.KnownBytes.{Appends}
 use Rattle.pt_run.proofs.log.DurableLogLog.put.Goals as goal
 
-pub returns-in-Err-sync_there-clause-part : goal.returns-in-Err-sync_there-clause-part
-returns-in-Err-sync_there-clause-part g c =
-    let before = g.W.Write.contents c.args.self.now.log.writer in
-    let piece = c.args.piece.now in (
+pub returns-in-Err-clause-part : goal.returns-in-Err-clause-part
+returns-in-Err-clause-part g c =
+    let before = g.W.Write.contents c.args.self.now.writer in
+    let piece = c.args.piece.now in
+    let contents = g.W.Write.contents in (
       length piece,
-      subst (λ log. Appends before (g.W.Write.contents log.writer) (take (length piece) piece)) (sym c.failed.ensures.same)
-          (subst (λ bytes. Appends before (g.W.Write.contents c.put.new.self.writer) bytes) (sym (take-length piece)) c.in-Ok.ensures.ok),
+      subst (λ w. Appends before (contents w) (take (length piece) piece)) (sym c.failed-in-Err.ensures.same)
+          (subst (λ bytes. Appends before (contents c.write_out.new.out) bytes) (sym (take-length piece)) c.if-not-write_out.ensures),
     )

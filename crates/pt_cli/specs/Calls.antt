@@ -1,0 +1,48 @@
+-- Which call the words of a command lead to, and what it is given.
+use Rattle.std.specs.Prelude.{◌≡◌, ◌↔◌, ℕ, List, [], Option, Result, Ok, Err, IfErr, IsErrOf, OnOk}
+use Rattle.std.specs.Io.KnownBytes.{Appends}
+use Rattle.pt_name.specs.Tuples.{Tuples}
+use Rattle.pt_cli.specs.Names.{LeavesWritten, names_text}
+use Rattle.pt_cli.specs.declared.command.Migrate.{Migrate as Migration}
+use Rattle.pt_cli.specs.declared.command.Named.{Named}
+use Rattle.pt_cli.specs.declared.names.NamesFault.{NamesFault}
+use Rattle.pt_cli.specs.declared.names.NamesFault.TheVariants as names
+use Rattle.pt_run.specs.declared.host.Ground.{Ground}
+use Rattle.pt_run.specs.declared.migration.Wanted.{Wanted}
+use Rattle.pt_walk.specs.Limits.{greatest_limits}
+
+-- what is wanted of the run that the words of a migration ask for: each field as it was given, and the greatest limits
+abbrev pub wanted_of : Migration → Wanted
+wanted_of words = record {
+  job = record {
+    meta = words.meta;
+    layout = words.layout;
+    algorithm = words.algorithm;
+    limits = greatest_limits;
+    gather = words.gather;
+  };
+  sync = words.sync;
+  rehearse = words.rehearse;
+  verbose = words.verbose;
+  progress = words.progress;
+}
+
+-- of writing names: 0 where they were written, 2 for the empty identifier, else 3
+abbrev pub names_status : Result (Unit {0}) NamesFault → ℕ
+names_status (Ok done) = 0
+names_status (Err names.Empty) = 2
+names_status (Err names.Write) = 3
+names_status (Err names.Memory) = 3
+
+-- the names of an identifier were written behind what an output held; or that is refused so, and a front of them is there
+pub record WritesNames (layout : Tuples) (prefix id : List ℕ) (old new : Option (List ℕ)) (written : Result (Unit {0}) NamesFault) : Type 0 where
+  pub empty : IsErrOf written names.Empty ↔ (id ≡ [])
+  pub ok : OnOk written (Appends old new (names_text layout prefix id))
+  pub err : IfErr written (λ fault. LeavesWritten fault old new (names_text layout prefix id))
+
+-- the names that are asked for are written to the output that a machine lends, which is given back with all else as it was; and the status is by that
+abbrev pub TellsNames : {H S D W : Type 0} → (H → Ground S D W → H → Type 0) → (H → Ground S D W → H → Type 0) → (W → Option (List ℕ)) → Named → H → H → ℕ → Type 0
+TellsNames {H} {S} {D} {W} lends takes_back contents asked old new status =
+    (ground : Ground S D W) × (lent : H) × lends old ground lent × (output : W) × (written : Result (Unit {0}) NamesFault)
+    × WritesNames asked.layout asked.prefix asked.id (contents ground.output) (contents output) written × takes_back lent (record ground { output = output }) new
+    × (status ≡ names_status written)

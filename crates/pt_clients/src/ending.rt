@@ -1,0 +1,46 @@
+//! What a caller knows where a whole run is answered Ok.
+ghost use Rattle.std.specs.Prelude.{◌≡◌, ◌≤◌, true, IfOk};
+ghost use Rattle.pt_begun.specs.Begun.{start_of};
+ghost use Rattle.pt_move.specs.Outcome.{EndsWhole};
+ghost use Rattle.pt_plan.specs.World.{source_tree};
+ghost use Rattle.pt_state.specs.Outside.{world};
+ghost use Rattle.pt_state.specs.declared.job.Report.{Report};
+
+use pt_move::{Fault, Job, migrate};
+use pt_tree::{Dest, Log, Source};
+use std::alloc::Global;
+
+/// Whether a run came to its end: then, where all three tell, the root holds all objects that are carried, each whole, nothing else is
+/// changed, and the log has all lines.
+pub fn carries_all<S: Source, D: Dest, L: Log>(
+    alloc: Global,
+    source: &mut S,
+    dest: &mut D,
+    log: &mut L,
+    job: Job,
+) -> bool
+    ensures { result ≡ true → (report : Report) × EndsWhole job (source_tree (S.told source.old))
+        (start_of (world (S.told source.old) (D.told dest.old) (L.told log.old)
+        (S.failed source.old) (D.failed dest.old) (L.failed log.old)))
+        (D.told dest.new) (L.told log.new) report }
+{
+    match migrate(alloc, source, dest, log, job) {
+        Ok(_) => true,
+        Err(_) => false,
+    }
+}
+
+/// How many lines a run told before its end line. Whatever the devices are, and though they tell nothing, they are no more than its limit of
+/// turns.
+pub fn lines_told<S: Source, D: Dest, L: Log>(
+    alloc: Global,
+    source: &mut S,
+    dest: &mut D,
+    log: &mut L,
+    job: Job,
+) -> Result<u64, Fault>
+    ensures { IfOk result (λ lines. lines ≤ job.limits.turns) }
+{
+    let report = migrate(alloc, source, dest, log, job)?;
+    Ok(report.done + report.present + report.skipped)
+}

@@ -1,0 +1,11 @@
+-- What an answer to the question for a lock says.
+use Rattle.std.specs.Prelude.{Bool, true, false, Result, Ok, Err}
+use Rattle.std.specs.declared.io.Error.{Error}
+use Rattle.pt_guard.specs.declared.places.Hold.{Hold}
+use Rattle.pt_guard.specs.declared.places.Hold.TheVariants as hold
+
+-- the lock of what was asked is held, another holds it, or it can't be asked for
+abbrev pub hold_of : {F : Type 0} → F → Result Bool Error → Hold F
+hold_of file (Ok true) = hold.Held file
+hold_of file (Ok false) = hold.Taken
+hold_of file (Err error) = hold.Unknown error

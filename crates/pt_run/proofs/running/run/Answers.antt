@@ -1,0 +1,25 @@
+use Rattle.pt_folder.specs.Reading.{unread_open}
+use Rattle.pt_run.proofs.running.run.Goals as goal
+
+pub returns : goal.returns
+returns g c =
+    let source = c.made-ran.new.source.source in
+    let dest = c.made-ran.result.dest in (
+      record { store = source.folder.path.now; folder = dest.folder.path.now; synced = dest.synced },
+      unread_open g.S.File.Input.bytes source.reading,
+      dest.writing,
+      record { source = source.failures; dest = dest.failures; log = c.made-ran.new.log.log.failures },
+      (
+        c.made-ran.result.ran,
+        rw (
+          c.into_system.ensures,
+          c.into_system-2.ensures,
+          c.into_writer.ensures,
+          c.into_source-source.ensures,
+          c.into_log.ensures,
+          ← c.new-source.ensures,
+          ← c.new-log.ensures,
+        ) c.made-ran.ensures,
+        c.told-status.ensures,
+      ),
+    )

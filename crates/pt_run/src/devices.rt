@@ -1,0 +1,52 @@
+//! The devices of a run, as it is asked for.
+ghost use Rattle.std.specs.Prelude.{◌≡◌, ◌+◌, None};
+ghost use Rattle.pt_run.specs.Room.{spare_of};
+
+use crate::Wanted;
+use crate::host::Ground;
+use crate::log::{DurableLog, Syncs};
+use crate::room::longest_made;
+use pt_folder::{HostDest, HostSource, System};
+use std::alloc::Global;
+use std::io::Write;
+
+/// The source, the destination and the log of a run.
+#[derive(Drop)]
+pub(crate) struct Devices<'a, S: System, D: System, W: Write, F: Syncs + Drop> {
+    /// The folder of the store.
+    pub source: HostSource<'a, S>,
+    /// The folder of the destination.
+    pub dest: HostDest<'a, D>,
+    /// The log, whose lines are put onto the disk where that is asked.
+    pub log: DurableLog<W, F>,
+}
+
+/// The devices of a run over these, from a store to a folder. Paths for which there is no room at the longest place are refused; and files
+/// are put onto the disk where that is wanted, as the log is where its file is given.
+pub(crate) fn equipped<'a, S: System, D: System, W: Write, F: Syncs + Drop>(
+    alloc: Global,
+    ground: Ground<S, D, W>,
+    file: Option<F>,
+    wanted: &Wanted,
+    store: &'a str,
+    folder: &'a str,
+) -> Devices<'a, S, D, W, F>
+    ensures store { (result.source.system ≡ ground.store)
+        × (result.source.folder.path.now ≡ store.now) }
+    ensures unread { (result.source.reading ≡ None) × (result.source.failures ≡ 0) }
+    ensures folder { (result.dest.system ≡ ground.folder)
+        × (result.dest.folder.path.now ≡ folder.now) }
+    ensures unwritten { (result.dest.writing ≡ None) × (result.dest.failures ≡ 0) }
+    ensures longest { result.dest.longest + spare_of wanted.now.job.layout ≡ 4095 }
+    ensures synced { result.dest.synced ≡ wanted.now.sync }
+    ensures log { (result.log.writer ≡ ground.output) × (result.log.failures ≡ 0) }
+    ensures log_synced { result.log.file ≡ file }
+{
+    Devices {
+        source: HostSource::new(ground.store, alloc, store),
+        dest: HostDest::new(ground.folder, alloc, folder)
+            .with_longest(longest_made(&wanted.job.layout))
+            .with_sync(wanted.sync),
+        log: DurableLog::new(ground.output, file),
+    }
+}

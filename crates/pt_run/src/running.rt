@@ -1,0 +1,167 @@
+//! A run over its devices, and what it came to.
+ghost use Rattle.std.specs.Prelude.{◌≡◌, ℕ};
+ghost use Rattle.pt_folder.specs.DestHeld.{told_of as dest_told, unless_synced};
+ghost use Rattle.pt_folder.specs.Reading.{unread_open};
+ghost use Rattle.pt_folder.specs.SourceHeld.{told_of as source_told};
+ghost use Rattle.pt_move.specs.Migrates.{Migrates};
+ghost use Rattle.pt_run.specs.Ends.{run_status};
+ghost use Rattle.pt_run.specs.Made.{RunsFrom, seen};
+ghost use Rattle.pt_state.specs.Outside.{world};
+
+use crate::devices::Devices;
+use crate::host::Ground;
+use crate::log::Syncs;
+use crate::tally::{TalliedLog, Tally};
+use crate::terminal::Terminals;
+use crate::watch::Watched;
+use crate::{Wanted, reason};
+use pt_folder::{HostDest, HostSource, Rehearsal, System};
+use pt_move::{Fault, Job, Report};
+use pt_tree::{Log, Source};
+use std::alloc::{AllocGlobal, Global};
+use std::io::Write;
+use std::rt::Clock;
+
+const CARRIED: u8 = 0;
+
+const TOLD: u8 = 1;
+
+const FAILED: u8 = 3;
+
+/// A run that has ended: its status, and what it was made over.
+#[derive(Drop)]
+pub(crate) struct Ended<S, D, W> {
+    pub status: u8,
+    pub ground: Ground<S, D, W>,
+}
+
+/// Makes the run that is wanted over its devices, or rehearses it, watched as that is wanted, and tells standard error of a fault. `store` is
+/// the path of the store.
+pub(crate) fn run<R, S: System, D: System, W: Write, F: Syncs + Drop>(
+    rt: &R,
+    devices: Devices<'_, S, D, W, F>,
+    wanted: Wanted,
+    store: &str,
+) -> Ended<S, D, W>
+where
+    R: Clock + Eprint + AllocGlobal + Terminals,
+    ensures { RunsFrom S.forest D.kept W.contents wanted
+        (world (source_told
+        (S.forest devices.entry.source.system devices.entry.source.folder.path.now)
+        (unread_open S.File.Input.bytes devices.entry.source.reading))
+        (dest_told (unless_synced devices.entry.dest.synced
+        (D.kept devices.entry.dest.system devices.entry.dest.folder.path.now))
+        devices.entry.dest.writing)
+        (W.contents devices.entry.log.writer)
+        devices.entry.source.failures devices.entry.dest.failures devices.entry.log.failures)
+        result.ground result.status }
+{
+    let alloc = rt.alloc();
+    let tally = Tally::new();
+    let Devices { source, dest, log } = devices;
+    let mut source = Watched::new(source, rt, alloc, &tally, wanted.progress);
+    let mut log = TalliedLog::new(log, &tally);
+    let verbose = wanted.verbose;
+    let Ran { ran, dest } = made(
+        alloc,
+        &mut source,
+        dest,
+        &mut log,
+        wanted.rehearse,
+        wanted.job,
+    );
+    source.end();
+    let source = source.into_source();
+    let status = told(rt, &ran, verbose, &source, &dest, store);
+    let ground = Ground {
+        store: source.into_system(),
+        folder: dest.into_system(),
+        output: log.into_log().into_writer(),
+    };
+    Ended { status, ground }
+}
+
+// What a run came to, and its destination.
+#[derive(Drop)]
+struct Ran<'a, D: System> {
+    ran: Result<Report, Fault>,
+    dest: HostDest<'a, D>,
+}
+
+// Makes a run, or rehearses it.
+fn made<'a, S: Source, D: System, L: Log>(
+    alloc: Global,
+    source: &mut S,
+    dest: HostDest<'a, D>,
+    log: &mut L,
+    rehearse: bool,
+    job: Job,
+) -> Ran<'a, D>
+    ensures { Migrates job
+        (seen rehearse (world (S.told source.old)
+        (dest_told (unless_synced dest.entry.synced
+        (D.kept dest.entry.system dest.entry.folder.path.now)) dest.entry.writing)
+        (L.told log.old) (S.failed source.old) dest.entry.failures (L.failed log.old)))
+        (seen rehearse (world (S.told source.new)
+        (dest_told (unless_synced result.dest.synced
+        (D.kept result.dest.system result.dest.folder.path.now)) result.dest.writing)
+        (L.told log.new) (S.failed source.new) result.dest.failures (L.failed log.new)))
+        result.ran }
+{
+    if rehearse {
+        let mut rehearsal = Rehearsal::new(alloc, dest);
+        let ran = pt_move::migrate(alloc, source, &mut rehearsal, log, job);
+        return Ran {
+            ran,
+            dest: rehearsal.into_dest(),
+        };
+    }
+    let mut dest = dest;
+    let ran = pt_move::migrate(alloc, source, &mut dest, log, job);
+    Ran { ran, dest }
+}
+
+// Says what a run over these folders came to, if a fault ended it, and why, if that is asked for; and gives the status.
+fn told<R: Eprint + AllocGlobal, S: System, D: System>(
+    rt: &R,
+    ran: &Result<Report, Fault>,
+    verbose: bool,
+    source: &HostSource<'_, S>,
+    dest: &HostDest<'_, D>,
+    store: &str,
+) -> u8
+    ensures { result ≡ run_status ran.now }
+{
+    if let Err(fault) = ran {
+        failed(rt, fault);
+        if verbose {
+            reason::tell(rt, fault, source, dest, store);
+        }
+    }
+    status_of(ran)
+}
+
+/// Says that the log can't be put onto its disk, and gives the status of that fault.
+pub(crate) fn log_failed(rt: &impl Eprint) -> u8
+    ensures { result ≡ 3 }
+{
+    failed(rt, &Fault::Log);
+    FAILED
+}
+
+// Says which fault ended a run.
+fn failed(rt: &impl Eprint, fault: &Fault) {
+    let number = fault.number();
+    let _ = eprintln!(rt; "pairtree2ocfl: fault {number}: {fault}");
+}
+
+// The exit status of a run.
+fn status_of(ran: &Result<Report, Fault>) -> u8
+    ensures { result ≡ run_status ran.now }
+{
+    match ran {
+        Ok(report) if report.present > 0 || report.skipped > 0 => TOLD,
+        Ok(_) => CARRIED,
+        Err(_) => FAILED,
+    }
+}
