@@ -4,6 +4,7 @@ pub mod AtPaths
 pub mod Canonical
 pub mod Finding
 pub mod Held
+pub mod Leaving
 pub mod Names
 pub mod Paths
 pub mod Placing

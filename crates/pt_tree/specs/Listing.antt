@@ -1,5 +1,7 @@
 -- What a directory holds, one below another.
-use Rattle.std.specs.Prelude.{ℕ, Bool, true, ◌&&◌, List, [], ◌∷◌, Option, None, Some}
+use Rattle.std.specs.Prelude.{ℕ, Bool, true, ◌&&◌, List, [], ◌∷◌, not, Option, None, Some}
+use Rattle.std.specs.List.{filter, list_any}
+use Rattle.std.specs.Str.{bytes_eq}
 use Rattle.std.specs.Ordering.{is_lt, nat_cmp}
 use Rattle.std.specs.Cmp.Lexicographic.{slice_cmp}
 use Rattle.std.specs.Prelude.{cond}
@@ -36,6 +38,14 @@ listing_refusal items name = cond (can_follow items name) None (Some fault.NotRi
 abbrev pub items_lent : Option (Bor (List ℕ) × Kind) → Option Item
 items_lent None = None
 items_lent (Some x) = Some (x.0.now, x.1)
+
+-- the name is one of these
+abbrev pub is_among : List (List ℕ) → List ℕ → Bool
+is_among names name = list_any (λ other. bytes_eq other name) names
+
+-- the entries but for those with these names
+abbrev pub left_in : List (List ℕ) → List Item → List Item
+left_in names items = filter (λ (item : Item). not (is_among names item.0)) items
 
 abbrev pub listing_number : ListingFault → ℕ
 listing_number fault.NotRising = 1

@@ -1,5 +1,5 @@
 ghost use Rattle.std.specs.Prelude.{◌≡◌, ◌==◌, ◌++◌, [], ◌∷◌, ℕ, IsTrue, OnOk, OnErr, length, slice_get};
-ghost use Rattle.pt_tree.specs.Listing.{can_follow as can_follow_items, items_lent, listing_refusal, listing_number, names_rise};
+ghost use Rattle.pt_tree.specs.Listing.{can_follow as can_follow_items, items_lent, left_in, listing_refusal, listing_number, names_rise};
 ghost use Rattle.pt_tree.specs.Refusal.{Answers};
 
 use crate::{Kind, Name};
@@ -70,6 +70,14 @@ impl Listing {
             Ok(()) => Ok(()),
             Err(_) => Err(ListingFault::Memory),
         }
+    }
+
+    /// Takes away the entries with these names. It takes no memory.
+    #[tactic(auto, using(crate::proofs::Leaving::leaving))]
+    pub fn leave_out(&mut self, names: &[Name])
+        ensures { self.new ≡ left_in names.now self.old }
+    {
+        self.items.retain(|(name, _)| !names.contains(name));
     }
 
     /// How many entries it has.

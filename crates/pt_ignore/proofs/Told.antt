@@ -1,0 +1,70 @@
+-- What a source tells without the entries of some names, before and after each call.
+use Rattle.std.proofs.Common.{◌≡◌, ℕ, List, refl, sym, ◌∙◌, ap, subst}
+use Rattle.std.specs.Prelude.{Option, None, Some, IsSome, take}
+use Rattle.std.specs.Option.{option_map}
+use Rattle.pt_tree.specs.Forest.{dir_at, file_at, listing_at, listing_of}
+use Rattle.pt_tree.specs.Listing.{Item, left_in}
+use Rattle.pt_tree.specs.Path.{Path}
+use Rattle.pt_tree.specs.Source.{CanList, CanOpen, CanRead, IsListed, IsRead, Reading, after_next, after_open}
+use Rattle.pt_ignore.specs.Ignoring.{reading_without, told_without, without}
+use Rattle.pt_ignore.proofs.Trees.{dir_found, file_found, listing-without}
+
+some_of : {A : Type 0} (o : Option A) → IsSome o → (x : A) × (o ≡ Some x)
+some_of None is = absurd (cc)
+some_of (Some x) is = (x, refl)
+
+some_from : {A : Type 0} (o : Option A) (x : A) → o ≡ Some x → IsSome o
+some_from None x is = absurd (cc)
+some_from (Some y) x is = refl
+
+-- what is left where something is told
+left_of : (names : List (List ℕ)) (s r : Reading) → told_without names (Some s) ≡ Some r → reading_without names s ≡ r
+left_of names s r is = cc
+
+pub can_list : (names : List (List ℕ)) (told : Option Reading) (p : Path) → CanList (told_without names told) p → CanList told p
+unfolding CanList
+can_list names told p may = λ s is.
+    let left = some_of (dir_at (without names s.tree) p) (may (reading_without names s) (ap (told_without names) is)) in
+    let held = dir_found names s.tree p left.0 left.1 in
+    some_from _ held.0 held.1
+
+pub is_listed : (names : List (List ℕ)) (told : Option Reading) (p : Path) (items : List Item) → CanList (told_without names told) p → IsListed told p items
+    → IsListed (told_without names told) p (left_in names items)
+unfolding CanList IsListed
+is_listed names None p items may listed = λ r is. absurd (cc)
+is_listed names (Some s) p items may listed = λ r is.
+    let left = some_of (dir_at (without names s.tree) p) (may (reading_without names s) refl) in
+    let held = dir_found names s.tree p left.0 left.1 in
+    let same : Some (listing_of held.0) ≡ Some items = ap (option_map listing_of) (sym held.1) ∙ listed s refl in
+    let whole : listing_of held.0 ≡ items = cc in
+    subst (λ (r : Reading). listing_at r.tree p ≡ Some (left_in names items)) (left_of names s r is)
+    (ap (option_map listing_of) left.1 ∙ ap (λ f. Some (listing_of f)) held.2 ∙ ap Some (listing-without names held.0) ∙ ap (λ xs. Some (left_in names xs)) whole)
+
+pub can_open : (names : List (List ℕ)) (told : Option Reading) (p : Path) → CanOpen (told_without names told) p → CanOpen told p
+unfolding CanOpen
+can_open names told p may = λ s is.
+    let left = some_of (file_at (without names s.tree) p) (may (reading_without names s) (ap (told_without names) is)) in
+    some_from _ left.0 (file_found names s.tree p left.0 left.1)
+
+pub is_opened : (names : List (List ℕ)) (told : Option Reading) (p : Path) → CanOpen (told_without names told) p
+    → told_without names (option_map (after_open p) told) ≡ option_map (after_open p) (told_without names told)
+unfolding CanOpen
+is_opened names None p may = refl
+is_opened names (Some s) p may =
+    let left = some_of (file_at (without names s.tree) p) (may (reading_without names s) refl) in
+    ap (λ (unread : Option (List ℕ)). Some (record { tree = without names s.tree; unread = unread })) (file_found names s.tree p left.0 left.1 ∙ sym left.1)
+
+pub can_read : (names : List (List ℕ)) (told : Option Reading) → CanRead (told_without names told) → CanRead told
+unfolding CanRead
+can_read names told may = λ s is. may (reading_without names s) (ap (told_without names) is)
+
+pub is_read : (names : List (List ℕ)) (told : Option Reading) (block : List ℕ) → IsRead told block → IsRead (told_without names told) block
+unfolding IsRead
+is_read names None block read = λ r is. absurd (cc)
+is_read names (Some s) block read = λ r is. subst (λ (r : Reading). option_map (take 8192) r.unread ≡ Some block) (left_of names s r is) (read s refl)
+
+pub is_moved : (names : List (List ℕ)) (told : Option Reading) → told_without names (option_map after_next told) ≡ option_map after_next (told_without names told)
+is_moved names None = refl
+is_moved names (Some s) = refl
+
+pub ruleset ignoring = (can_list, is_listed, can_open, is_opened, can_read, is_read, is_moved)

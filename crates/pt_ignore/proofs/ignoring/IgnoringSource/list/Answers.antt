@@ -1,0 +1,8 @@
+use Rattle.pt_ignore.proofs.Told.{can_list, is_listed}
+use Rattle.pt_ignore.proofs.ignoring.IgnoringSource.list.Goals as goal
+
+pub list-requires : goal.list-requires
+list-requires g c = can_list _ _ _ c.requires
+
+pub returns-clause-listing : goal.returns-clause-listing
+returns-clause-listing g c = rw (c.leave_out.ensures, c.deref.ensures.value) (is_listed _ _ _ _ c.requires c.in_ok-listing.ensures.listing)
