@@ -3,7 +3,8 @@ ghost use Rattle.pt_tree.specs.Listing.{left_in};
 ghost use Rattle.pt_ignore.specs.Ignoring.{told_without};
 ghost use Rattle.pt_ignore.specs.Proper.{proper_left};
 
-use pt_tree::{Block, Listing, Name, NamePath, Source, TreeFault};
+use crate::Ignored;
+use pt_tree::{Block, Listing, NamePath, Source, TreeFault};
 
 /// A source as if the entries with some names weren't there, whatever they are and hold.
 ///
@@ -12,13 +13,13 @@ use pt_tree::{Block, Listing, Name, NamePath, Source, TreeFault};
 #[derive(Drop)]
 pub struct Ignoring<S: Source + Drop> {
     source: S,
-    names: Vec<Name>,
+    names: Ignored,
     left_out: u64,
 }
 
 impl<S: Source + Drop> Ignoring<S> {
     /// A source without the entries that have these names.
-    pub fn new(source: S, names: Vec<Name>) -> Ignoring<S>
+    pub fn new(source: S, names: Ignored) -> Ignoring<S>
         ensures source { result.source ≡ source }
         ensures names { result.names ≡ names }
     {
@@ -45,13 +46,13 @@ impl<S: Source + Drop> Ignoring<S> {
 }
 
 impl<S: Source + Drop> Source for Ignoring<S> {
-    ghost told = { λ i. told_without i.names.items (S.told i.source) };
+    ghost told = { λ i. told_without i.names (S.told i.source) };
 
     ghost failed = { λ i. S.failed i.source };
 
     ghost called = { λ i. S.called i.source };
 
-    ghost proper = { λ i state is. proper_left i.names.items (S.told i.source) state (S.proper i.source) is };
+    ghost proper = { λ i state is. proper_left i.names (S.told i.source) state (S.proper i.source) is };
 
     fn failures(&self) -> u64 {
         self.source.failures()
@@ -61,7 +62,7 @@ impl<S: Source + Drop> Source for Ignoring<S> {
     fn list(&mut self, path: &NamePath) -> Result<Listing, TreeFault> {
         let mut listing = self.source.list(path)?;
         let all = listing.len();
-        listing.leave_out(&self.names);
+        listing.leave_out(self.names.names());
         let gone = all.saturating_sub(listing.len()) as u64;
         self.left_out = self.left_out.saturating_add(gone);
         Ok(listing)

@@ -1,6 +1,8 @@
 //! A source as if the entries with some names weren't there.
 #![tactic(auto)]
 
+mod ignored;
 mod ignoring;
 
+pub use ignored::Ignored;
 pub use ignoring::Ignoring;

@@ -8,4 +8,4 @@ pub open-requires : goal.open-requires
 open-requires g c = can_open _ _ _ c.requires
 
 pub returns-clause-opened : goal.returns-clause-opened
-returns-clause-opened g c = on_ok_weaker c.open.result (λ is. ap (told_without c.args.self.now.names.items) is ∙ is_opened _ _ _ c.requires) c.open.ensures.opened
+returns-clause-opened g c = on_ok_weaker c.open.result (λ is. ap (told_without c.args.self.now.names) is ∙ is_opened _ _ _ c.requires) c.open.ensures.opened
