@@ -75,16 +75,17 @@ number_there v e =
 
 -- ---- the answer to a command
 
-all_given : (rows : List Row) (created name message digest source dest : Text) (algorithm : Algorithm) (size_text count_text when : Text) (size count : ℕ) (progress : Progress)
+all_given : (rows : List Row) (created name message digest source dest : Text) (algorithm : Algorithm) (size_text count_text when interval_text : Text) (size count : ℕ) (progress : Progress) (interval : ℕ)
     → first_of (codes "created") rows ≡ Some created → first_of (codes "name") rows ≡ Some name → first_of (codes "message") rows ≡ Some message
     → first_of (codes "digest") rows ≡ Some digest → algorithm_of digest ≡ Some algorithm
     → one_of (codes "tuple-size") rows ≡ Some size_text → number_of size_text ≡ Some size
     → one_of (codes "tuples") rows ≡ Some count_text → number_of count_text ≡ Some count
     → first_of (codes "progress") rows ≡ Some when → progress_of when ≡ Some progress
+    → one_of (codes "interval") rows ≡ Some interval_text → number_of interval_text ≡ Some interval
     → first_of (codes "SOURCE") rows ≡ Some source → first_of (codes "DEST") rows ≡ Some dest
     → is_some (option_map migrate_answer (options_in rows)) ≡ true
-all_given rows created name message digest source dest algorithm size_text count_text when size count progress e1 e2 e3 e4 e5 e6 e7 e8 e9 e10 e11 e12 e13 =
-    rw (e1, e2, e3, e4, e5, e6, e7, e8, e9, e10, e11, e12, e13) refl
+all_given rows created name message digest source dest algorithm size_text count_text when interval_text size count progress interval e1 e2 e3 e4 e5 e6 e7 e8 e9 e10 e11 e12 e13 e14 e15 =
+    rw (e1, e2, e3, e4, e5, e6, e7, e8, e9, e10, e11, e12, e13, e14, e15) refl
 
 id_given : (rows : List Row) (id size_text count_text : Text) (size count : ℕ) → first_of (codes "ID") rows ≡ Some id
     → one_of (codes "tuple-size") rows ≡ Some size_text → number_of size_text ≡ Some size
@@ -158,7 +159,7 @@ module _ (spelled : Spelled) where
   fit_names = ((refl, refl, refl), ((refl, refl, refl), ((refl, refl, refl), ((refl, refl, refl), ((refl, refl, refl), tt)))))
 
   fit_migrate : Every (Fits built_migrate.rules) built_migrate.rules
-  fit_migrate = ((refl, refl, refl), ((refl, refl, refl), ((refl, refl, refl), ((refl, refl, refl), ((refl, refl, refl), ((refl, refl, refl), ((refl, refl, refl), ((refl, refl, refl), ((refl, refl, refl), ((refl, refl, refl), ((refl, refl, refl), ((refl, refl, refl), ((refl, refl, refl), ((refl, refl, refl), ((refl, refl, refl), tt)))))))))))))))
+  fit_migrate = ((refl, refl, refl), ((refl, refl, refl), ((refl, refl, refl), ((refl, refl, refl), ((refl, refl, refl), ((refl, refl, refl), ((refl, refl, refl), ((refl, refl, refl), ((refl, refl, refl), ((refl, refl, refl), ((refl, refl, refl), ((refl, refl, refl), ((refl, refl, refl), ((refl, refl, refl), ((refl, refl, refl), ((refl, refl, refl), ((refl, refl, refl), ((refl, refl, refl), ((refl, refl, refl), tt)))))))))))))))))))
 
   names_is_answered : Answered built_names
   names_is_answered words e =
@@ -178,14 +179,16 @@ module _ (spelled : Spelled) where
       let size = default_value built_migrate refl fit_migrate [] words false [] e (codes "tuple-size") _ refl refl in
       let count = default_value built_migrate refl fit_migrate [] words false [] e (codes "tuples") _ refl refl in
       let when = default_value built_migrate refl fit_migrate [] words false [] e (codes "progress") _ refl refl in
+      let interval = default_value built_migrate refl fit_migrate [] words false [] e (codes "interval") _ refl refl in
       let source = required_value built_migrate refl fit_migrate [] words false [] e (codes "SOURCE") _ refl refl refl in
       let dest = required_value built_migrate refl fit_migrate [] words false [] e (codes "DEST") _ refl refl refl in
       let algorithm = algorithm_there spelled.algorithms spelled.spells_algorithms digest.0 digest.3 in
       let progress = time_there spelled.times spelled.spells_times when.0 when.3 in
       let digits = number_there size.0 size.3 in
       let number = number_there count.0 count.3 in
-      all_given (rows_after built_migrate.rules [] words) created.0 name.0 message.0 digest.0 source.0 dest.0 algorithm.0 _ _ when.0 digits.0 number.0 progress.0
-      created.1 name.1 message.1 digest.1 algorithm.1 size.2 digits.1 count.2 number.1 when.1 progress.1 source.1 dest.1
+      let seconds = number_there interval.0 interval.3 in
+      all_given (rows_after built_migrate.rules [] words) created.0 name.0 message.0 digest.0 source.0 dest.0 algorithm.0 _ _ when.0 _ digits.0 number.0 progress.0 seconds.0
+      created.1 name.1 message.1 digest.1 algorithm.1 size.2 digits.1 count.2 number.1 when.1 progress.1 interval.2 seconds.1 source.1 dest.1
 
   help_is_help : (word : Text) → answers_to word (label_of built_help) ≡ true → bytes_eq word (codes "help") ≡ true
   help_is_help word e = go (bytes_eq (codes "help") word) refl e

@@ -1,7 +1,8 @@
 pub mod Building
 pub mod Complete
 pub mod Migrating
-pub mod Parsed
+pub mod Naming
+mod Parsed
 pub mod Passing
 pub mod Present
 pub mod Reading

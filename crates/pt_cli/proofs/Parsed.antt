@@ -8,6 +8,7 @@ use Rattle.clap.specs.declared.error.Error.{Error}
 use Rattle.clap.specs.declared.error.kind.ErrorKind.{ErrorKind}
 use Rattle.clap.proofs.OnLiterals.{clap_on_literals}
 use Rattle.pt_name.specs.Layout.{layout_of}
+use Rattle.pt_name.specs.Share.{Portion}
 use Rattle.pt_name.specs.Tuples.{Tuples}
 use Rattle.pt_name.specs.declared.layout.LayoutFault.{LayoutFault}
 use Rattle.pt_object.specs.Meta.{meta_refusal}
@@ -15,7 +16,7 @@ use Rattle.pt_object.specs.declared.meta.MetaFault.{MetaFault}
 use Rattle.pt_object.specs.declared.meta.MetaFault.TheVariants as meta_fault
 use Rattle.pt_cli.specs.Grammar.{Spelled, program}
 use Rattle.pt_cli.specs.Options.{Options, Request, asked_in, options_in}
-use Rattle.pt_cli.specs.Words.{Answers, HasRefusal, IsRefusal, OrNone, RefusedAs, answer_to, command_answer, described, migrate_answer, named, names_answer}
+use Rattle.pt_cli.specs.Words.{Answers, HasRefusal, IsRefusal, OrNone, RefusedAs, answer_to, are_names, command_answer, described, migrate_answer, named, names_answer, parted, share_asked}
 use Rattle.pt_cli.specs.declared.command.Command.{Command}
 use Rattle.pt_cli.specs.declared.words.WordsFault.{WordsFault}
 use Rattle.pt_cli.specs.declared.words.WordsFault.TheVariants as fault
@@ -62,6 +63,8 @@ answers_error kinds found e fault.EmptyName k h = absurd h
 answers_error kinds found e fault.EmptyId k h = absurd h
 answers_error kinds found e fault.Memory k h = tt
 answers_error kinds found e fault.Tuples k h = absurd h
+answers_error kinds found e fault.Share k h = absurd h
+answers_error kinds found e fault.Ignored k h = absurd h
 
 -- a command, or a refusal that isn't the parser's
 abbrev IsOwn : Result Command WordsFault → Type 0
@@ -75,12 +78,17 @@ named-own [] prefix layout = tt
 named-own (x ∷ xs) prefix (Err f) = tt
 named-own (x ∷ xs) prefix (Ok l) = tt
 
+parted-own : (given : Options) (layout : Tuples) (share : Option Portion) (named : Bool) → IsOwn (parted given layout share named)
+parted-own given layout None named = tt
+parted-own given layout (Some share) false = tt
+parted-own given layout (Some share) true = tt
+
 described-own : (given : Options) (refusal : Option MetaFault) (layout : Result Tuples LayoutFault) → IsOwn (described given refusal layout)
 described-own given (Some meta_fault.Created) layout = tt
 described-own given (Some meta_fault.EmptyName) layout = tt
 described-own given (Some meta_fault.Memory) layout = tt
 described-own given None (Err f) = tt
-described-own given None (Ok l) = tt
+described-own given None (Ok l) = parted-own given l (share_asked given.share) (are_names given.ignored)
 
 command-own : (found : Text × List Row) (r : Result Command WordsFault) → command_answer found ≡ Some r → IsOwn r
 command-own found r is = go (bytes_eq found.0 (codes "names")) (bytes_eq found.0 (codes "migrate")) (asked_in found.1) (options_in found.1) is
@@ -112,6 +120,8 @@ accepted found (Err fault.EmptyName) e = (refl, e)
 accepted found (Err fault.EmptyId) e = (refl, e)
 accepted found (Err fault.Memory) e = tt
 accepted found (Err fault.Tuples) e = (refl, e)
+accepted found (Err fault.Share) e = (refl, e)
+accepted found (Err fault.Ignored) e = (refl, e)
 
 pub answers_own : (found : Option (Text × List Row)) (r : Result Command WordsFault) → OrNone (answer_to found) (Some r) → Answers [] found r
 answers_own found r given = go (answer_to found) refl given

@@ -50,9 +50,8 @@ Suits a r = (r.reading ≡ reading_by a) × (0 < length r.values) × (values_fau
 abbrev pub IsGood : List Rule → Row → Type 0
 IsGood c r = IfSome (arg_by_id c r.id) (λ a. Suits a r)
 
--- a use of the argument leaves one row at most
+-- a use of the argument adds its values to one row at most
 abbrev pub is_single : ArgAction → Bool
-is_single action.Append = false
 is_single action.Count = false
 is_single _ = true
 
@@ -85,6 +84,18 @@ some_missing least most missing leaves e = go (nat_lt 0 least) refl
         absurd (cc)
     go false is = some_text missing (rw is at leaves)
 
+longer : (xs ys : List Text) → 0 < length xs → 0 < length (xs ++ ys)
+longer [] ys h = absurd (omega arith)
+longer (x ∷ xs) ys h = omega arith
+
+-- values behind others pass where both do
+values_joined : (ignore_case : Bool) (p : ValueParser) (xs ys : List Text) → values_kinds ignore_case p xs ≡ [] → values_kinds ignore_case p ys ≡ []
+    → values_kinds ignore_case p (xs ++ ys) ≡ []
+values_joined ignore_case p [] ys first later = later
+values_joined ignore_case p (x ∷ xs) ys first later =
+    let parts = both_empty _ _ first in
+    rw parts.0 (values_joined ignore_case p xs ys parts.1 later)
+
 module _ (c : List Rule) where
   abbrev pub AllGood : List Row → Type 0
   AllGood = Every (IsGood c)
@@ -96,6 +107,25 @@ module _ (c : List Rule) where
       let suits : Suits a new = (refl, some, pass) in
       let new_good : IsGood c new = subst (λ o. IfSome o (λ b. Suits b new)) (sym fits.0) suits in
       subst AllGood (sym (absent a.id (more_values s values) (new ∷ []) rows none)) (every_both (IsGood c) rows (new ∷ []) good (new_good, tt))
+
+  -- the same where a row of the argument may be there, which then has the values behind its own
+  joined : (a : Rule) (s : ValueSource) (values : List Text) (rows : List Row) → Fits c a → AllGood rows → 0 < length values
+      → values_fault a values ≡ [] → AllGood (with_values a.id (reading_by a) s values rows)
+  joined a s values [] fits good some pass = added a s values [] fits good refl some pass
+  joined a s values (r ∷ rows) fits good some pass = go (bytes_eq r.id a.id) refl
+    where
+      more : Row
+      more = record r { values = r.values ++ values; source = Some (stronger r.source s) }
+
+      go : (b : Bool) → bytes_eq r.id a.id ≡ b
+          → AllGood (cond b (more_values s values r ++ rows) (r ∷ at_row a.id (more_values s values) (record { id = a.id; values = values; count = None; source = Some s; reading = reading_by a } ∷ []) rows))
+      go true is =
+          let same : r.id ≡ a.id = (bytes_eq-Decides r.id a.id).0 is in
+          let found : arg_by_id c r.id ≡ Some a = ap (arg_by_id c) same ∙ fits.0 in
+          let old : Suits a r = subst (λ o. IfSome o (λ b. Suits b r)) found good.0 in
+          let suits : Suits a more = (old.0, longer r.values values old.1, values_joined a.ignore_case (parser_of_value a.parser) r.values values old.2 pass) in
+          (subst (λ o. IfSome o (λ b. Suits b more)) (sym found) suits, good.1)
+      go false is = (good.0, joined a s values rows fits good.1 some pass)
 
   some_value : (a : Rule) (values : List Text) → leaves_value a ≡ true → range_kinds (unwrap_or_range a.range).start_inclusive (most_values a) (length values) ≡ []
       → 0 < length (values_or_missing a values)
@@ -126,7 +156,7 @@ module _ (c : List Rule) where
     used_as_good a action.Set values rows single fits good some e = set_good a values rows fits good (some refl) e
     used_as_good a action.SetTrue values rows single fits good some e = set_good a values rows fits good (some refl) e
     used_as_good a action.SetFalse values rows single fits good some e = set_good a values rows fits good (some refl) e
-    used_as_good a action.Append values rows single fits good some e = absurd (cc)
+    used_as_good a action.Append values rows single fits good some e = joined a CommandLine values rows fits good (some refl) e
     used_as_good a action.Count values rows single fits good some e = absurd (cc)
     used_as_good a action.Help values rows single fits good some e = good
     used_as_good a action.HelpShort values rows single fits good some e = good

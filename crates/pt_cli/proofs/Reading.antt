@@ -2,6 +2,7 @@
 use Rattle.std.proofs.Common.{◌≡◌, ℕ, ◌^◌, ◌&&◌, nat_lt, Bool, true, false, [], ◌∷◌, length, Option, Some, None, Result, Ok, Err, cond, refl, sym, ap, ◌∙◌, true≢false, lt-ltb, ltb-true}
 use Rattle.std.specs.Prelude.{⊤, option_and_then}
 use Rattle.std.specs.List.{list_all}
+use Rattle.std.specs.Result.{result_ok}
 use Rattle.std.specs.Char.{digit_value}
 use Rattle.std.specs.Str.Parse.{AllDigits, ParsesUnsigned, digits_value, without_leading_plus}
 use Rattle.clap.specs.Words.{ReadsOne, Text}
@@ -61,3 +62,17 @@ number_read_back text = go (is_u32 (without_leading_plus text)) refl
           let yes : is_u32 ds ≡ true = rw (lt-ltb 0 (length ds) h.0.0, digits_pass ds h.0.1, lt-ltb (digits_value 10 ds) (2 ^ 32) h.1) refl in
           absurd (true≢false (sym yes ∙ t)),
     )
+
+-- what `parse` gives of a text
+pub number_parsed : {E : Type 0} (text : Text) (r : Result ℕ E) → ParsesUnsigned 32 10 text r → result_ok r ≡ number_of text
+number_parsed text (Ok v) parsed =
+    let ds = without_leading_plus text in
+    rw (lt-ltb 0 (length ds) parsed.0.0.0, digits_pass ds parsed.0.0.1, lt-ltb (digits_value 10 ds) (2 ^ 32) parsed.0.1) (ap Some parsed.1)
+number_parsed text (Err e) refused = go (is_u32 (without_leading_plus text)) refl
+  where
+    go : (b : Bool) → is_u32 (without_leading_plus text) ≡ b → None ≡ number_of text
+    go false t = rw t refl
+    go true t =
+        let outer = both _ _ t in
+        let inner = both _ _ outer.0 in
+        absurd (refused ((ltb-true _ _ inner.0, digits_from (without_leading_plus text) inner.1), ltb-true _ _ outer.1))

@@ -4,7 +4,7 @@ use Rattle.std.specs.Borrow.{Bor}
 use Rattle.clap.specs.Words.{App, Rule, Text, new_app, new_rule, with_subcommand}
 use Rattle.clap.specs.Walk.{texts}
 use Rattle.clap.specs.Simple.{on_top}
-use Rattle.clap.specs.declared.builder.action.ArgAction.TheVariants.{SetTrue}
+use Rattle.clap.specs.declared.builder.action.ArgAction.TheVariants.{Append, SetTrue}
 use Rattle.clap.specs.declared.builder.value_parser.ValueParser.{ValueParser}
 use Rattle.clap.specs.declared.builder.value_parser.ValueParser.TheVariants as vp
 
@@ -65,17 +65,33 @@ pub record Spelled : Type 0 where
 abbrev pub u32_parser : ValueParser
 u32_parser = vp.Signed (pos 0) (pos 4294967295)
 
--- `--id NUMBER`, 3 unless it is given
-abbrev pub number_rule : Text → Rule
-number_rule id = record (option_rule id) { defaults = codes "3" ∷ []; parser = Some u32_parser }
+-- `--id NUMBER`, which is this unless it is given
+abbrev pub number_rule : Text → Text → Rule
+number_rule id default = record (option_rule id) { defaults = default ∷ []; parser = Some u32_parser }
 
 -- `--tuple-size DIGITS`
 abbrev pub size_rule : Rule
-size_rule = number_rule (codes "tuple-size")
+size_rule = number_rule (codes "tuple-size") (codes "3")
 
 -- `--tuples NUMBER`
 abbrev pub count_rule : Rule
-count_rule = number_rule (codes "tuples")
+count_rule = number_rule (codes "tuples") (codes "3")
+
+-- `--share K/N`
+abbrev pub share_rule : Rule
+share_rule = option_rule (codes "share")
+
+-- `--ignore NAME`, which may be given more than once
+abbrev pub ignore_rule : Rule
+ignore_rule = record (option_rule (codes "ignore")) { action = Some Append }
+
+-- `--interval SECONDS`
+abbrev pub interval_rule : Rule
+interval_rule = number_rule (codes "interval") (codes "10")
+
+-- `--expect LOG`
+abbrev pub expect_rule : Rule
+expect_rule = option_rule (codes "expect")
 
 -- `--prefix TEXT`
 abbrev pub prefix_rule : Rule
@@ -117,7 +133,8 @@ names_app = on_top (λ s. record s { rules = prefix_rule ∷ size_rule ∷ count
 abbrev pub migrate_rules : Spelled → List Rule
 migrate_rules words =
     created_rule ∷ name_rule ∷ address_rule ∷ message_rule ∷ digest_rule words.algorithms ∷ size_rule ∷ count_rule ∷ gather_rule
-    ∷ sync_rule ∷ rehearse_rule ∷ verbose_rule ∷ progress_rule words.times ∷ source_rule ∷ dest_rule ∷ []
+    ∷ share_rule ∷ ignore_rule ∷ sync_rule ∷ rehearse_rule ∷ verbose_rule ∷ progress_rule words.times ∷ interval_rule ∷ expect_rule
+    ∷ source_rule ∷ dest_rule ∷ []
 
 -- `migrate [OPTIONS] SOURCE DEST`
 abbrev pub migrate_app : Spelled → App

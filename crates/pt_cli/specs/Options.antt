@@ -3,7 +3,7 @@ use Rattle.std.specs.Prelude.{ℕ, ◌^◌, ◌&&◌, nat_lt, Bool, false, List,
 use Rattle.std.specs.Option.{option_map_or, unwrap_or}
 use Rattle.std.specs.Str.{bytes_eq}
 use Rattle.std.specs.Str.Parse.{digits_value, without_leading_plus}
-use Rattle.clap.specs.Words.{Row, Text, first_of, one_of}
+use Rattle.clap.specs.Words.{Row, Text, all_of, first_of, one_of}
 use Rattle.clap.specs.ValueTests.{is_numeral}
 use Rattle.pt_object.specs.Algorithm.{algorithm_word}
 use Rattle.pt_object.specs.declared.algorithm.Algorithm.{Algorithm}
@@ -21,10 +21,14 @@ pub record Options : Type 0 where
   pub size : ℕ
   pub count : ℕ
   pub gather : Bool
+  pub share : Option Text
+  pub ignored : List Text
   pub sync : Bool
   pub rehearse : Bool
   pub verbose : Bool
   pub progress : Progress
+  pub interval : ℕ
+  pub expected : Option Text
   pub source : Text
   pub dest : Text
 
@@ -71,6 +75,7 @@ options_in rows = do
   size ← number_in (codes "tuple-size") rows
   count ← number_in (codes "tuples") rows
   progress ← first_of (codes "progress") rows >>= progress_of
+  interval ← number_in (codes "interval") rows
   source ← first_of (codes "SOURCE") rows
   dest ← first_of (codes "DEST") rows
   Some (record {
@@ -82,10 +87,14 @@ options_in rows = do
     size = size;
     count = count;
     gather = is_set_in (codes "gather") rows;
+    share = first_of (codes "share") rows;
+    ignored = unwrap_or (all_of (codes "ignore") rows) [];
     sync = is_set_in (codes "sync") rows;
     rehearse = is_set_in (codes "dry-run") rows;
     verbose = is_set_in (codes "verbose") rows;
     progress = progress;
+    interval = interval;
+    expected = first_of (codes "expect") rows;
     source = source;
     dest = dest;
   })

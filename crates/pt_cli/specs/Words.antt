@@ -1,17 +1,21 @@
 -- What the words of the command line ask for.
-use Rattle.std.specs.Prelude.{ℕ, ◌≡◌, ◌≢◌, ◌⊎◌, ⊤, List, [], ◌∷◌, Option, Some, None, Result, Ok, Err, if◌then◌else◌, codes, option_and_then, option_map}
+use Rattle.std.specs.Prelude.{ℕ, ◌≡◌, ◌≢◌, ◌⊎◌, ⊤, ◌==◌, Bool, true, false, List, [], ◌∷◌, Option, Some, None, Result, Ok, Err, if◌then◌else◌, codes, option_and_then, option_map}
+use Rattle.std.specs.List.{after_first, before_first, list_all}
+use Rattle.std.specs.Result.{result_ok}
 use Rattle.std.specs.Str.{bytes_eq}
 use Rattle.clap.specs.Words.{Kinds, IsAmong, Row, Text, fault_of, subcommand_of}
 use Rattle.clap.specs.declared.error.kind.ErrorKind.{ErrorKind}
 use Rattle.clap.specs.declared.error.kind.ErrorKind.TheVariants as kind
 use Rattle.pt_name.specs.Layout.{layout_of}
+use Rattle.pt_name.specs.Share.{Portion, share_of, whole}
 use Rattle.pt_name.specs.Tuples.{Tuples}
 use Rattle.pt_name.specs.declared.layout.LayoutFault.{LayoutFault}
 use Rattle.pt_object.specs.Meta.{given_address, meta_refusal, parts_of}
 use Rattle.pt_object.specs.declared.meta.MetaFault.{MetaFault}
 use Rattle.pt_object.specs.declared.meta.MetaFault.TheVariants as meta_fault
 use Rattle.pt_cli.specs.Grammar.{Spelled, program}
-use Rattle.pt_cli.specs.Options.{Request, Options, asked_in, options_in}
+use Rattle.pt_tree.specs.Name.{is_name}
+use Rattle.pt_cli.specs.Options.{Request, Options, ◌>>=◌, asked_in, number_of, options_in}
 use Rattle.pt_cli.specs.declared.command.Command.{Command}
 use Rattle.pt_cli.specs.declared.command.Command.TheVariants.{Names, Migrate}
 use Rattle.pt_cli.specs.declared.words.WordsFault.{WordsFault}
@@ -33,26 +37,62 @@ words_of_meta meta_fault.Created = fault.Created
 words_of_meta meta_fault.EmptyName = fault.EmptyName
 words_of_meta meta_fault.Memory = fault.Memory
 
--- the migration with these options and this layout
-abbrev pub migration : Options → Tuples → Command
-migration given layout = Migrate (record {
+-- the share that a text names, as `2/8`: its number and how many there are
+abbrev pub share_in : Text → Option Portion
+share_in text = do
+  index ← number_of (before_first (λ b. b == 47) text)
+  count ← number_of (after_first (λ b. b == 47) text)
+  result_ok (share_of index count)
+
+-- the share that is asked for: the whole store where none is
+abbrev pub share_asked : Option Text → Option Portion
+share_asked None = Some whole
+share_asked (Some text) = share_in text
+
+-- each text is a name that an entry may have
+abbrev pub are_names : List Text → Bool
+are_names = list_all is_name
+
+-- the names that these texts write, or the refusal of one that is none; or memory ran out before that
+abbrev pub AreNamed : List Text → Result (List (List ℕ)) WordsFault → Type 0
+AreNamed texts (Ok names) = (are_names texts ≡ true) × (names ≡ texts)
+AreNamed texts (Err e) = (e ≡ fault.Memory) ⊎ ((are_names texts ≡ false) × (e ≡ fault.Ignored))
+
+-- the refusal of a text that is no name
+abbrev pub not_a_name : Bool → Option WordsFault
+not_a_name true = None
+not_a_name false = Some fault.Ignored
+
+-- the migration with these options, this layout and this share
+abbrev pub migration : Options → Tuples → Portion → Command
+migration given layout share = Migrate (record {
   meta = parts_of given.created given.name (given_address given.address) given.message;
   algorithm = given.algorithm;
   layout = layout;
   gather = given.gather;
+  share = share;
+  ignored = given.ignored;
   sync = given.sync;
   rehearse = given.rehearse;
   verbose = given.verbose;
   progress = given.progress;
+  interval = given.interval;
+  expected = given.expected;
   source = given.source;
   dest = given.dest;
 })
 
--- refused by what the version's description is refused as, and then by the layout
+-- refused where no share is named, and then where what is to be left out is no name
+abbrev pub parted : Options → Tuples → Option Portion → Bool → Result Command WordsFault
+parted given layout None named = Err fault.Share
+parted given layout (Some share) false = Err fault.Ignored
+parted given layout (Some share) true = Ok (migration given layout share)
+
+-- refused by what the version's description is refused as, then by the layout, and then by the other two
 abbrev pub described : Options → Option MetaFault → Result Tuples LayoutFault → Result Command WordsFault
 described given (Some refusal) layout = Err (words_of_meta refusal)
 described given None (Err refusal) = Err fault.Tuples
-described given None (Ok layout) = Ok (migration given layout)
+described given None (Ok layout) = parted given layout (share_asked given.share) (are_names given.ignored)
 
 -- what `migrate` with these options is answered
 abbrev pub migrate_answer : Options → Result Command WordsFault
@@ -104,6 +144,8 @@ Answers kinds found (Err fault.EmptyName) = Accepted kinds found (Err fault.Empt
 Answers kinds found (Err fault.EmptyId) = Accepted kinds found (Err fault.EmptyId)
 Answers kinds found (Err fault.Memory) = ⊤
 Answers kinds found (Err fault.Tuples) = Accepted kinds found (Err fault.Tuples)
+Answers kinds found (Err fault.Share) = Accepted kinds found (Err fault.Share)
+Answers kinds found (Err fault.Ignored) = Accepted kinds found (Err fault.Ignored)
 
 -- how an error of the parser is refused: as Memory at any time, since its text takes memory
 abbrev pub RefusedAs : ErrorKind → WordsFault → Type 0
@@ -127,3 +169,5 @@ words_number fault.EmptyId = 5
 words_number fault.Memory = 6
 words_number fault.Tuples = 7
 words_number (fault.Version text) = 8
+words_number fault.Share = 9
+words_number fault.Ignored = 10

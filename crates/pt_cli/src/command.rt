@@ -1,5 +1,6 @@
 use crate::Text;
-use pt_name::Layout;
+use pt_name::{Layout, Share};
+use pt_ignore::Ignored;
 use pt_object::{Algorithm, Meta};
 use pt_run::Progress;
 
@@ -34,6 +35,10 @@ pub struct Migrate {
     pub layout: Layout,
     /// Whether files that lie directly at a site are carried too.
     pub gather: bool,
+    /// Which share of the store is carried.
+    pub share: Share,
+    /// The names of the entries that are left out.
+    pub ignored: Ignored,
     /// Whether files are put onto the disk before they are closed.
     pub sync: bool,
     /// Whether it is rehearsed only.
@@ -42,6 +47,10 @@ pub struct Migrate {
     pub verbose: bool,
     /// When to show how far the run is.
     pub progress: Progress,
+    /// How many seconds pass between two such lines where they don't go to a terminal.
+    pub interval: u32,
+    /// The log of a rehearsal, which tells how much there is to do.
+    pub expected: Option<Text>,
     /// The folder that holds `pairtree_root`.
     pub source: Text,
     /// The folder in which `ocfl` is, or comes to be.

@@ -1,9 +1,9 @@
 ghost use Rattle.std.specs.Prelude.{◌≡◌, ◌∷◌, [], false, IfOk};
 ghost use Rattle.clap.specs.Words.{app_of, rule_of};
 ghost use Rattle.clap.specs.declared.builder.command.Command.TheViews.{out-Command};
-ghost use Rattle.pt_cli.specs.Grammar.{IsDigestRule, IsMigrateApp, IsProgram, IsProgressRule, address_rule, count_rule};
-ghost use Rattle.pt_cli.specs.Grammar.{created_rule, dest_rule, gather_rule, id_rule, message_rule, name_rule, names_app};
-ghost use Rattle.pt_cli.specs.Grammar.{prefix_rule, rehearse_rule, size_rule, source_rule, sync_rule, verbose_rule};
+ghost use Rattle.pt_cli.specs.Grammar.{IsDigestRule, IsMigrateApp, IsProgram, IsProgressRule, address_rule, count_rule, expect_rule};
+ghost use Rattle.pt_cli.specs.Grammar.{created_rule, dest_rule, gather_rule, id_rule, ignore_rule, interval_rule, message_rule, name_rule, names_app};
+ghost use Rattle.pt_cli.specs.Grammar.{prefix_rule, rehearse_rule, size_rule, source_rule, share_rule, sync_rule, verbose_rule};
 
 use clap::{Arg, ArgAction, Command as Parser, value_parser};
 use std::alloc::{AllocError, Global};
@@ -30,6 +30,10 @@ pub(crate) const TUPLES: &str = "tuples";
 
 pub(crate) const GATHER: &str = "gather";
 
+pub(crate) const SHARE: &str = "share";
+
+pub(crate) const IGNORE: &str = "ignore";
+
 pub(crate) const SYNC: &str = "sync";
 
 pub(crate) const REHEARSE: &str = "dry-run";
@@ -37,6 +41,10 @@ pub(crate) const REHEARSE: &str = "dry-run";
 pub(crate) const VERBOSE: &str = "verbose";
 
 pub(crate) const PROGRESS: &str = "progress";
+
+pub(crate) const INTERVAL: &str = "interval";
+
+pub(crate) const EXPECT: &str = "expect";
 
 pub(crate) const PREFIX: &str = "prefix";
 
@@ -108,8 +116,10 @@ fn migrate_parser<'a>(alloc: Global) -> Result<Parser<'a>, AllocError>
     let parser = parser.arg(address(alloc))?.arg(message(alloc))?;
     let parser = parser.arg(digest(alloc))?.arg(tuple_size(alloc))?;
     let parser = parser.arg(tuples(alloc))?.arg(gather(alloc))?;
+    let parser = parser.arg(share(alloc))?.arg(ignore(alloc))?;
     let parser = parser.arg(sync(alloc))?.arg(rehearse(alloc))?;
     let parser = parser.arg(verbose(alloc))?.arg(progress(alloc))?;
+    let parser = parser.arg(interval(alloc))?.arg(expect(alloc))?;
     parser.arg(source(alloc))?.arg(dest(alloc))
 }
 
@@ -196,6 +206,25 @@ fn gather<'a>(alloc: Global) -> Arg<'a>
         )
 }
 
+fn share<'a>(alloc: Global) -> Arg<'a>
+    ensures { (rule_of result ≡ share_rule) × (result.global ≡ false) }
+{
+    Arg::new(alloc, SHARE)
+        .long(SHARE)
+        .value_name("K/N")
+        .help("Carry the objects of share K of N shares alone, as 2/8 [default: all objects]")
+}
+
+fn ignore<'a>(alloc: Global) -> Arg<'a>
+    ensures { (rule_of result ≡ ignore_rule) × (result.global ≡ false) }
+{
+    Arg::new(alloc, IGNORE)
+        .long(IGNORE)
+        .value_name("NAME")
+        .action(ArgAction::Append)
+        .help("Leave out every file and folder of this name, as .DS_Store; may be given again")
+}
+
 fn sync<'a>(alloc: Global) -> Arg<'a>
     ensures { (rule_of result ≡ sync_rule) × (result.global ≡ false) }
 {
@@ -234,6 +263,26 @@ fn progress<'a>(alloc: Global) -> Arg<'a>
         .value_parser(TIMES.as_slice())
         .default_value("auto")
         .help("When to show on standard error how far the run is")
+}
+
+fn interval<'a>(alloc: Global) -> Arg<'a>
+    ensures { (rule_of result ≡ interval_rule) × (result.global ≡ false) }
+{
+    Arg::new(alloc, INTERVAL)
+        .long(INTERVAL)
+        .value_name("SECONDS")
+        .value_parser(value_parser!(u32))
+        .default_value("10")
+        .help("Seconds between two such lines, where they don't go to a terminal")
+}
+
+fn expect<'a>(alloc: Global) -> Arg<'a>
+    ensures { (rule_of result ≡ expect_rule) × (result.global ≡ false) }
+{
+    Arg::new(alloc, EXPECT)
+        .long(EXPECT)
+        .value_name("LOG")
+        .help("Show the share done and the time left too, by the log of a rehearsal")
 }
 
 fn prefix<'a>(alloc: Global) -> Arg<'a>

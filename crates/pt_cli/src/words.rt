@@ -1,21 +1,24 @@
-ghost use Rattle.std.specs.Prelude.{◌≡◌, [], is_some, map, true};
-ghost use Rattle.std.specs.Option.{option_map};
-ghost use Rattle.clap.specs.Words.{first_of, found_of, kind_of, rows_of, subcommand_rows_of};
-ghost use Rattle.pt_cli.specs.Options.{algorithm_of, asked_in, is_set_in, number_in, options_in, progress_of};
+ghost use Rattle.std.specs.Prelude.{◌≡◌, [], IfOk, is_some, map, true};
+ghost use Rattle.pt_tree.specs.Name.{is_name};
+ghost use Rattle.std.specs.Option.{option_map, unwrap_or};
+ghost use Rattle.pt_tree.specs.Refusal.{Answers as AnswersTo};
+ghost use Rattle.clap.specs.Words.{all_of, first_of, found_of, kind_of, rows_of, subcommand_rows_of};
+ghost use Rattle.pt_cli.specs.Options.{algorithm_of, asked_in, is_set_in, number_in, number_of, options_in, progress_of};
 ghost use Rattle.pt_cli.specs.Words.{Answers, OrMemory, OrNone, ReadsWords, RefusedAs, answer_to};
-ghost use Rattle.pt_cli.specs.Words.{migrate_answer, names_answer, words_number};
+ghost use Rattle.pt_cli.specs.Words.{AreNamed, migrate_answer, names_answer, not_a_name, share_asked, share_in, words_number};
 
 use crate::grammar::{
-    ADDRESS, CREATED, DEST, DIGEST, GATHER, ID, MESSAGE, MIGRATE, NAME, NAMES, PREFIX, PROGRESS,
-    REHEARSE, SOURCE, SYNC, TUPLE_SIZE, TUPLES, VERBOSE, parser,
+    ADDRESS, CREATED, DEST, DIGEST, EXPECT, GATHER, ID, IGNORE, INTERVAL, MESSAGE, MIGRATE, NAME,
+    NAMES, PREFIX, PROGRESS, REHEARSE, SHARE, SOURCE, SYNC, TUPLE_SIZE, TUPLES, VERBOSE, parser,
 };
 use crate::{Command, Migrate, Named, Text};
 use clap::error::ErrorKind;
 use clap::{ArgMatches, Error};
-use pt_name::{Layout, LayoutFault};
+use pt_ignore::Ignored;
+use pt_name::{Layout, LayoutFault, Share};
 use pt_object::{Algorithm, Meta, MetaFault};
 use pt_run::Progress;
-use pt_tree::MemoryFault;
+use pt_tree::{MemoryFault, Name, NameFault};
 use std::alloc::{AllocError, Global};
 use std::convert::AsStr;
 use std::marker::Model;
@@ -47,11 +50,17 @@ pub enum WordsFault {
     /// `--tuple-size` and `--tuples` are no layout.
     #[error("the tuples are out of range")]
     Tuples,
+    /// `--share` is no share.
+    #[error("--share is not K/N with N from 1 to 4096 and K from 1 to N")]
+    Share,
+    /// A text of `--ignore` is no name that an entry may have.
+    #[error("--ignore is not the name of a file or folder")]
+    Ignored,
 }
 
 impl WordsFault {
     /// The fault's number: 1 `Help`, 2 `Words`, 3 `Created`, 4 `EmptyName`, 5 `EmptyId`, 6 `Memory`, 7 `Tuples`,
-    /// 8 `Version`.
+    /// 8 `Version`, 9 `Share`, 10 `Ignored`.
     pub fn number(&self) -> u8
         ensures { result ≡ words_number self.now }
     {
@@ -64,6 +73,8 @@ impl WordsFault {
             WordsFault::Memory => 6,
             WordsFault::Tuples => 7,
             WordsFault::Version(_) => 8,
+            WordsFault::Share => 9,
+            WordsFault::Ignored => 10,
         }
     }
 }
@@ -118,7 +129,7 @@ impl From<LayoutFault> for WordsFault {
 
 // What `migrate` was given, as its parser reads it: texts and numbers that aren't judged yet.
 #[derive(Drop)]
-struct Given<'a> {
+struct Given<'m, 'a> {
     created: &'a str,
     name: &'a str,
     address: Option<&'a str>,
@@ -127,15 +138,20 @@ struct Given<'a> {
     size: u32,
     count: u32,
     gather: bool,
+    share: Option<&'a str>,
+    ignored: &'m [&'a str],
     sync: bool,
     rehearse: bool,
     verbose: bool,
     progress: Progress,
+    interval: u32,
+    expected: Option<&'a str>,
     source: &'a str,
     dest: &'a str,
 }
 
-impl<'a> Model for Given<'a> {
+impl<'m, 'a> Model for Given<'m, 'a> {
+    ghost use Rattle.std.specs.Prelude.{map};
     ghost use Rattle.std.specs.Option.{option_map};
     ghost use Rattle.pt_cli.specs.Options.{Options};
 
@@ -150,10 +166,14 @@ impl<'a> Model for Given<'a> {
       size = g.size;
       count = g.count;
       gather = g.gather;
+      share = option_map (λ s. s.now) g.share;
+      ignored = map (λ n. n.now) g.ignored.now;
       sync = g.sync;
       rehearse = g.rehearse;
       verbose = g.verbose;
       progress = g.progress;
+      interval = g.interval;
+      expected = option_map (λ e. e.now) g.expected;
       source = g.source.now;
       dest = g.dest.now;
     } };
@@ -181,8 +201,8 @@ impl<'a> Model for Request<'a> {
 /// Refused as `Help` where the parser was asked for help, as `Version` where for the version, and as `Words` where it refuses
 /// the words otherwise. Then for `names` as `EmptyId`, where the identifier is empty, and as `Tuples`. For `migrate`, in this order, as `Created`, where `--created`
 /// isn't a moment of RFC 3339 to the second; as `EmptyName`, where `--name` is empty; as `Tuples`, where `--tuple-size`
-/// and `--tuples` aren't a layout of extension 0003-hash-and-id-n-tuple-storage-layout. As `Memory` where a growth was
-/// refused.
+/// and `--tuples` aren't a layout of extension 0003-hash-and-id-n-tuple-storage-layout; as `Share`, where `--share` isn't `K/N` with a
+/// share's two numbers; as `Ignored`, where `--ignore` isn't a name that an entry may have. As `Memory` where a growth was refused.
 pub fn read_words<S: AsStr>(alloc: Global, words: &[S]) -> Result<Command, WordsFault>
     ensures { ReadsWords (map S.text words.now) result }
 {
@@ -235,7 +255,7 @@ fn names(alloc: Global, given: &Request<'_>) -> Result<Command, WordsFault>
     }))
 }
 
-fn migrate(alloc: Global, given: &Given<'_>) -> Result<Command, WordsFault>
+fn migrate(alloc: Global, given: &Given<'_, '_>) -> Result<Command, WordsFault>
     ensures { OrMemory (migrate_answer given.now) result }
 {
     let meta = Meta::of(
@@ -246,22 +266,87 @@ fn migrate(alloc: Global, given: &Given<'_>) -> Result<Command, WordsFault>
         given.message,
     )?;
     let layout = Layout::of(given.size, given.count)?;
+    let Some(share) = share(given.share) else {
+        return Err(WordsFault::Share);
+    };
+    let ignored = names_in(alloc, given.ignored)?;
     Ok(Command::Migrate(Migrate {
         meta,
         algorithm: given.algorithm,
         layout,
         gather: given.gather,
+        share,
+        ignored,
         sync: given.sync,
         rehearse: given.rehearse,
         verbose: given.verbose,
         progress: given.progress,
+        interval: given.interval,
+        expected: text_of(alloc, given.expected)?,
         source: Text::of(alloc, given.source)?,
         dest: Text::of(alloc, given.dest)?,
     }))
 }
 
+// The share that is asked for: the whole store where none is.
+fn share(text: Option<&str>) -> Option<Share>
+    ensures { result ≡ share_asked (option_map (λ s. s.now) text.entry) }
+{
+    match text {
+        Some(text) => share_in_text(text),
+        None => Some(Share::whole()),
+    }
+}
+
+// The share that a text names, as `2/8`.
+fn share_in_text(text: &str) -> Option<Share>
+    ensures { result ≡ share_in text.now }
+{
+    let (index, count) = text.split_once('/')?;
+    Share::of(number_in_text(index)?, number_in_text(count)?).ok()
+}
+
+// The number of `u32` that a text writes.
+fn number_in_text(text: &str) -> Option<u32>
+    ensures { result ≡ number_of text.now }
+{
+    text.parse().ok()
+}
+
+// The names that texts write.
+fn names_in(alloc: Global, texts: &[&str]) -> Result<Ignored, WordsFault>
+    ensures { AreNamed (map (λ t. t.now) texts.now) result }
+{
+    let mut names = Ignored::new(alloc);
+    for text in texts {
+        names.add(name_in(alloc, text)?)?;
+    }
+    Ok(names)
+}
+
+// The name that a text writes.
+fn name_in(alloc: Global, text: &str) -> Result<Name, WordsFault>
+    ensures { AnswersTo (not_a_name (is_name text.now)) WordsFault.Memory result (λ name. name ≡ text.now) }
+{
+    match Name::of(alloc, text.as_bytes()) {
+        Ok(name) => Ok(name),
+        Err(NameFault::Memory) => Err(WordsFault::Memory),
+        Err(_) => Err(WordsFault::Ignored),
+    }
+}
+
+// A copy of a text, where there is one.
+fn text_of(alloc: Global, text: Option<&str>) -> Result<Option<Text>, MemoryFault>
+    ensures { IfOk result (λ copy. copy ≡ option_map (λ t. t.now) text.entry) }
+{
+    match text {
+        Some(text) => Ok(Some(Text::of(alloc, text)?)),
+        None => Ok(None),
+    }
+}
+
 // The options of `migrate` in its matches. The parser leaves none out that is wanted here.
-fn options<'a>(matches: &ArgMatches<'a>) -> Option<Given<'a>>
+fn options<'m, 'a>(matches: &'m ArgMatches<'a>) -> Option<Given<'m, 'a>>
     ensures { result ≡ options_in (rows_of (found_of matches.now)) }
 {
     Some(Given {
@@ -273,10 +358,14 @@ fn options<'a>(matches: &ArgMatches<'a>) -> Option<Given<'a>>
         size: number(matches, TUPLE_SIZE)?,
         count: number(matches, TUPLES)?,
         gather: is_set(matches, GATHER),
+        share: text(matches, SHARE),
+        ignored: texts(matches, IGNORE),
         sync: is_set(matches, SYNC),
         rehearse: is_set(matches, REHEARSE),
         verbose: is_set(matches, VERBOSE),
         progress: progress(text(matches, PROGRESS)?)?,
+        interval: number(matches, INTERVAL)?,
+        expected: text(matches, EXPECT),
         source: text(matches, SOURCE)?,
         dest: text(matches, DEST)?,
     })
@@ -304,6 +393,12 @@ fn text<'a>(matches: &ArgMatches<'a>, id: &str) -> Option<&'a str>
     ensures { option_map (λ s. s.now) result ≡ first_of id.now (rows_of (found_of matches.now)) }
 {
     matches.get_str(id)
+}
+
+fn texts<'m, 'a>(matches: &'m ArgMatches<'a>, id: &str) -> &'m [&'a str]
+    ensures { map (λ s. s.now) result.now ≡ unwrap_or (all_of id.now (rows_of (found_of matches.now))) [] }
+{
+    matches.get_strs(id).unwrap_or(&[])
 }
 
 fn number(matches: &ArgMatches<'_>, id: &str) -> Option<u32>

@@ -1,4 +1,4 @@
-use Rattle.pt_cli.proofs.Migrating.{carried, no_layout, no_meta}
+use Rattle.pt_cli.proofs.Migrating.{carried, no_layout, no_meta, no_names, no_share, no_some}
 use Rattle.pt_cli.proofs.words.migrate.Goals as goal
 
 pub returns-in_err-meta : goal.returns-in_err-meta
@@ -9,7 +9,15 @@ returns-in_err-layout c =
     no_layout _ _ c.given.view_is c.in_ok-meta.meta c.in_err-layout.field-0.0 c.from_residual-in_err-layout.result c.in_ok-meta.ensures c.in_err-layout.ensures
     c.from_residual-in_err-layout.ensures.1
 
+pub returns-in_default : goal.returns-in_default
+returns-in_default c = no_share _ _ c.given.view_is c.in_ok-meta.meta c.in_ok-layout.layout c.in_ok-meta.ensures c.in_ok-layout.ensures (no_some _ _ c.in_default.not-Some c.share.ensures)
+
+pub returns-in_err-ignored : goal.returns-in_err-ignored
+returns-in_err-ignored c =
+    no_names _ _ c.given.view_is c.in_ok-meta.meta c.in_ok-layout.layout c.in_ok-meta.ensures c.in_ok-layout.ensures c.in-Some.share c.in_err-ignored.field-0.0
+    c.from_residual-in_err-ignored.result c.in-Some.ensures c.in_err-ignored.ensures c.from_residual-in_err-ignored.ensures.1
+
 pub returns : goal.returns
 returns c =
-    carried _ _ c.given.view_is c.in_ok-meta.meta _ c.in_ok-layout.layout c.in_ok-of.field-0 c.in_ok-of-2.field-0 c.in_ok-meta.ensures c.meta.view_is c.in_ok-layout.ensures
-    c.in_ok-of.ensures c.in_ok-of-2.ensures
+    carried _ _ c.given.view_is c.in_ok-meta.meta c.in_ok-layout.layout c.in_ok-meta.ensures c.in_ok-layout.ensures _ c.in-Some.share c.in_ok-ignored.ignored c.in_ok-text_of.field-0 c.in_ok-of.field-0
+    c.in_ok-of-2.field-0 c.in-Some.ensures c.in_ok-ignored.ensures c.meta.view_is c.in_ok-text_of.ensures c.in_ok-of.ensures c.in_ok-of-2.ensures

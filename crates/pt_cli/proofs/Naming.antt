@@ -1,0 +1,29 @@
+-- What is answered to texts of which one is no name.
+use Rattle.std.proofs.Common.{◌≡◌, ◌∙◌, ℕ, ◌<◌, Bool, true, false, List, length, get_or, map, inl, inr, Bor, Result, Ok, Err, refl, ap, sym, subst}
+use Rattle.std.specs.Result.{IsErrAnd}
+use Rattle.std.proofs.lemmas.List.Folds.{list_all-map, list_all_at}
+use Rattle.clap.specs.Words.{Text}
+use Rattle.pt_tree.specs.Name.{is_name}
+use Rattle.pt_tree.specs.Refusal.{Answers}
+use Rattle.pt_cli.specs.Words.{AreNamed, are_names, not_a_name}
+use Rattle.pt_cli.specs.declared.words.WordsFault.{WordsFault}
+use Rattle.pt_cli.specs.declared.words.WordsFault.TheVariants as fault
+
+abbrev written : List (Bor Text) → List Text
+written texts = map (λ (t : Bor Text). t.now) texts
+
+-- the texts are no names, where one of them is none
+not_all_names : (texts : List (Bor Text)) (i : ℕ) (d : Bor Text) → i < length texts → is_name (get_or texts i d).now ≡ false → are_names (written texts) ≡ false
+not_all_names texts i d here none =
+    list_all-map is_name (λ (t : Bor Text). t.now) texts ∙ list_all_at (λ (t : Bor Text). is_name t.now) texts i d here none
+
+pub name_refused : (texts : List (Bor Text)) (i : ℕ) (d : Bor Text) (e : WordsFault) (r : Result (List Text) WordsFault) (P : List ℕ → Type 0) → i < length texts
+    → Answers {T = List ℕ} (not_a_name (is_name (get_or texts i d).now)) fault.Memory (Err e) P → IsErrAnd r (λ y. y ≡ e) → AreNamed (written texts) r
+name_refused texts i d e (Ok names) P here told is = absurd is
+name_refused texts i d e (Err y) P here told is = go (is_name (get_or texts i d).now) refl told
+  where
+    go : (b : Bool) → is_name (get_or texts i d).now ≡ b → Answers {T = List ℕ} (not_a_name b) fault.Memory (Err e) P → AreNamed (written texts) (Err y)
+    go true named memory = inl (is ∙ memory)
+    go false none refused =
+        let same : e ≡ fault.Ignored = cc in
+        inr (not_all_names texts i d here none, is ∙ same)
