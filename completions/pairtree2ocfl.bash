@@ -18,12 +18,13 @@ _pairtree2ocfl() {
     case $previous in
         --digest) mapfile -t COMPREPLY < <(compgen -P "$front" -W 'sha512 sha256' -- "$current") && return ;;
         --progress) mapfile -t COMPREPLY < <(compgen -P "$front" -W 'auto always never' -- "$current") && return ;;
-        --created | --name | --address | --message | --tuple-size | --tuples | --prefix) return ;;
+        --expect) mapfile -t COMPREPLY < <(compgen -P "$front" -f -- "$current") && return ;;
+        --created | --name | --address | --message | --tuple-size | --tuples | --share | --ignore | --interval | --prefix) return ;;
     esac
     case $command in
         migrate)
-            options='--created --name --address --message --digest --tuple-size --tuples --gather --sync
-                --dry-run -n --verbose -v --progress --help -h'
+            options='--created --name --address --message --digest --tuple-size --tuples --gather --share
+                --ignore --sync --dry-run -n --verbose -v --progress --interval --expect --help -h'
             ;;
         names) options='--prefix --tuple-size --tuples --help -h' ;;
         help) options='migrate names help' ;;

@@ -15,8 +15,12 @@ complete -c pairtree2ocfl -n '__fish_seen_subcommand_from migrate' -l address -x
 complete -c pairtree2ocfl -n '__fish_seen_subcommand_from migrate' -l message -x -d 'What the inventories say'
 complete -c pairtree2ocfl -n '__fish_seen_subcommand_from migrate' -l digest -x -a 'sha512 sha256' -d 'The digest algorithm'
 complete -c pairtree2ocfl -n '__fish_seen_subcommand_from migrate' -l gather -d "Carry what lies directly in an identifier's folder too, as one object"
+complete -c pairtree2ocfl -n '__fish_seen_subcommand_from migrate' -l share -x -d 'Carry one share of the store'
+complete -c pairtree2ocfl -n '__fish_seen_subcommand_from migrate' -l ignore -x -d 'Leave out every entry of this name'
 complete -c pairtree2ocfl -n '__fish_seen_subcommand_from migrate' -l sync -d 'Have all put onto the disk'
 complete -c pairtree2ocfl -n '__fish_seen_subcommand_from migrate' -s n -l dry-run -d 'Rehearse'
 complete -c pairtree2ocfl -n '__fish_seen_subcommand_from migrate' -s v -l verbose -d 'Tell of a fault also the reason'
 complete -c pairtree2ocfl -n '__fish_seen_subcommand_from migrate' -l progress -x -a 'auto always never' -d 'When to show how far the run is'
+complete -c pairtree2ocfl -n '__fish_seen_subcommand_from migrate' -l interval -x -d 'Seconds between two such lines'
+complete -c pairtree2ocfl -n '__fish_seen_subcommand_from migrate' -l expect -r -F -d 'The log of a rehearsal'
 complete -c pairtree2ocfl -n '__fish_seen_subcommand_from migrate' -a '(__fish_complete_directories)'

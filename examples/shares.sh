@@ -4,10 +4,10 @@
 #   shares.sh here N       on this machine, all N side by side
 #   shares.sh cluster N    on a cluster, as a Slurm job array of N tasks with the join behind it
 #
-# From the environment come STORE, OUT (a folder on the file system that the root is to lie on), CREATED, NAME and ROOTS (where
-# roots.py is), and, if they are set, PROGRAM and OPTIONS (more options of migrate). What was stopped goes on by the same command.
+# From the environment come STORE, OUT (a folder on the file system that the root is to lie on), CREATED and NAME, and, if they are set,
+# ROOTS (where roots.py is), PROGRAM and OPTIONS (more options of migrate). What was stopped goes on by the same command.
 set -eu
-: "${STORE:?}" "${OUT:?}" "${CREATED:?}" "${NAME:?}" "${ROOTS:?}" "${PROGRAM:=pairtree2ocfl}" "${OPTIONS:=}"
+: "${STORE:?}" "${OUT:?}" "${CREATED:?}" "${NAME:?}" "${ROOTS:=$(dirname "$0")/roots.py}" "${PROGRAM:=pairtree2ocfl}" "${OPTIONS:=}"
 ROOTS=$(realpath "$ROOTS") && export STORE OUT CREATED NAME ROOTS PROGRAM OPTIONS
 
 # Carries share K of N, unless the join has begun. A staging that a stopped run left is taken away first, unless a run is under way there.
@@ -28,7 +28,7 @@ join() {
 case $1 in
 share) share "${SLURM_ARRAY_TASK_ID:-${2:-}}" "${SLURM_ARRAY_TASK_COUNT:-${3:-}}" ;;
 join) join "$2" ;;
-here) mkdir -p "$OUT" && seq "$2" | xargs -P "$2" -I{} "$0" share {} "$2" && join "$2" ;;
+here) mkdir -p "$OUT" && seq "$2" | xargs -P "$2" -I{} sh "$0" share {} "$2" && join "$2" ;;
 cluster)
     mkdir -p "$OUT"
     array=$(sbatch --parsable --requeue --open-mode=append --array="1-$2" --output="$OUT/%a.err" "$0" share)

@@ -205,7 +205,7 @@ def walk(program, folder):
 
 
 # The blocks that other cases run.
-ELSEWHERE = ("damaged.txt", 'damaged DEST/ocfl', "xargs", "#SBATCH", "join out", "rm -r DEST/staging")
+ELSEWHERE = ("shares.sh here", "--share K/N", "damaged.txt", 'damaged DEST/ocfl', "xargs", "#SBATCH", "join out", "rm -r DEST/staging")
 
 
 def guide_blocks():

@@ -26,6 +26,7 @@ INSTALLED = {
     "share/zsh/site-functions/_pairtree2ocfl",
     "share/fish/vendor_completions.d/pairtree2ocfl.fish",
     "share/pairtree2ocfl/roots.py",
+    "share/pairtree2ocfl/shares.sh",
 }
 
 

@@ -24,7 +24,7 @@ TOP = os.path.dirname(os.path.dirname(os.path.abspath(__file__)))
 ROOTS = f"{TOP}/tools/roots.py"
 SCRIPT = f"{TOP}/examples/shares.sh"
 OF_THE_FIRST = {"root", "empty", "split", "past", "name", "utf8", "reserved"}
-WAYS = ((), ("--gather",), ("--tuples", "0"), ("--tuple-size", "2", "--tuples", "4"), ("--tuple-size", "1", "--tuples", "1"))
+WAYS = ((), ("--gather",), ("--tuple-size", "0", "--tuples", "0"), ("--tuple-size", "2", "--tuples", "4"), ("--tuple-size", "1", "--tuples", "1"))
 
 
 def share_number(identifier, count):
@@ -131,7 +131,7 @@ def environment(program, folder):
 
 def here(program, folder):
     """The script carries a store in shares on this machine; by the same command it goes on where a share was stopped."""
-    many(folder, 300)
+    many(folder, 100)
     ran(program, folder, "whole")
     build(f"{folder}/out of it/2", {"staging/left": b"1"})
     done = subprocess.run([SCRIPT, "here", "3"], env=environment(program, folder), capture_output=True, timeout=300)

@@ -22,3 +22,4 @@ put 644 "$top/completions/pairtree2ocfl.bash" share/bash-completion/completions/
 put 644 "$top/completions/_pairtree2ocfl" share/zsh/site-functions/_pairtree2ocfl
 put 644 "$top/completions/pairtree2ocfl.fish" share/fish/vendor_completions.d/pairtree2ocfl.fish
 put 755 "$top/tools/roots.py" share/pairtree2ocfl/roots.py
+put 755 "$top/examples/shares.sh" share/pairtree2ocfl/shares.sh

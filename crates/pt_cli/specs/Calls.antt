@@ -20,11 +20,14 @@ wanted_of words = record {
     algorithm = words.algorithm;
     limits = greatest_limits;
     gather = words.gather;
+    share = words.share;
   };
+  ignored = words.ignored;
   sync = words.sync;
   rehearse = words.rehearse;
   verbose = words.verbose;
   progress = words.progress;
+  interval = words.interval;
 }
 
 -- of writing names: 0 where they were written, 2 for the empty identifier, else 3

@@ -30,6 +30,8 @@ Does names migrates (Err words.EmptyName) = Refuses 2
 Does names migrates (Err words.EmptyId) = Refuses 2
 Does names migrates (Err words.Memory) = Refuses 3
 Does names migrates (Err words.Tuples) = Refuses 2
+Does names migrates (Err words.Share) = Refuses 2
+Does names migrates (Err words.Ignored) = Refuses 2
 
 -- these words, the program's name first, are answered, and that is done
 abbrev pub EndsWith : {H : Type 0} → (Named → H → H → ℕ → Type 0) → (Migration → H → H → ℕ → Type 0) → List Text → H → H → ℕ → Type 0

@@ -11,6 +11,7 @@ use pt_walk::Limits;
 #[derive(Drop)]
 pub(crate) struct Asked {
     pub wanted: Wanted,
+    pub expected: Option<Text>,
     pub source: Text,
     pub dest: Text,
 }
@@ -27,16 +28,20 @@ pub(crate) fn run_asked_for(words: Migrate) -> Asked
         algorithm: words.algorithm,
         limits: Limits::greatest(),
         gather: words.gather,
+        share: words.share,
     };
     let wanted = Wanted {
         job,
+        ignored: words.ignored,
         sync: words.sync,
         rehearse: words.rehearse,
         verbose: words.verbose,
         progress: words.progress,
+        interval: words.interval,
     };
     Asked {
         wanted,
+        expected: words.expected,
         source: words.source,
         dest: words.dest,
     }

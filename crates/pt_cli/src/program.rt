@@ -95,10 +95,12 @@ where
 {
     let Asked {
         wanted,
+        expected,
         source,
         dest,
     } = run_asked_for(words);
-    pt_run::migrate(rt, host, wanted, source.as_str(), dest.as_str())
+    let expected = expected.as_ref().map(|log| log.as_str());
+    pt_run::migrate(rt, host, wanted, expected, source.as_str(), dest.as_str())
 }
 
 // Writes the names that are asked for to the machine's output, and gives the status of that.

@@ -11,13 +11,13 @@ use pt_tree::{Block, Listing, NamePath, Source, TreeFault};
 /// Where the source tells, this one tells its tree without them, in every directory. Each call is one call of the source,
 /// and fails where that fails.
 #[derive(Drop)]
-pub struct Ignoring<S: Source + Drop> {
+pub struct Ignoring<S: Source> {
     source: S,
     names: Ignored,
     left_out: u64,
 }
 
-impl<S: Source + Drop> Ignoring<S> {
+impl<S: Source> Ignoring<S> {
     /// A source without the entries that have these names.
     pub fn new(source: S, names: Ignored) -> Ignoring<S>
         ensures source { result.source ≡ source }
@@ -37,6 +37,13 @@ impl<S: Source + Drop> Ignoring<S> {
         &self.source
     }
 
+    /// The source with all its entries, as the calls left it.
+    pub fn into_source(self) -> S
+        ensures { result ≡ self.entry.source }
+    {
+        self.source
+    }
+
     /// How many entries were left out of what was listed, up to 2^64 - 1.
     pub fn left_out(&self) -> u64
         ensures { result ≡ self.now.left_out }
@@ -45,7 +52,7 @@ impl<S: Source + Drop> Ignoring<S> {
     }
 }
 
-impl<S: Source + Drop> Source for Ignoring<S> {
+impl<S: Source> Source for Ignoring<S> {
     ghost told = { λ i. told_without i.names (S.told i.source) };
 
     ghost failed = { λ i. S.failed i.source };

@@ -7,6 +7,7 @@ use Rattle.pt_folder.specs.DestHeld.{told_of as dest_told, unless_synced}
 use Rattle.pt_folder.specs.DestLaws.{Kept}
 use Rattle.pt_folder.specs.SourceHeld.{told_of as source_told}
 use Rattle.pt_folder.specs.declared.writing.Writing.{Writing as Open}
+use Rattle.pt_ignore.specs.Ignoring.{told_without}
 use Rattle.pt_guard.specs.Guard.{Begins}
 use Rattle.pt_guard.specs.Paths.{Place}
 use Rattle.pt_guard.specs.declared.guard.GuardFault.{GuardFault}
@@ -31,16 +32,17 @@ abbrev pub IsMade : Wanted → World → World → ℕ → Type 0
 IsMade wanted old new status =
     (ran : Result Report Fault) × Migrates wanted.job (seen wanted.rehearse old) (seen wanted.rehearse new) ran × (status ≡ run_status ran)
 
--- the paths of a run's two folders, and whether its files are put onto the disk
+-- the paths of a run's two folders, the names of the entries that are left out of the store, and whether files are put onto the disk
 pub record Between : Type 0 where
   pub store : List ℕ
   pub folder : List ℕ
+  pub ignored : List (List ℕ)
   pub synced : Bool
 
 -- what the devices of a run tell: over the trees that the systems keep at these folders, with this open for reading and this for writing, and what the output holds
 abbrev pub world_of : {S D W F : Type 0} → (S → List ℕ → Option Forest) → (D → List ℕ → Kept F) → (W → Option (List ℕ)) → Between → Ground S D W → Option (List ℕ) → Option (Open F) → Failures → World
 world_of forest kept contents at ground reading writing failures = record {
-  source = source_told (forest ground.store at.store) reading;
+  source = told_without at.ignored (source_told (forest ground.store at.store) reading);
   dest = dest_told (unless_synced at.synced (kept ground.folder at.folder)) writing;
   log = contents ground.output;
   failures = failures;
@@ -58,7 +60,7 @@ none_failed = record { source = 0; dest = 0; log = 0 }
 
 -- the two folders of a run
 abbrev pub between : Wanted → List ℕ → List ℕ → Between
-between wanted store folder = record { store = store; folder = folder; synced = wanted.sync }
+between wanted store folder = record { store = store; folder = folder; ignored = wanted.ignored; synced = wanted.sync }
 
 -- a run was made over these folders of the systems, with no file open, and left the systems and the output so
 abbrev pub RunsOver : {S D W F : Type 0} → (S → List ℕ → Option Forest) → (D → List ℕ → Kept F) → (W → Option (List ℕ)) → Wanted → List ℕ → List ℕ → Ground S D W → Ground S D W → ℕ → Type 0

@@ -3,6 +3,7 @@
 #![tactic(auto)]
 
 mod devices;
+mod expected;
 mod host;
 mod log;
 mod migration;

@@ -9,8 +9,10 @@ use crate::log::Syncs;
 use crate::running::{Ended, log_failed, run};
 use crate::terminal::Terminals;
 use crate::watch::Progress;
+use crate::expected::lines_expected;
 use crate::{prefix, reason};
 use pt_guard::{GuardFault, begin};
+use pt_ignore::Ignored;
 use pt_move::Job;
 use std::alloc::AllocGlobal;
 use std::io;
@@ -26,6 +28,8 @@ const FAILED: u8 = 3;
 pub struct Wanted {
     /// What has to be done.
     pub job: Job,
+    /// The names of the entries of the store that are left out.
+    pub ignored: Ignored,
     /// Whether files are put onto the disk before they are closed.
     pub sync: bool,
     /// Whether it is rehearsed only: nothing is made or changed.
@@ -34,15 +38,25 @@ pub struct Wanted {
     pub verbose: bool,
     /// When to show how far it is.
     pub progress: Progress,
+    /// How many seconds pass between two lines that show it, where they don't go to a terminal.
+    pub interval: u32,
 }
 
 /// Carries a store into a destination on a machine, or rehearses that, and gives the exit status: 0 all was carried; 1 the log has lines
 /// that tell of what was not; 2 the folders lie in one another, or it isn't known where; 3 a fault, or another run holds the
 /// destination. Standard error tells of 2 and 3.
 ///
-/// The guard is asked first. Where the run may begin it is made over what the machine lends, which is given back then; and at last the
+/// `expected` is the path of a log, of a rehearsal say, whose end line tells how many lines there may be: then the share done and the time left
+/// are shown too. The guard is asked first. Where the run may begin it is made over what the machine lends, which is given back then; and at last the
 /// lock is given back.
-pub fn migrate<R, H: Host>(rt: &R, host: &mut H, wanted: Wanted, source: &str, dest: &str) -> u8
+pub fn migrate<R, H: Host>(
+    rt: &R,
+    host: &mut H,
+    wanted: Wanted,
+    expected: Option<&str>,
+    source: &str,
+    dest: &str,
+) -> u8
 where
     R: Files + Clock + Eprint + AllocGlobal + Terminals,
     ensures { Runs H.resolves H.identifies H.holds H.releases H.finds H.File.syncs
@@ -54,7 +68,7 @@ where
             if wanted.verbose {
                 prefix::tell(rt, source);
             }
-            let status = carry(rt, host, wanted, source, dest);
+            let status = carry(rt, host, wanted, expected, source, dest);
             host.release(lock);
             status
         }
@@ -63,7 +77,7 @@ where
                 prefix::tell(rt, source);
                 reason::unlocked(rt, dest, &error);
             }
-            carry(rt, host, wanted, source, dest)
+            carry(rt, host, wanted, expected, source, dest)
         }
         Err(fault) => refused(rt, fault),
     }
@@ -84,7 +98,14 @@ fn refused(rt: &impl Eprint, fault: GuardFault) -> u8
 }
 
 // Carries a store from folder to folder, or rehearses that, over what the machine lends.
-fn carry<R, H: Host>(rt: &R, host: &mut H, wanted: Wanted, store: &str, folder: &str) -> u8
+fn carry<R, H: Host>(
+    rt: &R,
+    host: &mut H,
+    wanted: Wanted,
+    expected: Option<&str>,
+    store: &str,
+    folder: &str,
+) -> u8
 where
     R: Files + Clock + Eprint + AllocGlobal + Terminals,
     ensures { (file : _) × (mid : H)
@@ -97,9 +118,13 @@ where
         Ok(file) => file,
         Err(_) => return log_failed(rt),
     };
+    let expected = match expected {
+        Some(log) => lines_expected(rt, log),
+        None => None,
+    };
     let ground = host.lend();
     let devices = equipped(rt.alloc(), ground, file, &wanted, store, folder);
-    let Ended { status, ground } = run(rt, devices, wanted, store);
+    let Ended { status, ground } = run(rt, devices, wanted, store, expected);
     host.take_back(ground);
     status
 }

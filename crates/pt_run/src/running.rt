@@ -3,6 +3,7 @@ ghost use Rattle.std.specs.Prelude.{◌≡◌, ℕ};
 ghost use Rattle.pt_folder.specs.DestHeld.{told_of as dest_told, unless_synced};
 ghost use Rattle.pt_folder.specs.Reading.{unread_open};
 ghost use Rattle.pt_folder.specs.SourceHeld.{told_of as source_told};
+ghost use Rattle.pt_ignore.specs.Ignoring.{told_without};
 ghost use Rattle.pt_move.specs.Migrates.{Migrates};
 ghost use Rattle.pt_run.specs.Ends.{run_status};
 ghost use Rattle.pt_run.specs.Made.{RunsFrom, seen};
@@ -13,9 +14,10 @@ use crate::host::Ground;
 use crate::log::Syncs;
 use crate::tally::{TalliedLog, Tally};
 use crate::terminal::Terminals;
-use crate::watch::Watched;
+use crate::watch::{Watched, Watching};
 use crate::{Wanted, reason};
 use pt_folder::{HostDest, HostSource, Rehearsal, System};
+use pt_ignore::Ignoring;
 use pt_move::{Fault, Job, Report};
 use pt_tree::{Log, Source};
 use std::alloc::{AllocGlobal, Global};
@@ -36,19 +38,20 @@ pub(crate) struct Ended<S, D, W> {
 }
 
 /// Makes the run that is wanted over its devices, or rehearses it, watched as that is wanted, and tells standard error of a fault. `store` is
-/// the path of the store.
+/// the path of the store; `expected` is how many lines its log may come to, where that is known.
 pub(crate) fn run<R, S: System, D: System, W: Write, F: Syncs + Drop>(
     rt: &R,
     devices: Devices<'_, S, D, W, F>,
     wanted: Wanted,
     store: &str,
+    expected: Option<u64>,
 ) -> Ended<S, D, W>
 where
     R: Clock + Eprint + AllocGlobal + Terminals,
     ensures { RunsFrom S.forest D.kept W.contents wanted
-        (world (source_told
+        (world (told_without wanted.ignored (source_told
         (S.forest devices.entry.source.system devices.entry.source.folder.path.now)
-        (unread_open S.File.Input.bytes devices.entry.source.reading))
+        (unread_open S.File.Input.bytes devices.entry.source.reading)))
         (dest_told (unless_synced devices.entry.dest.synced
         (D.kept devices.entry.dest.system devices.entry.dest.folder.path.now))
         devices.entry.dest.writing)
@@ -59,9 +62,16 @@ where
     let alloc = rt.alloc();
     let tally = Tally::new();
     let Devices { source, dest, log } = devices;
-    let mut source = Watched::new(source, rt, alloc, &tally, wanted.progress);
-    let mut log = TalliedLog::new(log, &tally);
+    let watching = Watching {
+        when: wanted.progress,
+        interval: wanted.interval,
+        expected,
+    };
     let verbose = wanted.verbose;
+    let ignores = !wanted.ignored.names().is_empty();
+    let ignoring = Ignoring::new(source, wanted.ignored);
+    let mut source = Watched::new(ignoring, rt, alloc, &tally, watching);
+    let mut log = TalliedLog::new(log, &tally);
     let Ran { ran, dest } = made(
         alloc,
         &mut source,
@@ -71,7 +81,11 @@ where
         wanted.job,
     );
     source.end();
-    let source = source.into_source();
+    let ignoring = source.into_source();
+    if verbose && ignores {
+        reason::left_out(rt, ignoring.left_out());
+    }
+    let source = ignoring.into_source();
     let status = told(rt, &ran, verbose, &source, &dest, store);
     let ground = Ground {
         store: source.into_system(),

@@ -19,13 +19,22 @@ pub enum Progress {
     Never,
 }
 
-// How many milliseconds pass between two lines on a terminal, and elsewhere.
+// How many milliseconds pass between two lines on a terminal.
 const ON_TERMINAL: u64 = 200;
-
-const ELSEWHERE: u64 = 10_000;
 
 // How many characters a line on a terminal may have.
 const WIDTH: usize = 79;
+
+/// How a run is watched.
+#[derive(Clone, Copy, Debug, Drop)]
+pub struct Watching {
+    /// When to show how far it is.
+    pub when: Progress,
+    /// How many seconds pass between two lines that don't go to a terminal.
+    pub interval: u32,
+    /// How many lines its log may come to, where that is known.
+    pub expected: Option<u64>,
+}
 
 /// A source that is watched, and is the source in all else.
 #[derive(Drop)]
@@ -36,6 +45,8 @@ pub struct Watched<'a, S: Source, R> {
     alloc: Global,
     shows: bool,
     on_terminal: bool,
+    period: u64,
+    expected: Option<u64>,
     begun: u64,
     due: u64,
     at: Vec<u8>,
@@ -48,18 +59,22 @@ impl<'a, S: Source, R: Clock + Eprint + Terminals> Watched<'a, S, R> {
         rt: &'a R,
         alloc: Global,
         tally: &'a Tally,
-        progress: Progress,
+        watching: Watching,
     ) -> Watched<'a, S, R>
         ensures { result.source ≡ source }
     {
         let on_terminal = rt.errors_are_terminal();
-        let shows = match progress {
+        let shows = match watching.when {
             Progress::Auto => on_terminal && !rt.output_is_terminal(),
             Progress::Always => true,
             Progress::Never => false,
         };
         let begun = if shows { millis(rt) } else { 0 };
-        let period = if on_terminal { ON_TERMINAL } else { ELSEWHERE };
+        let period = if on_terminal {
+            ON_TERMINAL
+        } else {
+            u64::from(watching.interval).saturating_mul(1000)
+        };
         Watched {
             source,
             rt,
@@ -67,6 +82,8 @@ impl<'a, S: Source, R: Clock + Eprint + Terminals> Watched<'a, S, R> {
             alloc,
             shows,
             on_terminal,
+            period,
+            expected: watching.expected,
             begun,
             due: begun.saturating_add(period),
             at: Vec::new(alloc),
@@ -118,12 +135,7 @@ impl<'a, S: Source, R: Clock + Eprint + Terminals> Watched<'a, S, R> {
         if now < self.due {
             return;
         }
-        let period = if self.on_terminal {
-            ON_TERMINAL
-        } else {
-            ELSEWHERE
-        };
-        self.due = now.saturating_add(period);
+        self.due = now.saturating_add(self.period);
         let Ok(line) = self.line(now.saturating_sub(self.begun)) else {
             return;
         };
@@ -151,18 +163,33 @@ impl<'a, S: Source, R: Clock + Eprint + Terminals> Watched<'a, S, R> {
             bytes / 100 / passed.max(1),
         );
         let (whole, tenth) = (tenths / 10, tenths % 10);
+        let ahead = match self.expected {
+            Some(expected) => ahead(self.alloc, lines, expected, passed)?,
+            None => String::new(self.alloc),
+        };
         let at = match str::from_utf8(self.at.as_slice()) {
             Ok(at) => escaped(self.alloc, at)?,
             Err(_) => String::new(self.alloc),
         };
         let line = format!(in self.alloc;
-            "pairtree2ocfl: {seconds} s, {places}/s, {whole}.{tenth} MB/s: {done} done, {present} present, {skipped} skipped, {bytes} bytes read, at {at}"
+            "pairtree2ocfl: {seconds} s, {places}/s, {whole}.{tenth} MB/s{ahead}: {done} done, {present} present, {skipped} skipped, {bytes} bytes read, at {at}"
         )?;
         if self.on_terminal {
             return cut(self.alloc, line.as_str());
         }
         Ok(line)
     }
+}
+
+// The share that is done after so many lines of those that are expected, and the time that is left, by the time that passed.
+fn ahead(alloc: Global, lines: u64, expected: u64, passed: u64) -> Result<String, AllocError> {
+    let done = lines.min(expected);
+    let percent = done.saturating_mul(100) / expected.max(1);
+    let left = passed.saturating_mul(expected.saturating_sub(done)) / done.max(1) / 1000;
+    if done == 0 {
+        return format!(in alloc; ", {percent} %");
+    }
+    format!(in alloc; ", {percent} %, {left} s left")
 }
 
 // The first characters of a line, as many as fit on a terminal.

@@ -3,9 +3,10 @@ use Rattle.pt_run.proofs.running.run.Goals as goal
 
 pub returns : goal.returns
 returns g c =
-    let source = c.made-ran.new.source.source in
+    let ignoring = c.made-ran.new.source.source in
+    let source = ignoring.source in
     let dest = c.made-ran.result.dest in (
-      record { store = source.folder.path.now; folder = dest.folder.path.now; synced = dest.synced },
+      record { store = source.folder.path.now; folder = dest.folder.path.now; ignored = ignoring.names; synced = dest.synced },
       unread_open g.S.File.Input.bytes source.reading,
       dest.writing,
       record { source = source.failures; dest = dest.failures; log = c.made-ran.new.log.log.failures },
@@ -16,8 +17,11 @@ returns g c =
           c.into_system-2.ensures,
           c.into_writer.ensures,
           c.into_source-source.ensures,
+          c.into_source-ignoring.ensures,
           c.into_log.ensures,
           ← c.new-source.ensures,
+          ← c.new-ignoring.ensures.source,
+          ← c.new-ignoring.ensures.names,
           ← c.new-log.ensures,
         ) c.made-ran.ensures,
         c.told-status.ensures,

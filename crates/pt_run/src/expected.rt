@@ -1,0 +1,50 @@
+//! How many lines a run's log may come to, by the log of its rehearsal.
+use crate::shown::escaped;
+use std::alloc::AllocGlobal;
+use std::fs::OpenOptions;
+use std::io;
+use std::io::{Read, Seek, SeekFrom};
+use std::rt::Files;
+
+// How many bytes at a log's end are read; an end line has fewer.
+const TAIL: usize = 128;
+
+/// The number of lines that a log's end line counts. Standard error is told where the log can't be read, or has no end line.
+pub(crate) fn lines_expected<R: Files + Eprint + AllocGlobal>(rt: &R, log: &str) -> Option<u64> {
+    let mut tail = [0u8; TAIL];
+    let counted = match read_tail(rt, log, &mut tail) {
+        Ok(count) => match str::from_utf8(&tail[..count]) {
+            Ok(text) => last_count(text),
+            Err(_) => None,
+        },
+        Err(_) => None,
+    };
+    if counted.is_none()
+        && let Ok(path) = escaped(rt.alloc(), log)
+    {
+        let _ = eprintln!(rt; "pairtree2ocfl: {path}: it has no end line of a log");
+    }
+    counted
+}
+
+// Reads the last bytes of a file, and gives how many there are.
+fn read_tail<R: Files>(rt: &R, path: &str, tail: &mut [u8; TAIL]) -> io::Result<usize> {
+    let length = rt.metadata(path)?.len();
+    let mut options = OpenOptions::new();
+    options.read(true);
+    let mut file = rt.open_file(&options, path)?;
+    file.seek(SeekFrom::Start(length.saturating_sub(TAIL as u64)))?;
+    file.read(tail)
+}
+
+// What the last line of a text counts, if it is an end line.
+fn last_count(text: &str) -> Option<u64> {
+    let (_, counts) = text.rsplit_once("{\"as\":\"end\",\"done\":")?;
+    let (done, counts) = counts.split_once(",\"present\":")?;
+    let (present, counts) = counts.split_once(",\"skip\":")?;
+    let skipped = counts.strip_suffix("}\n")?;
+    let done: u64 = done.parse().ok()?;
+    let present: u64 = present.parse().ok()?;
+    let skipped: u64 = skipped.parse().ok()?;
+    Some(done.saturating_add(present).saturating_add(skipped))
+}
