@@ -30,7 +30,7 @@ test: toolchain ## every test: the toolchain's gate, then the tests of the progr
 allocations: build ## refuse each request for memory of the program in turn, where a C compiler is
 	@$(PYTHON) tests/allocations.py $(PROGRAM)
 
-bench: build ## hold a run against sha512sum, cp and, where rustc is, plain Rust over the same store
+bench: build ## processor time of a run beside sha512sum, cp and, where rustc is, plain Rust over the same stores
 	@$(PYTHON) bench/bench.py $(PROGRAM)
 
 install: ## copy the program, its man page and its completions to PREFIX (/usr/local unless given), below DESTDIR

@@ -38,7 +38,7 @@ STORES = {
     "single": Store(6000, 1, 300, 0),
     "large": Store(4, 4, 16_000_000, 0),
     "wide": Store(1, 10_000, 200, 0),
-    "deep": Store(40, 20, 2_000, 300),
+    "deep": Store(20, 20, 2_000, 300),
 }
 MILLION = {"million": Store(1, 1_000_000, 64, 0)}
 # More files than this in one object lie in folders of as many.
