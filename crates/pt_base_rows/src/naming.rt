@@ -276,19 +276,28 @@ fn shares_of_identifiers(rt: HostRuntime) -> Result<(), Fail> {
 }
 
 #[test]
-fn shares_that_are_refused(rt: HostRuntime) {
-    let rows = [
-        (0, 0, 1),
-        (0, 5000, 1),
-        (1, 0, 1),
-        (1, 4097, 2),
-        (5000, 4097, 2),
-        (2, 1, 3),
-        (4097, 4096, 3),
+fn shares_that_are_refused(rt: HostRuntime) -> Result<(), Fail> {
+    let refused = [
+        (0, 0, ShareFault::Zero),
+        (0, 5000, ShareFault::Zero),
+        (1, 0, ShareFault::Zero),
+        (1, 4097, ShareFault::TooMany),
+        (5000, 4097, ShareFault::TooMany),
+        (2, 1, ShareFault::OutOfRange),
+        (4097, 4096, ShareFault::OutOfRange),
     ];
-    for (index, count, number) in rows {
-        let fault = Share::of(index, count).unwrap_err();
-        assert_eq!(rt; fault.number(), number, "{index} of {count}");
+    for (index, count, fault) in refused {
+        assert_eq!(rt; Share::of(index, count), Err(fault), "{index} of {count}");
     }
-    assert!(rt; Share::of(4096, 4096).is_ok(), "the most");
+    let last = Share::of(4096, 4096)?;
+    assert_eq!(rt; (last.index(), last.count()), (4096, 4096));
+    let numbers = [
+        ShareFault::Zero,
+        ShareFault::TooMany,
+        ShareFault::OutOfRange,
+    ];
+    for (i, fault) in numbers.iter().enumerate() {
+        assert_eq!(rt; usize::from(fault.number()), i + 1);
+    }
+    Ok(())
 }

@@ -15,6 +15,9 @@ pub mod PlaceShapes
 pub mod Rerun
 pub mod Reserved
 pub mod StagingKeeps
+pub mod ShareNumbers
+pub mod SharedItems
+pub mod SharedRoots
 pub mod TakenPlaces
 pub mod WholeObjects
 pub mod WithObjects

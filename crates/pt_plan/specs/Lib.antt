@@ -15,6 +15,7 @@ pub mod Lines
 pub mod Permits
 pub mod PlaceLaws
 pub mod RerunLaws
+pub mod ShareLaws
 pub mod Roots
 pub mod Run
 pub mod Store

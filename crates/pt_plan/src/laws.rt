@@ -6,6 +6,7 @@ ghost use Rattle.pt_plan.specs.CountLaws.{CountsGrow, EachLineIsCounted, EndLine
 ghost use Rattle.pt_plan.specs.RerunLaws.{RerunEndsAlike, RerunLeavesTheSame, RootStaysWithoutStaging, TurnsHaveNoPart};
 ghost use Rattle.pt_plan.specs.GrowthLaws.{AfterGrows, AfterStays, FoldersGrow, ObjectIsMovedIn, RootIsItsOwn, RootIsMadeInPlace, RootIsMovedIn, RootsHaveNoGaps};
 ghost use Rattle.pt_plan.specs.FixityLaws.{FaultsLeaveWhatIsKept, RowsMakeWholeObjects};
+ghost use Rattle.pt_plan.specs.ShareLaws.{SharesLeaveTheWhole, SharesMeetInFolders, SharesTellTheWhole};
 ghost use Rattle.pt_plan.specs.WholeLaws.{CarriedHaveTheirFiles, CarriedStandWhole};
 
 /// In the order of the walk the files of a directory have logical paths that come in order, none leading to another: what
@@ -178,4 +179,21 @@ pub fn carried_stand_whole()
 /// files, where no two of them whose bytes differ have one digest (OCFL 1.1, "Version Block").
 pub fn carried_have_their_files()
     ensures { CarriedHaveTheirFiles }
+{}
+
+/// The logs of all shares of a store have together the lines of the whole's, each line in the log of one share: whatever is
+/// asked of lines, as many of the whole's are such as of the shares' together. So the numbers of their end lines add up.
+pub fn shares_tell_the_whole()
+    ensures { SharesTellTheWhole }
+{}
+
+/// Over one root, what stands at a path after a run of the whole stands there after the run of some share, as it is, and
+/// nothing else stands there after any share's.
+pub fn shares_leave_the_whole()
+    ensures { SharesLeaveTheWhole }
+{}
+
+/// Where two shares have something at a path, it stood in the root that both began with, or else is a folder.
+pub fn shares_meet_in_folders()
+    ensures { SharesMeetInFolders }
 {}

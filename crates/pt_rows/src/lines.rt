@@ -4,7 +4,7 @@
 use crate::stores::{go_on, job, store};
 use pt_memory::{MemDest, MemLog};
 use pt_move::{Job, Mover, Report};
-use pt_name::Layout;
+use pt_name::{Layout, Share};
 use pt_walk::Limits;
 use std::alloc::Global;
 use std::test::Fail;
@@ -233,6 +233,64 @@ fn divided_sites_are_gathered(rt: HostRuntime) -> Result<(), Fail> {
         let (report, held, told) = told(alloc, entries, job)?;
         assert_eq!(rt; (report.turns, held), (turns, most), "of {entries}");
         assert_eq!(rt; told.as_str(), lines, "of {entries}");
+    }
+    Ok(())
+}
+
+// With the limit of depth 3: objects of the shares 2 and 3 of 3, one of which is too deep, and what is passed over before an
+// identifier is carried: a name that reads nothing, a shorty below a name of one byte, one that is too deep, a divided site.
+const SHARED: &str = "ab/c/obj/a.txt=abc ab/cd/obj/b=z ab/cd/ef/obj/f= ab/cd/ef/gh/obj/f= \
+    a/obj/f= a/bc/obj/f= de/x/note= de/x/obj/f= ^z/obj/f=";
+
+// The lines of each share, and of the whole.
+const SHARES: [((u32, u32), &str); 4] = [
+    (
+        (1, 3),
+        r#"{"as":"skip","at":"^z","cause":"name"}
+{"as":"skip","at":"a/bc","cause":"past"}
+{"as":"skip","at":"ab/cd/ef/gh","cause":"limit"}
+{"as":"skip","at":"de/x","cause":"split"}
+{"as":"end","done":0,"present":0,"skip":4}
+"#,
+    ),
+    (
+        (2, 3),
+        r#"{"as":"done","at":"ab/cd/obj","bytes":1,"empty":0,"files":1,"id":"abcd","to":"88d/426/6fd/abcd"}
+{"as":"end","done":1,"present":0,"skip":0}
+"#,
+    ),
+    (
+        (3, 3),
+        r#"{"as":"done","at":"a/obj","bytes":0,"empty":0,"files":1,"id":"a","to":"ca9/781/12c/a"}
+{"as":"done","at":"ab/c/obj","bytes":3,"empty":0,"files":1,"id":"abc","to":"ba7/816/bf8/abc"}
+{"as":"skip","at":"ab/cd/ef","cause":"limit"}
+{"as":"end","done":2,"present":0,"skip":1}
+"#,
+    ),
+    (
+        (1, 1),
+        r#"{"as":"skip","at":"^z","cause":"name"}
+{"as":"done","at":"a/obj","bytes":0,"empty":0,"files":1,"id":"a","to":"ca9/781/12c/a"}
+{"as":"skip","at":"a/bc","cause":"past"}
+{"as":"done","at":"ab/c/obj","bytes":3,"empty":0,"files":1,"id":"abc","to":"ba7/816/bf8/abc"}
+{"as":"done","at":"ab/cd/obj","bytes":1,"empty":0,"files":1,"id":"abcd","to":"88d/426/6fd/abcd"}
+{"as":"skip","at":"ab/cd/ef","cause":"limit"}
+{"as":"skip","at":"ab/cd/ef/gh","cause":"limit"}
+{"as":"skip","at":"de/x","cause":"split"}
+{"as":"end","done":3,"present":0,"skip":5}
+"#,
+    ),
+];
+
+#[test]
+fn each_line_is_of_one_share(rt: HostRuntime) -> Result<(), Fail> {
+    let alloc = rt.alloc();
+    for ((index, count), lines) in SHARES {
+        let mut job = job(alloc)?;
+        job.limits = Limits::of(1_000_000, 4_000, 3, 1 << 43, 1 << 40)?;
+        job.share = Share::of(index, count)?;
+        let (_, _, told) = told(alloc, SHARED, job)?;
+        assert_eq!(rt; told.as_str(), lines, "{index} of {count}");
     }
     Ok(())
 }
