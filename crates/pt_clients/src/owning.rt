@@ -1,10 +1,14 @@
 //! A run that owns its devices.
-ghost use Rattle.std.specs.Prelude.{◌≡◌};
+ghost use Rattle.std.specs.Prelude.{◌≡◌, ◌≤◌};
 ghost use Rattle.pt_begun.specs.Begun.{Start};
+ghost use Rattle.pt_clients.specs.Holding.{GoesOn};
 ghost use Rattle.pt_move.specs.Promises.{Keeps};
 ghost use Rattle.pt_move.specs.Running.{HasBegun, IsBegun, IsNew};
 ghost use Rattle.pt_move.specs.Stepping.{Steps};
+ghost use Rattle.pt_plan.specs.Bound.{bound};
 ghost use Rattle.pt_state.specs.Outside.{world};
+ghost use Rattle.pt_state.specs.States.{job_of};
+ghost use Rattle.pt_tree.specs.Forest.{Forest};
 
 use pt_move::{Fault, Job, Mover, Turn};
 use pt_tree::{Dest, Log, Source};
@@ -86,6 +90,31 @@ impl<S: Source, D: Dest, L: Log> Run<S, D, L> {
             }
         }
         Ok(true)
+    }
+
+    /// Makes so many turns, unless the run ends before, and gives the most records that it held after one of them. Where the source tells,
+    /// and from whatever start the run is in progress, that is within the bound of the source.
+    pub fn most_held(&mut self, turns: u64) -> u128
+        requires { HasBegun
+            (world (S.told self.old.source) (D.told self.old.dest) (L.told self.old.log)
+            (S.failed self.old.source) (D.failed self.old.dest) (L.failed self.old.log))
+            self.old.mover }
+        ensures { (start : Start) (s : Forest) → GoesOn start s self.old.mover.state.job
+            (world (S.told self.old.source) (D.told self.old.dest) (L.told self.old.log)
+            (S.failed self.old.source) (D.failed self.old.dest) (L.failed self.old.log))
+            self.old.mover → result ≤ bound (job_of self.old.mover.state.job) s }
+    {
+        let mut most = 0;
+        for _ in 0..turns {
+            let Ok(turn) = self.step() else {
+                return most;
+            };
+            most = most.max(self.mover.records());
+            if turn == Turn::Finished {
+                return most;
+            }
+        }
+        most
     }
 
     /// The devices as the run left them.
