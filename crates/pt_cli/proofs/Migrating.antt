@@ -119,7 +119,7 @@ module _ (viewed given : Options) (view_is : viewed ≡ given) where
     no_names s e (Err y) some named is =
         subst (λ g. OrMemory (migrate_answer g) (Err y)) view_is
         (subst (λ f. OrMemory (migrate_answer viewed) (Err f)) (sym is)
-          (described_parted viewed _ meta _ tuples _ told cut (no_names_in viewed tuples _ s e some named)))
+        (described_parted viewed _ meta _ tuples _ told cut (no_names_in viewed tuples _ s e some named)))
 
     -- all of them
     pub carried : (held : MetaParts) (s : Portion) (ignored : List Text) (expected : Option Text) (source dest : Text) → Some s ≡ share_asked viewed.share
@@ -129,7 +129,7 @@ module _ (viewed given : Options) (view_is : viewed ≡ given) where
     carried held s ignored expected source dest some named holds awaits from to =
         let all = all_in viewed tuples (share_asked viewed.share) s ignored some named in
         let parts : made viewed held tuples s ignored expected source dest ≡ Ok (migration viewed tuples s) =
-            λ i. made viewed ((holds ∙ described_is) i) tuples s (named.1 i) (awaits i) (from i) (to i) in
+        λ i. made viewed ((holds ∙ described_is) i) tuples s (named.1 i) (awaits i) (from i) (to i) in
         subst (λ g. OrMemory (migrate_answer g) (made viewed held tuples s ignored expected source dest)) view_is
         (described_parted viewed _ meta _ tuples _ told cut (inl (parts ∙ sym all)))
       where

@@ -1,6 +1,6 @@
 use crate::Text;
-use pt_name::{Layout, Share};
 use pt_ignore::Ignored;
+use pt_name::{Layout, Share};
 use pt_object::{Algorithm, Meta};
 use pt_run::Progress;
 

@@ -209,10 +209,9 @@ fn gather<'a>(alloc: Global) -> Arg<'a>
 fn share<'a>(alloc: Global) -> Arg<'a>
     ensures { (rule_of result ≡ share_rule) × (result.global ≡ false) }
 {
-    Arg::new(alloc, SHARE)
-        .long(SHARE)
-        .value_name("K/N")
-        .help("Carry the objects of share K of N shares alone, as 2/8 [default: all objects]")
+    Arg::new(alloc, SHARE).long(SHARE).value_name("K/N").help(
+        "Carry the objects of share K of N shares alone, as 2/8 [default: all objects]",
+    )
 }
 
 fn ignore<'a>(alloc: Global) -> Arg<'a>
@@ -279,10 +278,9 @@ fn interval<'a>(alloc: Global) -> Arg<'a>
 fn expect<'a>(alloc: Global) -> Arg<'a>
     ensures { (rule_of result ≡ expect_rule) × (result.global ≡ false) }
 {
-    Arg::new(alloc, EXPECT)
-        .long(EXPECT)
-        .value_name("LOG")
-        .help("Show the share done and the time left too, by the log of a rehearsal")
+    Arg::new(alloc, EXPECT).long(EXPECT).value_name("LOG").help(
+        "Show the share done and the time left too, by the log of a rehearsal",
+    )
 }
 
 fn prefix<'a>(alloc: Global) -> Arg<'a>

@@ -39,7 +39,7 @@ impl<S: Source> Ignoring<S> {
 
     /// The source with all its entries, as the calls left it.
     pub fn into_source(self) -> S
-        ensures { result ≡ self.entry.source }
+        ensures { result ≡ self.source }
     {
         self.source
     }

@@ -4,12 +4,12 @@ ghost use Rattle.pt_run.specs.Ends.{guard_status};
 ghost use Rattle.pt_run.specs.Made.{FindsLog, GoesOver, Runs, RunsOver};
 
 use crate::devices::equipped;
+use crate::expected::lines_expected;
 use crate::host::Host;
 use crate::log::Syncs;
 use crate::running::{Ended, log_failed, run};
 use crate::terminal::Terminals;
 use crate::watch::Progress;
-use crate::expected::lines_expected;
 use crate::{prefix, reason};
 use pt_guard::{GuardFault, begin};
 use pt_ignore::Ignored;
