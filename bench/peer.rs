@@ -155,7 +155,8 @@ fn esc(s: &str) -> String {
     o
 }
 
-fn unclean(t: &[u8]) -> Option<String> {
+// The bytes that a cleaned text reads, if it reads any.
+fn unclean(t: &[u8]) -> Option<Vec<u8>> {
     let (mut o, mut i) = (Vec::new(), 0);
     while i < t.len() {
         match t[i] {
@@ -173,7 +174,7 @@ fn unclean(t: &[u8]) -> Option<String> {
         }
         i += 1;
     }
-    String::from_utf8(o).ok()
+    Some(o)
 }
 
 fn place(id: &str) -> PathBuf {
@@ -269,10 +270,16 @@ impl<W: Write> Run<W> {
         let cause = if joined.is_empty() { (!non.is_empty()).then_some("root") }
             else if non.is_empty() { short.is_empty().then_some("empty") }
             else if non.len() > 1 || !non[0].1.is_dir() { Some("split") }
-            else if let Some(s) = unclean(joined.as_bytes()) {
-                self.object(&dir.join(&non[0].0), &format!("{at}/{}", non[0].0), &format!("{prefix}{s}"))?;
-                None
-            } else { Some("name") };
+            else {
+                match unclean(joined.as_bytes()).map(String::from_utf8) {
+                    Some(Ok(s)) => {
+                        self.object(&dir.join(&non[0].0), &format!("{at}/{}", non[0].0), &format!("{prefix}{s}"))?;
+                        None
+                    }
+                    Some(Err(_)) => Some("utf8"),
+                    None => Some("name"),
+                }
+            };
         if let Some(c) = cause {
             self.skip += 1;
             writeln!(self.out, "{{\"as\":\"skip\",\"at\":{},\"cause\":\"{c}\"}}", esc(at))?;

@@ -1,6 +1,6 @@
 """The built program's tests over real folders: tests/carrying.py, tests/refusing.py and tests/options.py have the cases of
 `migrate`, tests/packages.py those of what is shipped, tests/guide.py those of the guide's commands, tests/joining.py those of
-tools/roots.py, tests/sharing.py those of shares, tests/surroundings.py those of what is around a run, tests/documents.py those of what the documents name.
+tools/roots.py, tests/sharing.py those of shares, tests/peers.py those beside plain Rust, tests/surroundings.py those of what is around a run, tests/documents.py those of what the documents name.
 
 Usage: migration.py PROGRAM [-k WORDS]. With -k only the cases whose names have these words are run, those of tests/program.py too. The last
 line is 'N passed, M failed'.
@@ -16,13 +16,14 @@ import guide
 import joining
 import options
 import packages
+import peers
 import program
 import refusing
 import running
 import sharing
 import surroundings
 
-CASES = [*carrying.CASES, *refusing.CASES, *options.CASES, *surroundings.CASES, *sharing.CASES, *guide.CASES, *joining.CASES, *packages.CASES, *documents.CASES]
+CASES = [*carrying.CASES, *refusing.CASES, *options.CASES, *surroundings.CASES, *sharing.CASES, *peers.CASES, *guide.CASES, *joining.CASES, *packages.CASES, *documents.CASES]
 
 
 def run_cases(path):

@@ -42,8 +42,8 @@ def ran(program, folder, dest, *words):
     return done.returncode, done.stdout.splitlines()
 
 
-def random_store(chance):
-    """A store of a few sites, most with an object, some with none, with several, with links, or of names that read nothing."""
+def random_store(chance, links=True):
+    """A store of a few sites, most with an object, some with none, with several, with links if they are wanted, or of names that read nothing."""
     tree = {}
     for _ in range(chance.randrange(1, 25)):
         pieces = ["".join(chance.choice("abx^,=") for _ in range(2)) for _ in range(chance.randrange(1, 4))]
@@ -54,7 +54,7 @@ def random_store(chance):
                 continue
             names = [f"{at}/{name}" for name in chance.sample(["a.txt", "b/c", "b/d", "e"], chance.randrange(1, 4))]
             tree.update({name: bytes([chance.randrange(3)]) * chance.randrange(3) for name in names})
-            if chance.random() < 0.1:
+            if links and chance.random() < 0.1:
                 tree[f"{at}/link"] = Link("elsewhere")
         if not any(path.startswith("/".join(pieces)) for path in tree):
             tree["/".join(pieces)] = DIR
