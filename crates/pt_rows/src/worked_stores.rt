@@ -108,6 +108,9 @@ fn each_law_can_be_called(_rt: HostRuntime) -> Result<(), Fail> {
     laws::rows_make_whole_objects();
     laws::turns_have_no_part();
     laws::way_stays_free();
+    laws::shares_tell_the_whole();
+    laws::shares_leave_the_whole();
+    laws::shares_meet_in_folders();
     Ok(())
 }
 
