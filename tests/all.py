@@ -11,6 +11,8 @@ import re
 import subprocess
 import sys
 
+HERE = os.path.dirname(os.path.abspath(__file__))
+sys.path += [f"{HERE}/cases", f"{HERE}/harness"]
 sys.dont_write_bytecode = True
 
 import migration

@@ -1,13 +1,16 @@
-"""The built program's tests over real folders: tests/carrying.py, tests/refusing.py and tests/options.py have the cases of
-`migrate`, tests/packages.py those of what is shipped, tests/guide.py those of the guide's commands, tests/joining.py those of
-tools/roots.py, tests/sharing.py those of shares, tests/peers.py those beside plain Rust, tests/surroundings.py those of what is around a run, tests/documents.py those of what the documents name.
+"""The built program's tests over real folders. tests/cases has the cases: carrying, refusing and options those of `migrate`, sharing of shares,
+peers beside plain Rust, surroundings of what is around a run, packages of what is shipped, guide of the guide's commands, joining of
+tools/roots.py, documents of what the documents name. tests/harness has how they are run, and what must stand.
 
-Usage: migration.py PROGRAM [-k WORDS]. With -k only the cases whose names have these words are run, those of tests/program.py too. The last
-line is 'N passed, M failed'.
+Usage: migration.py PROGRAM [-k WORDS]. With -k only the cases are run whose file's name, with the case's name behind it, has these words, and those
+of tests/program.py whose names have. The last line is 'N passed, M failed'.
 """
 
+import os
 import sys
 
+HERE = os.path.dirname(os.path.abspath(__file__))
+sys.path += [f"{HERE}/cases", f"{HERE}/harness"]
 sys.dont_write_bytecode = True
 
 import carrying
@@ -23,7 +26,8 @@ import running
 import sharing
 import surroundings
 
-CASES = [*carrying.CASES, *refusing.CASES, *options.CASES, *surroundings.CASES, *sharing.CASES, *peers.CASES, *guide.CASES, *joining.CASES, *packages.CASES, *documents.CASES]
+FILES = (carrying, refusing, options, surroundings, sharing, peers, guide, joining, packages, documents)
+CASES = [case for file in FILES for case in file.CASES]
 
 
 def run_cases(path):
@@ -32,9 +36,9 @@ def run_cases(path):
 
 
 def run_some(path, words):
-    """The same of the cases whose names have these words, and of those of tests/program.py."""
+    """The same of the cases that have these words, and of those of tests/program.py."""
     some = program.run_cases(path, [case for case in program.CASES if words in case.name])
-    more = running.run_all([case for case in CASES if words in case.name], path)
+    more = running.run_all([case for file in FILES for case in file.CASES if words in f"{file.__name__} {case.name}"], path)
     return [sum(pair) for pair in zip(some, more)]
 
 

@@ -10,11 +10,11 @@ import subprocess
 import tempfile
 import threading
 
-from options import Alone, differs, run
+from alone import Alone, differs, run
 from sharing import random_store
 from stores import build, differences, read_tree
 
-SOURCE = f"{os.path.dirname(os.path.dirname(os.path.abspath(__file__)))}/bench/peer.rs"
+SOURCE = f"{os.path.dirname(os.path.dirname(os.path.dirname(os.path.abspath(__file__))))}/bench/peer.rs"
 LOCK = threading.Lock()
 
 

@@ -9,11 +9,11 @@ import subprocess
 import sys
 
 import stores
-from options import Alone, differs
+from alone import Alone, differs
 from running import MEANT
 from stores import DIR, build, read_tree, store
 
-TOP = os.path.dirname(os.path.dirname(os.path.abspath(__file__)))
+TOP = os.path.dirname(os.path.dirname(os.path.dirname(os.path.abspath(__file__))))
 ROOTS = [sys.executable, "-B", f"{TOP}/tools/roots.py"]
 ENVIRONMENT = {**os.environ, "roots": ROOTS[-1]}
 TRICKY = {"blank ": b"1", "return\r": b"2", "back\\slash": b"3", "line\nfeed": b"4", "a/b/c": b"5", "same": b"5", "empty": b""}

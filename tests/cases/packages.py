@@ -1,6 +1,4 @@
 """Tests of what is shipped with the program: man page, completions, licences, installing, the archive and the package.
-
-Usage: packages.py PROGRAM. The last line is 'N passed, M failed'.
 """
 
 import glob
@@ -9,15 +7,11 @@ import os
 import re
 import shutil
 import subprocess
-import sys
 import tarfile
 
-sys.dont_write_bytecode = True
+from alone import Alone, differs
 
-import running
-from options import Alone, differs
-
-TOP = os.path.dirname(os.path.dirname(os.path.abspath(__file__)))
+TOP = os.path.dirname(os.path.dirname(os.path.dirname(os.path.abspath(__file__))))
 COMMANDS = ("migrate", "names")
 INSTALLED = {
     "bin/pairtree2ocfl",
@@ -267,9 +261,3 @@ CASES = [
     Alone("the Debian package", packaged),
     Alone("what lintian says of the package", linted),
 ]
-
-
-if __name__ == "__main__":
-    PASSED, FAILED = running.run_all(CASES, sys.argv[1])
-    print(f"{PASSED} passed, {FAILED} failed")
-    sys.exit(1 if FAILED else 0)

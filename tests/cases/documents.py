@@ -8,8 +8,6 @@
 - In docs/PROVED.md the words of code below a crate's heading are declared in that crate, or where `crate::word` says.
 - Each crate of crates.txt has its row in docs/ARCHITECTURE.md and its heading in docs/PROVED.md.
 - Any other word of code, which has a `_`, a `::` or a capital inside small letters, stands somewhere in the code.
-
-Usage: documents.py PROGRAM. The last line is 'N passed, M failed'.
 """
 
 import functools
@@ -17,14 +15,10 @@ import glob
 import os
 import re
 import subprocess
-import sys
 
-sys.dont_write_bytecode = True
+from alone import Alone
 
-import running
-from options import Alone
-
-TOP = os.path.dirname(os.path.dirname(os.path.abspath(__file__)))
+TOP = os.path.dirname(os.path.dirname(os.path.dirname(os.path.abspath(__file__))))
 DOCUMENTS = ("README.md", "CONTRIBUTING.md", *sorted(f"docs/{name}" for name in os.listdir(f"{TOP}/docs")))
 LINK = re.compile(r"\[([^\]]*)\]\(([^)\s]+)\)")
 PATH = re.compile(r"(?<![\w/.-])(?:completions|crates|demo|docs|tests|tools|bench|man|LICENSES)/[\w./*-]*\w")
@@ -185,7 +179,7 @@ def crates(program, folder):
 def words(program, folder):
     """Each other word of code stands in the code."""
     sources = [path for paths_of in code_files().values() for path in paths_of]
-    sources += ["Makefile", *(path for name in ("tests", "tools", "bench") for path in glob.glob(f"{name}/*.*", root_dir=TOP))]
+    sources += ["Makefile", *(path for name in ("tests", "tests/cases", "tests/harness", "tools", "bench") for path in glob.glob(f"{name}/*.*", root_dir=TOP))]
     there = set(re.findall(r"\w+", "\n".join(text_of(path) for path in sources))) | set(code_files())
     faults = []
     for path in DOCUMENTS:
@@ -223,9 +217,3 @@ CASES = [
     Alone("the theorem's lines are the demonstration's", shown),
     Alone("what --gather does", gathering),
 ]
-
-
-if __name__ == "__main__":
-    PASSED, FAILED = running.run_all(CASES, sys.argv[1])
-    print(f"{PASSED} passed, {FAILED} failed")
-    sys.exit(1 if FAILED else 0)

@@ -248,6 +248,10 @@ FOR_THE_PARSER = (
 )
 
 
+NO_SHARE = "--share is not K/N with N from 1 to 4096 and K from 1 to N"
+NO_ENTRY = "--ignore is not the name of a file or folder"
+
+
 def words_refused():
     """Words that are refused, and which of them first. Nothing is done then."""
     for created in NO_MOMENTS:
@@ -261,6 +265,12 @@ def words_refused():
     for size, count in ((32, 3), (33, 1), (1, 33), (33, 0), (4294967295, 4294967295)):
         given = ["--tuple-size", str(size), "--tuples", str(count)]
         yield Case(f"the tuples of {' '.join(given)}", ONE, refused("the tuples are out of range", MEANT, *given))
+    for share in ("", "/", "1", "1/", "/1", "0/1", "1/0", "2/1", "1/4097", "4097/4097", "1/2/3", " 1/2", "1/2 ", "-1/2", "a/b", "1/4294967296"):
+        yield Case(f"--share {share!r}", ONE, refused(NO_SHARE, MEANT, f"--share={share}"))
+    for name in ("", ".", "..", "a/b", "/", "n" * 256):
+        yield Case(f"--ignore {name[:9]!r}", ONE, refused(NO_ENTRY, MEANT, "--ignore", "x", f"--ignore={name}"))
+    yield Case("the tuples before the share", ONE, refused("the tuples are out of range", MEANT, "--share", "x", "--tuples", "33"))
+    yield Case("the share before the names", ONE, refused(NO_SHARE, MEANT, "--ignore", "a/b", "--share", "x"))
     for given in FOR_THE_PARSER:
         yield Case(f"refused by the parser: {' '.join(given)}", ONE, refused_by_parser(MEANT, *given))
     yield Case("no moment", ONE, refused_by_parser(MEANT[2:]))

@@ -8,11 +8,11 @@ import subprocess
 import sys
 
 import stores
-from options import Alone, differs
+from alone import Alone, differs
 from running import mounted
 from stores import DIR, GONE, Link, build, place, read_tree, root, stored
 
-TOP = os.path.dirname(os.path.dirname(os.path.abspath(__file__)))
+TOP = os.path.dirname(os.path.dirname(os.path.dirname(os.path.abspath(__file__))))
 ROOTS = [sys.executable, "-B", f"{TOP}/tools/roots.py"]
 LONG = "é" * 60
 NOBODY = 65534
@@ -179,7 +179,7 @@ def killed(program, folder):
     """Ended at 200 moments no object is lost or in part, and the same command again does the rest."""
     os.mkdir(f"{folder}/before")
     three(f"{folder}/before")
-    done = subprocess.run([sys.executable, "-B", f"{TOP}/tests/kills.py", ROOTS[-1], folder, "200"], capture_output=True, timeout=280)
+    done = subprocess.run([sys.executable, "-B", f"{TOP}/tests/harness/kills.py", ROOTS[-1], folder, "200"], capture_output=True, timeout=280)
     *faults, count = done.stdout.decode().splitlines() or ["nothing was said"]
     return faults[:5] + differs(count=(count, "200"), errors=(done.stderr, b""))
 

@@ -9,7 +9,8 @@ import sys
 import time
 
 import stores
-from options import OVERLAP, Alone, differs, run
+from alone import Alone, differs, run
+from options import OVERLAP
 from running import MEANT, mounted, started
 from stores import DIR, FIFO, ONE, build, read_tree
 

@@ -1,6 +1,4 @@
 """Cases of what users expect of a run: reasons, one run at a time, folders that lie apart, rehearsal, durability, progress.
-
-Usage: options.py PROGRAM. The last line is 'N passed, M failed'.
 """
 
 import contextlib
@@ -10,18 +8,15 @@ import pty
 import re
 import shutil
 import subprocess
-import sys
-import tempfile
 import time
-
-sys.dont_write_bytecode = True
 
 import carrying
 import refusing
 import running
+from alone import Alone, differs, run
 from running import MEANT, TEXTS, Case, Run, ends
 from stores import ABC, DIR, ONE, ONE_DONE, ONE_ROOT, Link
-from stores import build, lines, object_files, read_tree, root, staged, store, stored
+from stores import build, done, lines, object_files, read_tree, root, staged, store, stored
 
 OVERLAP = b"pairtree2ocfl: SOURCE and DEST lie in one another\n"
 TAKEN = b"pairtree2ocfl: another run has the destination\n"
@@ -99,34 +94,6 @@ def told(name, held, number, reason, dest=None, left=None, **options):
     for words, err in {(): line, ("--verbose",): line + more}.items():
         run = Run(b"", left, 3, err, relative=True, words=words, **options)
         yield Case(f"{name}: {' '.join(words) or 'no more'}", held, run, dest=dest)
-
-
-class Alone:
-    """A test that is a function of the program and of a new folder, and gives what went wrong."""
-
-    def __init__(self, name, test):
-        self.name = name
-        self.test = test
-
-    def outcome(self, program):
-        with tempfile.TemporaryDirectory(prefix="p") as folder:
-            build(folder, {"s": DIR, "d": DIR})
-            build(f"{folder}/s", ONE)
-            try:
-                return self.test(program, folder)
-            except (OSError, subprocess.SubprocessError) as error:
-                return [repr(error)]
-
-
-def run(program, folder, *words, **options):
-    """The program over the folders of a test."""
-    command = [program, "migrate", *MEANT, *words, "s", "d"]
-    return subprocess.run(command, cwd=folder, capture_output=True, stdin=subprocess.DEVNULL, timeout=120, **options)
-
-
-def differs(**pairs):
-    """What isn't as it must be, of pairs of what was found and what was wanted."""
-    return [f"{name} is {found!r}, not {wanted!r}" for name, (found, wanted) in pairs.items() if found != wanted]
 
 
 def locked(program, folder):
@@ -252,6 +219,41 @@ def seldom(program, folder):
     return faults if right else [*faults, f"standard error is {err!r}"]
 
 
+AHEAD = re.compile(rb"pairtree2ocfl: \d+ s, \d+/s, \d+\.\d MB/s, (\d+) %(, \d+ s left)?: \d+ done, \d+ present, \d+ skipped, \d+ bytes read, at [^\r\n]*")
+
+
+def expected(program, folder):
+    """By a rehearsal's log the share done and the time left are shown too; a log without an end line is told, and the run goes on."""
+    many(folder)
+    with open(f"{folder}/log", "wb") as log:
+        log.write(run(program, folder, "--dry-run").stdout)
+    done = run(program, folder, "--progress", "always", "--interval", "0", "--expect", "log")
+    told = [AHEAD.fullmatch(line) for line in done.stderr.splitlines()]
+    shares = [int(line[1]) for line in told if line]
+    faults = differs(status=(done.returncode, 0), lines=(len(told) - len(shares), 0), rises=(shares, sorted(shares)))
+    faults += differs(first=(shares[:1], [0]), last=(shares[-1] >= 99, True), left=(all(line[2] for line in told if line and line[1] != b"0"), True))
+    none = run(program, folder, "--expect", "s/pairtree_version0_1")
+    said = b"pairtree2ocfl: s/pairtree_version0_1: it has no end line of a log\n"
+    absent = run(program, folder, "--expect", "none")
+    faults += differs(none=((none.returncode, none.stderr), (1, said)))
+    return faults + differs(absent=((absent.returncode, absent.stderr), (1, said.replace(b"s/pairtree_version0_1", b"none"))))
+
+
+def left_out():
+    """The entries that --ignore names aren't there for a run, whatever they are and wherever they stand; with --verbose their number is told."""
+    waste = {"pairtree_root/.DS_Store": b"1", "pairtree_root/ab/.DS_Store": Link("none"), "pairtree_root/ab/c/.DS_Store": DIR}
+    waste.update({"pairtree_root/ab/c/obj/.DS_Store/x": b"2", "pairtree_root/ab/c/Thumbs.db": b"3", "pairtree_root/ab/c/.DS_Store/x/obj/f": b"4"})
+    source, words = {**ONE, **waste}, ["--ignore", ".DS_Store", "--ignore=Thumbs.db"]
+    yield Case("names that are left out", source, ends([ONE_DONE], ONE_ROOT, words=words))
+    told = b"pairtree2ocfl: left out by their names: 5\n"
+    yield Case("names that are left out, told", source, ends([ONE_DONE], ONE_ROOT, words=[*words, "-v"], err=told))
+    others = store({"ab/c/obj/.DS_Storex": b"1", "ab/c/obj/x.DS_Store": b"2"})
+    files = {".DS_Storex": b"1", "x.DS_Store": b"2"}
+    wanted = ends([done("ab/c/obj", "abc", files)], root(stored("abc", files)), words=words)
+    yield Case("names that only hold one that is left out", others, wanted)
+    yield Case("a store without its pairtree", ONE, running.fault(5, {}, words=["--ignore", "pairtree_root"]))
+
+
 def rehearsals():
     """Every run of the other tests, rehearsed before it."""
     for case in (*carrying.CASES, *refusing.CASES):
@@ -309,17 +311,7 @@ ALONE = [
     Alone("an error that comes late", late),
     Alone("progress on a terminal", shown),
     Alone("progress elsewhere", seldom),
+    Alone("progress by a rehearsal's log", expected),
 ]
-PARTS = (apart, reasons, short_words, rehearsals)
+PARTS = (apart, reasons, short_words, left_out, rehearsals)
 CASES = [*ALONE, *(case for part in PARTS for case in part())]
-
-
-def run_cases(program):
-    """Runs each case, says what is wrong, and gives how many passed and failed."""
-    return running.run_all(CASES, program)
-
-
-if __name__ == "__main__":
-    PASSED, FAILED = run_cases(sys.argv[1])
-    print(f"{PASSED} passed, {FAILED} failed")
-    sys.exit(1 if FAILED else 0)

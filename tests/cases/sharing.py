@@ -16,11 +16,11 @@ import sys
 import tempfile
 import time
 
-from options import Alone, differs
+from alone import Alone, differs
 from running import MEANT
 from stores import DIR, Link, build, differences, read_tree, store
 
-TOP = os.path.dirname(os.path.dirname(os.path.abspath(__file__)))
+TOP = os.path.dirname(os.path.dirname(os.path.dirname(os.path.abspath(__file__))))
 ROOTS = f"{TOP}/tools/roots.py"
 SCRIPT = f"{TOP}/examples/shares.sh"
 OF_THE_FIRST = {"root", "empty", "split", "past", "name", "utf8", "reserved"}
