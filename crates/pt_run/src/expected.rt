@@ -9,8 +9,12 @@ use std::rt::Files;
 // How many bytes at a log's end are read; an end line has fewer.
 const TAIL: usize = 128;
 
-/// The number of lines that a log's end line counts. Standard error is told where the log can't be read, or has no end line.
-pub(crate) fn lines_expected<R: Files + Eprint + AllocGlobal>(rt: &R, log: &str) -> Option<u64> {
+/// The number of lines that a log's end line counts, if a log is named. Standard error is told where it can't be read, or has no end line.
+pub(crate) fn lines_expected<R: Files + Eprint + AllocGlobal>(
+    rt: &R,
+    log: Option<&str>,
+) -> Option<u64> {
+    let log = log?;
     let mut tail = [0u8; TAIL];
     let counted = match read_tail(rt, log, &mut tail) {
         Ok(count) => match str::from_utf8(&tail[..count]) {

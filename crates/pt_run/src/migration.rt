@@ -118,10 +118,7 @@ where
         Ok(file) => file,
         Err(_) => return log_failed(rt),
     };
-    let expected = match expected {
-        Some(log) => lines_expected(rt, log),
-        None => None,
-    };
+    let expected = lines_expected(rt, expected);
     let ground = host.lend();
     let devices = equipped(rt.alloc(), ground, file, &wanted, store, folder);
     let Ended { status, ground } = run(rt, devices, wanted, store, expected);

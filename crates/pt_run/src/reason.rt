@@ -58,9 +58,11 @@ pub(crate) fn unsynced<R: Eprint>(rt: &R, error: &io::Error) {
     let _ = eprintln!(rt; "pairtree2ocfl: the log's file will not be put onto its disk: {error}");
 }
 
-/// Tells standard error how many entries were left out by their names.
-pub(crate) fn left_out<R: Eprint>(rt: &R, count: u64) {
-    let _ = eprintln!(rt; "pairtree2ocfl: left out by their names: {count}");
+/// Tells standard error how many entries were left out by their names, if that is wanted.
+pub(crate) fn left_out<R: Eprint>(rt: &R, wanted: bool, count: u64) {
+    if wanted {
+        let _ = eprintln!(rt; "pairtree2ocfl: left out by their names: {count}");
+    }
 }
 
 // Tells of a call that failed.

@@ -82,9 +82,7 @@ where
     );
     source.end();
     let ignoring = source.into_source();
-    if verbose && ignores {
-        reason::left_out(rt, ignoring.left_out());
-    }
+    reason::left_out(rt, verbose & ignores, ignoring.left_out());
     let source = ignoring.into_source();
     let status = told(rt, &ran, verbose, &source, &dest, store);
     let ground = Ground {
