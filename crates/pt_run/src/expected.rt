@@ -17,9 +17,9 @@ pub(crate) fn lines_expected<R: Files + Eprint + AllocGlobal>(
     let log = log?;
     let mut tail = [0u8; TAIL];
     let counted = match read_tail(rt, log, &mut tail) {
-        Ok(count) => match str::from_utf8(&tail[..count]) {
-            Ok(text) => last_count(text),
-            Err(_) => None,
+        Ok(count) => match tail.get(..count) {
+            Some(bytes) => counted_in(bytes),
+            None => None,
         },
         Err(_) => None,
     };
@@ -39,6 +39,14 @@ fn read_tail<R: Files>(rt: &R, path: &str, tail: &mut [u8; TAIL]) -> io::Result<
     let mut file = rt.open_file(&options, path)?;
     file.seek(SeekFrom::Start(length.saturating_sub(TAIL as u64)))?;
     file.read(tail)
+}
+
+// What the last line of these bytes counts, if they are a text that ends with an end line.
+fn counted_in(bytes: &[u8]) -> Option<u64> {
+    match str::from_utf8(bytes) {
+        Ok(text) => last_count(text),
+        Err(_) => None,
+    }
 }
 
 // What the last line of a text counts, if it is an end line.
