@@ -6,15 +6,17 @@ use Rattle.std.specs.Option.{option_map_or}
 use Rattle.std.specs.Str.{bytes_eq, chars}
 use Rattle.clap.specs.Lexer.{long_of, short_of}
 use Rattle.clap.specs.Words.{Kinds, Row, Rule, Text}
-use Rattle.clap.specs.Kinds.{or_else, range_kinds, request_kinds}
+use Rattle.clap.specs.Kinds.{or_else, range_kinds, request_kinds, value_kinds, values_kinds}
 use Rattle.clap.specs.Values.{is_request}
-use Rattle.clap.specs.Facts.{unwrap_or_range}
+use Rattle.clap.specs.Facts.{parser_of_value, unwrap_or_range}
 use Rattle.clap.specs.Simple.{Shape}
-use Rattle.clap.specs.Walk.{Held, Names, Outcome, Step, Waiting, Walk, action_of, after_flag, after_step, arg_by_id, arg_by_index, arg_by_long, arg_by_short, at_row, attached_value, bundle, bundle_met, bundle_step, default_rows, done, flag_met, has_row, idle, is_empty, is_pending, long_met, long_or_other, more_values, most_values, next, option, option_met, option_word, plain, plain_word, positional, reacted, reading_by, refused, settled, settled_rows, short_met, short_or_plain, subcommand, subcommand_met, subcommand_or_other, takes_several, takes_values, to_positional, trailing, used, used_as, used_by_id, value, values_or_missing, waits, walked, walked_from, with_default, with_values, without, word_met}
+use Rattle.clap.specs.Walk.{Held, Names, Outcome, Step, Waiting, Walk, action_of, after_flag, after_step, arg_by_id, arg_by_index, arg_by_long, arg_by_short, at_row, attached_value, bundle, bundle_met, bundle_step, default_rows, done, flag_met, has_row, idle, is_empty, is_pending, long_met, long_or_other, more_values, most_values, next, option, option_met, option_word, plain, plain_word, positional, reacted, reading_by, refused, settled, settled_rows, short_met, short_or_plain, stronger, subcommand, subcommand_met, subcommand_or_other, takes_several, takes_values, to_positional, trailing, used, used_as, used_by_id, value, values_or_missing, waits, walked, walked_from, with_default, with_values, without, word_met}
 use Rattle.clap.specs.Faults.{action_fault, bundle_fault, bundle_step_fault, default_fault, defaults_fault, flag_word_fault, flags_fault, given_default_fault, long_fault, option_fault, other_fault, positional_fault, react_fault, repeat_fault, set_fault, stray_fault, settle_fault, short_fault, step_fault, turn_fault, use_fault, values_fault, walk_fault, word_fault}
 use Rattle.clap.specs.declared.builder.action.ArgAction.{ArgAction}
 use Rattle.clap.specs.declared.builder.action.ArgAction.TheVariants as action
 use Rattle.clap.specs.declared.error.kind.ErrorKind.TheVariants as kind
+use Rattle.std.proofs.lemmas.Slice.Eq.{bytes_eq-Decides}
+use Rattle.clap.specs.declared.builder.value_parser.ValueParser.{ValueParser}
 use Rattle.clap.specs.declared.parser.matches.ValueSource.{ValueSource}
 use Rattle.clap.specs.declared.parser.matches.ValueSource.TheVariants.{DefaultValue, CommandLine}
 
@@ -93,7 +95,7 @@ values_joined : (ignore_case : Bool) (p : ValueParser) (xs ys : List Text) → v
     → values_kinds ignore_case p (xs ++ ys) ≡ []
 values_joined ignore_case p [] ys first later = later
 values_joined ignore_case p (x ∷ xs) ys first later =
-    let parts = both_empty _ _ first in
+    let parts = both_empty (value_kinds ignore_case p x) (values_kinds ignore_case p xs) first in
     rw parts.0 (values_joined ignore_case p xs ys parts.1 later)
 
 module _ (c : List Rule) where
@@ -112,20 +114,23 @@ module _ (c : List Rule) where
   joined : (a : Rule) (s : ValueSource) (values : List Text) (rows : List Row) → Fits c a → AllGood rows → 0 < length values
       → values_fault a values ≡ [] → AllGood (with_values a.id (reading_by a) s values rows)
   joined a s values [] fits good some pass = added a s values [] fits good refl some pass
-  joined a s values (r ∷ rows) fits good some pass = go (bytes_eq r.id a.id) refl
+  joined a s values (r ∷ rows) fits good some pass = go (bytes_eq r.id a.id) refl (joined a s values rows fits good.1 some pass)
     where
       more : Row
       more = record r { values = r.values ++ values; source = Some (stronger r.source s) }
 
-      go : (b : Bool) → bytes_eq r.id a.id ≡ b
-          → AllGood (cond b (more_values s values r ++ rows) (r ∷ at_row a.id (more_values s values) (record { id = a.id; values = values; count = None; source = Some s; reading = reading_by a } ∷ []) rows))
-      go true is =
+      new : Row
+      new = record { id = a.id; values = values; count = None; source = Some s; reading = reading_by a }
+
+      go : (b : Bool) → bytes_eq r.id a.id ≡ b → AllGood (at_row a.id (more_values s values) (new ∷ []) rows)
+          → AllGood (cond b (more_values s values r ++ rows) (r ∷ at_row a.id (more_values s values) (new ∷ []) rows))
+      go true is later =
           let same : r.id ≡ a.id = (bytes_eq-Decides r.id a.id).0 is in
           let found : arg_by_id c r.id ≡ Some a = ap (arg_by_id c) same ∙ fits.0 in
           let old : Suits a r = subst (λ o. IfSome o (λ b. Suits b r)) found good.0 in
           let suits : Suits a more = (old.0, longer r.values values old.1, values_joined a.ignore_case (parser_of_value a.parser) r.values values old.2 pass) in
           (subst (λ o. IfSome o (λ b. Suits b more)) (sym found) suits, good.1)
-      go false is = (good.0, joined a s values rows fits good.1 some pass)
+      go false is later = (good.0, later)
 
   some_value : (a : Rule) (values : List Text) → leaves_value a ≡ true → range_kinds (unwrap_or_range a.range).start_inclusive (most_values a) (length values) ≡ []
       → 0 < length (values_or_missing a values)

@@ -139,7 +139,7 @@ struct Given<'m, 'a> {
     count: u32,
     gather: bool,
     share: Option<&'a str>,
-    ignored: &'m [&'a str],
+    ignored: Option<&'m [&'a str]>,
     sync: bool,
     rehearse: bool,
     verbose: bool,
@@ -151,8 +151,8 @@ struct Given<'m, 'a> {
 }
 
 impl<'m, 'a> Model for Given<'m, 'a> {
-    ghost use Rattle.std.specs.Prelude.{map};
-    ghost use Rattle.std.specs.Option.{option_map};
+    ghost use Rattle.std.specs.Prelude.{[], map};
+    ghost use Rattle.std.specs.Option.{option_map, unwrap_or};
     ghost use Rattle.pt_cli.specs.Options.{Options};
 
     ghost Value = { Options };
@@ -167,7 +167,7 @@ impl<'m, 'a> Model for Given<'m, 'a> {
       count = g.count;
       gather = g.gather;
       share = option_map (λ s. s.now) g.share;
-      ignored = map (λ n. n.now) g.ignored.now;
+      ignored = unwrap_or (option_map (λ s. map (λ v. v.now) s.now) g.ignored) [];
       sync = g.sync;
       rehearse = g.rehearse;
       verbose = g.verbose;
@@ -269,7 +269,7 @@ fn migrate(alloc: Global, given: &Given<'_, '_>) -> Result<Command, WordsFault>
     let Some(share) = share(given.share) else {
         return Err(WordsFault::Share);
     };
-    let ignored = names_in(alloc, given.ignored)?;
+    let ignored = names_asked(alloc, given.ignored)?;
     Ok(Command::Migrate(Migrate {
         meta,
         algorithm: given.algorithm,
@@ -311,6 +311,16 @@ fn number_in_text(text: &str) -> Option<u32>
     ensures { result ≡ number_of text.now }
 {
     text.parse().ok()
+}
+
+// The names that texts write, if there are any.
+fn names_asked(alloc: Global, texts: Option<&[&str]>) -> Result<Ignored, WordsFault>
+    ensures { AreNamed (unwrap_or (option_map (λ s. map (λ v. v.now) s.now) texts.entry) []) result }
+{
+    match texts {
+        Some(texts) => names_in(alloc, texts),
+        None => Ok(Ignored::new(alloc)),
+    }
 }
 
 // The names that texts write.
@@ -395,10 +405,10 @@ fn text<'a>(matches: &ArgMatches<'a>, id: &str) -> Option<&'a str>
     matches.get_str(id)
 }
 
-fn texts<'m, 'a>(matches: &'m ArgMatches<'a>, id: &str) -> &'m [&'a str]
-    ensures { map (λ s. s.now) result.now ≡ unwrap_or (all_of id.now (rows_of (found_of matches.now))) [] }
+fn texts<'m, 'a>(matches: &'m ArgMatches<'a>, id: &str) -> Option<&'m [&'a str]>
+    ensures { option_map (λ s. map (λ v. v.now) s.now) result ≡ all_of id.now (rows_of (found_of matches.now)) }
 {
-    matches.get_strs(id).unwrap_or(&[])
+    matches.get_strs(id)
 }
 
 fn number(matches: &ArgMatches<'_>, id: &str) -> Option<u32>
