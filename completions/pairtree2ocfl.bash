@@ -11,7 +11,7 @@ _pairtree2ocfl() {
     fi
     for word in "${COMP_WORDS[@]:1:COMP_CWORD-1}"; do
         case $word in
-            migrate | names | help) command=$word && break ;;
+            migrate | audit | names | help) command=$word && break ;;
         esac
     done
     COMPREPLY=()
@@ -26,11 +26,12 @@ _pairtree2ocfl() {
             options='--created --name --address --message --digest --tuple-size --tuples --gather --share
                 --ignore --sync --dry-run -n --verbose -v --progress --interval --expect --help -h'
             ;;
+        audit) options='--digest --tuple-size --tuples --gather --share --ignore --verbose -v --progress --help -h' ;;
         names) options='--prefix --tuple-size --tuples --help -h' ;;
-        help) options='migrate names help' ;;
-        *) options='migrate names help --help -h --version -V' ;;
+        help) options='migrate audit names help' ;;
+        *) options='migrate audit names help --help -h --version -V' ;;
     esac
-    if [[ $command == migrate && $current != -* ]]; then
+    if [[ ($command == migrate || $command == audit) && $current != -* ]]; then
         mapfile -t COMPREPLY < <(compgen -d -- "$current")
     else
         mapfile -t COMPREPLY < <(compgen -W "$options" -- "$current")

@@ -1,4 +1,4 @@
-"""The built program's tests over real folders. tests/cases has the cases: carrying, refusing and options those of `migrate`, sharing of shares,
+"""The built program's tests over real folders. tests/cases has the cases: carrying, refusing and options those of `migrate`, auditing those of `audit`, sharing of shares,
 peers beside plain Rust, surroundings of what is around a run, packages of what is shipped, guide of the guide's commands, joining of
 tools/roots.py, documents of what the documents name. tests/harness has how they are run, and what must stand.
 
@@ -13,6 +13,7 @@ HERE = os.path.dirname(os.path.abspath(__file__))
 sys.path += [f"{HERE}/cases", f"{HERE}/harness"]
 sys.dont_write_bytecode = True
 
+import auditing
 import carrying
 import documents
 import guide
@@ -26,7 +27,7 @@ import running
 import sharing
 import surroundings
 
-FILES = (carrying, refusing, options, surroundings, sharing, peers, guide, joining, packages, documents)
+FILES = (carrying, auditing, refusing, options, surroundings, sharing, peers, guide, joining, packages, documents)
 CASES = [case for file in FILES for case in file.CASES]
 
 

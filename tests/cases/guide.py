@@ -175,6 +175,8 @@ WALK = [
     ("! -type f", "ot/he", ["s/pairtree_root/ot/he/obj/link"]),
     ("wc -c", "ab/ce", ["1"]),
     ("-mindepth 5", None, ["2"]),
+    ("audit SOURCE DEST", None, []),
+    ('"as":"differs"', None, None),
     ("roots=", None, []),
     ("-empty -delete", None, []),
 ]

@@ -12,7 +12,7 @@ import tarfile
 from alone import Alone, differs
 
 TOP = os.path.dirname(os.path.dirname(os.path.dirname(os.path.abspath(__file__))))
-COMMANDS = ("migrate", "names")
+COMMANDS = ("migrate", "audit", "names")
 INSTALLED = {
     "bin/pairtree2ocfl",
     "share/man/man1/pairtree2ocfl.1",
@@ -87,7 +87,7 @@ def completed(*words):
 def in_bash(program, folder):
     """What bash completes values, commands and folders to."""
     return differs(
-        commands=(completed(""), ["migrate", "names", "help", "--help", "-h", "--version", "-V"]),
+        commands=(completed(""), ["migrate", "audit", "names", "help", "--help", "-h", "--version", "-V"]),
         digests=(completed("migrate", "--digest", ""), ["sha512", "sha256"]),
         behind=(completed("migrate", "--digest", "="), ["sha512", "sha256"]),
         begun=(completed("migrate", "--digest", "=", "sha2"), ["sha256"]),

@@ -27,6 +27,7 @@ pub mod KeptNow
 pub mod LeavesBehind
 pub mod LeftNow
 pub mod LogsLeft
+pub mod LogHalts
 pub mod MadeItems
 pub mod MakesDest
 pub mod MakesHold

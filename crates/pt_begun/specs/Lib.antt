@@ -11,6 +11,7 @@ pub mod GoodStart
 pub mod HaltLaws
 pub mod HeldLaws
 pub mod ItemLaws
+pub mod LogLaws
 pub mod PartsMade
 pub mod Past
 pub mod RefusalLaws

@@ -7,6 +7,7 @@ ghost use Rattle.pt_begun.specs.GoodStart.{NothingIsRefused};
 ghost use Rattle.pt_begun.specs.HaltLaws.{HaltsLeave, StopsLeave};
 ghost use Rattle.pt_begun.specs.HeldLaws.{MakingKeepsHeld, PlacingKeepsHeld, ScanningKeepsHeld, StartingKeepsHeld, WalkingKeepsHeld};
 ghost use Rattle.pt_begun.specs.ItemLaws.{MakingKeepsItems, PlacingKeepsItems, ScanningKeepsItems, StartingKeepsItems, WalkingKeepsItems};
+ghost use Rattle.pt_begun.specs.LogLaws.{FailedLogLeavesNoStaging};
 ghost use Rattle.pt_begun.specs.RefusalLaws.{BadTargetIsNone, EarlyLeavesDest, EarlyLeavesLog, FindsStaging, FindsTarget, FindsTargetOf, RefusesRightly};
 ghost use Rattle.pt_begun.specs.SourceLaws.{MakingKeepsSource, PlacingKeepsSource, ScanningKeepsSource, StartingKeepsSource, WalkingKeepsSource};
 ghost use Rattle.pt_begun.specs.StillLaws.{BegunStandsStill, LeftBehindStandsStill};
@@ -216,4 +217,9 @@ pub fn begun_stands_still()
 /// Over such a root no run of the source can end well.
 pub fn bad_target_is_none()
     ensures { BadTargetIsNone }
+{}
+
+/// Where the log fails at a phase at which lines are told, nothing stands at `staging`, where the destination tells.
+pub fn failed_log_leaves_no_staging()
+    ensures { FailedLogLeavesNoStaging }
 {}

@@ -19,9 +19,9 @@ use Rattle.pt_object.specs.declared.algorithm.Algorithm.{Algorithm}
 use Rattle.pt_object.specs.declared.algorithm.Algorithm.TheVariants.{Sha512, Sha256}
 use Rattle.pt_run.specs.declared.watch.Progress.{Progress}
 use Rattle.pt_run.specs.declared.watch.Progress.TheVariants.{Auto, Always, Never}
-use Rattle.pt_cli.specs.Grammar.{Spelled, SpellsAlgorithms, SpellsTimes, migrate_app, names_app, program, u32_parser}
-use Rattle.pt_cli.specs.Options.{algorithm_of, asked_in, number_of, options_in, progress_of}
-use Rattle.pt_cli.specs.Words.{OrNone, answer_to, command_answer, migrate_answer, names_answer}
+use Rattle.pt_cli.specs.Grammar.{Spelled, SpellsAlgorithms, SpellsTimes, audit_app, migrate_app, names_app, program, u32_parser}
+use Rattle.pt_cli.specs.Options.{algorithm_of, asked_in, audit_in, number_of, options_in, progress_of}
+use Rattle.pt_cli.specs.Words.{OrNone, answer_to, audit_answer, command_answer, migrate_answer, names_answer}
 use Rattle.pt_cli.specs.declared.command.Command.{Command}
 use Rattle.pt_cli.specs.declared.words.WordsFault.{WordsFault}
 use Rattle.pt_cli.proofs.Passing.{Every, Fits}
@@ -87,6 +87,16 @@ all_given : (rows : List Row) (created name message digest source dest : Text) (
 all_given rows created name message digest source dest algorithm size_text count_text when interval_text size count progress interval e1 e2 e3 e4 e5 e6 e7 e8 e9 e10 e11 e12 e13 e14 e15 =
     rw (e1, e2, e3, e4, e5, e6, e7, e8, e9, e10, e11, e12, e13, e14, e15) refl
 
+audit_given : (rows : List Row) (digest source dest : Text) (algorithm : Algorithm) (size_text count_text when : Text) (size count : ℕ) (progress : Progress)
+    → first_of (codes "digest") rows ≡ Some digest → algorithm_of digest ≡ Some algorithm
+    → one_of (codes "tuple-size") rows ≡ Some size_text → number_of size_text ≡ Some size
+    → one_of (codes "tuples") rows ≡ Some count_text → number_of count_text ≡ Some count
+    → first_of (codes "progress") rows ≡ Some when → progress_of when ≡ Some progress
+    → first_of (codes "SOURCE") rows ≡ Some source → first_of (codes "DEST") rows ≡ Some dest
+    → is_some (option_map audit_answer (audit_in rows)) ≡ true
+audit_given rows digest source dest algorithm size_text count_text when size count progress e1 e2 e3 e4 e5 e6 e7 e8 e9 e10 =
+    rw (e1, e2, e3, e4, e5, e6, e7, e8, e9, e10) refl
+
 id_given : (rows : List Row) (id size_text count_text : Text) (size count : ℕ) → first_of (codes "ID") rows ≡ Some id
     → one_of (codes "tuple-size") rows ≡ Some size_text → number_of size_text ≡ Some size
     → one_of (codes "tuples") rows ≡ Some count_text → number_of count_text ≡ Some count
@@ -95,32 +105,33 @@ id_given rows id size_text count_text size count e1 e2 e3 e4 e5 = rw (e1, e2, e3
 
 -- ---- the program
 
--- a command with three commands below it
-abbrev three : Shape → Shape → Shape → Shape → App
-three top x y z = record { top = top; subs = x ∷ y ∷ z ∷ [] }
+-- a command with four commands below it
+abbrev four : Shape → Shape → Shape → Shape → Shape → App
+four top x y w z = record { top = top; subs = x ∷ y ∷ w ∷ z ∷ [] }
 
 -- a level that passes has an answer
 abbrev Answered : Shape → Type 0
 Answered s = (words : List Text) → level_fault s [] nothing_held words false [] ≡ [] → is_some (command_answer (rows_at s words)) ≡ true
 
-module _ (top x y z : Shape) (names_answered : Answered x) (migrate_answered : Answered y)
+module _ (top x y w z : Shape) (names_answered : Answered x) (migrate_answered : Answered y) (audit_answered : Answered w)
     (is_help : (word : Text) → answers_to word (label_of z) ≡ true → bytes_eq word (codes "help") ≡ true) where
-  dispatched : (stop : Option (Text × List Text)) → NotHelp stop → entered_fault (three top x y z) stop ≡ [] → is_some (entered (three top x y z) stop) ≡ true
-      → is_some (answer_to (entered (three top x y z) stop)) ≡ true
+  dispatched : (stop : Option (Text × List Text)) → NotHelp stop → entered_fault (four top x y w z) stop ≡ [] → is_some (entered (four top x y w z) stop) ≡ true
+      → is_some (answer_to (entered (four top x y w z) stop)) ≡ true
   dispatched None not passes some = absurd (cc)
-  dispatched (Some p) not passes some = go (answers_to p.0 (label_of x)) (answers_to p.0 (label_of y)) (answers_to p.0 (label_of z)) refl passes some
+  dispatched (Some p) not passes some = go (answers_to p.0 (label_of x)) (answers_to p.0 (label_of y)) (answers_to p.0 (label_of w)) (answers_to p.0 (label_of z)) refl passes some
     where
-      found : Bool → Bool → Bool → Option Shape
-      found a b c = cond a (Some x) (cond b (Some y) (cond c (Some z) None))
+      found : Bool → Bool → Bool → Bool → Option Shape
+      found a b d c = cond a (Some x) (cond b (Some y) (cond d (Some w) (cond c (Some z) None)))
 
-      go : (a b c : Bool) → answers_to p.0 (label_of z) ≡ c
-          → Rattle.std.specs.Option.option_map_or (λ s. level_fault s [] nothing_held p.1 false []) (found a b c) [] ≡ []
-          → is_some (option_map (λ s. rows_at s p.1) (found a b c)) ≡ true
-          → is_some (answer_to (option_map (λ s. rows_at s p.1) (found a b c))) ≡ true
-      go true b c is k there = names_answered p.1 k
-      go false true c is k there = migrate_answered p.1 k
-      go false false true is k there = absurd (true≢false (sym (is_help p.0 is) ∙ not))
-      go false false false is k there = absurd (true≢false (sym there))
+      go : (a b d c : Bool) → answers_to p.0 (label_of z) ≡ c
+          → Rattle.std.specs.Option.option_map_or (λ s. level_fault s [] nothing_held p.1 false []) (found a b d c) [] ≡ []
+          → is_some (option_map (λ s. rows_at s p.1) (found a b d c)) ≡ true
+          → is_some (answer_to (option_map (λ s. rows_at s p.1) (found a b d c))) ≡ true
+      go true b d c is k there = names_answered p.1 k
+      go false true d c is k there = migrate_answered p.1 k
+      go false false true c is k there = audit_answered p.1 k
+      go false false false true is k there = absurd (true≢false (sym (is_help p.0 is) ∙ not))
+      go false false false false is k there = absurd (true≢false (sym there))
 
   some_command : (ask : Bool) (rows : List Row) → top.arg_required_else_help ≡ false → top.subcommand_required ≡ true → check_fault top rows ask ≡ [] → ask ≡ true
   some_command true rows quiet wants e = refl
@@ -129,19 +140,19 @@ module _ (top x y z : Shape) (names_answered : Answered x) (migrate_answered : A
       absurd (cc)
 
   answered : top.args_override_self ≡ false → Every (Fits top.rules) top.rules → top.disable_help_subcommand ≡ false → top.arg_required_else_help ≡ false
-      → top.subcommand_required ≡ true → (words : List Text) → built_fault (three top x y z) nothing_held words ≡ []
-      → is_some (answer_to (entered (three top x y z) (stop_after top.rules (names_of (three top x y z)) words))) ≡ true
+      → top.subcommand_required ≡ true → (words : List Text) → built_fault (four top x y w z) nothing_held words ≡ []
+      → is_some (answer_to (entered (four top x y w z) (stop_after top.rules (names_of (four top x y w z)) words))) ≡ true
   answered once fit helps quiet wants words e =
-      let names = names_of (three top x y z) in
+      let names = names_of (four top x y w z) in
       let stop = stop_after top.rules names words in
-      let walks = walk_passed top once fit names words (is_some (entered (three top x y z) stop)) (entered_fault (three top x y z) stop) e in
-      let checks = check_passed top once fit names words (is_some (entered (three top x y z) stop)) (entered_fault (three top x y z) stop) e in
+      let walks = walk_passed top once fit names words (is_some (entered (four top x y w z) stop)) (entered_fault (four top x y w z) stop) e in
+      let checks = check_passed top once fit names words (is_some (entered (four top x y w z) stop)) (entered_fault (four top x y w z) stop) e in
       dispatched stop (walk_goes top helps names (walk_from nothing_held) words tt walks.0) walks.1 (some_command _ (rows_after top.rules names words) quiet wants checks)
 
-module _ (spelled : Spelled) where
+module _ (spelled others : Spelled) where
   -- the commands as the parser builds them
   abbrev above : Shape
-  above = with_leaf_noted (marked_built (program spelled).top)
+  above = with_leaf_noted (marked_built (program spelled others).top)
 
   abbrev built_names : Shape
   built_names = built_leaf (inherited above names_app.top)
@@ -149,10 +160,13 @@ module _ (spelled : Spelled) where
   abbrev built_migrate : Shape
   built_migrate = built_leaf (inherited above (migrate_app spelled).top)
 
+  abbrev built_audit : Shape
+  built_audit = built_leaf (inherited above (audit_app others).top)
+
   abbrev built_help : Shape
   built_help = built_leaf help_shape
 
-  fit_top : Every (Fits (built (program spelled)).top.rules) (built (program spelled)).top.rules
+  fit_top : Every (Fits (built (program spelled others)).top.rules) (built (program spelled others)).top.rules
   fit_top = ((refl, refl, refl), ((refl, refl, refl), tt))
 
   fit_names : Every (Fits built_names.rules) built_names.rules
@@ -160,6 +174,24 @@ module _ (spelled : Spelled) where
 
   fit_migrate : Every (Fits built_migrate.rules) built_migrate.rules
   fit_migrate = ((refl, refl, refl), ((refl, refl, refl), ((refl, refl, refl), ((refl, refl, refl), ((refl, refl, refl), ((refl, refl, refl), ((refl, refl, refl), ((refl, refl, refl), ((refl, refl, refl), ((refl, refl, refl), ((refl, refl, refl), ((refl, refl, refl), ((refl, refl, refl), ((refl, refl, refl), ((refl, refl, refl), ((refl, refl, refl), ((refl, refl, refl), ((refl, refl, refl), ((refl, refl, refl), tt)))))))))))))))))))
+
+  fit_audit : Every (Fits built_audit.rules) built_audit.rules
+  fit_audit = ((refl, refl, refl), ((refl, refl, refl), ((refl, refl, refl), ((refl, refl, refl), ((refl, refl, refl), ((refl, refl, refl), ((refl, refl, refl), ((refl, refl, refl), ((refl, refl, refl), ((refl, refl, refl), ((refl, refl, refl), tt)))))))))))
+
+  audit_is_answered : Answered built_audit
+  audit_is_answered words e =
+      let digest = default_value built_audit refl fit_audit [] words false [] e (codes "digest") _ refl refl in
+      let size = default_value built_audit refl fit_audit [] words false [] e (codes "tuple-size") _ refl refl in
+      let count = default_value built_audit refl fit_audit [] words false [] e (codes "tuples") _ refl refl in
+      let when = default_value built_audit refl fit_audit [] words false [] e (codes "progress") _ refl refl in
+      let source = required_value built_audit refl fit_audit [] words false [] e (codes "SOURCE") _ refl refl refl in
+      let dest = required_value built_audit refl fit_audit [] words false [] e (codes "DEST") _ refl refl refl in
+      let algorithm = algorithm_there others.algorithms others.spells_algorithms digest.0 digest.3 in
+      let progress = time_there others.times others.spells_times when.0 when.3 in
+      let digits = number_there size.0 size.3 in
+      let number = number_there count.0 count.3 in
+      audit_given (rows_after built_audit.rules [] words) digest.0 source.0 dest.0 algorithm.0 _ _ when.0 digits.0 number.0 progress.0
+      digest.1 algorithm.1 size.2 digits.1 count.2 number.1 when.1 progress.1 source.1 dest.1
 
   names_is_answered : Answered built_names
   names_is_answered words e =
@@ -200,11 +232,11 @@ module _ (spelled : Spelled) where
       go false is h = absurd (cc)
 
   -- where the parser accepts, there is an answer
-  pub program_answered : (words : List Text) → fault_of (program spelled) words ≡ []
-      → is_some (answer_to (subcommand_of (program spelled) words)) ≡ true
+  pub program_answered : (words : List Text) → fault_of (program spelled others) words ≡ []
+      → is_some (answer_to (subcommand_of (program spelled others) words)) ≡ true
   program_answered words e =
-      answered (built (program spelled)).top built_names built_migrate built_help names_is_answered migrate_is_answered help_is_help refl fit_top refl refl refl
-      (argument_words (program spelled) words) e
+      answered (built (program spelled others)).top built_names built_migrate built_audit built_help names_is_answered migrate_is_answered audit_is_answered help_is_help refl fit_top refl refl refl
+      (argument_words (program spelled others) words) e
 
 -- so an answer that isn't there isn't met
 pub never_none : (found : Option (Text × List Row)) → is_some (answer_to found) ≡ true → OrNone (answer_to found) None → ⊥

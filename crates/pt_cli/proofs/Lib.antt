@@ -1,4 +1,5 @@
 pub mod Building
+pub mod Comparing
 pub mod Complete
 pub mod Migrating
 pub mod Naming

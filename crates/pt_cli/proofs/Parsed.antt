@@ -15,20 +15,20 @@ use Rattle.pt_object.specs.Meta.{meta_refusal}
 use Rattle.pt_object.specs.declared.meta.MetaFault.{MetaFault}
 use Rattle.pt_object.specs.declared.meta.MetaFault.TheVariants as meta_fault
 use Rattle.pt_cli.specs.Grammar.{Spelled, program}
-use Rattle.pt_cli.specs.Options.{Options, Request, asked_in, options_in}
-use Rattle.pt_cli.specs.Words.{Answers, HasRefusal, IsRefusal, OrNone, RefusedAs, answer_to, are_names, command_answer, described, migrate_answer, named, names_answer, parted, share_asked}
+use Rattle.pt_cli.specs.Options.{AuditOptions, Options, Request, asked_in, audit_in, options_in}
+use Rattle.pt_cli.specs.Words.{Answers, HasRefusal, IsRefusal, OrNone, RefusedAs, answer_to, are_names, audit_answer, audit_cut, audit_parted, command_answer, described, migrate_answer, named, names_answer, parted, share_asked}
 use Rattle.pt_cli.specs.declared.command.Command.{Command}
 use Rattle.pt_cli.specs.declared.words.WordsFault.{WordsFault}
 use Rattle.pt_cli.specs.declared.words.WordsFault.TheVariants as fault
 
 -- the parser's answers are known from the words alone
-pub program-simple : (words : Spelled) → is_simple (program words) ≡ true
+pub program-simple : (words others : Spelled) → is_simple (program words others) ≡ true
 unfolding clap_on_literals
-program-simple words = refl
+program-simple words others = refl
 
-pub program-free : (words : Spelled) → is_simple_and_free (program words) ≡ true
+pub program-free : (words others : Spelled) → is_simple_and_free (program words others) ≡ true
 unfolding clap_on_literals
-program-free words = refl
+program-free words others = refl
 
 -- a word, at some place
 abbrev at_some : Text → Bor Text
@@ -90,20 +90,33 @@ described-own given (Some meta_fault.Memory) layout = tt
 described-own given None (Err f) = tt
 described-own given None (Ok l) = parted-own given l (share_asked given.share) (are_names given.ignored)
 
+audit_parted-own : (given : AuditOptions) (layout : Tuples) (share : Option Portion) (named : Bool) → IsOwn (audit_parted given layout share named)
+audit_parted-own given layout None named = tt
+audit_parted-own given layout (Some share) false = tt
+audit_parted-own given layout (Some share) true = tt
+
+audit-own : (given : AuditOptions) (layout : Result Tuples LayoutFault) → IsOwn (audit_cut given layout)
+audit-own given (Err f) = tt
+audit-own given (Ok l) = audit_parted-own given l (share_asked given.share) (are_names given.ignored)
+
 command-own : (found : Text × List Row) (r : Result Command WordsFault) → command_answer found ≡ Some r → IsOwn r
-command-own found r is = go (bytes_eq found.0 (codes "names")) (bytes_eq found.0 (codes "migrate")) (asked_in found.1) (options_in found.1) is
+command-own found r is = go (bytes_eq found.0 (codes "names")) (bytes_eq found.0 (codes "migrate")) (bytes_eq found.0 (codes "audit")) (asked_in found.1) (options_in found.1) (audit_in found.1) is
   where
-    go : (names migrate : Bool) (id : Option Request) (given : Option Options)
-        → (if names then option_map names_answer id else if migrate then option_map migrate_answer given else None) ≡ Some r → IsOwn r
-    go true migrate None given e = absurd (cc)
-    go true migrate (Some id) given e =
+    go : (names migrate audit : Bool) (id : Option Request) (given : Option Options) (held : Option AuditOptions)
+        → (if names then option_map names_answer id else if migrate then option_map migrate_answer given else if audit then option_map audit_answer held else None) ≡ Some r → IsOwn r
+    go true migrate audit None given held e = absurd (cc)
+    go true migrate audit (Some id) given held e =
         let same : names_answer id ≡ r = cc in
         subst IsOwn same (named-own id.id id.prefix (layout_of id.size id.count))
-    go false true id None e = absurd (cc)
-    go false true id (Some given) e =
+    go false true audit id None held e = absurd (cc)
+    go false true audit id (Some given) held e =
         let same : migrate_answer given ≡ r = cc in
         subst IsOwn same (described-own given (meta_refusal given.created given.name) (layout_of given.size given.count))
-    go false false id given e = absurd (cc)
+    go false false true id given None e = absurd (cc)
+    go false false true id given (Some held) e =
+        let same : audit_answer held ≡ r = cc in
+        subst IsOwn same (audit-own held (layout_of held.size held.count))
+    go false false false id given held e = absurd (cc)
 
 own : (found : Option (Text × List Row)) (r : Result Command WordsFault) → answer_to found ≡ Some r → IsOwn r
 own None r e = absurd (cc)

@@ -1,13 +1,16 @@
 -- Which call the words of a command lead to, and what it is given.
-use Rattle.std.specs.Prelude.{◌≡◌, ◌↔◌, ℕ, List, [], Option, Result, Ok, Err, IfErr, IsErrOf, OnOk}
+use Rattle.std.specs.Prelude.{◌≡◌, ◌⊎◌, ◌↔◌, ℕ, List, [], Option, Result, Ok, Err, IfErr, IsErrOf, OnOk}
 use Rattle.std.specs.Io.KnownBytes.{Appends}
 use Rattle.pt_name.specs.Tuples.{Tuples}
 use Rattle.pt_cli.specs.Names.{LeavesWritten, names_text}
+use Rattle.pt_object.specs.MetaParts.{MetaParts}
+use Rattle.pt_cli.specs.declared.command.Audit.{Audit as Comparison}
 use Rattle.pt_cli.specs.declared.command.Migrate.{Migrate as Migration}
 use Rattle.pt_cli.specs.declared.command.Named.{Named}
 use Rattle.pt_cli.specs.declared.names.NamesFault.{NamesFault}
 use Rattle.pt_cli.specs.declared.names.NamesFault.TheVariants as names
 use Rattle.pt_run.specs.declared.host.Ground.{Ground}
+use Rattle.pt_run.specs.declared.auditing.WantedAudit.{WantedAudit}
 use Rattle.pt_run.specs.declared.migration.Wanted.{Wanted}
 use Rattle.pt_walk.specs.Limits.{greatest_limits}
 
@@ -30,6 +33,22 @@ wanted_of words = record {
   interval = words.interval;
 }
 
+-- what is wanted of the audit that words ask for: each field as it was given, and the greatest limits; this is what the run that is compared says of its versions
+abbrev pub wanted_audit : MetaParts → Comparison → WantedAudit
+wanted_audit meta words = record {
+  job = record {
+    meta = meta;
+    layout = words.layout;
+    algorithm = words.algorithm;
+    limits = greatest_limits;
+    gather = words.gather;
+    share = words.share;
+  };
+  ignored = words.ignored;
+  verbose = words.verbose;
+  progress = words.progress;
+}
+
 -- of writing names: 0 where they were written, 2 for the empty identifier, else 3
 abbrev pub names_status : Result (Unit {0}) NamesFault → ℕ
 names_status (Ok done) = 0
@@ -49,3 +68,7 @@ TellsNames {H} {S} {D} {W} lends takes_back contents asked old new status =
     (ground : Ground S D W) × (lent : H) × lends old ground lent × (output : W) × (written : Result (Unit {0}) NamesFault)
     × WritesNames asked.layout asked.prefix asked.id (contents ground.output) (contents output) written × takes_back lent (record ground { output = output }) new
     × (status ≡ names_status written)
+
+-- an audit is made, or memory was wanting before anything was asked of the machine, which is 3
+abbrev pub OrWantsMemory : {H : Type 0} → (H → H → ℕ → Type 0) → H → H → ℕ → Type 0
+OrWantsMemory audits old new status = audits old new status ⊎ ((status ≡ 3) × (new ≡ old))

@@ -143,13 +143,26 @@ migrate_app words = on_top (λ s. record s { rules = migrate_rules words }) (new
 abbrev pub IsMigrateApp : App → Type 0
 IsMigrateApp app = (words : Spelled) × (app ≡ migrate_app words)
 
+-- the options of `audit` and its two paths
+abbrev pub audit_rules : Spelled → List Rule
+audit_rules words =
+    digest_rule words.algorithms ∷ size_rule ∷ count_rule ∷ gather_rule ∷ share_rule ∷ ignore_rule ∷ verbose_rule ∷ progress_rule words.times
+    ∷ source_rule ∷ dest_rule ∷ []
+
+-- `audit [OPTIONS] SOURCE DEST`
+abbrev pub audit_app : Spelled → App
+audit_app words = on_top (λ s. record s { rules = audit_rules words }) (new_app (codes "audit"))
+
+abbrev pub IsAuditApp : App → Type 0
+IsAuditApp app = (words : Spelled) × (app ≡ audit_app words)
+
 -- `pairtree2ocfl` with a command behind it, or `--version`
 abbrev pub top_app : App
 top_app = on_top (λ s. record s { has_version = true; subcommand_required = true }) (new_app (codes "pairtree2ocfl"))
 
--- the program, whose parser reads values from these words
-abbrev pub program : Spelled → App
-program words = with_subcommand (with_subcommand top_app names_app.top) (migrate_app words).top
+-- the program, whose parser reads the values of `migrate` and of `audit` from these words
+abbrev pub program : Spelled → Spelled → App
+program words others = with_subcommand (with_subcommand (with_subcommand top_app names_app.top) (migrate_app words).top) (audit_app others).top
 
 abbrev pub IsProgram : App → Type 0
-IsProgram app = (words : Spelled) × (app ≡ program words)
+IsProgram app = (words : Spelled) × (others : Spelled) × (app ≡ program words others)

@@ -113,3 +113,38 @@ asked_in rows = do
   size ← number_in (codes "tuple-size") rows
   count ← number_in (codes "tuples") rows
   Some (record { id = id; prefix = unwrap_or (first_of (codes "prefix") rows) []; size = size; count = count })
+
+-- what `audit` was given, with its defaults, and the two paths
+pub record AuditOptions : Type 0 where
+  pub algorithm : Algorithm
+  pub size : ℕ
+  pub count : ℕ
+  pub gather : Bool
+  pub share : Option Text
+  pub ignored : List Text
+  pub verbose : Bool
+  pub progress : Progress
+  pub source : Text
+  pub dest : Text
+
+-- the options of `audit` in what its parser found
+abbrev pub audit_in : List Row → Option AuditOptions
+audit_in rows = do
+  algorithm ← first_of (codes "digest") rows >>= algorithm_of
+  size ← number_in (codes "tuple-size") rows
+  count ← number_in (codes "tuples") rows
+  progress ← first_of (codes "progress") rows >>= progress_of
+  source ← first_of (codes "SOURCE") rows
+  dest ← first_of (codes "DEST") rows
+  Some (record {
+    algorithm = algorithm;
+    size = size;
+    count = count;
+    gather = is_set_in (codes "gather") rows;
+    share = first_of (codes "share") rows;
+    ignored = unwrap_or (all_of (codes "ignore") rows) [];
+    verbose = is_set_in (codes "verbose") rows;
+    progress = progress;
+    source = source;
+    dest = dest;
+  })

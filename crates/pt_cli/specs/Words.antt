@@ -15,9 +15,9 @@ use Rattle.pt_object.specs.declared.meta.MetaFault.{MetaFault}
 use Rattle.pt_object.specs.declared.meta.MetaFault.TheVariants as meta_fault
 use Rattle.pt_cli.specs.Grammar.{Spelled, program}
 use Rattle.pt_tree.specs.Name.{is_name}
-use Rattle.pt_cli.specs.Options.{Request, Options, ◌>>=◌, asked_in, number_of, options_in}
+use Rattle.pt_cli.specs.Options.{AuditOptions, Request, Options, ◌>>=◌, asked_in, audit_in, number_of, options_in}
 use Rattle.pt_cli.specs.declared.command.Command.{Command}
-use Rattle.pt_cli.specs.declared.command.Command.TheVariants.{Names, Migrate}
+use Rattle.pt_cli.specs.declared.command.Command.TheVariants.{Audit, Names, Migrate}
 use Rattle.pt_cli.specs.declared.words.WordsFault.{WordsFault}
 use Rattle.pt_cli.specs.declared.words.WordsFault.TheVariants as fault
 
@@ -98,11 +98,41 @@ described given None (Ok layout) = parted given layout (share_asked given.share)
 abbrev pub migrate_answer : Options → Result Command WordsFault
 migrate_answer given = described given (meta_refusal given.created given.name) (layout_of given.size given.count)
 
+-- the audit with these options, this layout and this share
+abbrev pub audit_with : AuditOptions → Tuples → Portion → Command
+audit_with given layout share = Audit (record {
+  algorithm = given.algorithm;
+  layout = layout;
+  gather = given.gather;
+  share = share;
+  ignored = given.ignored;
+  verbose = given.verbose;
+  progress = given.progress;
+  source = given.source;
+  dest = given.dest;
+})
+
+-- refused where no share is named, and then where what is to be left out is no name
+abbrev pub audit_parted : AuditOptions → Tuples → Option Portion → Bool → Result Command WordsFault
+audit_parted given layout None named = Err fault.Share
+audit_parted given layout (Some share) false = Err fault.Ignored
+audit_parted given layout (Some share) true = Ok (audit_with given layout share)
+
+-- refused by the layout, and then by the other two
+abbrev pub audit_cut : AuditOptions → Result Tuples LayoutFault → Result Command WordsFault
+audit_cut given (Err refusal) = Err fault.Tuples
+audit_cut given (Ok layout) = audit_parted given layout (share_asked given.share) (are_names given.ignored)
+
+-- what `audit` with these options is answered
+abbrev pub audit_answer : AuditOptions → Result Command WordsFault
+audit_answer given = audit_cut given (layout_of given.size given.count)
+
 -- what a command and its arguments are answered; None where they ask for nothing that there is
 abbrev pub command_answer : Text × List Row → Option (Result Command WordsFault)
 command_answer found =
     if bytes_eq found.0 (codes "names") then option_map names_answer (asked_in found.1)
     else if bytes_eq found.0 (codes "migrate") then option_map migrate_answer (options_in found.1)
+    else if bytes_eq found.0 (codes "audit") then option_map audit_answer (audit_in found.1)
     else None
 
 -- the same of the command that the parser found, if there is one
@@ -158,7 +188,7 @@ RefusedAs k _ = ⊥
 -- what these words, the program's name first, are answered
 abbrev pub ReadsWords : List Text → Result Command WordsFault → Type 0
 ReadsWords words result =
-    (spelled : Spelled) × Answers (fault_of (program spelled) words) (subcommand_of (program spelled) words) result
+    (spelled : Spelled) × (others : Spelled) × Answers (fault_of (program spelled others) words) (subcommand_of (program spelled others) words) result
 
 abbrev pub words_number : WordsFault → ℕ
 words_number (fault.Help text) = 1

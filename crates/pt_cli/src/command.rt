@@ -11,6 +11,8 @@ pub enum Command {
     Names(Named),
     /// Carry a Pairtree store into a storage root.
     Migrate(Migrate),
+    /// Hold a storage root against a Pairtree store.
+    Audit(Audit),
 }
 
 /// An identifier whose names are asked for.
@@ -54,5 +56,28 @@ pub struct Migrate {
     /// The folder that holds `pairtree_root`.
     pub source: Text,
     /// The folder in which `ocfl` is, or comes to be.
+    pub dest: Text,
+}
+
+/// An audit, as the words ask for it.
+#[derive(Debug, Drop)]
+pub struct Audit {
+    /// The digest algorithm of the inventories.
+    pub algorithm: Algorithm,
+    /// How the places of the objects are cut.
+    pub layout: Layout,
+    /// Whether files that lie directly at a site were carried too.
+    pub gather: bool,
+    /// Which share of the store is compared.
+    pub share: Share,
+    /// The names of the entries that are left out.
+    pub ignored: Ignored,
+    /// Whether the reason of a fault is told.
+    pub verbose: bool,
+    /// When to show how far the audit is.
+    pub progress: Progress,
+    /// The folder that holds `pairtree_root`.
+    pub source: Text,
+    /// The folder in which `ocfl` is.
     pub dest: Text,
 }

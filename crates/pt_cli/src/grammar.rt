@@ -1,7 +1,7 @@
 ghost use Rattle.std.specs.Prelude.{◌≡◌, ◌∷◌, [], false, IfOk};
 ghost use Rattle.clap.specs.Words.{app_of, rule_of};
 ghost use Rattle.clap.specs.declared.builder.command.Command.TheViews.{out-Command};
-ghost use Rattle.pt_cli.specs.Grammar.{IsDigestRule, IsMigrateApp, IsProgram, IsProgressRule, address_rule, count_rule, expect_rule};
+ghost use Rattle.pt_cli.specs.Grammar.{IsAuditApp, IsDigestRule, IsMigrateApp, IsProgram, IsProgressRule, address_rule, count_rule, expect_rule};
 ghost use Rattle.pt_cli.specs.Grammar.{created_rule, dest_rule, gather_rule, id_rule, ignore_rule, interval_rule, message_rule, name_rule, names_app};
 ghost use Rattle.pt_cli.specs.Grammar.{prefix_rule, rehearse_rule, size_rule, source_rule, share_rule, sync_rule, verbose_rule};
 
@@ -13,6 +13,8 @@ pub(crate) const NAMES: &str = "names";
 pub(crate) const ID: &str = "ID";
 
 pub(crate) const MIGRATE: &str = "migrate";
+
+pub(crate) const AUDIT: &str = "audit";
 
 pub(crate) const CREATED: &str = "created";
 
@@ -84,6 +86,24 @@ Exit status:
   2  the words were refused, and nothing was done
   3  a fault ended the run, and standard error says which"#;
 
+const AUDIT_AND_STATUS: &str =
+    r#"What a run makes of each object is held against what stands at its place, path by path and byte by byte.
+Give the options that the run had. Nothing is made or changed.
+The log goes to standard output: a line of JSON for each object, and for each place that isn't carried.
+Each line says under "as" what was found:
+  same     exactly the object stands at "to"; its moment, user and message may be any
+  absent   nothing stands there
+  differs  the first difference is at "path" in it, by "why":
+           missing, extra, kind (a file for a folder, or so) or bytes
+  skip     not carried, for the cause that migrate gives
+  end      the last line: how many there were of each
+
+Exit status:
+  0  all lines are same
+  1  the log has other lines
+  2  the words were refused, and nothing was done
+  3  a fault ended the audit, and standard error says which"#;
+
 // The parser of the program's words.
 pub(crate) fn parser<'a>(alloc: Global) -> Result<Parser<'a>, AllocError>
     ensures { IfOk result (λ parser. IsProgram (app_of parser)) }
@@ -93,11 +113,13 @@ pub(crate) fn parser<'a>(alloc: Global) -> Result<Parser<'a>, AllocError>
         .about("Carries a Pairtree 0.1 store into an OCFL 1.1 storage root")
         .subcommand_required(true);
     let with_names = top.subcommand(names_parser(alloc)?)?;
-    with_names.subcommand(migrate_parser(alloc)?)
+    let with_migrate = with_names.subcommand(migrate_parser(alloc)?)?;
+    with_migrate.subcommand(audit_parser(alloc)?)
 }
 
 fn names_parser<'a>(alloc: Global) -> Result<Parser<'a>, AllocError>
-    ensures { IfOk result (λ parser. (app_of parser ≡ names_app) × ((out-Command parser).has_globals ≡ false)) }
+    ensures { IfOk result (λ parser. (app_of parser ≡ names_app)
+        × ((out-Command parser).has_globals ≡ false)) }
 {
     let parser = Parser::new(alloc, NAMES).about(
         "Prints the pairpath of an identifier and its place in a layout",
@@ -107,7 +129,8 @@ fn names_parser<'a>(alloc: Global) -> Result<Parser<'a>, AllocError>
 }
 
 fn migrate_parser<'a>(alloc: Global) -> Result<Parser<'a>, AllocError>
-    ensures { IfOk result (λ parser. IsMigrateApp (app_of parser) × ((out-Command parser).has_globals ≡ false)) }
+    ensures { IfOk result (λ parser. IsMigrateApp (app_of parser)
+        × ((out-Command parser).has_globals ≡ false)) }
 {
     let parser = Parser::new(alloc, MIGRATE)
         .about("Carries a Pairtree store into an OCFL storage root")
@@ -120,6 +143,19 @@ fn migrate_parser<'a>(alloc: Global) -> Result<Parser<'a>, AllocError>
     let parser = parser.arg(sync(alloc))?.arg(rehearse(alloc))?;
     let parser = parser.arg(verbose(alloc))?.arg(progress(alloc))?;
     let parser = parser.arg(interval(alloc))?.arg(expect(alloc))?;
+    parser.arg(source(alloc))?.arg(dest(alloc))
+}
+
+fn audit_parser<'a>(alloc: Global) -> Result<Parser<'a>, AllocError>
+    ensures { IfOk result (λ parser. IsAuditApp (app_of parser) × ((out-Command parser).has_globals ≡ false)) }
+{
+    let parser = Parser::new(alloc, AUDIT)
+        .about("Holds an OCFL storage root against the Pairtree store that it was made of")
+        .after_help(AUDIT_AND_STATUS);
+    let parser = parser.arg(digest(alloc))?.arg(tuple_size(alloc))?;
+    let parser = parser.arg(tuples(alloc))?.arg(gather(alloc))?;
+    let parser = parser.arg(share(alloc))?.arg(ignore(alloc))?;
+    let parser = parser.arg(verbose(alloc))?.arg(progress(alloc))?;
     parser.arg(source(alloc))?.arg(dest(alloc))
 }
 

@@ -1,16 +1,16 @@
 //! The program `pairtree2ocfl`: its words, its commands and its statuses.
 #![tactic(auto)]
 
+mod auditing;
 mod command;
 mod grammar;
 mod migration;
 mod names;
-mod output;
 mod program;
 mod text;
 mod words;
 
-pub use command::{Command, Migrate, Named};
+pub use command::{Audit, Command, Migrate, Named};
 pub use names::{NamesFault, names_to};
 pub use program::run;
 pub use text::Text;

@@ -2,9 +2,8 @@ ghost use Rattle.std.specs.Prelude.{◌≡◌, ◌↔◌, ◌++◌, [], IfOk, If
 ghost use Rattle.std.specs.Io.KnownBytes.{Appends};
 ghost use Rattle.pt_cli.specs.Names.{names_text, names_number, LeavesWritten};
 
-use crate::output::put;
 use pt_name::{Layout, pairpath};
-use pt_tree::MemoryFault;
+use pt_tree::{MemoryFault, write_out};
 use std::alloc::Global;
 use std::io::Write;
 use thiserror::Error;
@@ -61,14 +60,16 @@ pub fn names_to<W: Write>(
     out: &mut W,
 ) -> Result<(), NamesFault>
     ensures empty { IsErrOf result NamesFault.Empty ↔ (id.now ≡ []) }
-    ensures ok { OnOk result (Appends (W.contents out.old) (W.contents out.new) (names_text layout.now prefix.now id.now)) }
-    ensures err { IfErr result (λ fault. LeavesWritten fault (W.contents out.old) (W.contents out.new) (names_text layout.now prefix.now id.now)) }
+    ensures ok { OnOk result (Appends (W.contents out.old) (W.contents out.new)
+        (names_text layout.now prefix.now id.now)) }
+    ensures err { IfErr result (λ fault. LeavesWritten fault (W.contents out.old)
+        (W.contents out.new) (names_text layout.now prefix.now id.now)) }
 {
     if id.is_empty() {
         return Err(NamesFault::Empty);
     }
     let text = two_lines(alloc, layout, prefix.as_bytes(), id.as_bytes())?;
-    put(out, &text)
+    write_out(out, &text).map_err(|_| NamesFault::Write)
 }
 
 // The two lines of an identifier that isn't empty.

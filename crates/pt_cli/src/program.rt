@@ -1,11 +1,13 @@
 ghost use Rattle.std.specs.Prelude.{◌≡◌, ◌⊎◌, map, string_bytes};
 ghost use Rattle.std.specs.Process.{exit_status};
-ghost use Rattle.pt_cli.specs.Calls.{TellsNames, names_status, wanted_of};
+ghost use Rattle.pt_cli.specs.Calls.{OrWantsMemory, TellsNames, names_status, wanted_of};
 ghost use Rattle.pt_cli.specs.Statuses.{Ends, EndsWith};
+ghost use Rattle.pt_run.specs.Audits.{Audits};
 ghost use Rattle.pt_run.specs.Made.{Runs};
 
+use crate::auditing::audit_asked_for;
 use crate::migration::{Asked, run_asked_for};
-use crate::{Command, Migrate, Named, NamesFault, Text, WordsFault, names_to, read_words};
+use crate::{Audit, Command, Migrate, Named, NamesFault, Text, WordsFault, names_to, read_words};
 use pt_run::{Host, Terminals};
 use std::alloc::AllocGlobal;
 use std::env::Env;
@@ -20,12 +22,12 @@ const REFUSED: u8 = 2;
 const FAILED: u8 = 3;
 
 /// Runs the program on the words that it was started with, on a machine, and gives its exit status: 0 the names were written, all was
-/// carried, or help or the version was asked for; 1 a run ended whose log has present or skip lines; 2 the words were
+/// carried, each object stands, or help or the version was asked for; 1 a run or an audit ended whose log has other lines; 2 the words were
 /// refused, or the folders lie in one another; 3 a fault of the run, a destination that another run has, an output that
 /// failed, or want of memory.
 ///
 /// The words of `names` lead to the call that writes the two names to the machine's output; those of `migrate` to the run that they
-/// ask for; and all others ask nothing of the machine.
+/// ask for; those of `audit` to the audit; and all others ask nothing of the machine.
 pub fn run<R, H: Host>(rt: &R, host: &mut H) -> ExitCode
 where
     R: Files + Clock + Print + Eprint + Env + AllocGlobal + Terminals,
@@ -33,6 +35,8 @@ where
         (λ words. Runs H.resolves H.identifies H.holds H.releases H.finds H.File.syncs
         H.lends H.takes_back H.Store.forest H.Folder.kept H.Output.contents
         (wanted_of words) words.source words.dest)
+        (λ words. OrWantsMemory (Audits H.resolves H.identifies H.holds H.releases
+        H.lends H.takes_back words.source words.dest))
         host.old host.new (exit_status result) }
 {
     let status = match words(rt) {
@@ -55,11 +59,14 @@ where
         (λ words. Runs H.resolves H.identifies H.holds H.releases H.finds H.File.syncs
         H.lends H.takes_back H.Store.forest H.Folder.kept H.Output.contents
         (wanted_of words) words.source words.dest)
+        (λ words. OrWantsMemory (Audits H.resolves H.identifies H.holds H.releases
+        H.lends H.takes_back words.source words.dest))
         (map string_bytes words.now) host.old host.new result }
 {
     match read_words(rt.alloc(), words) {
         Ok(Command::Names(asked)) => names(rt, host, &asked),
         Ok(Command::Migrate(words)) => migrate(rt, host, words),
+        Ok(Command::Audit(words)) => audit(rt, host, words),
         Err(WordsFault::Help(text)) => tell(rt, &text),
         Err(WordsFault::Version(text)) => tell(rt, &text),
         Err(WordsFault::Words(text)) => {
@@ -101,6 +108,25 @@ where
     } = run_asked_for(words);
     let expected = expected.as_ref().map(|log| log.as_str());
     pt_run::migrate(rt, host, wanted, expected, source.as_str(), dest.as_str())
+}
+
+// Makes the audit that the words ask for, and gives its status.
+fn audit<R, H: Host>(rt: &R, host: &mut H, words: Audit) -> u8
+where
+    R: Files + Clock + Eprint + AllocGlobal + Terminals,
+    ensures { OrWantsMemory (Audits H.resolves H.identifies H.holds H.releases
+        H.lends H.takes_back words.source words.dest) host.old host.new result }
+{
+    match audit_asked_for(rt.alloc(), words) {
+        Ok(asked) => pt_run::audit(
+            rt,
+            host,
+            asked.wanted,
+            asked.source.as_str(),
+            asked.dest.as_str(),
+        ),
+        Err(_) => failed(rt, NamesFault::Memory),
+    }
 }
 
 // Writes the names that are asked for to the machine's output, and gives the status of that.

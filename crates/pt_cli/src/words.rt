@@ -3,15 +3,16 @@ ghost use Rattle.pt_tree.specs.Name.{is_name};
 ghost use Rattle.std.specs.Option.{option_map, unwrap_or};
 ghost use Rattle.pt_tree.specs.Refusal.{Answers as AnswersTo};
 ghost use Rattle.clap.specs.Words.{all_of, first_of, found_of, kind_of, rows_of, subcommand_rows_of};
-ghost use Rattle.pt_cli.specs.Options.{algorithm_of, asked_in, is_set_in, number_in, number_of, options_in, progress_of};
+ghost use Rattle.pt_cli.specs.Options.{algorithm_of, asked_in, audit_in, is_set_in, number_in, number_of, options_in, progress_of};
 ghost use Rattle.pt_cli.specs.Words.{Answers, OrMemory, OrNone, ReadsWords, RefusedAs, answer_to};
-ghost use Rattle.pt_cli.specs.Words.{AreNamed, migrate_answer, names_answer, not_a_name, share_asked, share_in, words_number};
+ghost use Rattle.pt_cli.specs.Words.{AreNamed, audit_answer, migrate_answer, names_answer, not_a_name, share_asked, share_in, words_number};
 
 use crate::grammar::{
-    ADDRESS, CREATED, DEST, DIGEST, EXPECT, GATHER, ID, IGNORE, INTERVAL, MESSAGE, MIGRATE, NAME,
-    NAMES, PREFIX, PROGRESS, REHEARSE, SHARE, SOURCE, SYNC, TUPLE_SIZE, TUPLES, VERBOSE, parser,
+    ADDRESS, AUDIT, CREATED, DEST, DIGEST, EXPECT, GATHER, ID, IGNORE, INTERVAL, MESSAGE, MIGRATE,
+    NAME, NAMES, PREFIX, PROGRESS, REHEARSE, SHARE, SOURCE, SYNC, TUPLE_SIZE, TUPLES, VERBOSE,
+    parser,
 };
-use crate::{Command, Migrate, Named, Text};
+use crate::{Audit, Command, Migrate, Named, Text};
 use clap::error::ErrorKind;
 use clap::{ArgMatches, Error};
 use pt_ignore::Ignored;
@@ -179,6 +180,42 @@ impl<'m, 'a> Model for Given<'m, 'a> {
     } };
 }
 
+// What `audit` was given, as its parser reads it.
+#[derive(Drop)]
+struct GivenAudit<'m, 'a> {
+    algorithm: Algorithm,
+    size: u32,
+    count: u32,
+    gather: bool,
+    share: Option<&'a str>,
+    ignored: Option<&'m [&'a str]>,
+    verbose: bool,
+    progress: Progress,
+    source: &'a str,
+    dest: &'a str,
+}
+
+impl<'m, 'a> Model for GivenAudit<'m, 'a> {
+    ghost use Rattle.std.specs.Prelude.{[], map};
+    ghost use Rattle.std.specs.Option.{option_map, unwrap_or};
+    ghost use Rattle.pt_cli.specs.Options.{AuditOptions};
+
+    ghost Value = { AuditOptions };
+
+    ghost view = { λ g. record {
+      algorithm = g.algorithm;
+      size = g.size;
+      count = g.count;
+      gather = g.gather;
+      share = option_map (λ s. s.now) g.share;
+      ignored = unwrap_or (option_map (λ s. map (λ v. v.now) s.now) g.ignored) [];
+      verbose = g.verbose;
+      progress = g.progress;
+      source = g.source.now;
+      dest = g.dest.now;
+    } };
+}
+
 // What `names` was given, as its parser reads it.
 #[derive(Drop)]
 struct Request<'a> {
@@ -193,13 +230,18 @@ impl<'a> Model for Request<'a> {
 
     ghost Value = { Request };
 
-    ghost view = { λ g. record { id = g.id.now; prefix = g.prefix.now; size = g.size; count = g.count } };
+    ghost view = { λ g. record {
+      id = g.id.now;
+      prefix = g.prefix.now;
+      size = g.size;
+      count = g.count;
+    } };
 }
 
 /// Reads the words of a command line, of which the first is the program's name.
 ///
 /// Refused as `Help` where the parser was asked for help, as `Version` where for the version, and as `Words` where it refuses
-/// the words otherwise. Then for `names` as `EmptyId`, where the identifier is empty, and as `Tuples`. For `migrate`, in this order, as `Created`, where `--created`
+/// the words otherwise. Then for `names` as `EmptyId`, where the identifier is empty, and as `Tuples`. For `audit` as `Tuples`, `Share` and `Ignored`, as below. For `migrate`, in this order, as `Created`, where `--created`
 /// isn't a moment of RFC 3339 to the second; as `EmptyName`, where `--name` is empty; as `Tuples`, where `--tuple-size`
 /// and `--tuples` aren't a layout of extension 0003-hash-and-id-n-tuple-storage-layout; as `Share`, where `--share` isn't `K/N` with a
 /// share's two numbers; as `Ignored`, where `--ignore` isn't a name that an entry may have. As `Memory` where a growth was refused.
@@ -230,13 +272,15 @@ fn answer(alloc: Global, matches: &ArgMatches<'_>) -> Option<Result<Command, Wor
     match entered(matches)? {
         (NAMES, inner) => Some(names(alloc, &asked(inner)?)),
         (MIGRATE, inner) => Some(migrate(alloc, &options(inner)?)),
+        (AUDIT, inner) => Some(audit(alloc, &audit_options(inner)?)),
         _ => None,
     }
 }
 
 // The command that the parser found, and what was found for its arguments.
 fn entered<'m, 'a>(matches: &'m ArgMatches<'a>) -> Option<(&'a str, &'m ArgMatches<'a>)>
-    ensures { option_map (λ p. (p.0.now, rows_of (found_of p.1.now))) result ≡ subcommand_rows_of matches.now }
+    ensures { option_map (λ p. (p.0.now, rows_of (found_of p.1.now))) result
+        ≡ subcommand_rows_of matches.now }
 {
     matches.subcommand()
 }
@@ -288,6 +332,27 @@ fn migrate(alloc: Global, given: &Given<'_, '_>) -> Result<Command, WordsFault>
     }))
 }
 
+fn audit(alloc: Global, given: &GivenAudit<'_, '_>) -> Result<Command, WordsFault>
+    ensures { OrMemory (audit_answer given.now) result }
+{
+    let layout = Layout::of(given.size, given.count)?;
+    let Some(share) = share(given.share) else {
+        return Err(WordsFault::Share);
+    };
+    let ignored = names_asked(alloc, given.ignored)?;
+    Ok(Command::Audit(Audit {
+        algorithm: given.algorithm,
+        layout,
+        gather: given.gather,
+        share,
+        ignored,
+        verbose: given.verbose,
+        progress: given.progress,
+        source: Text::of(alloc, given.source)?,
+        dest: Text::of(alloc, given.dest)?,
+    }))
+}
+
 // The share that is asked for: the whole store where none is.
 fn share(text: Option<&str>) -> Option<Share>
     ensures { result ≡ share_asked (option_map (λ s. s.now) text.entry) }
@@ -315,7 +380,8 @@ fn number_in_text(text: &str) -> Option<u32>
 
 // The names that texts write, if there are any.
 fn names_asked(alloc: Global, texts: Option<&[&str]>) -> Result<Ignored, WordsFault>
-    ensures { AreNamed (unwrap_or (option_map (λ s. map (λ v. v.now) s.now) texts.entry) []) result }
+    ensures { AreNamed (unwrap_or (option_map (λ s. map (λ v. v.now) s.now) texts.entry) [])
+        result }
 {
     match texts {
         Some(texts) => names_in(alloc, texts),
@@ -336,7 +402,8 @@ fn names_in(alloc: Global, texts: &[&str]) -> Result<Ignored, WordsFault>
 
 // The name that a text writes.
 fn name_in(alloc: Global, text: &str) -> Result<Name, WordsFault>
-    ensures { AnswersTo (not_a_name (is_name text.now)) WordsFault.Memory result (λ name. name ≡ text.now) }
+    ensures { AnswersTo (not_a_name (is_name text.now)) WordsFault.Memory result
+        (λ name. name ≡ text.now) }
 {
     match Name::of(alloc, text.as_bytes()) {
         Ok(name) => Ok(name),
@@ -381,6 +448,25 @@ fn options<'m, 'a>(matches: &'m ArgMatches<'a>) -> Option<Given<'m, 'a>>
     })
 }
 
+// The options of `audit` in its matches. The parser leaves none out that is wanted here.
+fn audit_options<'m, 'a>(matches: &'m ArgMatches<'a>) -> Option<GivenAudit<'m, 'a>>
+    ensures { result ≡ audit_in (rows_of (found_of matches.now)) }
+{
+    let (from, to) = (text(matches, SOURCE)?, text(matches, DEST)?);
+    Some(GivenAudit {
+        algorithm: algorithm(text(matches, DIGEST)?)?,
+        size: number(matches, TUPLE_SIZE)?,
+        count: number(matches, TUPLES)?,
+        gather: is_set(matches, GATHER),
+        share: text(matches, SHARE),
+        ignored: texts(matches, IGNORE),
+        verbose: is_set(matches, VERBOSE),
+        progress: progress(text(matches, PROGRESS)?)?,
+        source: from,
+        dest: to,
+    })
+}
+
 // The options of `names` in its matches. The parser leaves none out that is wanted here.
 fn asked<'a>(matches: &ArgMatches<'a>) -> Option<Request<'a>>
     ensures { result ≡ asked_in (rows_of (found_of matches.now)) }
@@ -406,7 +492,8 @@ fn text<'a>(matches: &ArgMatches<'a>, id: &str) -> Option<&'a str>
 }
 
 fn texts<'m, 'a>(matches: &'m ArgMatches<'a>, id: &str) -> Option<&'m [&'a str]>
-    ensures { option_map (λ s. map (λ v. v.now) s.now) result ≡ all_of id.now (rows_of (found_of matches.now)) }
+    ensures { option_map (λ s. map (λ v. v.now) s.now) result
+        ≡ all_of id.now (rows_of (found_of matches.now)) }
 {
     matches.get_strs(id)
 }

@@ -10,7 +10,7 @@ fn words_of_names(rt: HostRuntime) -> Result<(), Fail> {
             assert_eq!(rt; (asked.prefix.as_str(), asked.id.as_str()), ("", "abc"));
             assert_eq!(rt; (asked.layout.size(), asked.layout.count()), (3, 3));
         }
-        Command::Migrate(_) => assert!(rt; false),
+        Command::Migrate(_) | Command::Audit(_) => assert!(rt; false),
     }
     Ok(())
 }
@@ -38,7 +38,7 @@ fn words_of_migrate(rt: HostRuntime) -> Result<(), Fail> {
             assert!(rt; !job.gather);
             assert_eq!(rt; (job.source.as_str(), job.dest.as_str()), ("S", "D"));
         }
-        Command::Names(_) => assert!(rt; false),
+        Command::Names(_) | Command::Audit(_) => assert!(rt; false),
     }
     Ok(())
 }
@@ -76,7 +76,30 @@ fn words_of_every_option(rt: HostRuntime) -> Result<(), Fail> {
             assert!(rt; job.gather);
             assert_eq!(rt; (job.source.as_str(), job.dest.as_str()), ("/in", "-out"));
         }
-        Command::Names(_) => assert!(rt; false),
+        Command::Names(_) | Command::Audit(_) => assert!(rt; false),
+    }
+    Ok(())
+}
+
+#[test]
+fn words_of_audit(rt: HostRuntime) -> Result<(), Fail> {
+    let words = [
+        "pairtree2ocfl",
+        "audit",
+        "--gather",
+        "--digest=sha256",
+        "--tuples=2",
+        "S",
+        "D",
+    ];
+    match &read_words(rt.alloc(), &words)? {
+        Command::Audit(job) => {
+            assert_eq!(rt; job.algorithm, Algorithm::Sha256);
+            assert_eq!(rt; (job.layout.size(), job.layout.count()), (3, 2));
+            assert!(rt; job.gather);
+            assert_eq!(rt; (job.source.as_str(), job.dest.as_str()), ("S", "D"));
+        }
+        Command::Names(_) | Command::Migrate(_) => assert!(rt; false),
     }
     Ok(())
 }
@@ -95,7 +118,7 @@ fn an_empty_address_is_none(rt: HostRuntime) -> Result<(), Fail> {
     ];
     match &read_words(rt.alloc(), &words)? {
         Command::Migrate(job) => assert_eq!(rt; job.meta.address(), None),
-        Command::Names(_) => assert!(rt; false),
+        Command::Names(_) | Command::Audit(_) => assert!(rt; false),
     }
     Ok(())
 }
@@ -110,15 +133,17 @@ fn refused_as(rt: &HostRuntime, words: &[&str]) -> u8 {
 
 #[test]
 fn words_refused(rt: HostRuntime) {
-    let rows: [(&[&str], u8); 10] = [
+    let rows: [(&[&str], u8); 12] = [
         (&["pairtree2ocfl", "--help"], 1),
         (&["pairtree2ocfl", "names", "--help"], 1),
         (&["pairtree2ocfl", "migrate", "--help"], 1),
+        (&["pairtree2ocfl", "audit", "--help"], 1),
         (&["pairtree2ocfl", "help"], 1),
         (&["pairtree2ocfl"], 2),
         (&["pairtree2ocfl", "names"], 2),
         (&["pairtree2ocfl", "names", "a", "b"], 2),
         (&["pairtree2ocfl", "migrate"], 2),
+        (&["pairtree2ocfl", "audit", "S"], 2),
         (&["pairtree2ocfl", "carry"], 2),
         (&["pairtree2ocfl", "names", ""], 5),
     ];

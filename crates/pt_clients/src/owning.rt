@@ -1,18 +1,25 @@
 //! A run that owns its devices.
-ghost use Rattle.std.specs.Prelude.{◌≡◌, ◌≤◌};
+ghost use Rattle.std.specs.Prelude.{◌≡◌, None};
 ghost use Rattle.pt_begun.specs.Begun.{Start};
-ghost use Rattle.pt_clients.specs.Holding.{GoesOn};
+ghost use Rattle.pt_clients.specs.Holding.{GoesOn, IsMost};
 ghost use Rattle.pt_move.specs.Promises.{Keeps};
 ghost use Rattle.pt_move.specs.Running.{HasBegun, IsBegun, IsNew};
 ghost use Rattle.pt_move.specs.Stepping.{Steps};
-ghost use Rattle.pt_plan.specs.Bound.{bound};
 ghost use Rattle.pt_state.specs.Outside.{world};
-ghost use Rattle.pt_state.specs.States.{job_of};
 ghost use Rattle.pt_tree.specs.Forest.{Forest};
 
 use pt_move::{Fault, Job, Mover, Turn};
 use pt_tree::{Dest, Log, Source};
 use std::alloc::Global;
+
+/// The most of a run, after any of its turns.
+#[derive(Clone, Copy, Debug, PartialEq, Eq)]
+pub struct Most {
+    /// The records that it held.
+    pub records: u128,
+    /// The turns that it had made.
+    pub turns: u64,
+}
 
 /// A run under way with its source, destination and log, which nobody else can change between two steps.
 #[derive(Drop)]
@@ -92,9 +99,10 @@ impl<S: Source, D: Dest, L: Log> Run<S, D, L> {
         Ok(true)
     }
 
-    /// Makes so many turns, unless the run ends before, and gives the most records that it held after one of them. Where the source tells,
-    /// and from whatever start the run is in progress, that is within the bound of the source.
-    pub fn most_held(&mut self, turns: u64) -> u128
+    /// Makes so many turns, unless the run ends before, and gives the most that was held and made after one of them. From whatever start the run
+    /// is in progress: where the source tells, what was held is within the bound of the source; where the destination told too, the turns are
+    /// within the work.
+    pub fn most(&mut self, turns: u64) -> Most
         requires { HasBegun
             (world (S.told self.old.source) (D.told self.old.dest) (L.told self.old.log)
             (S.failed self.old.source) (D.failed self.old.dest) (L.failed self.old.log))
@@ -102,19 +110,46 @@ impl<S: Source, D: Dest, L: Log> Run<S, D, L> {
         ensures { (start : Start) (s : Forest) → GoesOn start s self.old.mover.state.job
             (world (S.told self.old.source) (D.told self.old.dest) (L.told self.old.log)
             (S.failed self.old.source) (D.failed self.old.dest) (L.failed self.old.log))
-            self.old.mover → result ≤ bound (job_of self.old.mover.state.job) s }
+            self.old.mover → IsMost self.old.mover.state.job start s result.records result.turns }
     {
-        let mut most = 0;
+        let mut most = Most {
+            records: 0,
+            turns: 0,
+        };
         for _ in 0..turns {
             let Ok(turn) = self.step() else {
                 return most;
             };
-            most = most.max(self.mover.records());
+            most = Most {
+                records: most.records.max(self.mover.records()),
+                turns: self.mover.report().turns,
+            };
             if turn == Turn::Finished {
                 return most;
             }
         }
         most
+    }
+
+    /// The run with another log, and the one that it had, where neither tells what it holds: it is in progress as before, however often the two
+    /// failed.
+    pub fn with_log<M: Log>(self, log: M) -> (Run<S, D, M>, L)
+        requires begun { HasBegun (world (S.told self.source) (D.told self.dest) (L.told self.log)
+            (S.failed self.source) (D.failed self.dest) (L.failed self.log)) self.mover }
+        requires silent { L.told self.log ≡ None }
+        requires other_silent { M.told log ≡ None }
+        ensures { HasBegun
+            (world (S.told result.0.source) (D.told result.0.dest) (M.told result.0.log)
+            (S.failed result.0.source) (D.failed result.0.dest) (M.failed result.0.log))
+            result.0.mover }
+    {
+        let run = Run {
+            mover: self.mover,
+            source: self.source,
+            dest: self.dest,
+            log,
+        };
+        (run, self.log)
     }
 
     /// The devices as the run left them.

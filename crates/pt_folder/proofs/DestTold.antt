@@ -1,20 +1,17 @@
 -- What a destination tells after a call, by the laws of its system.
-use Rattle.std.proofs.Common.{◌≡◌, ℕ, ◌+◌, List, [], ◌∷◌, ◌++◌, refl, sym, ap, subst, ◌∙◌, inl, inr, arith, take, drop, append-nil}
-use Rattle.std.specs.Prelude.{◌⊎◌, ◌<◌, Option, None, Some, IsSome, Result, Ok, Err, IfOk, OnOk, OnErr, cond, is_some, Bool, true, false, MatchResult}
+use Rattle.std.proofs.Common.{◌≡◌, ℕ, List, refl, sym, ap, subst, ◌∙◌, inl, inr}
+use Rattle.std.specs.Prelude.{Option, None, Some, Result, Ok, Err, IfOk, OnOk, OnErr, MatchResult}
 use Rattle.std.specs.Option.{option_map, ForSome}
-use Rattle.std.specs.List.{FoldsTo}
 use Rattle.std.specs.Fs.{file_type}
 use Rattle.std.specs.declared.fs.Metadata.{Metadata}
 use Rattle.std.specs.declared.io.Error.{Error}
-use Rattle.std.proofs.Math.Seq.{take-add}
-use Rattle.std.proofs.lemmas.List.{drop-drop, take-append-drop}
 use Rattle.pt_tree.specs.declared.kind.Kind.{Kind}
 use Rattle.pt_tree.specs.declared.faults.TreeFault.{TreeFault}
-use Rattle.pt_tree.specs.Path.{Path, rest_below}
-use Rattle.pt_tree.specs.Tree.{Tree, Entry, Bytes, Folder, Special, kind_of_entry, put, added, moved, CanMake, CanMove}
-use Rattle.pt_tree.specs.Dest.{Writing, IsKindAt, MayMake, MayMove, CanWrite, LeavesPart, after_mkdir, after_create, after_append, after_rename, open_unless_below}
+use Rattle.pt_tree.specs.Path.{Path}
+use Rattle.pt_tree.specs.Tree.{Tree, Entry, Folder, kind_of_entry, put, CanMake, CanMove}
+use Rattle.pt_tree.specs.Dest.{Writing, IsKindAt, MayMake, MayMove, after_mkdir}
 use Rattle.pt_folder.specs.declared.writing.Writing.{Writing as Open}
-use Rattle.pt_folder.specs.Calls.{AsksOnce, IsAnswer, IsNotMade, LeadsToKind, MakesOnce}
+use Rattle.pt_folder.specs.Calls.{AsksOnce, IsAnswer, LeadsToKind, MakesOnce}
 use Rattle.pt_folder.specs.DestLaws.{Becomes, DirLaw, Kept, KindLaw, LooksRight, MakesDir}
 use Rattle.pt_folder.proofs.Types.{right_kind}
 use Rattle.pt_folder.specs.DestHeld.{told_of, IsPlaced}

@@ -4,6 +4,7 @@ mod Forward
 mod Kept
 mod Listings
 mod Looking
+mod LookTold
 mod MoveTold
 mod Moved
 mod Names

@@ -1,7 +1,7 @@
 -- What a source tells of a directory that is listed, by the laws of its system.
 use Rattle.std.proofs.Common.{◌≡◌, ◌⊎◌, ℕ, ◌==◌, List, [], ◌∷◌, ◌++◌, map, true, false, refl, sym, ap, ◌∙◌, subst, length, inl, inr, suc, arith}
-use Rattle.std.specs.Prelude.{Bool, not, Option, None, Some, IsSome, IsPermutation, IsTrue, Result, Ok, Err, IfOk, IfSome, OnErr, MatchResult}
-use Rattle.std.specs.Option.{option_map, option_and_then, ForSome}
+use Rattle.std.specs.Prelude.{Bool, Option, None, Some, IsSome, IsPermutation, IsTrue, Result, Ok, Err, IfOk, IfSome, OnErr, MatchResult}
+use Rattle.std.specs.Option.{option_map, ForSome}
 use Rattle.std.specs.declared.io.Error.{Error}
 use Rattle.pt_tree.specs.declared.faults.TreeFault.{TreeFault}
 use Rattle.pt_tree.specs.Forest.{Forest, dir_at, is_proper, listing_at, listing_of}
@@ -15,7 +15,7 @@ use Rattle.pt_folder.specs.SourceLaws.{GivesAll, Listed, NamesLaw, names_of}
 use Rattle.pt_folder.specs.Names.{GivesNames}
 use Rattle.pt_folder.specs.Listing.{dir_front}
 use Rattle.pt_folder.specs.Seeing.{SeesAt}
-use Rattle.pt_folder.proofs.Orders.{listing_is, name_list}
+use Rattle.pt_folder.proofs.Orders.{listing_is}
 
 -- the text that an entry's path begins with
 pub front_is : (folder : List ℕ) (p : Path) (text front : List ℕ) (empty : Bool) → empty ≡ (length p == 0) → text ≡ entry_text folder p → ((empty ≡ false) × (front ≡ text ++ 47 ∷ [])) ⊎ ((empty ≡ true) × (front ≡ text))

@@ -12,7 +12,7 @@ use Rattle.pt_folder.specs.declared.writing.Writing.{Writing as Open}
 use Rattle.pt_folder.specs.Calls.{fault_of}
 use Rattle.pt_folder.specs.DestLaws.{Kept, Moves, StaysApart, MoveLaw}
 use Rattle.pt_folder.specs.DestHeld.{IsPlaced, seen, told_of}
-use Rattle.pt_folder.specs.Moving.{AfterMove, MovesOnce}
+use Rattle.pt_folder.specs.Moving.{MovesOnce}
 use Rattle.pt_folder.specs.Writing.{open_unless_within}
 use Rattle.pt_folder.proofs.DestTold.{told_at}
 

@@ -1,13 +1,12 @@
 -- Listings of a directory whose names rise: the names give the order, and looks the kinds.
-use Rattle.std.proofs.Common.{◌≡◌, ◌⊎◌, ℕ, ◌<◌, List, [], ◌∷◌, ◌++◌, map, true, false, refl, sym, ap, ◌∙◌, subst, arith, length, get_or, zero, suc, inl, inr}
-use Rattle.std.specs.Prelude.{Bool, cond, Option, None, Some, IsPermutation}
+use Rattle.std.proofs.Common.{◌≡◌, ◌⊎◌, ℕ, ◌<◌, List, [], ◌∷◌, ◌++◌, map, true, refl, sym, ap, ◌∙◌, subst, arith, length, get_or, zero, suc, inl, inr}
+use Rattle.std.specs.Prelude.{cond, Option, None, Some, IsPermutation}
 use Rattle.std.specs.Option.{option_map, option_and_then}
 use Rattle.std.specs.List.{All}
 use Rattle.std.specs.Str.{bytes_eq}
 use Rattle.std.proofs.lemmas.Bool.{and_parts, cond-true, cond-false, true≢false}
 use Rattle.std.proofs.lemmas.List.Sorted.{All-permutation, IsPermutation-sym, IsPermutation-trans}
 use Rattle.pt_tree.specs.declared.kind.Kind.{Kind}
-use Rattle.pt_tree.specs.declared.kind.Kind.TheVariants as kind
 use Rattle.pt_tree.specs.Forest.{Forest, none, file, other, dir, Node, File, Dir, Other, find, kind_of, node_at, as_dir, dir_at, listing_of, is_proper}
 use Rattle.pt_tree.specs.Listing.{Item, is_before, names_rise}
 use Rattle.pt_tree.specs.Path.{Path}

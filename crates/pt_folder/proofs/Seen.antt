@@ -1,8 +1,7 @@
 -- Entries looked at one after another, by the law of looks.
-use Rattle.std.proofs.Common.{◌≡◌, ℕ, List, [], ◌∷◌, ◌++◌, map, true, refl, sym, ap, ◌∙◌, subst, arith, append_assoc, ◌<◌, length, get_or, zero, suc}
-use Rattle.std.specs.Prelude.{Option, None, Some, IsSome, Result, Ok, Err, IfOk, OnErr}
+use Rattle.std.proofs.Common.{◌≡◌, ℕ, List, [], ◌∷◌, ◌++◌, true, refl, sym, ap, ◌∙◌, subst, arith, append_assoc, ◌<◌, length, get_or, zero, suc}
+use Rattle.std.specs.Prelude.{Option, Some, IsSome, Result, Ok, Err, OnErr}
 use Rattle.std.specs.Option.{option_map, ForSome}
-use Rattle.std.specs.Result.{IsErrAnd}
 use Rattle.std.specs.List.{All}
 use Rattle.std.specs.Fs.{file_type}
 use Rattle.std.specs.declared.fs.Metadata.{Metadata}
@@ -17,7 +16,7 @@ use Rattle.pt_tree.specs.Path.{Path, joined, parent}
 use Rattle.pt_folder.specs.Folder.{entry_text}
 use Rattle.pt_folder.specs.Laws.{IsPath}
 use Rattle.pt_folder.specs.Listing.{LeadsToOwnKind, dir_front}
-use Rattle.pt_folder.specs.Seeing.{IsItem, Sees, SeesAt}
+use Rattle.pt_folder.specs.Seeing.{IsItem, SeesAt}
 use Rattle.pt_folder.specs.SourceLaws.{LookLaw, Looked}
 use Rattle.pt_folder.proofs.Types.{right_kind}
 use Rattle.pt_folder.proofs.Texts.{joined-push}

@@ -1,6 +1,6 @@
 -- What a source tells after a file is opened, and after a block is read, by the laws of its system.
-use Rattle.std.proofs.Common.{◌≡◌, ℕ, List, [], ◌∷◌, true, false, refl, sym, ap, subst, ◌∙◌, inl, inr, take, drop}
-use Rattle.std.specs.Prelude.{◌⊎◌, Option, None, Some, IsSome, Result, Ok, Err, OnOk, OnErr, MatchResult}
+use Rattle.std.proofs.Common.{◌≡◌, ℕ, List, [], ◌∷◌, false, refl, sym, ap, subst, ◌∙◌, inl, inr, take, drop}
+use Rattle.std.specs.Prelude.{Option, None, Some, IsSome, Result, Ok, Err, OnOk, OnErr, MatchResult}
 use Rattle.std.specs.Option.{option_map, ForSome}
 use Rattle.std.specs.declared.io.Error.{Error}
 use Rattle.pt_tree.specs.declared.faults.TreeFault.{TreeFault}
@@ -15,8 +15,7 @@ use Rattle.pt_tree.specs.Source.{Reading as Told}
 use Rattle.pt_tree.specs.Listing.{Item}
 use Rattle.pt_tree.specs.Forest.{listing_at}
 use Rattle.pt_folder.specs.declared.reading.Reading.{Reading}
-use Rattle.pt_folder.specs.Calls.{fault_of}
-use Rattle.pt_folder.specs.Opening.{IsOpenedBy, LeadsToFile, OpensOnce}
+use Rattle.pt_folder.specs.Opening.{OpensOnce}
 use Rattle.pt_folder.specs.SourceHeld.{told_of}
 use Rattle.pt_folder.specs.SourceLaws.{LookLaw, OpenLaw, Opened}
 use Rattle.pt_folder.specs.Reading.{IsNext, OpensAt, Stands, StandsOpen, unread_open}

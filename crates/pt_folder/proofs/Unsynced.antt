@@ -4,8 +4,8 @@ use Rattle.std.specs.Prelude.{Bool, Option, Result}
 use Rattle.std.specs.declared.fs.Metadata.{Metadata}
 use Rattle.std.specs.declared.io.Error.{Error}
 use Rattle.pt_folder.specs.DestHeld.{seen}
-use Rattle.pt_folder.specs.DestLaws.{DirLaw, FileLaw, Kept, KindLaw, MoveLaw, PeekLaw, WriteLaw}
-use Rattle.pt_folder.specs.Untold.{untold_dir, untold_file, untold_kind, untold_move, untold_peek, untold_write}
+use Rattle.pt_folder.specs.DestLaws.{DirLaw, FileLaw, Kept, KindLaw, PeekLaw, WriteLaw}
+use Rattle.pt_folder.specs.Untold.{untold_dir, untold_file, untold_kind, untold_peek, untold_write}
 
 module _ {S F : Type 0} (kept : S → List ℕ → Kept F) where
   pub kind_unless : (synced : Bool) (looks : S → List ℕ → Result Metadata Error → S → Type 0) → KindLaw kept looks → KindLaw (seen synced kept) looks

@@ -13,8 +13,8 @@ use Rattle.pt_tree.specs.Path.{Path}
 use Rattle.pt_tree.specs.Tree.{Tree, Bytes, put, added, CanMake}
 use Rattle.pt_tree.specs.Dest.{LeavesPart, after_create, after_append}
 use Rattle.pt_folder.specs.declared.writing.Writing.{Writing as Open}
-use Rattle.pt_folder.specs.Calls.{MakesOnce, fault_of}
-use Rattle.pt_folder.specs.DestLaws.{Kept, MakesFile, Adds, AddsPart, FileLaw, WriteLaw}
+use Rattle.pt_folder.specs.Calls.{MakesOnce}
+use Rattle.pt_folder.specs.DestLaws.{Kept, MakesFile, AddsPart, FileLaw, WriteLaw}
 use Rattle.pt_folder.specs.DestHeld.{told_of, IsPlaced}
 use Rattle.pt_folder.specs.Runs.{FailsToWrite, WritesAll, WritesMore, on_pairs}
 use Rattle.pt_folder.specs.Writing.{MakesAt, WritesTo}

@@ -41,7 +41,9 @@ IsRefused folder (Err Device) = length folder ≡ 0
 IsRefused folder (Err Memory) = ⊤
 
 -- one call is made, for an entry's path, and its reply leads to this result
-pub record IsAsked {S A T : Type 0} (call : S → List ℕ → A → S → Type 0) (leads : A → Result T TreeFault → Type 0) (folder : List ℕ) (p : Path) (old new : S) (result : Result T TreeFault) : Type 0 where
+pub record IsAsked {S A T : Type 0} (call : S → List ℕ → A → S → Type 0)
+    (leads : A → Result T TreeFault → Type 0) (folder : List ℕ) (p : Path) (old new : S)
+    (result : Result T TreeFault) : Type 0 where
   pub reply : A
   pub filled : length folder ≢ 0
   pub named : IsPath p
@@ -49,8 +51,10 @@ pub record IsAsked {S A T : Type 0} (call : S → List ℕ → A → S → Type 
   pub gives : leads reply result
 
 -- nothing is asked of the system, and the path was refused; or the one call is made
-abbrev pub AsksOnce : {S A T : Type 0} → (S → List ℕ → A → S → Type 0) → (A → Result T TreeFault → Type 0) → List ℕ → Path → S → S → Result T TreeFault → Type 0
-AsksOnce call leads folder p old new result = ((new ≡ old) × IsRefused folder result) ⊎ IsAsked call leads folder p old new result
+abbrev pub AsksOnce : {S A T : Type 0} → (S → List ℕ → A → S → Type 0)
+    → (A → Result T TreeFault → Type 0) → List ℕ → Path → S → S → Result T TreeFault → Type 0
+AsksOnce call leads folder p old new result = ((new ≡ old) × IsRefused folder result)
+    ⊎ IsAsked call leads folder p old new result
 
 -- what is at a path, by the system's reply: its kind, nothing, or a fault
 abbrev pub LeadsToKind : Result Metadata Error → Result (Option Kind) TreeFault → Type 0
@@ -72,7 +76,9 @@ IsNotMade longest folder p (Err Device) = CannotMake longest folder p
 IsNotMade longest folder p (Err Memory) = ⊤
 
 -- one call is made, for the path of an entry that isn't too long, and its reply leads to this result
-pub record IsAskedToMake {S A T : Type 0} (longest : ℕ) (call : S → List ℕ → A → S → Type 0) (leads : A → Result T TreeFault → Type 0) (folder : List ℕ) (p : Path) (old new : S) (result : Result T TreeFault) : Type 0 where
+pub record IsAskedToMake {S A T : Type 0} (longest : ℕ) (call : S → List ℕ → A → S → Type 0)
+    (leads : A → Result T TreeFault → Type 0) (folder : List ℕ) (p : Path) (old new : S)
+    (result : Result T TreeFault) : Type 0 where
   pub reply : A
   pub filled : length folder ≢ 0
   pub named : IsPath p
@@ -81,8 +87,11 @@ pub record IsAskedToMake {S A T : Type 0} (longest : ℕ) (call : S → List ℕ
   pub gives : leads reply result
 
 -- nothing is asked of the system, and the entry can't be made; or the one call is made
-abbrev pub MakesOnce : {S A T : Type 0} → ℕ → (S → List ℕ → A → S → Type 0) → (A → Result T TreeFault → Type 0) → List ℕ → Path → S → S → Result T TreeFault → Type 0
-MakesOnce longest call leads folder p old new result = ((new ≡ old) × IsNotMade longest folder p result) ⊎ IsAskedToMake longest call leads folder p old new result
+abbrev pub MakesOnce : {S A T : Type 0} → ℕ → (S → List ℕ → A → S → Type 0)
+    → (A → Result T TreeFault → Type 0) → List ℕ → Path → S → S → Result T TreeFault → Type 0
+MakesOnce longest call leads folder p old new result =
+    ((new ≡ old) × IsNotMade longest folder p result)
+    ⊎ IsAskedToMake longest call leads folder p old new result
 
 -- something is at a path, by the system's reply, or that failed
 abbrev pub IsThere : Result Metadata Error → Result (Unit {0}) TreeFault → Type 0

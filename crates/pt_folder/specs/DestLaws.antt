@@ -44,7 +44,8 @@ Moves old new from to (Err e) = new ≡ old
 
 -- an empty file is made and open, or nothing changes
 abbrev pub MakesFile : {F : Type 0} → Kept F → Kept F → Path → Result F Error → Type 0
-MakesFile old new p (Ok file) = (new.tree ≡ option_map (λ t. put t p (Bytes [])) old.tree) × ForSome old.tree (λ _. new.place file ≡ Some p)
+MakesFile old new p (Ok file) = (new.tree ≡ option_map (λ t. put t p (Bytes [])) old.tree)
+    × ForSome old.tree (λ _. new.place file ≡ Some p)
 MakesFile old new p (Err e) = new ≡ old
 
 -- so many bytes of a piece, from its start, stand behind the file's, which is open where it was
@@ -58,32 +59,50 @@ Adds old new q file piece (Ok count) = AddsPart old new q file piece count
 Adds old new q file piece (Err e) = (count : ℕ) × AddsPart old new q file piece count
 
 -- something is opened for reading: nothing changes, and where it is a file its bytes are left to read
-pub record Opened {F R : Type 0} (left : R → Option (List ℕ)) (old new : Kept F) (p : Path) (reply : Result R Error) : Type 0 where
+pub record Opened {F R : Type 0} (left : R → Option (List ℕ)) (old new : Kept F) (p : Path)
+    (reply : Result R Error) : Type 0 where
   pub same : new ≡ old
   pub bytes : ForSome old.tree (λ t. IsSome (bytes_of (t p)) → IfOk reply (λ r. left r ≡ bytes_of (t p)))
 
 -- the laws, one for each call; the conditions are those under which a destination is called
 abbrev pub KindLaw : {S F : Type 0} → (S → List ℕ → Kept F) → (S → List ℕ → Result Metadata Error → S → Type 0) → Type 0
-KindLaw {S} {F} kept looks = (old new : S) (folder : List ℕ) (p : Path) (reply : Result Metadata Error) → IsPath p → looks old (entry_text folder p) reply new → Looked (kept old folder) (kept new folder) p reply
+KindLaw {S} {F} kept looks =
+    (old new : S) (folder : List ℕ) (p : Path) (reply : Result Metadata Error) → IsPath p
+    → looks old (entry_text folder p) reply new → Looked (kept old folder) (kept new folder) p reply
 
-abbrev pub DirLaw : {S F : Type 0} → (S → List ℕ → Kept F) → (S → List ℕ → Result (Unit {0}) Error → S → Type 0) → Type 0
-DirLaw {S} {F} kept makes = (old new : S) (folder : List ℕ) (p : Path) (reply : Result (Unit {0}) Error) → IsPath p → ForSome (kept old folder).tree (λ t. CanMake t p)
+abbrev pub DirLaw : {S F : Type 0} → (S → List ℕ → Kept F)
+    → (S → List ℕ → Result (Unit {0}) Error → S → Type 0) → Type 0
+DirLaw {S} {F} kept makes =
+    (old new : S) (folder : List ℕ) (p : Path) (reply : Result (Unit {0}) Error) → IsPath p
+    → ForSome (kept old folder).tree (λ t. CanMake t p)
     → makes old (entry_text folder p) reply new → MakesDir (kept old folder) (kept new folder) p reply
 
-abbrev pub MoveLaw : {S F : Type 0} → (S → List ℕ → Kept F) → (S → List ℕ → List ℕ → Result (Unit {0}) Error → S → Type 0) → Type 0
-MoveLaw {S} {F} kept renames = (old new : S) (folder : List ℕ) (from to : Path) (reply : Result (Unit {0}) Error) → IsPath from → IsPath to → ForSome (kept old folder).tree (λ t. CanMove t from to)
-    → renames old (entry_text folder from) (entry_text folder to) reply new → Moves (kept old folder) (kept new folder) from to reply
+abbrev pub MoveLaw : {S F : Type 0} → (S → List ℕ → Kept F)
+    → (S → List ℕ → List ℕ → Result (Unit {0}) Error → S → Type 0) → Type 0
+MoveLaw {S} {F} kept renames =
+    (old new : S) (folder : List ℕ) (from to : Path) (reply : Result (Unit {0}) Error) → IsPath from
+    → IsPath to → ForSome (kept old folder).tree (λ t. CanMove t from to)
+    → renames old (entry_text folder from) (entry_text folder to) reply new
+    → Moves (kept old folder) (kept new folder) from to reply
 
 abbrev pub FileLaw : {S F : Type 0} → (S → List ℕ → Kept F) → (S → List ℕ → Result F Error → S → Type 0) → Type 0
-FileLaw {S} {F} kept makes = (old new : S) (folder : List ℕ) (p : Path) (reply : Result F Error) → IsPath p → ForSome (kept old folder).tree (λ t. CanMake t p)
+FileLaw {S} {F} kept makes = (old new : S) (folder : List ℕ) (p : Path) (reply : Result F Error)
+    → IsPath p → ForSome (kept old folder).tree (λ t. CanMake t p)
     → makes old (entry_text folder p) reply new → MakesFile (kept old folder) (kept new folder) p reply
 
-abbrev pub WriteLaw : {S F : Type 0} → (S → List ℕ → Kept F) → (S → F → List ℕ → Result ℕ Error → S → F → Type 0) → Type 0
-WriteLaw {S} {F} kept writes = (old new : S) (folder : List ℕ) (q : Path) (file after : F) (piece : List ℕ) (reply : Result ℕ Error) → ForSome (kept old folder).tree (λ _. (kept old folder).place file ≡ Some q)
+abbrev pub WriteLaw : {S F : Type 0} → (S → List ℕ → Kept F)
+    → (S → F → List ℕ → Result ℕ Error → S → F → Type 0) → Type 0
+WriteLaw {S} {F} kept writes = (old new : S) (folder : List ℕ) (q : Path) (file after : F)
+    (piece : List ℕ) (reply : Result ℕ Error)
+    → ForSome (kept old folder).tree (λ _. (kept old folder).place file ≡ Some q)
     → writes old file piece reply new after → Adds (kept old folder) (kept new folder) q after piece reply
 
-abbrev pub PeekLaw : {S F R : Type 0} → (S → List ℕ → Kept F) → (R → Option (List ℕ)) → (S → List ℕ → Result R Error → S → Type 0) → Type 0
-PeekLaw {S} {F} {R} kept left opens = (old new : S) (folder : List ℕ) (p : Path) (reply : Result R Error) → IsPath p → opens old (entry_text folder p) reply new → Opened left (kept old folder) (kept new folder) p reply
+abbrev pub PeekLaw : {S F R : Type 0} → (S → List ℕ → Kept F) → (R → Option (List ℕ))
+    → (S → List ℕ → Result R Error → S → Type 0) → Type 0
+PeekLaw {S} {F} {R} kept left opens =
+    (old new : S) (folder : List ℕ) (p : Path) (reply : Result R Error) → IsPath p
+    → opens old (entry_text folder p) reply new
+    → Opened left (kept old folder) (kept new folder) p reply
 
 -- what is kept is a tree
 abbrev pub TreeLaw : {S F : Type 0} → (S → List ℕ → Kept F) → Type 0

@@ -46,11 +46,16 @@ KeepsCall folder p P last = IfSome last (λ f. IsUnasked folder f ⊎ IsOfCall (
 
 -- the same of a call that makes the entry
 abbrev pub KeepsMaking : ℕ → List ℕ → Path → (Error → Type 0) → Option Failure → Type 0
-KeepsMaking longest folder p P last = IfSome last (λ f. (IsUnasked folder f ⊎ IsTooLong longest (entry_text folder p) f) ⊎ IsOfCall (entry_text folder p) P f)
+KeepsMaking longest folder p P last =
+    IfSome last (λ f. (IsUnasked folder f ⊎ IsTooLong longest (entry_text folder p) f)
+    ⊎ IsOfCall (entry_text folder p) P f)
 
 -- why looking at the first bytes of a file failed: it could not be opened, or a read failed
-abbrev pub FailsToPeek : {S F : Type 0} → (S → List ℕ → Result F Error → S → Type 0) → (F → List ℕ → Result ℕ Error → F → Type 0) → List ℕ → S → S → Error → Type 0
-FailsToPeek {S} {F} opens reads text old new e = opens old text (Err e) new ⊎ ((file : F) × (after : F) × opens old text (Ok file) new × FailsToRead reads 8192 file e after)
+abbrev pub FailsToPeek : {S F : Type 0} → (S → List ℕ → Result F Error → S → Type 0)
+    → (F → List ℕ → Result ℕ Error → F → Type 0) → List ℕ → S → S → Error → Type 0
+FailsToPeek {S} {F} opens reads text old new e = opens old text (Err e) new
+    ⊎ ((file : F) × (after : F) × opens old text (Ok file) new
+    × FailsToRead reads 8192 file e after)
 
 -- looking at something answered with this error
 abbrev pub FailsLook : {S : Type 0} → (S → List ℕ → Result Metadata Error → S → Type 0) → List ℕ → Error → Type 0
@@ -76,8 +81,13 @@ IsOfNames text f = (string_bytes f.path ≡ text) × IsNamesCause f.cause
 
 -- of an entry in a directory: looking at it failed; or its name comes twice
 abbrev pub IsOfEntry : {S : Type 0} → (S → List ℕ → Result Metadata Error → S → Type 0) → List ℕ → Failure → Type 0
-IsOfEntry looks front f = ((name : List ℕ) × IsOfCall (front ++ name) (FailsLook looks (front ++ name)) f) ⊎ IsAt front cause.Twice f
+IsOfEntry looks front f =
+    ((name : List ℕ) × IsOfCall (front ++ name) (FailsLook looks (front ++ name)) f)
+    ⊎ IsAt front cause.Twice f
 
 -- what is kept, where memory allowed it, of a listing
-abbrev pub KeepsListing : {S : Type 0} → (S → List ℕ → Result Metadata Error → S → Type 0) → List ℕ → Path → Option Failure → Type 0
-KeepsListing looks folder p last = IfSome last (λ f. (IsUnasked folder f ⊎ IsOfNames (entry_text folder p) f) ⊎ IsOfEntry looks (dir_front folder p) f)
+abbrev pub KeepsListing : {S : Type 0} → (S → List ℕ → Result Metadata Error → S → Type 0) → List ℕ
+    → Path → Option Failure → Type 0
+KeepsListing looks folder p last =
+    IfSome last (λ f. (IsUnasked folder f ⊎ IsOfNames (entry_text folder p) f)
+    ⊎ IsOfEntry looks (dir_front folder p) f)

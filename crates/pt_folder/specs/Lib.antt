@@ -5,6 +5,8 @@ pub mod DestLaws
 pub mod Devices
 pub mod Failure
 pub mod Folder
+pub mod HostDest
+pub mod HostSource
 pub mod Laws
 pub mod Listing
 pub mod Moving

@@ -35,14 +35,17 @@ LeadsToOwnKind (Err e) (Err fault) = fault ≡ fault_of e
 
 -- an entry is looked at once, links not followed, and this is its kind
 abbrev pub LooksAt : {S : Type 0} → (S → List ℕ → Result Metadata Error → S → Type 0) → List ℕ → S → Item → S → Type 0
-LooksAt looks front old item new = (metadata : Metadata) × looks old (front ++ item.0) (Ok metadata) new × IsKind (file_type metadata) item.1
+LooksAt looks front old item new = (metadata : Metadata)
+    × looks old (front ++ item.0) (Ok metadata) new × IsKind (file_type metadata) item.1
 
 -- a read gave a piece, whose names stand behind those before
-abbrev pub ReadsNames : {D : Type 0} → (D → List ℕ → Result ℕ Error → D → Type 0) → D × List (List ℕ) → List ℕ → D × List (List ℕ) → Type 0
+abbrev pub ReadsNames : {D : Type 0} → (D → List ℕ → Result ℕ Error → D → Type 0)
+    → D × List (List ℕ) → List ℕ → D × List (List ℕ) → Type 0
 ReadsNames reads old piece new = GivesPiece reads 8192 old.0 piece new.0 × AddsNames piece old.1 new.1
 
 -- a directory was read piece by piece until a read gave nothing, and gave these names
-pub record GetsNames {D : Type 0} (reads : D → List ℕ → Result ℕ Error → D → Type 0) (old : D) (names : List (List ℕ)) (new : D) : Type 0 where
+pub record GetsNames {D : Type 0} (reads : D → List ℕ → Result ℕ Error → D → Type 0) (old : D)
+    (names : List (List ℕ)) (new : D) : Type 0 where
   pub pieces : List (List ℕ)
   pub last : D
   pub read : FoldsTo (ReadsNames reads) (old, []) pieces (last, names)
@@ -50,12 +53,15 @@ pub record GetsNames {D : Type 0} (reads : D → List ℕ → Result ℕ Error �
 
 -- why reading ends before that, after so many pieces: a read failed; a piece has what isn't added; it was the last read
 -- that a count of 64 bits has room for
-abbrev pub IsGivenUp : {D : Type 0} → (D → List ℕ → Result ℕ Error → D → Type 0) → ℕ → List (List ℕ) → ℕ → D → D → Type 0
+abbrev pub IsGivenUp : {D : Type 0} → (D → List ℕ → Result ℕ Error → D → Type 0) → ℕ → List (List ℕ)
+    → ℕ → D → D → Type 0
 IsGivenUp reads most names count last new = ((e : Error) × Reads reads 8192 last (Err e) new × (fault_of e ≡ Device))
-    ⊎ (((piece : List ℕ) × GivesPiece reads 8192 last piece new × RefusesBytes most names piece) ⊎ ((count ≡ 2 ^ 64 - 1) × (new ≡ last)))
+    ⊎ (((piece : List ℕ) × GivesPiece reads 8192 last piece new × RefusesBytes most names piece)
+    ⊎ ((count ≡ 2 ^ 64 - 1) × (new ≡ last)))
 
 -- a directory was read piece by piece, and was given up
-pub record FailsToGet {D : Type 0} (reads : D → List ℕ → Result ℕ Error → D → Type 0) (most : ℕ) (old new : D) : Type 0 where
+pub record FailsToGet {D : Type 0} (reads : D → List ℕ → Result ℕ Error → D → Type 0) (most : ℕ)
+    (old new : D) : Type 0 where
   pub pieces : List (List ℕ)
   pub names : List (List ℕ)
   pub last : D
@@ -63,7 +69,8 @@ pub record FailsToGet {D : Type 0} (reads : D → List ℕ → Result ℕ Error 
   pub failed : IsGivenUp reads most names (length pieces) last new
 
 -- entries were looked at one after another; then looking at the next failed, or its name doesn't come after the last
-pub record FailsToLook {S : Type 0} (looks : S → List ℕ → Result Metadata Error → S → Type 0) (front : List ℕ) (names : List (List ℕ)) (old new : S) : Type 0 where
+pub record FailsToLook {S : Type 0} (looks : S → List ℕ → Result Metadata Error → S → Type 0)
+    (front : List ℕ) (names : List (List ℕ)) (old new : S) : Type 0 where
   pub listing : List Item
   pub name : List ℕ
   pub rest : List (List ℕ)
@@ -75,7 +82,10 @@ pub record FailsToLook {S : Type 0} (looks : S → List ℕ → Result Metadata 
 
 -- The directory is opened once, and gives these names, where it says which, by its reads; then each entry of them is
 -- looked at, in the listing's order.
-pub record IsListedBy {S D : Type 0} (opens : S → List ℕ → Result D Error → S → Type 0) (looks : S → List ℕ → Result Metadata Error → S → Type 0) (reads : D → List ℕ → Result ℕ Error → D → Type 0) (left : D → Option (List ℕ)) (text front : List ℕ) (old new : S) (listing : List Item) : Type 0 where
+pub record IsListedBy {S D : Type 0} (opens : S → List ℕ → Result D Error → S → Type 0)
+    (looks : S → List ℕ → Result Metadata Error → S → Type 0)
+    (reads : D → List ℕ → Result ℕ Error → D → Type 0) (left : D → Option (List ℕ))
+    (text front : List ℕ) (old new : S) (listing : List Item) : Type 0 where
   pub dir : D
   pub after : D
   pub mid : S
@@ -91,11 +101,16 @@ abbrev pub FailsToOpen : {S D : Type 0} → (S → List ℕ → Result D Error �
 FailsToOpen opens text old new = (e : Error) × opens old text (Err e) new × (fault_of e ≡ Device)
 
 -- the directory was opened, and was given up as its names were read
-abbrev pub FailsAtNames : {S D : Type 0} → (S → List ℕ → Result D Error → S → Type 0) → (D → List ℕ → Result ℕ Error → D → Type 0) → List ℕ → S → S → Type 0
-FailsAtNames {S} {D} opens reads text old new = (dir : D) × (after : D) × opens old text (Ok dir) new × FailsToGet reads most_entries dir after
+abbrev pub FailsAtNames : {S D : Type 0} → (S → List ℕ → Result D Error → S → Type 0)
+    → (D → List ℕ → Result ℕ Error → D → Type 0) → List ℕ → S → S → Type 0
+FailsAtNames {S} {D} opens reads text old new = (dir : D) × (after : D)
+    × opens old text (Ok dir) new × FailsToGet reads most_entries dir after
 
 -- the directory gave names; looking at them in their order failed, or one comes twice
-pub record FailsAtEntry {S D : Type 0} (opens : S → List ℕ → Result D Error → S → Type 0) (looks : S → List ℕ → Result Metadata Error → S → Type 0) (reads : D → List ℕ → Result ℕ Error → D → Type 0) (text front : List ℕ) (old new : S) : Type 0 where
+pub record FailsAtEntry {S D : Type 0} (opens : S → List ℕ → Result D Error → S → Type 0)
+    (looks : S → List ℕ → Result Metadata Error → S → Type 0)
+    (reads : D → List ℕ → Result ℕ Error → D → Type 0) (text front : List ℕ)
+    (old new : S) : Type 0 where
   pub dir : D
   pub after : D
   pub mid : S
@@ -108,6 +123,10 @@ pub record FailsAtEntry {S D : Type 0} (opens : S → List ℕ → Result D Erro
   pub looked : FailsToLook looks front order mid new
 
 -- why a directory isn't listed
-abbrev pub FailsToList : {S D : Type 0} → (S → List ℕ → Result D Error → S → Type 0) → (S → List ℕ → Result Metadata Error → S → Type 0) → (D → List ℕ → Result ℕ Error → D → Type 0) → List ℕ → Path → S → S → Type 0
-FailsToList opens looks reads folder p old new = ((length folder ≡ 0) × (new ≡ old)) ⊎ (FailsToOpen opens (entry_text folder p) old new
-    ⊎ (FailsAtNames opens reads (entry_text folder p) old new ⊎ FailsAtEntry opens looks reads (entry_text folder p) (dir_front folder p) old new))
+abbrev pub FailsToList : {S D : Type 0} → (S → List ℕ → Result D Error → S → Type 0)
+    → (S → List ℕ → Result Metadata Error → S → Type 0) → (D → List ℕ → Result ℕ Error → D → Type 0)
+    → List ℕ → Path → S → S → Type 0
+FailsToList opens looks reads folder p old new = ((length folder ≡ 0) × (new ≡ old))
+    ⊎ (FailsToOpen opens (entry_text folder p) old new
+    ⊎ (FailsAtNames opens reads (entry_text folder p) old new
+    ⊎ FailsAtEntry opens looks reads (entry_text folder p) (dir_front folder p) old new))

@@ -15,33 +15,57 @@ abbrev pub holder_text : List ℕ → List ℕ
 holder_text path = path ++ 47 ∷ 46 ∷ 46 ∷ []
 
 -- what is at a path was opened and put onto the disk, and so it was answered
-abbrev pub IsSynced : {S F : Type 0} → (S → OpenOptions → List ℕ → Result F Error → S → Type 0) → (F → Result (Unit {0}) Error → F → Type 0) → List ℕ → S → S → Result (Unit {0}) TreeFault → Type 0
+abbrev pub IsSynced : {S F : Type 0} → (S → OpenOptions → List ℕ → Result F Error → S → Type 0)
+    → (F → Result (Unit {0}) Error → F → Type 0) → List ℕ → S → S → Result (Unit {0}) TreeFault
+    → Type 0
 IsSynced {S} {F} opens syncs path old new result = (reply : Result F Error) × opens old for_reading path reply new
-    × MatchResult reply (λ file. (answer : Result (Unit {0}) Error) × (after : F) × syncs file answer after × IsAnswer answer result) (λ e. result ≡ Err (fault_of e))
+    × MatchResult reply (λ file. (answer : Result (Unit {0}) Error) × (after : F)
+    × syncs file answer after × IsAnswer answer result) (λ e. result ≡ Err (fault_of e))
 
 -- it could not be opened, or not be put onto the disk
-abbrev pub FailsToSync : {S F : Type 0} → (S → OpenOptions → List ℕ → Result F Error → S → Type 0) → (F → Result (Unit {0}) Error → F → Type 0) → List ℕ → S → S → Error → Type 0
-FailsToSync {S} {F} opens syncs path old new e = opens old for_reading path (Err e) new ⊎ ((file : F) × (after : F) × opens old for_reading path (Ok file) new × syncs file (Err e) after)
+abbrev pub FailsToSync : {S F : Type 0} → (S → OpenOptions → List ℕ → Result F Error → S → Type 0)
+    → (F → Result (Unit {0}) Error → F → Type 0) → List ℕ → S → S → Error → Type 0
+FailsToSync {S} {F} opens syncs path old new e = opens old for_reading path (Err e) new
+    ⊎ ((file : F) × (after : F) × opens old for_reading path (Ok file) new
+    × syncs file (Err e) after)
 
 -- what comes after a move: nothing, or the directory that holds what was moved is put onto the disk
-abbrev pub AfterMove : {S F : Type 0} → (S → OpenOptions → List ℕ → Result F Error → S → Type 0) → (F → Result (Unit {0}) Error → F → Type 0) → Bool → List ℕ → S → S → Result (Unit {0}) TreeFault → Type 0
+abbrev pub AfterMove : {S F : Type 0} → (S → OpenOptions → List ℕ → Result F Error → S → Type 0)
+    → (F → Result (Unit {0}) Error → F → Type 0) → Bool → List ℕ → S → S
+    → Result (Unit {0}) TreeFault → Type 0
 AfterMove opens syncs false to old new result = (new ≡ old) × (result ≡ Ok tt)
 AfterMove opens syncs true to old new result = IsSynced opens syncs (holder_text to) old new result
 
 -- the move was asked for, and by its reply this came after it
-pub record IsMovedBy {S F : Type 0} (renames : S → List ℕ → List ℕ → Result (Unit {0}) Error → S → Type 0) (opens : S → OpenOptions → List ℕ → Result F Error → S → Type 0) (syncs : F → Result (Unit {0}) Error → F → Type 0) (synced : Bool) (folder : List ℕ) (from to : Path) (old new : S) (result : Result (Unit {0}) TreeFault) : Type 0 where
+pub record IsMovedBy {S F : Type 0}
+    (renames : S → List ℕ → List ℕ → Result (Unit {0}) Error → S → Type 0)
+    (opens : S → OpenOptions → List ℕ → Result F Error → S → Type 0)
+    (syncs : F → Result (Unit {0}) Error → F → Type 0) (synced : Bool) (folder : List ℕ)
+    (from to : Path) (old new : S) (result : Result (Unit {0}) TreeFault) : Type 0 where
   pub reply : Result (Unit {0}) Error
   pub mid : S
   pub filled : length folder ≢ 0
   pub named : IsPath from × IsPath to
   pub made : renames old (entry_text folder from) (entry_text folder to) reply mid
-  pub gives : MatchResult reply (λ _. AfterMove opens syncs synced (entry_text folder to) mid new result) (λ e. (new ≡ mid) × (result ≡ Err (fault_of e)))
+  pub gives : MatchResult reply
+      (λ _. AfterMove opens syncs synced (entry_text folder to) mid new result)
+      (λ e. (new ≡ mid) × (result ≡ Err (fault_of e)))
 
 -- nothing is asked, and the path was refused; or the move is asked for once
-abbrev pub MovesOnce : {S F : Type 0} → (S → List ℕ → List ℕ → Result (Unit {0}) Error → S → Type 0) → (S → OpenOptions → List ℕ → Result F Error → S → Type 0) → (F → Result (Unit {0}) Error → F → Type 0) → Bool → List ℕ → Path → Path → S → S → Result (Unit {0}) TreeFault → Type 0
-MovesOnce renames opens syncs synced folder from to old new result = ((new ≡ old) × IsRefused folder result) ⊎ IsMovedBy renames opens syncs synced folder from to old new result
+abbrev pub MovesOnce : {S F : Type 0} → (S → List ℕ → List ℕ → Result (Unit {0}) Error → S → Type 0)
+    → (S → OpenOptions → List ℕ → Result F Error → S → Type 0)
+    → (F → Result (Unit {0}) Error → F → Type 0) → Bool → List ℕ → Path → Path → S → S
+    → Result (Unit {0}) TreeFault → Type 0
+MovesOnce renames opens syncs synced folder from to old new result =
+    ((new ≡ old) × IsRefused folder result)
+    ⊎ IsMovedBy renames opens syncs synced folder from to old new result
 
 -- what a failure that is kept was of: no call, the move, or putting the directory onto the disk
-abbrev pub IsOfMove : {S F : Type 0} → (S → List ℕ → List ℕ → Result (Unit {0}) Error → S → Type 0) → (S → OpenOptions → List ℕ → Result F Error → S → Type 0) → (F → Result (Unit {0}) Error → F → Type 0) → List ℕ → Path → Path → S → S → Failure → Type 0
-IsOfMove {S} renames opens syncs folder from to old new f = (IsUnasked folder f ⊎ IsOfCall (entry_text folder to) (λ e. renames old (entry_text folder from) (entry_text folder to) (Err e) new) f)
-    ⊎ ((mid : S) × IsOfCall (holder_text (entry_text folder to)) (FailsToSync opens syncs (holder_text (entry_text folder to)) mid new) f)
+abbrev pub IsOfMove : {S F : Type 0} → (S → List ℕ → List ℕ → Result (Unit {0}) Error → S → Type 0)
+    → (S → OpenOptions → List ℕ → Result F Error → S → Type 0)
+    → (F → Result (Unit {0}) Error → F → Type 0) → List ℕ → Path → Path → S → S → Failure → Type 0
+IsOfMove {S} renames opens syncs folder from to old new f =
+    (IsUnasked folder f ⊎ IsOfCall (entry_text folder to)
+    (λ e. renames old (entry_text folder from) (entry_text folder to) (Err e) new) f)
+    ⊎ ((mid : S) × IsOfCall (holder_text (entry_text folder to))
+    (FailsToSync opens syncs (holder_text (entry_text folder to)) mid new) f)

@@ -23,7 +23,9 @@ LeadsToFile (Err e) result = result ≡ Err (fault_of e)
 
 -- What stands at the path was looked at, links not followed. Where it is a file, it was opened, and the reply leads to this
 -- open file and this result; else nothing more is asked, and the open file is the one that was.
-pub record IsOpenedBy {S F : Type 0} (looks : S → List ℕ → Result Metadata Error → S → Type 0) (opens : S → List ℕ → Result F Error → S → Type 0) (folder : List ℕ) (p : Path) (w v : Option (Reading F)) (old new : S) (result : Result (Unit {0}) TreeFault) : Type 0 where
+pub record IsOpenedBy {S F : Type 0} (looks : S → List ℕ → Result Metadata Error → S → Type 0)
+    (opens : S → List ℕ → Result F Error → S → Type 0) (folder : List ℕ) (p : Path)
+    (w v : Option (Reading F)) (old new : S) (result : Result (Unit {0}) TreeFault) : Type 0 where
   pub reply : Result Metadata Error
   pub found : Result (Unit {0}) TreeFault
   pub mid : S
@@ -31,16 +33,27 @@ pub record IsOpenedBy {S F : Type 0} (looks : S → List ℕ → Result Metadata
   pub named : IsPath p
   pub looked : looks old (entry_text folder p) reply mid
   pub leads : LeadsToFile reply found
-  pub gives : MatchResult found (λ _. (answer : Result F Error) × opens mid (entry_text folder p) answer new × OpensAt w v answer result) (λ fault. (new ≡ mid) × (v ≡ w) × (result ≡ Err fault))
+  pub gives : MatchResult found
+      (λ _. (answer : Result F Error) × opens mid
+      (entry_text folder p) answer new × OpensAt w v answer result)
+      (λ fault. (new ≡ mid) × (v ≡ w) × (result ≡ Err fault))
 
 -- nothing is asked of the system, and the path was refused; or it is looked at, and opened where it is a file
-abbrev pub OpensOnce : {S F : Type 0} → (S → List ℕ → Result Metadata Error → S → Type 0) → (S → List ℕ → Result F Error → S → Type 0) → List ℕ → Path → Option (Reading F) → Option (Reading F) → S → S → Result (Unit {0}) TreeFault → Type 0
-OpensOnce looks opens folder p w v old new result = ((new ≡ old) × IsRefused folder result) ⊎ IsOpenedBy looks opens folder p w v old new result
+abbrev pub OpensOnce : {S F : Type 0} → (S → List ℕ → Result Metadata Error → S → Type 0)
+    → (S → List ℕ → Result F Error → S → Type 0) → List ℕ → Path → Option (Reading F)
+    → Option (Reading F) → S → S → Result (Unit {0}) TreeFault → Type 0
+OpensOnce looks opens folder p w v old new result = ((new ≡ old) × IsRefused folder result)
+    ⊎ IsOpenedBy looks opens folder p w v old new result
 
 -- of a look at a path that should be a file's: it failed, or no file stands there now
-abbrev pub IsOfFile : {S : Type 0} → (S → List ℕ → Result Metadata Error → S → Type 0) → List ℕ → S → S → Failure → Type 0
+abbrev pub IsOfFile : {S : Type 0} → (S → List ℕ → Result Metadata Error → S → Type 0) → List ℕ → S
+    → S → Failure → Type 0
 IsOfFile looks text old new f = IsAt text cause.NotFile f ⊎ IsOfCall text (λ e. looks old text (Err e) new) f
 
 -- what is kept, where memory allowed it, of opening a file: of no call, of the look, or of the opening
-abbrev pub KeepsOpening : {S F : Type 0} → (S → List ℕ → Result Metadata Error → S → Type 0) → (S → List ℕ → Result F Error → S → Type 0) → List ℕ → Path → S → S → Option Failure → Type 0
-KeepsOpening {S} looks opens folder p old new last = IfSome last (λ f. (IsUnasked folder f ⊎ IsOfFile looks (entry_text folder p) old new f) ⊎ IsOfCall (entry_text folder p) (λ e. (mid : S) × opens mid (entry_text folder p) (Err e) new) f)
+abbrev pub KeepsOpening : {S F : Type 0} → (S → List ℕ → Result Metadata Error → S → Type 0)
+    → (S → List ℕ → Result F Error → S → Type 0) → List ℕ → Path → S → S → Option Failure → Type 0
+KeepsOpening {S} looks opens folder p old new last =
+    IfSome last (λ f. (IsUnasked folder f ⊎ IsOfFile looks (entry_text folder p) old new f)
+    ⊎ IsOfCall (entry_text folder p)
+    (λ e. (mid : S) × opens mid (entry_text folder p) (Err e) new) f)

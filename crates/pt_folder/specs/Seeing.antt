@@ -19,4 +19,6 @@ pub record Sees (old new : Option Forest) (p : Path) (items : List Item) : Type 
 
 -- the same of each folder and directory whose entries' paths begin so
 abbrev pub SeesAt : {S : Type 0} → (S → List ℕ → Option Forest) → List ℕ → S → S → List Item → Type 0
-SeesAt kept front old new items = (folder : List ℕ) (p : Path) → IsPath p → front ≡ dir_front folder p → ForSome (kept old folder) (λ f. IsSome (dir_at f p)) → Sees (kept old folder) (kept new folder) p items
+SeesAt kept front old new items = (folder : List ℕ) (p : Path) → IsPath p
+    → front ≡ dir_front folder p → ForSome (kept old folder) (λ f. IsSome (dir_at f p))
+    → Sees (kept old folder) (kept new folder) p items

@@ -17,7 +17,8 @@ pub record Looked (old new : Option Forest) (p : Path) (reply : Result Metadata 
   pub shown : ForSome old (λ f. IfOk reply (λ m. Shows (option_map kind_of (node_at (Dir f) p)) (file_type m)))
 
 -- a file is opened at its start, and changes nothing
-pub record Opened {F : Type 0} (bytes left : F → Option (List ℕ)) (old new : Option Forest) (p : Path) (reply : Result F Error) : Type 0 where
+pub record Opened {F : Type 0} (bytes left : F → Option (List ℕ)) (old new : Option Forest)
+    (p : Path) (reply : Result F Error) : Type 0 where
   pub same : new ≡ old
   pub start : IfOk reply (λ file. left file ≡ bytes file)
   pub given : ForSome old (λ f. IfOk reply (λ file. bytes file ≡ file_at f p))
@@ -33,22 +34,32 @@ GivesAll None (Some d) = ⊥
 GivesAll left None = Unit {0}
 
 -- a directory is opened at its start, and changes nothing
-pub record Listed {D : Type 0} (left : D → Option (List ℕ)) (old new : Option Forest) (p : Path) (reply : Result D Error) : Type 0 where
+pub record Listed {D : Type 0} (left : D → Option (List ℕ)) (old new : Option Forest) (p : Path)
+    (reply : Result D Error) : Type 0 where
   pub same : new ≡ old
   pub given : ForSome old (λ f. IfOk reply (λ dir. GivesAll (left dir) (dir_at f p)))
 
 -- the laws, one for each call; the conditions are those under which a source is called, and for a look that a directory
 -- stands above
-abbrev pub LookLaw : {S : Type 0} → (S → List ℕ → Option Forest) → (S → List ℕ → Result Metadata Error → S → Type 0) → Type 0
-LookLaw {S} forest looks = (old new : S) (folder : List ℕ) (p : Path) (reply : Result Metadata Error) → IsPath p → ForSome (forest old folder) (λ f. IsSome (dir_at f (parent p)))
+abbrev pub LookLaw : {S : Type 0} → (S → List ℕ → Option Forest)
+    → (S → List ℕ → Result Metadata Error → S → Type 0) → Type 0
+LookLaw {S} forest looks =
+    (old new : S) (folder : List ℕ) (p : Path) (reply : Result Metadata Error) → IsPath p
+    → ForSome (forest old folder) (λ f. IsSome (dir_at f (parent p)))
     → looks old (entry_text folder p) reply new → Looked (forest old folder) (forest new folder) p reply
 
-abbrev pub OpenLaw : {S F : Type 0} → (S → List ℕ → Option Forest) → (F → Option (List ℕ)) → (F → Option (List ℕ)) → (S → List ℕ → Result F Error → S → Type 0) → Type 0
-OpenLaw {S} {F} forest bytes left opens = (old new : S) (folder : List ℕ) (p : Path) (reply : Result F Error) → IsPath p → ForSome (forest old folder) (λ f. IsSome (file_at f p))
+abbrev pub OpenLaw : {S F : Type 0} → (S → List ℕ → Option Forest) → (F → Option (List ℕ))
+    → (F → Option (List ℕ)) → (S → List ℕ → Result F Error → S → Type 0) → Type 0
+OpenLaw {S} {F} forest bytes left opens =
+    (old new : S) (folder : List ℕ) (p : Path) (reply : Result F Error) → IsPath p
+    → ForSome (forest old folder) (λ f. IsSome (file_at f p))
     → opens old (entry_text folder p) reply new → Opened bytes left (forest old folder) (forest new folder) p reply
 
-abbrev pub NamesLaw : {S D : Type 0} → (S → List ℕ → Option Forest) → (D → Option (List ℕ)) → (S → List ℕ → Result D Error → S → Type 0) → Type 0
-NamesLaw {S} {D} forest left opens = (old new : S) (folder : List ℕ) (p : Path) (reply : Result D Error) → IsPath p → ForSome (forest old folder) (λ f. IsSome (dir_at f p))
+abbrev pub NamesLaw : {S D : Type 0} → (S → List ℕ → Option Forest) → (D → Option (List ℕ))
+    → (S → List ℕ → Result D Error → S → Type 0) → Type 0
+NamesLaw {S} {D} forest left opens =
+    (old new : S) (folder : List ℕ) (p : Path) (reply : Result D Error) → IsPath p
+    → ForSome (forest old folder) (λ f. IsSome (dir_at f p))
     → opens old (entry_text folder p) reply new → Listed left (forest old folder) (forest new folder) p reply
 
 -- in each directory that is kept the names rise

@@ -38,7 +38,8 @@ pub untold_dir : (F : Type 0) (p : Path) (reply : Result (Unit {0}) Error) → M
 untold_dir F p (Ok x) = refl
 untold_dir F p (Err e) = refl
 
-pub untold_move : (F : Type 0) (from to : Path) (reply : Result (Unit {0}) Error) → Moves (no_kept {F = F}) no_kept from to reply
+pub untold_move : (F : Type 0) (from to : Path) (reply : Result (Unit {0}) Error)
+    → Moves (no_kept {F = F}) no_kept from to reply
 untold_move F from to (Ok x) = (refl, λ f q at apart. at)
 untold_move F from to (Err e) = refl
 
@@ -46,11 +47,13 @@ pub untold_file : {F : Type 0} (p : Path) (reply : Result F Error) → MakesFile
 untold_file p (Ok x) = (refl, λ t is. absurd (cc))
 untold_file p (Err e) = refl
 
-pub untold_write : {F : Type 0} (q : Path) (file : F) (piece : List ℕ) (reply : Result ℕ Error) → Adds (no_kept {F = F}) no_kept q file piece reply
+pub untold_write : {F : Type 0} (q : Path) (file : F) (piece : List ℕ) (reply : Result ℕ Error)
+    → Adds (no_kept {F = F}) no_kept q file piece reply
 untold_write q file piece (Ok n) = record { tree = refl; place = λ t is. absurd (cc) }
 untold_write q file piece (Err e) = (0, record { tree = refl; place = λ t is. absurd (cc) })
 
-pub untold_peek : {F R : Type 0} (left : R → Option (List ℕ)) (p : Path) (reply : Result R Error) → Peeked left (no_kept {F = F}) no_kept p reply
+pub untold_peek : {F R : Type 0} (left : R → Option (List ℕ)) (p : Path) (reply : Result R Error)
+    → Peeked left (no_kept {F = F}) no_kept p reply
 untold_peek left p reply = record { same = refl; bytes = λ t is. absurd (cc) }
 
 pub untold_tree : (t : Tree) → let none : Option Tree = None in none ≡ Some t → IsTree t

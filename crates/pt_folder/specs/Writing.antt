@@ -18,7 +18,8 @@ IsMadeAt p None = ⊥
 IsMadeAt p (Some w) = w.path ≡ p
 
 -- the open file, by the system's reply: it is the new one, or after a fault the one that was
-abbrev pub MakesAt : {F : Type 0} → Path → Option (Writing F) → Option (Writing F) → Result F Error → Result (Unit {0}) TreeFault → Type 0
+abbrev pub MakesAt : {F : Type 0} → Path → Option (Writing F) → Option (Writing F) → Result F Error
+    → Result (Unit {0}) TreeFault → Type 0
 MakesAt p old new (Ok file) result = (result ≡ Ok tt) × (new ≡ Some (record { file = file; path = p }))
 MakesAt p old new (Err e) result = (result ≡ Err (fault_of e)) × (new ≡ old)
 
@@ -28,20 +29,32 @@ open_unless_within p None = None
 open_unless_within p (Some w) = cond (is_some (rest_below p w.path)) None (Some w)
 
 -- which writes the open file is asked for, and why adding to it fails: one of them did, or no file is open
-abbrev pub WritesTo : {S F : Type 0} → (S → F → List ℕ → Result ℕ Error → S → F → Type 0) → S → Option (Writing F) → S → Option (Writing F) → List ℕ → Result (Unit {0}) TreeFault → Type 0
+abbrev pub WritesTo : {S F : Type 0} → (S → F → List ℕ → Result ℕ Error → S → F → Type 0) → S
+    → Option (Writing F) → S → Option (Writing F) → List ℕ → Result (Unit {0}) TreeFault → Type 0
 WritesTo writes s None new_s new piece result = (result ≡ Err Device) × (new ≡ None) × (new_s ≡ s)
 WritesTo writes s (Some old) new_s None piece result = ⊥
-WritesTo writes s (Some old) new_s (Some new) piece result = (new.path ≡ old.path) × MatchResult result (λ _. WritesAll (on_pairs writes) piece (s, old.file) (new_s, new.file))
-    (λ fault. (e : Error) × FailsToWrite (on_pairs writes) piece (s, old.file) e (new_s, new.file) × (fault ≡ fault_of e))
+WritesTo writes s (Some old) new_s (Some new) piece result = (new.path ≡ old.path)
+    × MatchResult result (λ _. WritesAll (on_pairs writes) piece (s, old.file) (new_s, new.file))
+    (λ fault. (e : Error) × FailsToWrite (on_pairs writes) piece (s, old.file) e (new_s, new.file)
+    × (fault ≡ fault_of e))
 
 -- writes of a piece to a file ended with this error
-abbrev pub FailsToAdd : {S F : Type 0} → (S → F → List ℕ → Result ℕ Error → S → F → Type 0) → List ℕ → S → F → Error → Type 0
+abbrev pub FailsToAdd : {S F : Type 0} → (S → F → List ℕ → Result ℕ Error → S → F → Type 0) → List ℕ
+    → S → F → Error → Type 0
 FailsToAdd {S} {F} writes piece s file e = (after : S × F) × FailsToWrite (on_pairs writes) piece (s, file) e after
 
 -- how the open file is closed: at once, or put onto the disk before, and so it was answered
-abbrev pub FinishesBy : {F : Type 0} → (F → Result (Unit {0}) Error → F → Type 0) → Bool → F → Result (Unit {0}) TreeFault → Type 0
+abbrev pub FinishesBy : {F : Type 0} → (F → Result (Unit {0}) Error → F → Type 0) → Bool → F
+    → Result (Unit {0}) TreeFault → Type 0
 FinishesBy syncs false file result = result ≡ Ok tt
-FinishesBy {F} syncs true file result = (answer : Result (Unit {0}) Error) × (after : F) × syncs file answer after × IsAnswer answer result
+FinishesBy {F} syncs true file result = (answer : Result (Unit {0}) Error) × (after : F)
+    × syncs file answer after × IsAnswer answer result
+
+-- the same of the open file, if there is one; closing none is a failure
+abbrev pub ClosesBy : {F : Type 0} → (F → Result (Unit {0}) Error → F → Type 0) → Bool
+    → Option (Writing F) → Result (Unit {0}) TreeFault → Type 0
+ClosesBy syncs synced None result = result ≡ Err Device
+ClosesBy syncs synced (Some w) result = FinishesBy syncs synced w.file result
 
 -- a failure of a call on the open file, at its path; or no file is open
 abbrev pub IsOfWriting : {F : Type 0} → List ℕ → (F → Error → Type 0) → Option (Writing F) → Failure → Type 0

@@ -44,9 +44,12 @@ fn make_full(block: &mut Block)
 // Reads until the buffer is full or a read gives nothing, and says how many bytes were read.
 fn fill<F: Input>(file: &mut F, buffer: &mut [u8]) -> io::Result<usize>
     ensures same { F.bytes file.new ≡ F.bytes file.old }
-    ensures bytes { IfOk result (λ count. Fills (F.left file.old) (F.left file.new) count buffer.new) }
-    ensures reads { IfOk result (λ count. ReadsBlock F.reads (length buffer.old) file.old (take count buffer.new) file.new) }
-    ensures error { IfErr result (λ e. FailsToRead F.reads (length buffer.old) file.old e file.new) }
+    ensures bytes { IfOk result
+        (λ count. Fills (F.left file.old) (F.left file.new) count buffer.new) }
+    ensures reads { IfOk result (λ count.
+        ReadsBlock F.reads (length buffer.old) file.old (take count buffer.new) file.new) }
+    ensures error { IfErr result
+        (λ e. FailsToRead F.reads (length buffer.old) file.old e file.new) }
 {
     let mut done = 0;
     while done < buffer.len() {
@@ -61,8 +64,10 @@ fn fill<F: Input>(file: &mut F, buffer: &mut [u8]) -> io::Result<usize>
 
 /// Writes all the bytes. An error, or zero for a piece that isn't empty, ends it; nothing is tried again.
 pub fn write_out<S: System>(system: &mut S, file: &mut S::File, bytes: &[u8]) -> io::Result<()>
-    ensures writes { OnOk result (WritesAll (on_pairs S.writes) bytes.now (system.old, file.old) (system.new, file.new)) }
-    ensures error { IfErr result (λ e. FailsToWrite (on_pairs S.writes) bytes.now (system.old, file.old) e (system.new, file.new)) }
+    ensures writes { OnOk result (WritesAll (on_pairs S.writes) bytes.now
+        (system.old, file.old) (system.new, file.new)) }
+    ensures error { IfErr result (λ e. FailsToWrite (on_pairs S.writes) bytes.now
+        (system.old, file.old) e (system.new, file.new)) }
 {
     let mut done = 0;
     while done < bytes.len() {

@@ -1,15 +1,15 @@
-ghost use Rattle.std.specs.Prelude.{◌≡◌, ◌≤◌, length, [], None, Err, IfErr, IfOk, IfNone, IfSome, OnOk, OnErr, false, string_bytes};
+ghost use Rattle.std.proofs.Common.{◌∙◌, refl};
+ghost use Rattle.std.specs.Prelude.{◌≡◌, ◌≤◌, length, [], None, Err, IfOk, IfNone, IfSome, OnOk, OnErr, false, string_bytes};
 ghost use Rattle.std.specs.Option.{option_map};
-ghost use Rattle.pt_tree.specs.Failures.{IsCounted};
 ghost use Rattle.pt_tree.specs.declared.faults.TreeFault.TheVariants.{Device};
 ghost use Rattle.pt_folder.specs.Folder.{entry_text};
-ghost use Rattle.pt_folder.specs.Calls.{AsksOnce, CannotMake, IsAnswer, IsThere, LeadsToKind, MakesOnce, for_making, for_reading};
+ghost use Rattle.pt_folder.specs.Calls.{AsksOnce, CannotMake, IsThere, LeadsToKind, MakesOnce, for_making, for_reading};
 ghost use Rattle.pt_folder.specs.Failure.{FailsToPeek, IsOfCall, KeepsCall, KeepsMaking, OnDevice};
 ghost use Rattle.pt_folder.specs.Moving.{FailsToSync, IsOfMove, IsSynced, MovesOnce, holder_text};
-ghost use Rattle.pt_folder.specs.DestHeld.{IsPlaced, told_of, unless_synced};
+ghost use Rattle.pt_folder.specs.DestHeld.{IsPlaced, unless_synced};
 ghost use Rattle.pt_folder.specs.Runs.{PeeksAt};
-ghost use Rattle.pt_folder.specs.Settings.{IsSetAs, greatest_length};
-ghost use Rattle.pt_folder.specs.Writing.{FailsToAdd, FinishesBy, IsMadeAt, IsOfWriting, MakesAt, WritesTo, open_unless_within};
+ghost use Rattle.pt_folder.specs.Settings.{greatest_length};
+ghost use Rattle.pt_folder.specs.Writing.{ClosesBy, FailsToAdd, IsMadeAt, IsOfWriting, MakesAt, WritesTo, open_unless_within};
 
 use crate::bytes::{read_block, write_out};
 use crate::failure::{Cause, Failure, heard, keep};
@@ -36,6 +36,8 @@ pub struct HostDest<'a, S: System> {
 }
 
 impl<'a, S: System> HostDest<'a, S> {
+    ghost use Rattle.pt_folder.specs.HostDest.{IsCall};
+
     /// A destination over the folder at a path of a system, as the runtime's. It calls nothing and takes no memory.
     pub fn new(system: S, alloc: Global, path: &'a str) -> HostDest<'a, S>
         ensures failures { result.failures ≡ 0 }
@@ -114,13 +116,13 @@ impl<'a, S: System> HostDest<'a, S> {
     /// Whether `mkdir` and `create` would ask the system to make this entry: `Device` where its path is too long or the
     /// folder's is empty, `Memory` where a growth was refused. The system isn't asked.
     pub fn may_make(&mut self, path: &NamePath) -> Result<(), TreeFault>
-        ensures fits { OnOk result (length (entry_text self.old.folder.path.now path.now) ≤ self.old.longest) }
-        ensures refused { OnDevice result (CannotMake self.old.longest self.old.folder.path.now path.now) }
+        ensures fits { OnOk result (length (entry_text self.old.folder.path.now path.now)
+            ≤ self.old.longest) }
+        ensures refused { OnDevice result
+            (CannotMake self.old.longest self.old.folder.path.now path.now) }
         ensures system { self.new.system ≡ self.old.system }
-        ensures folder { self.new.folder ≡ self.old.folder }
-        ensures settings { IsSetAs self.old.longest self.old.synced self.new.longest self.new.synced }
         ensures writing { self.new.writing ≡ self.old.writing }
-        ensures failures { IsCounted self.old.failures self.new.failures result }
+        ensures call { IsCall self.old self.new result }
     {
         let text = self.folder.text_to_make(path, self.longest, &mut self.last);
         counted(&mut self.failures, text.map(|_| ()))
@@ -128,15 +130,15 @@ impl<'a, S: System> HostDest<'a, S> {
 }
 
 impl<'a, S: System> HostDest<'a, S> {
+    ghost use Rattle.pt_folder.specs.HostDest.{IsCall, KeepsLook, KeepsPeek, Looks, Peeks};
+
     /// Whether the folder itself is there: `Device` where the system doesn't find it, or finds no directory, `Memory` where a
     /// growth was refused.
     pub fn look_at_folder(&mut self) -> Result<(), TreeFault>
-        ensures asked { AsksOnce S.looks IsThere self.old.folder.path.now [] self.old.system self.new.system result }
-        ensures kept { OnDevice result (KeepsCall self.old.folder.path.now [] (λ e. S.looks self.old.system (entry_text self.old.folder.path.now []) (Err e) self.new.system) self.new.last) }
-        ensures folder { self.new.folder ≡ self.old.folder }
-        ensures settings { IsSetAs self.old.longest self.old.synced self.new.longest self.new.synced }
+        ensures asked { Looks IsThere self.old self.new [] result }
+        ensures kept { OnDevice result (KeepsLook self.old self.new []) }
         ensures writing { self.new.writing ≡ self.old.writing }
-        ensures failures { IsCounted self.old.failures self.new.failures result }
+        ensures call { IsCall self.old self.new result }
     {
         let top = NamePath::new(self.folder.alloc);
         let there = is_there(&mut self.system, &self.folder, &top, &mut self.last);
@@ -147,12 +149,10 @@ impl<'a, S: System> HostDest<'a, S> {
     /// empty.
     pub fn first_bytes(&mut self, path: &NamePath, block: &mut Block) -> Result<(), TreeFault>
         ensures empty { OnErr result (block.new.items ≡ []) }
-        ensures asked { AsksOnce (λ s. S.opens s for_reading) (PeeksAt S.File.Input.left S.File.Input.reads block.new.items) self.old.folder.path.now path.now self.old.system self.new.system result }
-        ensures kept { OnDevice result (KeepsCall self.old.folder.path.now path.now (FailsToPeek (λ s. S.opens s for_reading) S.File.Input.reads (entry_text self.old.folder.path.now path.now) self.old.system self.new.system) self.new.last) }
+        ensures asked { Peeks self.old self.new path.now block.new.items result }
+        ensures kept { OnDevice result (KeepsPeek self.old self.new path.now) }
         ensures writing { self.new.writing ≡ self.old.writing }
-        ensures settings { IsSetAs self.old.longest self.old.synced self.new.longest self.new.synced }
-        ensures folder { self.new.folder ≡ self.old.folder }
-        ensures failures { IsCounted self.old.failures self.new.failures result }
+        ensures call { IsCall self.old self.new result }
     {
         let peeked = peek(&mut self.system, &self.folder, path, block, &mut self.last);
         counted(&mut self.failures, peeked)
@@ -162,27 +162,36 @@ impl<'a, S: System> HostDest<'a, S> {
 impl<'a, S: System> Dest for HostDest<'a, S> {
     ghost use Rattle.pt_tree.specs.Dest.{CanPeek, CanWrite, IsKindAt, IsPeeked, LeavesPart, MayMake, MayMove, after_mkdir, after_create, after_append, after_finish, after_rename};
     ghost use Rattle.pt_folder.specs.DestHeld.{tree_held, tree_unless};
+    ghost use Rattle.pt_folder.specs.HostDest.{Closes, IsCall, IsSame, KeepsClose, KeepsDir, KeepsFile, KeepsLook, KeepsMove, KeepsPeek, KeepsWrite, Looks, MakesDir, MakesFile, Moves, Peeks, Writes, told};
 
-    ghost told = { λ d. told_of (unless_synced d.synced (S.kept d.system d.folder.path.now)) d.writing };
+    ghost told = { told };
 
     ghost failed = { λ d. d.failures };
 
-    ghost is_tree = { λ d state is. tree_held (unless_synced d.synced (S.kept d.system d.folder.path.now)) d.writing state (tree_unless d.synced (S.kept d.system d.folder.path.now) (S.tree_law d.system d.folder.path.now)) is };
+    ghost keeps = { IsSame };
+
+    ghost is_kept = { λ _. (refl, (refl, refl)) };
+
+    ghost keeps_on = { λ _ _ _ p q. (q.0 ∙ p.0, (q.1.0 ∙ p.1.0, q.1.1 ∙ p.1.1)) };
+
+    ghost is_tree = { λ d state is.
+        let kept = S.kept d.system d.folder.path.now in
+        tree_held (unless_synced d.synced kept) d.writing state
+        (tree_unless d.synced kept (S.tree_law d.system d.folder.path.now)) is };
 
     fn failures(&self) -> u64 {
         self.failures
     }
 
     fn kind(&mut self, path: &NamePath) -> Result<Option<Kind>, TreeFault>
-        ensures kind { IfOk result (λ kind. IsKindAt (told_of (unless_synced self.old.synced (S.kept self.old.system self.old.folder.path.now)) self.old.writing) path.now kind) }
-        ensures same { told_of (unless_synced self.new.synced (S.kept self.new.system self.new.folder.path.now)) self.new.writing ≡ told_of (unless_synced self.old.synced (S.kept self.old.system self.old.folder.path.now)) self.old.writing }
+        ensures kind { IfOk result (λ kind. IsKindAt (told self.old) path.now kind) }
+        ensures same { told self.new ≡ told self.old }
         ensures writing { self.new.writing ≡ self.old.writing }
-        ensures asked { AsksOnce S.looks LeadsToKind self.old.folder.path.now path.now self.old.system self.new.system result }
-        ensures kept { OnDevice result (KeepsCall self.old.folder.path.now path.now (λ e. S.looks self.old.system (entry_text self.old.folder.path.now path.now) (Err e) self.new.system) self.new.last) }
-        ensures at { OnOk result (string_bytes self.new.at ≡ entry_text self.old.folder.path.now path.now) }
-        ensures settings { IsSetAs self.old.longest self.old.synced self.new.longest self.new.synced }
-        ensures folder { self.new.folder ≡ self.old.folder }
-        ensures failures { IsCounted self.old.failures self.new.failures result }
+        ensures asked { Looks LeadsToKind self.old self.new path.now result }
+        ensures kept { OnDevice result (KeepsLook self.old self.new path.now) }
+        ensures at { OnOk result (string_bytes self.new.at
+            ≡ entry_text self.old.folder.path.now path.now) }
+        ensures call { IsCall self.old self.new result }
     {
         let kind = kind_at(
             &mut self.system,
@@ -195,30 +204,27 @@ impl<'a, S: System> Dest for HostDest<'a, S> {
     }
 
     fn peek(&mut self, path: &NamePath, block: &mut Block) -> Result<(), TreeFault>
-        requires { CanPeek (told_of (unless_synced self.old.synced (S.kept self.old.system self.old.folder.path.now)) self.old.writing) path.now }
-        ensures block { OnOk result (IsPeeked (told_of (unless_synced self.old.synced (S.kept self.old.system self.old.folder.path.now)) self.old.writing) path.now block.new.items) }
+        requires { CanPeek (told self.old) path.now }
+        ensures block { OnOk result (IsPeeked (told self.old) path.now block.new.items) }
         ensures empty { OnErr result (block.new.items ≡ []) }
-        ensures same { told_of (unless_synced self.new.synced (S.kept self.new.system self.new.folder.path.now)) self.new.writing ≡ told_of (unless_synced self.old.synced (S.kept self.old.system self.old.folder.path.now)) self.old.writing }
+        ensures same { told self.new ≡ told self.old }
         ensures writing { self.new.writing ≡ self.old.writing }
-        ensures asked { AsksOnce (λ s. S.opens s for_reading) (PeeksAt ⟦<S::File as Input>⟧.left ⟦<S::File as Input>⟧.reads block.new.items) self.old.folder.path.now path.now self.old.system self.new.system result }
-        ensures kept { OnDevice result (KeepsCall self.old.folder.path.now path.now (FailsToPeek (λ s. S.opens s for_reading) ⟦<S::File as Input>⟧.reads (entry_text self.old.folder.path.now path.now) self.old.system self.new.system) self.new.last) }
-        ensures settings { IsSetAs self.old.longest self.old.synced self.new.longest self.new.synced }
-        ensures folder { self.new.folder ≡ self.old.folder }
-        ensures failures { IsCounted self.old.failures self.new.failures result }
+        ensures asked { Peeks self.old self.new path.now block.new.items result }
+        ensures kept { OnDevice result (KeepsPeek self.old self.new path.now) }
+        ensures call { IsCall self.old self.new result }
     {
         self.first_bytes(path, block)
     }
 
     fn mkdir(&mut self, path: &NamePath) -> Result<(), TreeFault>
-        requires { MayMake (told_of (unless_synced self.old.synced (S.kept self.old.system self.old.folder.path.now)) self.old.writing) path.now }
-        ensures made { OnOk result (told_of (unless_synced self.new.synced (S.kept self.new.system self.new.folder.path.now)) self.new.writing ≡ option_map (after_mkdir path.now) (told_of (unless_synced self.old.synced (S.kept self.old.system self.old.folder.path.now)) self.old.writing)) }
-        ensures same { OnErr result (told_of (unless_synced self.new.synced (S.kept self.new.system self.new.folder.path.now)) self.new.writing ≡ told_of (unless_synced self.old.synced (S.kept self.old.system self.old.folder.path.now)) self.old.writing) }
+        requires { MayMake (told self.old) path.now }
+        ensures made { OnOk result (told self.new
+            ≡ option_map (after_mkdir path.now) (told self.old)) }
+        ensures same { OnErr result (told self.new ≡ told self.old) }
         ensures writing { self.new.writing ≡ self.old.writing }
-        ensures asked { MakesOnce self.old.longest S.makes_dir IsAnswer self.old.folder.path.now path.now self.old.system self.new.system result }
-        ensures kept { OnDevice result (KeepsMaking self.old.longest self.old.folder.path.now path.now (λ e. S.makes_dir self.old.system (entry_text self.old.folder.path.now path.now) (Err e) self.new.system) self.new.last) }
-        ensures settings { IsSetAs self.old.longest self.old.synced self.new.longest self.new.synced }
-        ensures folder { self.new.folder ≡ self.old.folder }
-        ensures failures { IsCounted self.old.failures self.new.failures result }
+        ensures asked { MakesDir self.old self.new path.now result }
+        ensures kept { OnDevice result (KeepsDir self.old self.new path.now) }
+        ensures call { IsCall self.old self.new result }
     {
         let made = make_dir(
             &mut self.system,
@@ -231,16 +237,15 @@ impl<'a, S: System> Dest for HostDest<'a, S> {
     }
 
     fn create(&mut self, path: &NamePath) -> Result<(), TreeFault>
-        requires { MayMake (told_of (unless_synced self.old.synced (S.kept self.old.system self.old.folder.path.now)) self.old.writing) path.now }
-        ensures made { OnOk result (told_of (unless_synced self.new.synced (S.kept self.new.system self.new.folder.path.now)) self.new.writing ≡ option_map (after_create path.now) (told_of (unless_synced self.old.synced (S.kept self.old.system self.old.folder.path.now)) self.old.writing)) }
-        ensures same { OnErr result (told_of (unless_synced self.new.synced (S.kept self.new.system self.new.folder.path.now)) self.new.writing ≡ told_of (unless_synced self.old.synced (S.kept self.old.system self.old.folder.path.now)) self.old.writing) }
+        requires { MayMake (told self.old) path.now }
+        ensures made { OnOk result (told self.new
+            ≡ option_map (after_create path.now) (told self.old)) }
+        ensures same { OnErr result (told self.new ≡ told self.old) }
         ensures opened { OnOk result (IsMadeAt path.now self.new.writing) }
         ensures writing { OnErr result (self.new.writing ≡ self.old.writing) }
-        ensures asked { MakesOnce self.old.longest (λ s. S.opens s for_making) (MakesAt path.now self.old.writing self.new.writing) self.old.folder.path.now path.now self.old.system self.new.system result }
-        ensures kept { OnDevice result (KeepsMaking self.old.longest self.old.folder.path.now path.now (λ e. S.opens self.old.system for_making (entry_text self.old.folder.path.now path.now) (Err e) self.new.system) self.new.last) }
-        ensures settings { IsSetAs self.old.longest self.old.synced self.new.longest self.new.synced }
-        ensures folder { self.new.folder ≡ self.old.folder }
-        ensures failures { IsCounted self.old.failures self.new.failures result }
+        ensures asked { MakesFile self.old self.new path.now result }
+        ensures kept { OnDevice result (KeepsFile self.old self.new path.now) }
+        ensures call { IsCall self.old self.new result }
     {
         let made = create(
             &mut self.system,
@@ -254,15 +259,14 @@ impl<'a, S: System> Dest for HostDest<'a, S> {
     }
 
     fn append(&mut self, piece: &[u8]) -> Result<(), TreeFault>
-        requires { CanWrite (told_of (unless_synced self.old.synced (S.kept self.old.system self.old.folder.path.now)) self.old.writing) }
-        ensures added { OnOk result (told_of (unless_synced self.new.synced (S.kept self.new.system self.new.folder.path.now)) self.new.writing ≡ option_map (after_append piece.now) (told_of (unless_synced self.old.synced (S.kept self.old.system self.old.folder.path.now)) self.old.writing)) }
-        ensures part { OnErr result (LeavesPart (told_of (unless_synced self.old.synced (S.kept self.old.system self.old.folder.path.now)) self.old.writing) (told_of (unless_synced self.new.synced (S.kept self.new.system self.new.folder.path.now)) self.new.writing) piece.now) }
+        requires { CanWrite (told self.old) }
+        ensures added { OnOk result (told self.new
+            ≡ option_map (after_append piece.now) (told self.old)) }
+        ensures part { OnErr result (LeavesPart (told self.old) (told self.new) piece.now) }
         ensures closed { IfNone self.old.writing (result ≡ Err Device) }
-        ensures writes { WritesTo S.writes self.old.system self.old.writing self.new.system self.new.writing piece.now result }
-        ensures kept { OnDevice result (IfSome self.new.last (IsOfWriting self.old.folder.path.now (FailsToAdd S.writes piece.now self.old.system) self.old.writing)) }
-        ensures settings { IsSetAs self.old.longest self.old.synced self.new.longest self.new.synced }
-        ensures folder { self.new.folder ≡ self.old.folder }
-        ensures failures { IsCounted self.old.failures self.new.failures result }
+        ensures writes { Writes self.old self.new piece.now result }
+        ensures kept { OnDevice result (KeepsWrite self.old self.new piece.now) }
+        ensures call { IsCall self.old self.new result }
     {
         let added = add(
             &mut self.system,
@@ -275,33 +279,30 @@ impl<'a, S: System> Dest for HostDest<'a, S> {
     }
 
     fn finish(&mut self) -> Result<(), TreeFault>
-        requires { CanWrite (told_of (unless_synced self.old.synced (S.kept self.old.system self.old.folder.path.now)) self.old.writing) }
-        ensures finished { OnOk result (told_of (unless_synced self.new.synced (S.kept self.new.system self.new.folder.path.now)) self.new.writing ≡ option_map after_finish (told_of (unless_synced self.old.synced (S.kept self.old.system self.old.folder.path.now)) self.old.writing)) }
-        ensures same { OnErr result (told_of (unless_synced self.new.synced (S.kept self.new.system self.new.folder.path.now)) self.new.writing ≡ told_of (unless_synced self.old.synced (S.kept self.old.system self.old.folder.path.now)) self.old.writing) }
-        ensures closed { IfNone self.old.writing (result ≡ Err Device) }
-        ensures open { IfSome self.old.writing (λ w. FinishesBy ⟦<S::File as Handle>⟧.syncs self.old.synced w.file result) }
-        ensures kept { OnDevice result (IfSome self.new.last (IsOfWriting self.old.folder.path.now (λ w e. (after : _) × ⟦<S::File as Handle>⟧.syncs w (Err e) after) self.old.writing)) }
-        ensures settings { IsSetAs self.old.longest self.old.synced self.new.longest self.new.synced }
+        requires { CanWrite (told self.old) }
+        ensures finished { OnOk result (told self.new ≡ option_map after_finish (told self.old)) }
+        ensures same { OnErr result (told self.new ≡ told self.old) }
+        ensures closed { Closes self.old result }
+        ensures kept { OnDevice result (KeepsClose self.old self.new) }
         ensures writing { self.new.writing ≡ None }
         ensures system { self.new.system ≡ self.old.system }
-        ensures folder { self.new.folder ≡ self.old.folder }
-        ensures failures { IsCounted self.old.failures self.new.failures result }
+        ensures call { IsCall self.old self.new result }
     {
         let closed = close(&mut self.writing, self.synced, &self.folder, &mut self.last);
         counted(&mut self.failures, closed)
     }
 
     fn rename(&mut self, from: &NamePath, to: &NamePath) -> Result<(), TreeFault>
-        requires { MayMove (told_of (unless_synced self.old.synced (S.kept self.old.system self.old.folder.path.now)) self.old.writing) from.now to.now }
-        ensures moved { OnOk result (told_of (unless_synced self.new.synced (S.kept self.new.system self.new.folder.path.now)) self.new.writing ≡ option_map (after_rename from.now to.now) (told_of (unless_synced self.old.synced (S.kept self.old.system self.old.folder.path.now)) self.old.writing)) }
-        ensures same { OnErr result (told_of (unless_synced self.new.synced (S.kept self.new.system self.new.folder.path.now)) self.new.writing ≡ told_of (unless_synced self.old.synced (S.kept self.old.system self.old.folder.path.now)) self.old.writing) }
+        requires { MayMove (told self.old) from.now to.now }
+        ensures moved { OnOk result (told self.new
+            ≡ option_map (after_rename from.now to.now) (told self.old)) }
+        ensures same { OnErr result (told self.new ≡ told self.old) }
         ensures writing { OnErr result (self.new.writing ≡ self.old.writing) }
-        ensures left { OnOk result (self.new.writing ≡ open_unless_within from.now self.old.writing) }
-        ensures asked { MovesOnce S.renames S.opens ⟦<S::File as Handle>⟧.syncs self.old.synced self.old.folder.path.now from.now to.now self.old.system self.new.system result }
-        ensures kept { OnDevice result (IfSome self.new.last (IsOfMove S.renames S.opens ⟦<S::File as Handle>⟧.syncs self.old.folder.path.now from.now to.now self.old.system self.new.system)) }
-        ensures settings { IsSetAs self.old.longest self.old.synced self.new.longest self.new.synced }
-        ensures folder { self.new.folder ≡ self.old.folder }
-        ensures failures { IsCounted self.old.failures self.new.failures result }
+        ensures left { OnOk result (self.new.writing
+            ≡ open_unless_within from.now self.old.writing) }
+        ensures asked { Moves self.old self.new from.now to.now result }
+        ensures kept { OnDevice result (KeepsMove self.old self.new from.now to.now) }
+        ensures call { IsCall self.old self.new result }
     {
         let moved = moved(
             &mut self.system,
@@ -328,8 +329,10 @@ fn moved<S: System>(
 ) -> Result<(), TreeFault>
     ensures same { OnErr result (writing.new ≡ writing.old) }
     ensures left { OnOk result (writing.new ≡ open_unless_within from.now writing.old) }
-    ensures asked { MovesOnce S.renames S.opens S.File.Handle.syncs synced folder.now.path.now from.now to.now system.old system.new result }
-    ensures kept { OnDevice result (IfSome last.new (IsOfMove S.renames S.opens S.File.Handle.syncs folder.now.path.now from.now to.now system.old system.new)) }
+    ensures asked { MovesOnce S.renames S.opens S.File.Handle.syncs synced folder.now.path.now
+        from.now to.now system.old system.new result }
+    ensures kept { OnDevice result (IfSome last.new (IsOfMove S.renames S.opens S.File.Handle.syncs
+        folder.now.path.now from.now to.now system.old system.new)) }
 {
     let old = folder.text(from, last)?;
     let new = folder.text(to, last)?;
@@ -361,7 +364,8 @@ fn sync_dir<S: System>(
     last: &mut Option<Failure>,
 ) -> Result<(), TreeFault>
     ensures asked { IsSynced S.opens S.File.Handle.syncs path.now system.old system.new result }
-    ensures kept { OnDevice result (IfSome last.new (IsOfCall path.now (FailsToSync S.opens S.File.Handle.syncs path.now system.old system.new))) }
+    ensures kept { OnDevice result (IfSome last.new (IsOfCall path.now
+        (FailsToSync S.opens S.File.Handle.syncs path.now system.old system.new))) }
 {
     match system.open_as(&reading(), path) {
         Ok(mut dir) => match dir.sync() {
@@ -381,8 +385,12 @@ fn peek<S: System>(
     last: &mut Option<Failure>,
 ) -> Result<(), TreeFault>
     ensures empty { OnErr result (block.new.items ≡ []) }
-    ensures asked { AsksOnce (λ s. S.opens s for_reading) (PeeksAt S.File.Input.left S.File.Input.reads block.new.items) folder.now.path.now path.now system.old system.new result }
-    ensures kept { OnDevice result (KeepsCall folder.now.path.now path.now (FailsToPeek (λ s. S.opens s for_reading) S.File.Input.reads (entry_text folder.now.path.now path.now) system.old system.new) last.new) }
+    ensures asked { AsksOnce (λ s. S.opens s for_reading)
+        (PeeksAt S.File.Input.left S.File.Input.reads block.new.items)
+        folder.now.path.now path.now system.old system.new result }
+    ensures kept { OnDevice result (KeepsCall folder.now.path.now path.now
+        (FailsToPeek (λ s. S.opens s for_reading) S.File.Input.reads
+        (entry_text folder.now.path.now path.now) system.old system.new) last.new) }
 {
     block.clear();
     let text = folder.text(path, last)?;
@@ -406,8 +414,12 @@ fn create<S: System>(
 ) -> Result<(), TreeFault>
     ensures opened { OnOk result (IsMadeAt path.now writing.new) }
     ensures same { OnErr result (writing.new ≡ writing.old) }
-    ensures asked { MakesOnce longest (λ s. S.opens s for_making) (MakesAt path.now writing.old writing.new) folder.now.path.now path.now system.old system.new result }
-    ensures kept { OnDevice result (KeepsMaking longest folder.now.path.now path.now (λ e. S.opens system.old for_making (entry_text folder.now.path.now path.now) (Err e) system.new) last.new) }
+    ensures asked { MakesOnce longest (λ s. S.opens s for_making)
+        (MakesAt path.now writing.old writing.new) folder.now.path.now path.now
+        system.old system.new result }
+    ensures kept { OnDevice result (KeepsMaking longest folder.now.path.now path.now
+        (λ e. S.opens system.old for_making (entry_text folder.now.path.now path.now) (Err e)
+        system.new) last.new) }
 {
     let text = folder.text_to_make(path, longest, last)?;
     let path = path.copy()?;
@@ -438,8 +450,10 @@ fn add<S: System>(
     last: &mut Option<Failure>,
 ) -> Result<(), TreeFault>
     ensures closed { IfNone writing.old (result ≡ Err Device) }
-    ensures writes { WritesTo S.writes system.old writing.old system.new writing.new piece.now result }
-    ensures kept { OnDevice result (IfSome last.new (IsOfWriting folder.now.path.now (FailsToAdd S.writes piece.now system.old) writing.old)) }
+    ensures writes { WritesTo S.writes system.old writing.old system.new writing.new
+        piece.now result }
+    ensures kept { OnDevice result (IfSome last.new (IsOfWriting folder.now.path.now
+        (FailsToAdd S.writes piece.now system.old) writing.old)) }
 {
     match writing {
         Some(open) => match write_out(system, &mut open.file, piece) {
@@ -460,9 +474,9 @@ fn close<F: Handle + Drop>(
     folder: &Folder<'_>,
     last: &mut Option<Failure>,
 ) -> Result<(), TreeFault>
-    ensures closed { IfNone writing.old (result ≡ Err Device) }
-    ensures open { IfSome writing.old (λ w. FinishesBy F.syncs synced w.file result) }
-    ensures kept { OnDevice result (IfSome last.new (IsOfWriting folder.now.path.now (λ w e. (after : F) × F.syncs w (Err e) after) writing.old)) }
+    ensures closed { ClosesBy F.syncs synced writing.old result }
+    ensures kept { OnDevice result (IfSome last.new (IsOfWriting folder.now.path.now
+        (λ w e. (after : F) × F.syncs w (Err e) after) writing.old)) }
     ensures writing { writing.new ≡ None }
 {
     let Some(mut open) = writing.take() else {

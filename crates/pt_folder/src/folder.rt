@@ -28,7 +28,8 @@ impl<'a> Folder<'a> {
     /// empty, since the path would lead to the top of the file system, which is kept as the last failure; else `Memory`
     /// where a growth was refused.
     pub fn text(&self, path: &NamePath, last: &mut Option<Failure>) -> Result<String, TreeFault>
-        ensures text { IfOk result (λ text. string_bytes text ≡ entry_text self.now.path.now path.now) }
+        ensures text { IfOk result
+            (λ text. string_bytes text ≡ entry_text self.now.path.now path.now) }
         ensures named { OnOk result (IsPath path.now) }
         ensures empty { IsErrOf result TreeFault.Device ↔ (length self.now.path.now ≡ 0) }
         ensures kept { OnDevice result (IfSome last.new (IsUnasked self.now.path.now)) }
@@ -47,12 +48,15 @@ impl<'a> Folder<'a> {
         longest: usize,
         last: &mut Option<Failure>,
     ) -> Result<String, TreeFault>
-        ensures text { IfOk result (λ text. string_bytes text ≡ entry_text self.now.path.now path.now) }
+        ensures text { IfOk result
+            (λ text. string_bytes text ≡ entry_text self.now.path.now path.now) }
         ensures named { OnOk result (IsPath path.now) }
-        ensures fits { IfOk result (λ text. length (entry_text self.now.path.now path.now) ≤ longest) }
+        ensures fits { OnOk result (length (entry_text self.now.path.now path.now) ≤ longest) }
         ensures filled { IfOk result (λ _. length self.now.path.now ≢ 0) }
-        ensures refused { IsErrOf result TreeFault.Device → CannotMake longest self.now.path.now path.now }
-        ensures kept { OnDevice result (IfSome last.new (λ f. IsUnasked self.now.path.now f ⊎ IsTooLong longest (entry_text self.now.path.now path.now) f)) }
+        ensures refused { IsErrOf result TreeFault.Device
+            → CannotMake longest self.now.path.now path.now }
+        ensures kept { OnDevice result (IfSome last.new (λ f. IsUnasked self.now.path.now f
+            ⊎ IsTooLong longest (entry_text self.now.path.now path.now) f)) }
     {
         let text = self.text(path, last)?;
         if text.len() > longest {
@@ -72,7 +76,8 @@ pub fn heard_at(
     error: io::Error,
 ) -> TreeFault
     ensures fault { result ≡ fault_of_kind (error_kind error) }
-    ensures kept { IfSome last.new (IsAt (entry_text folder.now.path.now path.now) (Cause.System error)) }
+    ensures kept { IfSome last.new
+        (IsAt (entry_text folder.now.path.now path.now) (Cause.System error)) }
 {
     *last = match path_text(folder.alloc, folder.path, path) {
         Ok(text) => Some(Failure::at(text, Cause::System(error))),
@@ -173,8 +178,11 @@ pub fn kind_at<S: System>(
     last: &mut Option<Failure>,
 ) -> Result<Option<Kind>, TreeFault>
     ensures at { OnOk result (string_bytes at.new ≡ entry_text folder.now.path.now path.now) }
-    ensures asked { AsksOnce S.looks LeadsToKind folder.now.path.now path.now system.old system.new result }
-    ensures kept { OnDevice result (KeepsCall folder.now.path.now path.now (λ e. S.looks system.old (entry_text folder.now.path.now path.now) (Err e) system.new) last.new) }
+    ensures asked { AsksOnce S.looks LeadsToKind folder.now.path.now path.now
+        system.old system.new result }
+    ensures kept { OnDevice result (KeepsCall folder.now.path.now path.now
+        (λ e. S.looks system.old (entry_text folder.now.path.now path.now) (Err e) system.new)
+        last.new) }
 {
     *at = folder.text(path, last)?;
     match system.look(at.as_str()) {
@@ -191,8 +199,11 @@ pub fn is_there<S: System>(
     path: &NamePath,
     last: &mut Option<Failure>,
 ) -> Result<(), TreeFault>
-    ensures asked { AsksOnce S.looks IsThere folder.now.path.now path.now system.old system.new result }
-    ensures kept { OnDevice result (KeepsCall folder.now.path.now path.now (λ e. S.looks system.old (entry_text folder.now.path.now path.now) (Err e) system.new) last.new) }
+    ensures asked { AsksOnce S.looks IsThere folder.now.path.now path.now
+        system.old system.new result }
+    ensures kept { OnDevice result (KeepsCall folder.now.path.now path.now
+        (λ e. S.looks system.old (entry_text folder.now.path.now path.now) (Err e) system.new)
+        last.new) }
 {
     let text = folder.text(path, last)?;
     match system.look(text.as_str()) {
@@ -218,8 +229,11 @@ pub fn make_dir<S: System>(
     longest: usize,
     last: &mut Option<Failure>,
 ) -> Result<(), TreeFault>
-    ensures asked { MakesOnce longest S.makes_dir IsAnswer folder.now.path.now path.now system.old system.new result }
-    ensures kept { OnDevice result (KeepsMaking longest folder.now.path.now path.now (λ e. S.makes_dir system.old (entry_text folder.now.path.now path.now) (Err e) system.new) last.new) }
+    ensures asked { MakesOnce longest S.makes_dir IsAnswer folder.now.path.now path.now
+        system.old system.new result }
+    ensures kept { OnDevice result (KeepsMaking longest folder.now.path.now path.now
+        (λ e. S.makes_dir system.old (entry_text folder.now.path.now path.now) (Err e) system.new)
+        last.new) }
 {
     let text = folder.text_to_make(path, longest, last)?;
     match system.make_dir(text.as_str()) {

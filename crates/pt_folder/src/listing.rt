@@ -37,11 +37,16 @@ pub fn list<S: System>(
     last: &mut Option<Failure>,
 ) -> Result<Listing, TreeFault>
     requires { ForSome (S.forest system.old folder.now.path.now) (λ f. IsSome (dir_at f path.now)) }
-    ensures same { S.forest system.new folder.now.path.now ≡ S.forest system.old folder.now.path.now }
-    ensures told { IfOk result (λ listing. ForSome (S.forest system.old folder.now.path.now) (λ f. listing_at f path.now ≡ Some listing)) }
+    ensures same { S.forest system.new folder.now.path.now
+        ≡ S.forest system.old folder.now.path.now }
+    ensures told { IfOk result (λ listing. ForSome (S.forest system.old folder.now.path.now)
+        (λ f. listing_at f path.now ≡ Some listing)) }
     ensures most { IfOk result (λ listing. length listing ≤ most_entries) }
-    ensures listed { IfOk result (λ listing. IsListedBy S.opens_dir S.looks S.Dir.Input.reads S.Dir.Input.left (entry_text folder.now.path.now path.now) (dir_front folder.now.path.now path.now) system.old system.new listing) }
-    ensures fault { IfErr result (λ fault. IsDueTo fault (FailsToList S.opens_dir S.looks S.Dir.Input.reads folder.now.path.now path.now system.old system.new)) }
+    ensures listed { IfOk result (IsListedBy S.opens_dir S.looks S.Dir.Input.reads S.Dir.Input.left
+        (entry_text folder.now.path.now path.now) (dir_front folder.now.path.now path.now)
+        system.old system.new) }
+    ensures fault { IfErr result (λ fault. IsDueTo fault (FailsToList S.opens_dir S.looks
+        S.Dir.Input.reads folder.now.path.now path.now system.old system.new)) }
     ensures kept { OnDevice result (KeepsListing S.looks folder.now.path.now path.now last.new) }
 {
     let mut text = folder.text(path, last)?;
@@ -62,8 +67,11 @@ fn names_in<S: System>(
 ) -> Result<Vec<Name>, TreeFault>
     ensures most { IfOk result (λ names. vec_len names ≤ most_entries) }
     ensures asked { (reply : _) × S.opens_dir system.old text.now reply system.new
-        × MatchResult reply (λ dir. (after : _) × MatchResult result (λ names. GetsNames S.Dir.Input.reads dir names.items after × IfSome (S.Dir.Input.left dir) (λ bytes. GivesNames bytes names.items))
-        (λ fault. IsDueTo fault (FailsToGet S.Dir.Input.reads most_entries dir after))) (λ e. result ≡ Err (fault_for e)) }
+        × MatchResult reply (λ dir. (after : _) × MatchResult result
+        (λ names. GetsNames S.Dir.Input.reads dir names.items after
+        × IfSome (S.Dir.Input.left dir) (λ bytes. GivesNames bytes names.items))
+        (λ fault. IsDueTo fault (FailsToGet S.Dir.Input.reads most_entries dir after)))
+        (λ e. result ≡ Err (fault_for e)) }
     ensures kept { OnDevice result (IfSome last.new (IsOfNames text.now)) }
 {
     match system.open_names(text) {
@@ -91,8 +99,10 @@ pub fn read_names<D: Input>(
 ) -> Result<Vec<Name>, TreeFault>
     ensures most { IfOk result (λ names. vec_len names ≤ most) }
     ensures read { IfOk result (λ names. GetsNames D.reads dir.old names.items dir.new) }
-    ensures fault { IfErr result (λ fault. IsDueTo fault (FailsToGet D.reads most dir.old dir.new)) }
-    ensures names { IfOk result (λ names. IfSome (D.left dir.old) (λ bytes. GivesNames bytes names.items)) }
+    ensures fault { IfErr result
+        (λ fault. IsDueTo fault (FailsToGet D.reads most dir.old dir.new)) }
+    ensures names { IfOk result
+        (λ names. IfSome (D.left dir.old) (λ bytes. GivesNames bytes names.items)) }
     ensures kept { OnDevice result (IfSome last.new (IsOfNames text.now)) }
 {
     let mut names = Vec::new(alloc);
@@ -121,7 +131,8 @@ fn add_names(
     requires { vec_len names.old ≤ most }
     ensures most { vec_len names.new ≤ most }
     ensures names { OnOk result (AddsNames piece.now names.old.items names.new.items) }
-    ensures fault { IfErr result (λ fault. IsDueTo fault (RefusesBytes most names.old.items piece.now)) }
+    ensures fault { IfErr result
+        (λ fault. IsDueTo fault (RefusesBytes most names.old.items piece.now)) }
     ensures kept { OnDevice result (IfSome last.new (IsOfNames text.now)) }
 {
     let mut rest = piece;
@@ -156,9 +167,12 @@ fn add_name(
 ) -> Result<(), TreeFault>
     requires { vec_len names.old ≤ most }
     ensures most { vec_len names.new ≤ most }
-    ensures added { OnOk result (names.new.items ≡ (if is_entry bytes.now then names.old.items ++ bytes.now ∷ [] else names.old.items)) }
-    ensures fault { IfErr result (λ fault. IsDueTo fault (IsRefusedName most names.old.items bytes.now)) }
-    ensures cause { OnDevice result (IfSome last.new (λ f. IsOfName most names.old.items bytes.now f.cause)) }
+    ensures added { OnOk result (names.new.items
+        ≡ (if is_entry bytes.now then names.old.items ++ bytes.now ∷ [] else names.old.items)) }
+    ensures fault { IfErr result
+        (λ fault. IsDueTo fault (IsRefusedName most names.old.items bytes.now)) }
+    ensures cause { OnDevice result
+        (IfSome last.new (λ f. IsOfName most names.old.items bytes.now f.cause)) }
     ensures kept { OnDevice result (IfSome last.new (IsOfNames text.now)) }
 {
     if bytes == b".".as_slice() || bytes == b"..".as_slice() {
@@ -190,8 +204,10 @@ fn with_kinds<S: System>(
     ensures rise { IfOk result (λ listing. IsTrue (names_rise listing)) }
     ensures seen { IfOk result (SeesAt S.forest (string_bytes text) system.old system.new) }
     ensures same { OnErr result (SeesAt S.forest (string_bytes text) system.old system.new []) }
-    ensures looked { IfOk result (λ listing. FoldsTo (LooksAt S.looks (string_bytes text)) system.old listing system.new) }
-    ensures fault { IfErr result (λ fault. IsDueTo fault (FailsToLook S.looks (string_bytes text) names.items system.old system.new)) }
+    ensures looked { IfOk result (λ listing.
+        FoldsTo (LooksAt S.looks (string_bytes text)) system.old listing system.new) }
+    ensures fault { IfErr result (λ fault. IsDueTo fault
+        (FailsToLook S.looks (string_bytes text) names.items system.old system.new)) }
     ensures kept { OnDevice result (IfSome last.new (IsOfEntry S.looks (string_bytes text))) }
 {
     let mut text = text;
@@ -215,8 +231,10 @@ fn own_kind<S: System>(
     text: &str,
     last: &mut Option<Failure>,
 ) -> Result<Kind, TreeFault>
-    ensures asked { (reply : _) × S.looks system.old text.now reply system.new × LeadsToOwnKind reply result }
-    ensures kept { OnDevice result (IfSome last.new (IsOfCall text.now (FailsLook S.looks text.now))) }
+    ensures asked { (reply : _) × S.looks system.old text.now reply system.new
+        × LeadsToOwnKind reply result }
+    ensures kept { OnDevice result
+        (IfSome last.new (IsOfCall text.now (FailsLook S.looks text.now))) }
 {
     match system.look(text) {
         Ok(metadata) => Ok(kind_of(&metadata)),

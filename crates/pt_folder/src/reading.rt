@@ -40,7 +40,8 @@ impl<F: Handle> Reading<F> {
         requires { Stands F.bytes F.left self.old }
         ensures stands { Stands F.bytes F.left self.new }
         ensures block { OnOk result (IsNext (unread_of F.bytes self.old) block.new.items) }
-        ensures moved { OnOk result (unread_of F.bytes self.new ≡ option_map (drop_items 8192) (unread_of F.bytes self.old)) }
+        ensures moved { OnOk result (unread_of F.bytes self.new
+            ≡ option_map (drop_items 8192) (unread_of F.bytes self.old)) }
         ensures empty { OnErr result (block.new.items ≡ []) }
         ensures same { OnErr result (unread_of F.bytes self.new ≡ unread_of F.bytes self.old) }
         ensures reads { OnOk result (ReadsNext F.reads F.goes self.old self.new block.new.items) }

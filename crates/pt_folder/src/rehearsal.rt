@@ -1,11 +1,9 @@
-ghost use Rattle.std.specs.Prelude.{◌≡◌, ◌⊎◌, [], Ok, OnOk, OnErr, IfOk};
+ghost use Rattle.std.proofs.Common.{◌∙◌, refl, subst};
+ghost use Rattle.std.specs.Prelude.{◌≡◌, [], Ok, OnOk, OnErr, IfOk};
 ghost use Rattle.std.specs.Option.{option_map};
-ghost use Rattle.pt_tree.specs.Failures.{IsCounted};
-ghost use Rattle.pt_tree.specs.Path.{joined};
-ghost use Rattle.pt_folder.specs.Calls.{AsksOnce, CannotMake, IsThere, LeadsToKind, for_reading};
+ghost use Rattle.pt_folder.specs.Calls.{CannotMake};
 ghost use Rattle.pt_folder.specs.Failure.{OnDevice};
-ghost use Rattle.pt_folder.specs.Rehearsal.{IsFromMemory, Remembers, is_known};
-ghost use Rattle.pt_folder.specs.Runs.{PeeksAt};
+ghost use Rattle.pt_folder.specs.Rehearsal.{is_known};
 
 use crate::HostDest;
 use crate::system::{Input, System};
@@ -61,10 +59,24 @@ impl<'a, S: System> Rehearsal<'a, S> {
 impl<'a, S: System> Dest for Rehearsal<'a, S> {
     ghost use Rattle.pt_tree.specs.Dest.{IsKindAt, IsPeeked, LeavesPart, after_mkdir, after_create, after_append, after_finish, after_rename};
     ghost use Rattle.pt_folder.specs.Devices.{no_dest, tree_untold};
+    ghost use Rattle.pt_folder.specs.HostDest.{Peeks};
+    ghost use Rattle.pt_folder.specs.Rehearsal.{IsCall, IsSame, LooksAtFolder, LooksUnlessKnown, Remembers};
 
     ghost told = { no_dest };
 
     ghost failed = { λ d. d.dest.failures };
+
+    // Nothing is made or changed: the system keeps of the folder what it kept.
+    ghost keeps = { IsSame };
+
+    ghost is_kept = { λ _. (refl, (refl, refl), refl, refl) };
+
+    ghost keeps_on = { λ _ b c p q. (
+      q.0 ∙ p.0,
+      (q.1.0 ∙ p.1.0, q.1.1 ∙ p.1.1),
+      q.2 ∙ p.2,
+      subst (λ f. S.kept c.dest.system f.path.now ≡ S.kept b.dest.system f.path.now) p.0 q.3 ∙ p.3,
+    ) };
 
     ghost is_tree = { tree_untold };
 
@@ -76,9 +88,9 @@ impl<'a, S: System> Dest for Rehearsal<'a, S> {
     fn kind(&mut self, path: &NamePath) -> Result<Option<Kind>, TreeFault>
         ensures kind { IfOk result (λ kind. IsKindAt (no_dest self.old) path.now kind) }
         ensures same { no_dest self.new ≡ no_dest self.old }
-        ensures asked { ((self.new.dest.system ≡ self.old.dest.system) × IsFromMemory self.old.moved path.now result) ⊎ AsksOnce S.looks LeadsToKind self.old.dest.folder.path.now path.now self.old.dest.system self.new.dest.system result }
+        ensures asked { LooksUnlessKnown self.old self.new path.now result }
         ensures moved { self.new.moved ≡ self.old.moved }
-        ensures failures { IsCounted self.old.dest.failures self.new.dest.failures result }
+        ensures call { IsCall self.old self.new result }
     {
         if self.known(path)? {
             return Ok(Some(Kind::Dir));
@@ -91,19 +103,20 @@ impl<'a, S: System> Dest for Rehearsal<'a, S> {
         ensures block { OnOk result (IsPeeked (no_dest self.old) path.now block.new.items) }
         ensures empty { OnErr result (block.new.items ≡ []) }
         ensures same { no_dest self.new ≡ no_dest self.old }
-        ensures asked { AsksOnce (λ s. S.opens s for_reading) (PeeksAt ⟦<S::File as Input>⟧.left ⟦<S::File as Input>⟧.reads block.new.items) self.old.dest.folder.path.now path.now self.old.dest.system self.new.dest.system result }
+        ensures asked { Peeks self.old.dest self.new.dest path.now block.new.items result }
         ensures moved { self.new.moved ≡ self.old.moved }
-        ensures failures { IsCounted self.old.dest.failures self.new.dest.failures result }
+        ensures call { IsCall self.old self.new result }
     {
         self.dest.first_bytes(path, block)
     }
 
     fn mkdir(&mut self, path: &NamePath) -> Result<(), TreeFault>
-        ensures made { OnOk result (no_dest self.new ≡ option_map (after_mkdir path.now) (no_dest self.old)) }
+        ensures made { OnOk result (no_dest self.new
+            ≡ option_map (after_mkdir path.now) (no_dest self.old)) }
         ensures same { OnErr result (no_dest self.new ≡ no_dest self.old) }
-        ensures asked { (self.new.dest.system ≡ self.old.dest.system) ⊎ AsksOnce S.looks IsThere self.old.dest.folder.path.now [] self.old.dest.system self.new.dest.system result }
+        ensures asked { LooksAtFolder self.old self.new result }
         ensures moved { self.new.moved ≡ self.old.moved }
-        ensures failures { IsCounted self.old.dest.failures self.new.dest.failures result }
+        ensures call { IsCall self.old self.new result }
     {
         self.dest.may_make(path)?;
         if path.len() == 1 {
@@ -113,21 +126,24 @@ impl<'a, S: System> Dest for Rehearsal<'a, S> {
     }
 
     fn create(&mut self, path: &NamePath) -> Result<(), TreeFault>
-        ensures made { OnOk result (no_dest self.new ≡ option_map (after_create path.now) (no_dest self.old)) }
+        ensures made { OnOk result (no_dest self.new
+            ≡ option_map (after_create path.now) (no_dest self.old)) }
         ensures same { OnErr result (no_dest self.new ≡ no_dest self.old) }
         ensures system { self.new.dest.system ≡ self.old.dest.system }
-        ensures refused { OnDevice result (CannotMake self.old.dest.longest self.old.dest.folder.path.now path.now) }
+        ensures refused { OnDevice result (CannotMake self.old.dest.longest
+            self.old.dest.folder.path.now path.now) }
         ensures moved { self.new.moved ≡ self.old.moved }
-        ensures failures { IsCounted self.old.dest.failures self.new.dest.failures result }
+        ensures call { IsCall self.old self.new result }
     {
         self.dest.may_make(path)
     }
 
     #[tactic(auto, using(crate::proofs::Untold::leaves_nothing))]
     fn append(&mut self, piece: &[u8]) -> Result<(), TreeFault>
-        ensures added { OnOk result (no_dest self.new ≡ option_map (after_append piece.now) (no_dest self.old)) }
+        ensures added { OnOk result (no_dest self.new
+            ≡ option_map (after_append piece.now) (no_dest self.old)) }
         ensures part { OnErr result (LeavesPart (no_dest self.old) (no_dest self.new) piece.now) }
-        ensures failures { IsCounted self.old.dest.failures self.new.dest.failures result }
+        ensures call { IsCall self.old self.new result }
         ensures still { self.new ≡ self.old }
         ensures done { result ≡ Ok tt }
     {
@@ -135,9 +151,10 @@ impl<'a, S: System> Dest for Rehearsal<'a, S> {
     }
 
     fn finish(&mut self) -> Result<(), TreeFault>
-        ensures closed { OnOk result (no_dest self.new ≡ option_map after_finish (no_dest self.old)) }
+        ensures closed { OnOk result (no_dest self.new
+            ≡ option_map after_finish (no_dest self.old)) }
         ensures same { OnErr result (no_dest self.new ≡ no_dest self.old) }
-        ensures failures { IsCounted self.old.dest.failures self.new.dest.failures result }
+        ensures call { IsCall self.old self.new result }
         ensures still { self.new ≡ self.old }
         ensures done { result ≡ Ok tt }
     {
@@ -145,11 +162,12 @@ impl<'a, S: System> Dest for Rehearsal<'a, S> {
     }
 
     fn rename(&mut self, from: &NamePath, to: &NamePath) -> Result<(), TreeFault>
-        ensures moved { OnOk result (no_dest self.new ≡ option_map (after_rename from.now to.now) (no_dest self.old)) }
+        ensures moved { OnOk result (no_dest self.new
+            ≡ option_map (after_rename from.now to.now) (no_dest self.old)) }
         ensures same { OnErr result (no_dest self.new ≡ no_dest self.old) }
         ensures remembered { OnOk result (Remembers self.old.moved self.new.moved to.now) }
         ensures dest { self.new.dest ≡ self.old.dest }
-        ensures failures { IsCounted self.old.dest.failures self.new.dest.failures result }
+        ensures call { IsCall self.old self.new result }
     {
         let text = to.join()?;
         match self.moved.insert(text) {

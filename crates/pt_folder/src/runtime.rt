@@ -84,11 +84,13 @@ impl<'a, R: Files> System for &'a R {
 
     ghost dir_law = { λ old new folder p reply named can by. untold_dir _ p reply };
 
-    ghost move_law = { λ old new folder from to reply named_from named_to can by. untold_move _ from to reply };
+    ghost move_law = { λ old new folder from to reply named_from named_to can by.
+        untold_move _ from to reply };
 
     ghost file_law = { λ old new folder p reply named can by. untold_file p reply };
 
-    ghost write_law = { λ old new folder q file after piece reply at by. untold_write q after piece reply };
+    ghost write_law = { λ old new folder q file after piece reply at by.
+        untold_write q after piece reply };
 
     ghost tree_law = { λ s folder t is. untold_tree t is };
 

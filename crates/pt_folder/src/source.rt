@@ -1,21 +1,23 @@
-ghost use Rattle.std.specs.Prelude.{◌≡◌, ◌≤◌, [], Some, None, Err, IfErr, IfOk, IfNone, IfSome, OnOk, OnErr, length, string_bytes};
+ghost use Rattle.std.proofs.Common.{◌∙◌, refl};
+ghost use Rattle.std.specs.Prelude.{◌≡◌, [], Some, None, Err, IfErr, IfOk, IfSome, IsSome, OnOk, OnErr, string_bytes};
 ghost use Rattle.std.specs.Prelude.{drop as drop_items};
-ghost use Rattle.std.specs.Option.{option_map};
+ghost use Rattle.std.specs.Option.{option_map, ForSome};
 ghost use Rattle.pt_tree.specs.declared.faults.TreeFault.TheVariants.{Device};
-ghost use Rattle.pt_folder.specs.Calls.{IsDueTo, for_reading};
-ghost use Rattle.pt_folder.specs.Failure.{KeepsListing, OnDevice};
+ghost use Rattle.pt_folder.specs.Calls.{AsksOnce, LeadsToKind, for_reading};
+ghost use Rattle.pt_tree.specs.Failures.{IsCounted};
+ghost use Rattle.pt_tree.specs.Forest.{Dir, dir_at, kind_of, node_at};
+ghost use Rattle.pt_tree.specs.Path.{parent};
+ghost use Rattle.pt_folder.specs.Failure.{OnDevice};
 ghost use Rattle.pt_folder.specs.Folder.{entry_text};
-ghost use Rattle.pt_folder.specs.Listing.{FailsToList, IsListedBy, dir_front, most_entries};
 ghost use Rattle.pt_folder.specs.Opening.{IsOfFile, KeepsOpening, LeadsToFile, OpensOnce};
-ghost use Rattle.pt_folder.specs.Reading.{FailsOn, IsAtStart, IsNext, IsOfReading, ReadsOn, StandsOpen, unread_open};
-ghost use Rattle.pt_folder.specs.SourceHeld.{told_of};
+ghost use Rattle.pt_folder.specs.Reading.{IsNext, IsOfReading, ReadsBy, StandsOpen, unread_open};
 
 use crate::failure::{Cause, Failure, heard, keep};
-use crate::folder::{Folder, counted, reading};
+use crate::folder::{Folder, counted, kind_at, reading};
 use crate::listing;
 use crate::reading::Reading;
 use crate::system::{Handle, Input, System};
-use pt_tree::{Block, Listing, NamePath, Source, TreeFault};
+use pt_tree::{Block, Kind, Listing, NamePath, Source, TreeFault};
 use std::alloc::Global;
 
 /// A folder of the system as a source. It tells the tree that the system keeps there, where it keeps one.
@@ -66,6 +68,35 @@ impl<'a, S: System> HostSource<'a, S> {
         self.at.as_str()
     }
 
+    /// The kind of what stands at a path, links not followed; None where the system finds nothing there, or a parent that
+    /// isn't a directory.
+    ///
+    /// Where the system keeps a tree, a directory has to be above the path. The open file stays as it is.
+    pub fn look(&mut self, path: &NamePath) -> Result<Option<Kind>, TreeFault>
+        requires { ForSome (S.forest self.old.system self.old.folder.path.now)
+            (λ f. IsSome (dir_at f (parent path.now))) }
+        ensures kind { IfOk result (λ here. IfSome here (λ kind.
+            ForSome (S.forest self.old.system self.old.folder.path.now)
+            (λ f. option_map kind_of (node_at (Dir f) path.now) ≡ Some kind))) }
+        ensures same { S.forest self.new.system self.new.folder.path.now
+            ≡ S.forest self.old.system self.old.folder.path.now }
+        ensures asked { AsksOnce S.looks LeadsToKind self.old.folder.path.now path.now
+            self.old.system self.new.system result }
+        ensures reading { self.new.reading ≡ self.old.reading }
+        ensures folder { self.new.folder ≡ self.old.folder }
+        ensures failures { IsCounted self.old.failures self.new.failures result }
+    {
+        let mut at = String::new(self.folder.alloc);
+        let kind = kind_at(
+            &mut self.system,
+            &self.folder,
+            path,
+            &mut at,
+            &mut self.last,
+        );
+        counted(&mut self.failures, kind)
+    }
+
     /// The system, as the calls left it; the open file is closed.
     pub fn into_system(self) -> S
         ensures { result ≡ self.entry.system }
@@ -77,34 +108,39 @@ impl<'a, S: System> HostSource<'a, S> {
 impl<'a, S: System> Source for HostSource<'a, S> {
     ghost use Rattle.std.specs.Prelude.{Option};
     ghost use Rattle.pt_tree.specs.Source.{CanList, IsListed, CanOpen, CanRead, IsRead, after_open, after_next};
-    ghost use Rattle.pt_tree.specs.Failures.{IsCounted, IsOneMoreCall};
     ghost use Rattle.pt_folder.specs.Devices.{was_called};
+    ghost use Rattle.pt_folder.specs.HostSource.{CannotList, IsCall, IsReading, KeepsList, KeepsOpen, KeepsRead, Lists, Opens, Reads, told};
     ghost use Rattle.pt_folder.specs.SourceHeld.{proper_held};
 
-    ghost told = { λ s. told_of (S.forest s.system s.folder.path.now) (unread_open ⟦<S::File as Input>⟧.bytes s.reading) };
+    ghost told = { told };
 
     ghost failed = { λ s. s.failures };
 
     ghost called = { λ s. was_called s.calls };
 
-    ghost proper = { λ s state is. proper_held (S.forest s.system s.folder.path.now) (unread_open ⟦<S::File as Input>⟧.bytes s.reading) state (S.proper_law s.system s.folder.path.now) is };
+    ghost keeps = { λ a b. b.folder ≡ a.folder };
+
+    ghost is_kept = { λ _. refl };
+
+    ghost keeps_on = { λ _ _ _ p q. q ∙ p };
+
+    ghost proper = { λ s state is. proper_held (S.forest s.system s.folder.path.now)
+        (unread_open ⟦<S::File as Input>⟧.bytes s.reading) state
+        (S.proper_law s.system s.folder.path.now) is };
 
     fn failures(&self) -> u64 {
         self.failures
     }
 
     fn list(&mut self, path: &NamePath) -> Result<Listing, TreeFault>
-        requires { CanList (told_of (S.forest self.old.system self.old.folder.path.now) (unread_open ⟦<S::File as Input>⟧.bytes self.old.reading)) path.now }
-        ensures listing { IfOk result (λ listing. IsListed (told_of (S.forest self.old.system self.old.folder.path.now) (unread_open ⟦<S::File as Input>⟧.bytes self.old.reading)) path.now listing) }
-        ensures most { IfOk result (λ listing. length listing ≤ most_entries) }
-        ensures listed { IfOk result (λ listing. IsListedBy S.opens_dir S.looks ⟦<S::Dir as Input>⟧.reads ⟦<S::Dir as Input>⟧.left (entry_text self.old.folder.path.now path.now) (dir_front self.old.folder.path.now path.now) self.old.system self.new.system listing) }
-        ensures fault { IfErr result (λ fault. IsDueTo fault (FailsToList S.opens_dir S.looks ⟦<S::Dir as Input>⟧.reads self.old.folder.path.now path.now self.old.system self.new.system)) }
-        ensures same { told_of (S.forest self.new.system self.new.folder.path.now) (unread_open ⟦<S::File as Input>⟧.bytes self.new.reading) ≡ told_of (S.forest self.old.system self.old.folder.path.now) (unread_open ⟦<S::File as Input>⟧.bytes self.old.reading) }
-        ensures kept { OnDevice result (KeepsListing S.looks self.old.folder.path.now path.now self.new.last) }
+        requires { CanList (told self.old) path.now }
+        ensures listing { IfOk result (λ listing. IsListed (told self.old) path.now listing) }
+        ensures listed { IfOk result (Lists self.old self.new path.now) }
+        ensures fault { IfErr result (CannotList self.old self.new path.now) }
+        ensures same { told self.new ≡ told self.old }
+        ensures kept { OnDevice result (KeepsList self.old self.new path.now) }
         ensures reading { self.new.reading ≡ self.old.reading }
-        ensures folder { self.new.folder ≡ self.old.folder }
-        ensures failures { IsCounted self.old.failures self.new.failures result }
-        ensures calls { IsOneMoreCall (was_called self.old.calls) (was_called self.new.calls) }
+        ensures call { IsCall self.old self.new result }
     {
         self.calls = self.calls.wrapping_add(1);
         let listing = listing::list(&mut self.system, &self.folder, path, &mut self.last);
@@ -112,17 +148,16 @@ impl<'a, S: System> Source for HostSource<'a, S> {
     }
 
     fn open(&mut self, path: &NamePath) -> Result<(), TreeFault>
-        requires { CanOpen (told_of (S.forest self.old.system self.old.folder.path.now) (unread_open ⟦<S::File as Input>⟧.bytes self.old.reading)) path.now }
-        ensures opened { OnOk result (told_of (S.forest self.new.system self.new.folder.path.now) (unread_open ⟦<S::File as Input>⟧.bytes self.new.reading) ≡ option_map (after_open path.now) (told_of (S.forest self.old.system self.old.folder.path.now) (unread_open ⟦<S::File as Input>⟧.bytes self.old.reading))) }
-        ensures same { OnErr result (told_of (S.forest self.new.system self.new.folder.path.now) (unread_open ⟦<S::File as Input>⟧.bytes self.new.reading) ≡ told_of (S.forest self.old.system self.old.folder.path.now) (unread_open ⟦<S::File as Input>⟧.bytes self.old.reading)) }
-        ensures started { OnOk result (IsAtStart self.new.reading) }
+        requires { CanOpen (told self.old) path.now }
+        ensures opened { OnOk result (told self.new
+            ≡ option_map (after_open path.now) (told self.old)) }
+        ensures same { OnErr result (told self.new ≡ told self.old) }
         ensures reading { OnErr result (self.new.reading ≡ self.old.reading) }
-        ensures asked { OpensOnce S.looks (λ s. S.opens s for_reading) self.old.folder.path.now path.now self.old.reading self.new.reading self.old.system self.new.system result }
-        ensures at { OnOk result (string_bytes self.new.at ≡ entry_text self.old.folder.path.now path.now) }
-        ensures kept { OnDevice result (KeepsOpening S.looks (λ s. S.opens s for_reading) self.old.folder.path.now path.now self.old.system self.new.system self.new.last) }
-        ensures folder { self.new.folder ≡ self.old.folder }
-        ensures failures { IsCounted self.old.failures self.new.failures result }
-        ensures calls { IsOneMoreCall (was_called self.old.calls) (was_called self.new.calls) }
+        ensures asked { Opens self.old self.new path.now result }
+        ensures at { OnOk result (string_bytes self.new.at
+            ≡ entry_text self.old.folder.path.now path.now) }
+        ensures kept { OnDevice result (KeepsOpen self.old self.new path.now) }
+        ensures call { IsCall self.old self.new result }
     {
         self.calls = self.calls.wrapping_add(1);
         let opened = open(
@@ -137,20 +172,14 @@ impl<'a, S: System> Source for HostSource<'a, S> {
     }
 
     fn next(&mut self, block: &mut Block) -> Result<(), TreeFault>
-        requires { CanRead (told_of (S.forest self.old.system self.old.folder.path.now) (unread_open ⟦<S::File as Input>⟧.bytes self.old.reading)) }
-        ensures block { OnOk result (IsRead (told_of (S.forest self.old.system self.old.folder.path.now) (unread_open ⟦<S::File as Input>⟧.bytes self.old.reading)) block.new.items) }
-        ensures moved { OnOk result (told_of (S.forest self.new.system self.new.folder.path.now) (unread_open ⟦<S::File as Input>⟧.bytes self.new.reading) ≡ option_map after_next (told_of (S.forest self.old.system self.old.folder.path.now) (unread_open ⟦<S::File as Input>⟧.bytes self.old.reading))) }
+        requires { CanRead (told self.old) }
+        ensures block { OnOk result (IsRead (told self.old) block.new.items) }
+        ensures moved { OnOk result (told self.new ≡ option_map after_next (told self.old)) }
         ensures empty { OnErr result (block.new.items ≡ []) }
-        ensures same { OnErr result (told_of (S.forest self.new.system self.new.folder.path.now) (unread_open ⟦<S::File as Input>⟧.bytes self.new.reading) ≡ told_of (S.forest self.old.system self.old.folder.path.now) (unread_open ⟦<S::File as Input>⟧.bytes self.old.reading)) }
-        ensures bytes { OnOk result (ReadsOn ⟦<S::File as Input>⟧.reads ⟦<S::File as Handle>⟧.goes self.old.reading self.new.reading block.new.items) }
-        ensures closed { IfNone self.old.reading (result ≡ Err Device) }
-        ensures fails { IfErr result (FailsOn ⟦<S::File as Input>⟧.reads ⟦<S::File as Handle>⟧.goes self.old.reading self.new.reading) }
-        ensures kept { OnDevice result (IfSome self.new.last (IsOfReading ⟦<S::File as Input>⟧.reads ⟦<S::File as Handle>⟧.goes (string_bytes self.old.at) self.old.reading)) }
-        ensures at { self.new.at ≡ self.old.at }
-        ensures system { self.new.system ≡ self.old.system }
-        ensures folder { self.new.folder ≡ self.old.folder }
-        ensures failures { IsCounted self.old.failures self.new.failures result }
-        ensures calls { IsOneMoreCall (was_called self.old.calls) (was_called self.new.calls) }
+        ensures same { OnErr result (told self.new ≡ told self.old) }
+        ensures reads { Reads self.old self.new block.new.items result }
+        ensures kept { OnDevice result (KeepsRead self.old self.new) }
+        ensures call { IsReading self.old self.new result }
     {
         self.calls = self.calls.wrapping_add(1);
         let read = read_on(
@@ -174,11 +203,12 @@ fn open<S: System>(
     at: &mut String,
     last: &mut Option<Failure>,
 ) -> Result<(), TreeFault>
-    ensures started { OnOk result (IsAtStart opened.new) }
     ensures same { OnErr result (opened.new ≡ opened.old) }
-    ensures asked { OpensOnce S.looks (λ s. S.opens s for_reading) folder.now.path.now path.now opened.old opened.new system.old system.new result }
+    ensures asked { OpensOnce S.looks (λ s. S.opens s for_reading) folder.now.path.now path.now
+        opened.old opened.new system.old system.new result }
     ensures at { OnOk result (string_bytes at.new ≡ entry_text folder.now.path.now path.now) }
-    ensures kept { OnDevice result (KeepsOpening S.looks (λ s. S.opens s for_reading) folder.now.path.now path.now system.old system.new last.new) }
+    ensures kept { OnDevice result (KeepsOpening S.looks (λ s. S.opens s for_reading)
+        folder.now.path.now path.now system.old system.new last.new) }
 {
     let text = folder.text(path, last)?;
     look_at_file(system, folder.alloc, text.as_str(), last)?;
@@ -199,8 +229,10 @@ fn look_at_file<S: System>(
     text: &str,
     last: &mut Option<Failure>,
 ) -> Result<(), TreeFault>
-    ensures asked { (reply : _) × S.looks system.old text.now reply system.new × LeadsToFile reply result }
-    ensures kept { OnDevice result (IfSome last.new (IsOfFile S.looks text.now system.old system.new)) }
+    ensures asked { (reply : _) × S.looks system.old text.now reply system.new
+        × LeadsToFile reply result }
+    ensures kept { OnDevice result
+        (IfSome last.new (IsOfFile S.looks text.now system.old system.new)) }
 {
     match system.look(text) {
         Ok(metadata) if metadata.is_file() => Ok(()),
@@ -225,13 +257,14 @@ fn read_on<F: Handle + Drop>(
     requires { StandsOpen F.bytes F.left reading.old }
     ensures stands { StandsOpen F.bytes F.left reading.new }
     ensures block { OnOk result (IsNext (unread_open F.bytes reading.old) block.new.items) }
-    ensures moved { OnOk result (unread_open F.bytes reading.new ≡ option_map (drop_items 8192) (unread_open F.bytes reading.old)) }
-    ensures same { OnErr result (unread_open F.bytes reading.new ≡ unread_open F.bytes reading.old) }
-    ensures bytes { OnOk result (ReadsOn F.reads F.goes reading.old reading.new block.new.items) }
-    ensures closed { IfNone reading.old (result ≡ Err Device) }
+    ensures moved { OnOk result (unread_open F.bytes reading.new
+        ≡ option_map (drop_items 8192) (unread_open F.bytes reading.old)) }
+    ensures same { OnErr result (unread_open F.bytes reading.new
+        ≡ unread_open F.bytes reading.old) }
     ensures empty { OnErr result (block.new.items ≡ []) }
-    ensures fails { IfErr result (FailsOn F.reads F.goes reading.old reading.new) }
-    ensures kept { OnDevice result (IfSome last.new (IsOfReading F.reads F.goes at.now reading.old)) }
+    ensures reads { ReadsBy F.reads F.goes reading.old reading.new block.new.items result }
+    ensures kept { OnDevice result
+        (IfSome last.new (IsOfReading F.reads F.goes at.now reading.old)) }
 {
     match reading {
         Some(open) => match open.read(block) {

@@ -113,7 +113,8 @@ pub trait System {
     ghost look_law: { LookLaw forest looks };
 
     /// A file of a folder that is read, opened for reading.
-    ghost open_law: { OpenLaw forest Self.File.Input.bytes Self.File.Input.left (λ s. opens s for_reading) };
+    ghost open_law: { OpenLaw forest Self.File.Input.bytes Self.File.Input.left
+        (λ s. opens s for_reading) };
 
     /// A directory of a folder that is read, opened.
     ghost names_law: { NamesLaw forest Self.Dir.left opens_dir };

@@ -1,3 +1,4 @@
+ghost use Rattle.std.proofs.Common.{◌∙◌, refl};
 ghost use Rattle.std.specs.Prelude.{◌≡◌};
 ghost use Rattle.pt_tree.specs.Listing.{left_in};
 ghost use Rattle.pt_ignore.specs.Ignoring.{told_without};
@@ -59,7 +60,14 @@ impl<S: Source> Source for Ignoring<S> {
 
     ghost called = { λ i. S.called i.source };
 
-    ghost proper = { λ i state is. proper_left i.names (S.told i.source) state (S.proper i.source) is };
+    ghost keeps = { λ a b. (b.names ≡ a.names) × S.keeps a.source b.source };
+
+    ghost is_kept = { λ a. (refl, S.is_kept a.source) };
+
+    ghost keeps_on = { λ a b c p q. (q.0 ∙ p.0, S.keeps_on a.source b.source c.source p.1 q.1) };
+
+    ghost proper = { λ i state is. proper_left i.names (S.told i.source) state
+        (S.proper i.source) is };
 
     fn failures(&self) -> u64 {
         self.source.failures()

@@ -10,7 +10,7 @@ ghost use Rattle.pt_object.specs.Object.{inventory_name, sidecar_name as sidecar
 ghost use Rattle.pt_plan.specs.Turn.{Did, LeavesSome};
 ghost use Rattle.pt_plan.specs.TurnMake.{after_last};
 ghost use Rattle.pt_plan.specs.declared.phase.Phase.TheVariants as phase;
-ghost use Rattle.pt_state.specs.Outside.{Turned};
+ghost use Rattle.pt_state.specs.Outside.{IsNotOfLog, Turned};
 ghost use Rattle.pt_state.specs.States.{job_of};
 ghost use Rattle.pt_tree.specs.Dest.{MayMake};
 ghost use Rattle.pt_make.specs.Making.{HasContentsOfRows, HasFedInventory, IsFedFor, in_folder, inventory_held, inventory_part, makes_file, sidecar_part};
@@ -46,6 +46,7 @@ pub(crate) fn make_inventory<O: Outside>(
     requires may { MayMake (O.world out.old).dest (in_folder folder (inventory_name ∷ [])) }
     ensures turn { Turned (phase.Make object (inventory_part folder)) state.old state.new
         (O.world out.old) (O.world out.new) result }
+    ensures other { IfErr result IsNotOfLog }
     ensures calls { O.within 0 out.old out.new }
 {
     let path = path_in(state.alloc, folder, "inventory.json")?;
@@ -97,6 +98,7 @@ pub(crate) fn make_sidecar<O: Outside>(
         (in_folder folder (sidecar_name_of state.old.job.algorithm ∷ [])) }
     ensures turn { Turned (phase.Make object (sidecar_part folder)) state.old state.new
         (O.world out.old) (O.world out.new) result }
+    ensures other { IfErr result IsNotOfLog }
     ensures calls { O.within 0 out.old out.new }
 {
     let path = sidecar_path(state.alloc, folder, state.job.algorithm)?;
@@ -136,6 +138,7 @@ fn put_sidecar<O: Outside>(
     ensures err { IfErr result (λ why. LeavesSome (makes_file path.now
         (sidecar_text state.now.job.algorithm (inventory_held state.now object.now))) why
         (O.world out.old) (O.world out.new)) }
+    ensures other { IfErr result IsNotOfLog }
     ensures calls { O.within 0 out.old out.new }
 {
     let digest = inventory_digest(state, object)?;

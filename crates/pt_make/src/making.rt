@@ -1,6 +1,6 @@
 #![tactic(auto, using(crate::proofs::Parts::parts, pt_state::proofs::Turns::turns))]
 //! The turns that make an object in `staging`, one part each.
-ghost use Rattle.std.specs.Prelude.{◌++◌, ◌∷◌, []};
+ghost use Rattle.std.specs.Prelude.{◌++◌, ◌∷◌, [], IfErr};
 ghost use Rattle.pt_object.specs.Object.{object_declaration_name};
 ghost use Rattle.pt_object.specs.Scripts.{staging};
 ghost use Rattle.pt_plan.specs.Permits.{MayMakePart};
@@ -8,7 +8,7 @@ ghost use Rattle.pt_plan.specs.TurnMake.{in_version};
 ghost use Rattle.pt_plan.specs.declared.phase.Part.TheVariants as part;
 ghost use Rattle.pt_plan.specs.declared.phase.Phase.TheVariants as phase;
 ghost use Rattle.pt_state.specs.States.{held_of, job_of};
-ghost use Rattle.pt_state.specs.Outside.{Turned};
+ghost use Rattle.pt_state.specs.Outside.{IsNotOfLog, Turned};
 ghost use Rattle.pt_tree.specs.Dest.{MayMake};
 ghost use Rattle.pt_make.specs.Making.{IsReadyFor};
 
@@ -34,6 +34,7 @@ pub fn make<O: Outside>(
     requires ready { IsReadyFor part object state.old }
     ensures turn { Turned (phase.Make object part) state.old state.new
         (O.world out.old) (O.world out.new) result }
+    ensures other { IfErr result IsNotOfLog }
     ensures calls { O.within 1 out.old out.new }
 {
     match part {
@@ -53,6 +54,7 @@ fn make_staging<O: Outside>(state: &State, object: Object, out: &mut O) -> Resul
     requires may { MayMake (O.world out.old).dest staging }
     ensures turn { Turned (phase.Make object part.Staging) state.now state.now
         (O.world out.old) (O.world out.new) result }
+    ensures other { IfErr result IsNotOfLog }
     ensures calls { O.within 0 out.old out.new }
 {
     let path = path_of(state.alloc, &[STAGING])?;
@@ -65,6 +67,7 @@ fn make_declaration<O: Outside>(state: &State, object: Object, out: &mut O) -> R
     requires may { MayMake (O.world out.old).dest (staging ++ object_declaration_name ∷ []) }
     ensures turn { Turned (phase.Make object part.Declaration) state.now state.now
         (O.world out.old) (O.world out.new) result }
+    ensures other { IfErr result IsNotOfLog }
     ensures calls { O.within 0 out.old out.new }
 {
     let path = path_of(state.alloc, &[STAGING, "0=ocfl_object_1.1"])?;
@@ -77,6 +80,7 @@ fn make_version<O: Outside>(state: &State, object: Object, out: &mut O) -> Resul
     requires may { MayMake (O.world out.old).dest (in_version []) }
     ensures turn { Turned (phase.Make object part.Version) state.now state.now
         (O.world out.old) (O.world out.new) result }
+    ensures other { IfErr result IsNotOfLog }
     ensures calls { O.within 0 out.old out.new }
 {
     let path = path_of(state.alloc, &[STAGING, "v1"])?;

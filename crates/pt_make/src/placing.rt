@@ -1,13 +1,13 @@
 #![tactic(auto, using(crate::proofs::Places::placing, pt_state::proofs::Turns::turns))]
 //! The turns that bring an object from `staging` to its place in the storage root.
-ghost use Rattle.std.specs.Prelude.{◌≡◌, ◌<◌};
+ghost use Rattle.std.specs.Prelude.{◌≡◌, ◌<◌, IfErr};
 ghost use Rattle.pt_object.specs.Scripts.{staging};
 ghost use Rattle.pt_plan.specs.Permits.{HasParent};
 ghost use Rattle.pt_plan.specs.TurnPlace.{after_tuple as after_tuple_of, tuple_folder};
 ghost use Rattle.pt_plan.specs.TurnWalk.{in_root};
 ghost use Rattle.pt_plan.specs.declared.phase.Phase.TheVariants as phase;
 ghost use Rattle.pt_state.specs.States.{job_of};
-ghost use Rattle.pt_state.specs.Outside.{Turned};
+ghost use Rattle.pt_state.specs.Outside.{IsNotOfLog, Turned};
 ghost use Rattle.pt_tree.specs.Dest.{MayMove};
 
 use pt_plan::{Halt, Object, Phase};
@@ -26,6 +26,7 @@ pub fn make_tuple<O: Outside>(
     requires may { HasParent (O.world out.old).dest (tuple_folder object index) }
     ensures turn { Turned (phase.Tuples object index) state.now state.now
         (O.world out.old) (O.world out.new) result }
+    ensures other { IfErr result IsNotOfLog }
     ensures calls { O.within 0 out.old out.new }
 {
     let _tuples = state.job.layout.count();
@@ -46,6 +47,7 @@ fn enter_tuple<O: Outside>(
     requires may { HasParent (O.world out.old).dest path.now }
     ensures turn { Turned (phase.Tuples object index) state.now state.now
         (O.world out.old) (O.world out.new) result }
+    ensures other { IfErr result IsNotOfLog }
     ensures calls { O.within 0 out.old out.new }
 {
     match out.kind(path)? {
@@ -76,6 +78,7 @@ pub fn rename<O: Outside>(state: &State, object: Object, out: &mut O) -> Result<
     requires may { MayMove (O.world out.old).dest staging (in_root object.place) }
     ensures turn { Turned (phase.Rename object) state.now state.now
         (O.world out.old) (O.world out.new) result }
+    ensures other { IfErr result IsNotOfLog }
     ensures calls { O.within 0 out.old out.new }
 {
     let from = path_of(state.alloc, &[STAGING])?;
@@ -96,6 +99,7 @@ fn move_object<O: Outside>(
     requires to { to.now ≡ in_root object.place }
     ensures turn { Turned (phase.Rename object) state.now state.now
         (O.world out.old) (O.world out.new) result }
+    ensures other { IfErr result IsNotOfLog }
     ensures calls { O.within 0 out.old out.new }
 {
     out.rename(from, to)?;

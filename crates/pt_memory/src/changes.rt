@@ -11,7 +11,8 @@ use std::mem;
 
 /// Inserts the first entry of `leaf` into the directory at a path, in the order of the names.
 pub fn insert(entries: &mut Entries, dir: &[Name], leaf: Entries)
-    ensures forest { forest_of entries.new ≡ changed (inserted (forest_of leaf)) (forest_of entries.old) dir.now }
+    ensures forest { forest_of entries.new
+        ≡ changed (inserted (forest_of leaf)) (forest_of entries.old) dir.now }
     ensures marked { open_of leaf ≡ None → open_of entries.new ≡ open_of entries.old }
 {
     let [name, rest @ ..] = dir else {
@@ -91,7 +92,8 @@ fn put_first(entries: &mut Entries, leaf: Entries)
 
 /// Takes the entry of a name out of the directory at a path, and gives it alone; nothing where there is none.
 pub fn remove(entries: &mut Entries, dir: &[Name], name: &Name) -> Entries
-    ensures forest { forest_of entries.new ≡ changed (removed name.now) (forest_of entries.old) dir.now }
+    ensures forest { forest_of entries.new
+        ≡ changed (removed name.now) (forest_of entries.old) dir.now }
     ensures entry { forest_of result ≡ picked_at (forest_of entries.old) dir.now name.now }
 {
     let [next, rest @ ..] = dir else {
@@ -171,7 +173,8 @@ pub fn edit_bytes(
     name: &Name,
     edit: Edit<'_>,
 ) -> Result<(), AllocError>
-    ensures ok { OnOk result (forest_of entries.new ≡ changed (rewritten (edited edit.entry) name.now) (forest_of entries.old) dir.now) }
+    ensures ok { OnOk result (forest_of entries.new
+        ≡ changed (rewritten (edited edit.entry) name.now) (forest_of entries.old) dir.now) }
     ensures err { OnErr result (forest_of entries.new ≡ forest_of entries.old) }
     ensures marked { open_of entries.new ≡ open_of entries.old }
     ensures replaced { is_replace edit.entry ≡ true → IsOk result }
@@ -194,7 +197,8 @@ pub fn edit_bytes(
 }
 
 fn edit_here(entries: &mut Entries, name: &Name, edit: Edit<'_>) -> Result<(), AllocError>
-    ensures ok { OnOk result (forest_of entries.new ≡ rewritten (edited edit.entry) name.now (forest_of entries.old)) }
+    ensures ok { OnOk result (forest_of entries.new
+        ≡ rewritten (edited edit.entry) name.now (forest_of entries.old)) }
     ensures err { OnErr result (forest_of entries.new ≡ forest_of entries.old) }
     ensures marked { open_of entries.new ≡ open_of entries.old }
     ensures replaced { is_replace edit.entry ≡ true → IsOk result }

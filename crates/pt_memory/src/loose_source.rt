@@ -1,4 +1,4 @@
-ghost use Rattle.std.specs.Prelude.{◌≡◌, ◌<◌, [], None, IfOk, OnOk, OnErr, length};
+ghost use Rattle.std.specs.Prelude.{◌≡◌, ◌<◌, [], None, IfOk, OnOk, OnErr, length, ⊤};
 ghost use Rattle.std.specs.Option.{option_map};
 ghost use Rattle.pt_memory.specs.declared.loose_source.SwapFault.TheVariants as fault;
 
@@ -72,8 +72,10 @@ impl LooseSource {
     /// `Absent` where no file is at the path, tested first; then `Memory`. Refused, an earlier swap stays; else this
     /// one takes its place.
     pub fn swap_after(&mut self, calls: u64, path: &NamePath, bytes: &[u8]) -> Result<(), SwapFault>
-        ensures answer { Answers (swap_refusal (loose_state self.old).source.tree path.now) SwapFault.Memory result
-            (λ _. loose_state self.new ≡ after_swap calls path.now bytes.now (loose_state self.old)) }
+        ensures answer { Answers (swap_refusal (loose_state self.old).source.tree path.now)
+            SwapFault.Memory result
+            (λ _. loose_state self.new ≡ after_swap calls path.now bytes.now
+            (loose_state self.old)) }
         ensures err { OnErr result (loose_state self.new ≡ loose_state self.old) }
     {
         if path.is_empty() || self.source.file(path).is_none() {
@@ -139,6 +141,12 @@ impl Source for LooseSource {
 
     ghost called = { loose_called };
 
+    ghost keeps = { λ _ _. ⊤ };
+
+    ghost is_kept = { λ _. tt };
+
+    ghost keeps_on = { λ _ _ _ _ _. tt };
+
     ghost proper = { untold };
 
     fn failures(&self) -> u64 {
@@ -147,9 +155,12 @@ impl Source for LooseSource {
 
     #[tactic(auto, unfolding(pt_tree::specs::Source::IsListed))]
     fn list(&mut self, path: &NamePath) -> Result<Listing, TreeFault>
-        ensures gives { Then (λ between. ListGives (loose_state self.old).source between path.now result) (loose_state self.old) (loose_state self.new) }
+        ensures gives { Then (λ between.
+            ListGives (loose_state self.old).source between path.now result) (loose_state self.old)
+            (loose_state self.new) }
         ensures listing { IfOk result (λ listing. IsListed None path.now listing) }
-        ensures failures { IsCounted self.old.source.fuse.failures self.new.source.fuse.failures result }
+        ensures failures { IsCounted self.old.source.fuse.failures
+            self.new.source.fuse.failures result }
         ensures calls { IsOneMoreCall (loose_called self.old) (loose_called self.new) }
     {
         let listing = self.source.list_at(path);
@@ -158,8 +169,11 @@ impl Source for LooseSource {
     }
 
     fn open(&mut self, path: &NamePath) -> Result<(), TreeFault>
-        ensures gives { Then (λ between. OpenGives (loose_state self.old).source between path.now result) (loose_state self.old) (loose_state self.new) }
-        ensures failures { IsCounted self.old.source.fuse.failures self.new.source.fuse.failures result }
+        ensures gives { Then (λ between.
+            OpenGives (loose_state self.old).source between path.now result) (loose_state self.old)
+            (loose_state self.new) }
+        ensures failures { IsCounted self.old.source.fuse.failures
+            self.new.source.fuse.failures result }
         ensures calls { IsOneMoreCall (loose_called self.old) (loose_called self.new) }
     {
         let opened = self.source.open_at(path);
@@ -169,10 +183,13 @@ impl Source for LooseSource {
 
     #[tactic(auto, unfolding(pt_tree::specs::Source::IsRead))]
     fn next(&mut self, block: &mut Block) -> Result<(), TreeFault>
-        ensures gives { Then (λ between. NextGives (loose_state self.old).source between block.new.items result) (loose_state self.old) (loose_state self.new) }
+        ensures gives { Then (λ between.
+            NextGives (loose_state self.old).source between block.new.items result)
+            (loose_state self.old) (loose_state self.new) }
         ensures block { OnOk result (IsRead None block.new.items) }
         ensures empty { OnErr result (block.new.items ≡ []) }
-        ensures failures { IsCounted self.old.source.fuse.failures self.new.source.fuse.failures result }
+        ensures failures { IsCounted self.old.source.fuse.failures
+            self.new.source.fuse.failures result }
         ensures calls { IsOneMoreCall (loose_called self.old) (loose_called self.new) }
     {
         let read = self.source.next_of(block);

@@ -1,4 +1,4 @@
-ghost use Rattle.std.specs.Prelude.{◌≡◌, ◌↔◌, [], true, None, Some, IsOk, IsTrue, IfOk, OnOk, OnErr};
+ghost use Rattle.std.specs.Prelude.{◌≡◌, ◌↔◌, [], true, None, Some, IsOk, IsTrue, IfOk, OnOk, OnErr, ⊤};
 ghost use Rattle.std.specs.Option.{option_copied, option_map};
 ghost use Rattle.pt_memory.specs.Entries.{forest_of};
 ghost use Rattle.pt_tree.specs.Dest.{added_to, open_unless_below};
@@ -10,7 +10,7 @@ use crate::entries::{Entries, at, same};
 use crate::fuse::Fuse;
 use crate::moving::{append, rename, take};
 use crate::opening::fill;
-use crate::planting::{dir_leaf, file_in, file_leaf, kind_in, plant, refusal};
+use crate::planting::{dir_leaf, file_in, file_leaf, free_name, kind_in, plant, refusal};
 use pt_tree::{Block, Dest, Kind, MemoryFault, NamePath, TreeFault};
 use std::alloc::Global;
 use thiserror::Error;
@@ -67,16 +67,13 @@ impl MemDest {
     /// Plants a file with these bytes. Refused, in this order, as `NoParent` where the path's parent is no directory,
     /// as `Taken` where something stands at the path, the top among it, and as `Memory`. Refused, it changes nothing.
     pub fn plant_file(&mut self, path: &NamePath, bytes: &[u8]) -> Result<(), PlantFault>
-        ensures answer { Answers (plant_refusal (dest_tree self.old) path.now) PlantFault.Memory result
-            (λ _. dest_state self.new ≡ after_plant path.now (Bytes bytes.now) (dest_state self.old)) }
+        ensures answer { Answers (plant_refusal (dest_tree self.old) path.now)
+            PlantFault.Memory result
+            (λ _. dest_state self.new ≡ after_plant path.now (Bytes bytes.now)
+            (dest_state self.old)) }
         ensures err { OnErr result (dest_state self.new ≡ dest_state self.old) }
     {
-        if let Some(refusal) = refusal(&self.entries, path) {
-            return Err(refusal);
-        }
-        let Some((_, name)) = path.split() else {
-            return Err(PlantFault::Taken);
-        };
+        let name = free_name(&self.entries, path)?;
         let leaf = file_leaf(self.alloc, name, bytes)?;
         plant(&mut self.entries, path, leaf);
         Ok(())
@@ -84,16 +81,12 @@ impl MemDest {
 
     /// Plants an empty directory; refused as `plant_file` is.
     pub fn plant_dir(&mut self, path: &NamePath) -> Result<(), PlantFault>
-        ensures answer { Answers (plant_refusal (dest_tree self.old) path.now) PlantFault.Memory result
+        ensures answer { Answers (plant_refusal (dest_tree self.old) path.now)
+            PlantFault.Memory result
             (λ _. dest_state self.new ≡ after_plant path.now Folder (dest_state self.old)) }
         ensures err { OnErr result (dest_state self.new ≡ dest_state self.old) }
     {
-        if let Some(refusal) = refusal(&self.entries, path) {
-            return Err(refusal);
-        }
-        let Some((_, name)) = path.split() else {
-            return Err(PlantFault::Taken);
-        };
+        let name = free_name(&self.entries, path)?;
         let leaf = dir_leaf(self.alloc, name)?;
         plant(&mut self.entries, path, leaf);
         Ok(())
@@ -102,7 +95,8 @@ impl MemDest {
     /// Removes what stands at a path, with all below, and closes a file that is open there. `Absent` where nothing
     /// stands, and for the top; then nothing is changed.
     pub fn take_away(&mut self, path: &NamePath) -> Result<(), TakeFault>
-        ensures answer { Answers (take_refusal (dest_tree self.old) path.now) TakeFault.Absent result
+        ensures answer { Answers (take_refusal (dest_tree self.old) path.now)
+            TakeFault.Absent result
             (λ _. dest_state self.new ≡ after_take path.now (dest_state self.old)) }
         ensures taken { take_refusal (dest_tree self.old) path.now ≡ None → IsOk result }
         ensures err { OnErr result (dest_state self.new ≡ dest_state self.old) }
@@ -162,6 +156,12 @@ impl Dest for MemDest {
 
     ghost failed = { λ d. d.fuse.failures };
 
+    ghost keeps = { λ _ _. ⊤ };
+
+    ghost is_kept = { λ _. tt };
+
+    ghost keeps_on = { λ _ _ _ _ _. tt };
+
     ghost is_tree = { tree_told };
 
     fn failures(&self) -> u64 {
@@ -169,8 +169,11 @@ impl Dest for MemDest {
     }
 
     fn kind(&mut self, path: &NamePath) -> Result<Option<Kind>, TreeFault>
-        ensures gives { Passes (is_blown self.old.fuse) (dest_state self.old) (dest_state self.new) result
-            ((result ≡ Ok (option_map kind_of_entry ((dest_state self.old).told.tree path.now))) × (dest_state self.new ≡ after_dest_call (dest_state self.old) (dest_state self.old).told)) }
+        ensures gives { Passes (is_blown self.old.fuse) (dest_state self.old)
+            (dest_state self.new) result
+            ((result ≡ Ok (option_map kind_of_entry ((dest_state self.old).told.tree path.now)))
+            × (dest_state self.new ≡ after_dest_call (dest_state self.old)
+            (dest_state self.old).told)) }
         ensures kind { IfOk result (λ kind. IsKindAt (dest_told self.old) path.now kind) }
         ensures same { dest_told self.new ≡ dest_told self.old }
         ensures failures { IsCounted self.old.fuse.failures self.new.fuse.failures result }
@@ -181,8 +184,10 @@ impl Dest for MemDest {
 
     fn peek(&mut self, path: &NamePath, block: &mut Block) -> Result<(), TreeFault>
         requires { CanPeek (dest_told self.old) path.now }
-        ensures gives { Passes (is_blown self.old.fuse) (dest_state self.old) (dest_state self.new) result
-            ((result ≡ Ok tt) × (dest_state self.new ≡ after_dest_call (dest_state self.old) (dest_state self.old).told)) }
+        ensures gives { Passes (is_blown self.old.fuse) (dest_state self.old)
+            (dest_state self.new) result
+            ((result ≡ Ok tt) × (dest_state self.new
+            ≡ after_dest_call (dest_state self.old) (dest_state self.old).told)) }
         ensures block { OnOk result (IsPeeked (dest_told self.old) path.now block.new.items) }
         ensures empty { OnErr result (block.new.items ≡ []) }
         ensures same { dest_told self.new ≡ dest_told self.old }
@@ -199,9 +204,12 @@ impl Dest for MemDest {
 
     fn mkdir(&mut self, path: &NamePath) -> Result<(), TreeFault>
         requires { MayMake (dest_told self.old) path.now }
-        ensures gives { Passes (is_blown self.old.fuse) (dest_state self.old) (dest_state self.new) result
-            (Makes (dest_state self.old) (dest_state self.new) result (after_mkdir path.now (dest_state self.old).told)) }
-        ensures made { OnOk result (dest_told self.new ≡ option_map (after_mkdir path.now) (dest_told self.old)) }
+        ensures gives { Passes (is_blown self.old.fuse) (dest_state self.old)
+            (dest_state self.new) result
+            (Makes (dest_state self.old) (dest_state self.new) result
+            (after_mkdir path.now (dest_state self.old).told)) }
+        ensures made { OnOk result (dest_told self.new
+            ≡ option_map (after_mkdir path.now) (dest_told self.old)) }
         ensures same { OnErr result (dest_told self.new ≡ dest_told self.old) }
         ensures failures { IsCounted self.old.fuse.failures self.new.fuse.failures result }
     {
@@ -216,9 +224,12 @@ impl Dest for MemDest {
 
     fn create(&mut self, path: &NamePath) -> Result<(), TreeFault>
         requires { MayMake (dest_told self.old) path.now }
-        ensures gives { Passes (is_blown self.old.fuse) (dest_state self.old) (dest_state self.new) result
-            (Makes (dest_state self.old) (dest_state self.new) result (after_create path.now (dest_state self.old).told)) }
-        ensures made { OnOk result (dest_told self.new ≡ option_map (after_create path.now) (dest_told self.old)) }
+        ensures gives { Passes (is_blown self.old.fuse) (dest_state self.old)
+            (dest_state self.new) result
+            (Makes (dest_state self.old) (dest_state self.new) result
+            (after_create path.now (dest_state self.old).told)) }
+        ensures made { OnOk result (dest_told self.new
+            ≡ option_map (after_create path.now) (dest_told self.old)) }
         ensures same { OnErr result (dest_told self.new ≡ dest_told self.old) }
         ensures failures { IsCounted self.old.fuse.failures self.new.fuse.failures result }
     {
@@ -235,9 +246,12 @@ impl Dest for MemDest {
 
     fn append(&mut self, piece: &[u8]) -> Result<(), TreeFault>
         requires { CanWrite (dest_told self.old) }
-        ensures gives { Appends (is_blown self.old.fuse) (dest_state self.old) (dest_state self.new) result piece.now }
-        ensures added { OnOk result (dest_told self.new ≡ option_map (after_append piece.now) (dest_told self.old)) }
-        ensures part { OnErr result (LeavesPart (dest_told self.old) (dest_told self.new) piece.now) }
+        ensures gives { Appends (is_blown self.old.fuse) (dest_state self.old)
+            (dest_state self.new) result piece.now }
+        ensures added { OnOk result (dest_told self.new
+            ≡ option_map (after_append piece.now) (dest_told self.old)) }
+        ensures part { OnErr result (LeavesPart (dest_told self.old)
+            (dest_told self.new) piece.now) }
         ensures failures { IsCounted self.old.fuse.failures self.new.fuse.failures result }
     {
         if self.fuse.is_blown() {
@@ -255,9 +269,12 @@ impl Dest for MemDest {
 
     fn finish(&mut self) -> Result<(), TreeFault>
         requires { CanWrite (dest_told self.old) }
-        ensures gives { Passes (is_blown self.old.fuse) (dest_state self.old) (dest_state self.new) result
-            ((result ≡ Ok tt) × (dest_state self.new ≡ after_dest_call (dest_state self.old) (after_finish (dest_state self.old).told))) }
-        ensures closed { OnOk result (dest_told self.new ≡ option_map after_finish (dest_told self.old)) }
+        ensures gives { Passes (is_blown self.old.fuse) (dest_state self.old)
+            (dest_state self.new) result
+            ((result ≡ Ok tt) × (dest_state self.new
+            ≡ after_dest_call (dest_state self.old) (after_finish (dest_state self.old).told))) }
+        ensures closed { OnOk result (dest_told self.new
+            ≡ option_map after_finish (dest_told self.old)) }
         ensures same { OnErr result (dest_told self.new ≡ dest_told self.old) }
         ensures failures { IsCounted self.old.fuse.failures self.new.fuse.failures result }
     {
@@ -268,9 +285,12 @@ impl Dest for MemDest {
 
     fn rename(&mut self, from: &NamePath, to: &NamePath) -> Result<(), TreeFault>
         requires { MayMove (dest_told self.old) from.now to.now }
-        ensures gives { Passes (is_blown self.old.fuse) (dest_state self.old) (dest_state self.new) result
-            (Makes (dest_state self.old) (dest_state self.new) result (after_rename from.now to.now (dest_state self.old).told)) }
-        ensures moved { OnOk result (dest_told self.new ≡ option_map (after_rename from.now to.now) (dest_told self.old)) }
+        ensures gives { Passes (is_blown self.old.fuse) (dest_state self.old)
+            (dest_state self.new) result
+            (Makes (dest_state self.old) (dest_state self.new) result
+            (after_rename from.now to.now (dest_state self.old).told)) }
+        ensures moved { OnOk result (dest_told self.new
+            ≡ option_map (after_rename from.now to.now) (dest_told self.old)) }
         ensures same { OnErr result (dest_told self.new ≡ dest_told self.old) }
         ensures failures { IsCounted self.old.fuse.failures self.new.fuse.failures result }
     {
@@ -284,7 +304,8 @@ impl Dest for MemDest {
 // Adds a piece to the open file.
 fn add(entries: &mut Entries, writing: &Option<NamePath>, piece: &[u8]) -> Result<(), MemoryFault>
     requires { is_proper (forest_of entries.old) ≡ true }
-    ensures ok { OnOk result (tree_of (forest_of entries.new) ≡ added_to (tree_of (forest_of entries.old)) writing.now piece.now) }
+    ensures ok { OnOk result (tree_of (forest_of entries.new)
+        ≡ added_to (tree_of (forest_of entries.old)) writing.now piece.now) }
     ensures err { OnErr result (tree_of (forest_of entries.new) ≡ tree_of (forest_of entries.old)) }
     ensures proper { is_proper (forest_of entries.new) ≡ true }
 {

@@ -1,4 +1,4 @@
-ghost use Rattle.std.specs.Prelude.{◌≡◌, Some, OnOk, OnErr};
+ghost use Rattle.std.specs.Prelude.{◌≡◌, Some, OnOk, OnErr, ⊤};
 ghost use Rattle.std.specs.Io.KnownBytes.{Appends};
 ghost use Rattle.pt_tree.specs.Failures.{IsCounted};
 ghost use Rattle.pt_tree.specs.Log.{AppendsFront};
@@ -55,14 +55,23 @@ impl Log for MemLog {
 
     ghost failed = { λ l. l.failures };
 
+    ghost keeps = { λ _ _. ⊤ };
+
+    ghost is_kept = { λ _. tt };
+
+    ghost keeps_on = { λ _ _ _ _ _. tt };
+
     fn failures(&self) -> u64 {
         self.failures
     }
 
     fn put(&mut self, piece: &[u8]) -> Result<(), TreeFault>
-        ensures puts { Puts (fits self.old.left (length piece.now)) (log_state self.old) (log_state self.new) result piece.now }
-        ensures ok { OnOk result (Appends (Some self.old.bytes.items) (Some self.new.bytes.items) piece.now) }
-        ensures part { OnErr result (AppendsFront (Some self.old.bytes.items) (Some self.new.bytes.items) piece.now) }
+        ensures puts { Puts (fits self.old.left (length piece.now)) (log_state self.old)
+            (log_state self.new) result piece.now }
+        ensures ok { OnOk result (Appends (Some self.old.bytes.items)
+            (Some self.new.bytes.items) piece.now) }
+        ensures part { OnErr result (AppendsFront (Some self.old.bytes.items)
+            (Some self.new.bytes.items) piece.now) }
         ensures failures { IsCounted self.old.failures self.new.failures result }
     {
         let count = piece.len() as u64;

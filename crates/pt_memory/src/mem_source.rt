@@ -1,4 +1,4 @@
-ghost use Rattle.std.specs.Prelude.{◌≡◌, ◌↔◌, ◌<◌, [], Some, None, IsTrue, IfOk, OnOk, OnErr, length};
+ghost use Rattle.std.specs.Prelude.{◌≡◌, ◌↔◌, ◌<◌, [], Some, None, IsTrue, IfOk, OnOk, OnErr, length, ⊤};
 ghost use Rattle.std.specs.Prelude.{true};
 ghost use Rattle.std.specs.Option.{option_copied, option_map};
 ghost use Rattle.pt_memory.specs.Entries.{forest_of};
@@ -9,7 +9,7 @@ use crate::entries::{Entries, Found, at, list};
 use crate::fuse::Fuse;
 use crate::moving::rewrite;
 use crate::opening::{open, read_on};
-use crate::planting::{dir_in, dir_leaf, file_in, file_leaf, other_leaf, plant, refusal};
+use crate::planting::{dir_in, dir_leaf, file_in, file_leaf, free_name, other_leaf, plant};
 use pt_tree::{Block, Listing, NamePath, Source, TreeFault};
 use std::alloc::Global;
 
@@ -46,16 +46,13 @@ impl MemSource {
     /// Plants a file with these bytes. Refused, in this order, as `NoParent` where the path's parent is no directory,
     /// as `Taken` where something stands at the path, the top among it, and as `Memory`. Refused, it changes nothing.
     pub fn plant_file(&mut self, path: &NamePath, bytes: &[u8]) -> Result<(), PlantFault>
-        ensures answer { Answers (plant_refusal (tree_of (source_tree self.old)) path.now) PlantFault.Memory result
-            (λ _. IsPlanted (Bytes bytes.now) path.now (source_state self.old) (source_state self.new)) }
+        ensures answer { Answers (plant_refusal (tree_of (source_tree self.old)) path.now)
+            PlantFault.Memory result
+            (λ _. IsPlanted (Bytes bytes.now) path.now (source_state self.old)
+            (source_state self.new)) }
         ensures err { OnErr result (source_state self.new ≡ source_state self.old) }
     {
-        if let Some(refusal) = refusal(&self.entries, path) {
-            return Err(refusal);
-        }
-        let Some((_, name)) = path.split() else {
-            return Err(PlantFault::Taken);
-        };
+        let name = free_name(&self.entries, path)?;
         let leaf = file_leaf(self.alloc, name, bytes)?;
         plant(&mut self.entries, path, leaf);
         Ok(())
@@ -63,16 +60,12 @@ impl MemSource {
 
     /// Plants an empty directory; refused as `plant_file` is.
     pub fn plant_dir(&mut self, path: &NamePath) -> Result<(), PlantFault>
-        ensures answer { Answers (plant_refusal (tree_of (source_tree self.old)) path.now) PlantFault.Memory result
+        ensures answer { Answers (plant_refusal (tree_of (source_tree self.old)) path.now)
+            PlantFault.Memory result
             (λ _. IsPlanted Folder path.now (source_state self.old) (source_state self.new)) }
         ensures err { OnErr result (source_state self.new ≡ source_state self.old) }
     {
-        if let Some(refusal) = refusal(&self.entries, path) {
-            return Err(refusal);
-        }
-        let Some((_, name)) = path.split() else {
-            return Err(PlantFault::Taken);
-        };
+        let name = free_name(&self.entries, path)?;
         let leaf = dir_leaf(self.alloc, name)?;
         plant(&mut self.entries, path, leaf);
         Ok(())
@@ -80,16 +73,12 @@ impl MemSource {
 
     /// Plants something that is neither a file nor a directory; refused as `plant_file` is.
     pub fn plant_other(&mut self, path: &NamePath) -> Result<(), PlantFault>
-        ensures answer { Answers (plant_refusal (tree_of (source_tree self.old)) path.now) PlantFault.Memory result
+        ensures answer { Answers (plant_refusal (tree_of (source_tree self.old)) path.now)
+            PlantFault.Memory result
             (λ _. IsPlanted Special path.now (source_state self.old) (source_state self.new)) }
         ensures err { OnErr result (source_state self.new ≡ source_state self.old) }
     {
-        if let Some(refusal) = refusal(&self.entries, path) {
-            return Err(refusal);
-        }
-        let Some((_, name)) = path.split() else {
-            return Err(PlantFault::Taken);
-        };
+        let name = free_name(&self.entries, path)?;
         let leaf = other_leaf(self.alloc, name)?;
         plant(&mut self.entries, path, leaf);
         Ok(())
@@ -160,7 +149,8 @@ impl MemSource {
 
     // `next` of the trait, also where no file is open: then it is a failure.
     pub(crate) fn next_of(&mut self, block: &mut Block) -> Result<(), TreeFault>
-        ensures gives { NextGives (source_state self.old) (source_state self.new) block.new.items result }
+        ensures gives { NextGives (source_state self.old)
+            (source_state self.new) block.new.items result }
         ensures empty { OnErr result (block.new.items ≡ []) }
     {
         block.clear();
@@ -186,6 +176,12 @@ impl Source for MemSource {
 
     ghost called = { source_called };
 
+    ghost keeps = { λ _ _. ⊤ };
+
+    ghost is_kept = { λ _. tt };
+
+    ghost keeps_on = { λ _ _ _ _ _. tt };
+
     ghost proper = { proper_told };
 
     fn failures(&self) -> u64 {
@@ -195,7 +191,8 @@ impl Source for MemSource {
     fn list(&mut self, path: &NamePath) -> Result<Listing, TreeFault>
         requires { CanList (source_told self.old) path.now }
         ensures gives { ListGives (source_state self.old) (source_state self.new) path.now result }
-        ensures listing { IfOk result (λ listing. IsListed (source_told self.old) path.now listing) }
+        ensures listing { IfOk result (λ listing.
+            IsListed (source_told self.old) path.now listing) }
         ensures same { source_told self.new ≡ source_told self.old }
         ensures failures { IsCounted self.old.fuse.failures self.new.fuse.failures result }
         ensures calls { IsOneMoreCall (source_called self.old) (source_called self.new) }
@@ -206,7 +203,8 @@ impl Source for MemSource {
     fn open(&mut self, path: &NamePath) -> Result<(), TreeFault>
         requires { CanOpen (source_told self.old) path.now }
         ensures gives { OpenGives (source_state self.old) (source_state self.new) path.now result }
-        ensures opened { OnOk result (source_told self.new ≡ option_map (after_open path.now) (source_told self.old)) }
+        ensures opened { OnOk result (source_told self.new
+            ≡ option_map (after_open path.now) (source_told self.old)) }
         ensures same { OnErr result (source_told self.new ≡ source_told self.old) }
         ensures failures { IsCounted self.old.fuse.failures self.new.fuse.failures result }
         ensures calls { IsOneMoreCall (source_called self.old) (source_called self.new) }
@@ -216,9 +214,11 @@ impl Source for MemSource {
 
     fn next(&mut self, block: &mut Block) -> Result<(), TreeFault>
         requires { CanRead (source_told self.old) }
-        ensures gives { NextGives (source_state self.old) (source_state self.new) block.new.items result }
+        ensures gives { NextGives (source_state self.old)
+            (source_state self.new) block.new.items result }
         ensures block { OnOk result (IsRead (source_told self.old) block.new.items) }
-        ensures moved { OnOk result (source_told self.new ≡ option_map after_next (source_told self.old)) }
+        ensures moved { OnOk result (source_told self.new
+            ≡ option_map after_next (source_told self.old)) }
         ensures empty { OnErr result (block.new.items ≡ []) }
         ensures same { OnErr result (source_told self.new ≡ source_told self.old) }
         ensures failures { IsCounted self.old.fuse.failures self.new.fuse.failures result }

@@ -15,7 +15,8 @@ pub fn take(entries: &mut Entries, path: &NamePath)
     requires proper { is_proper (forest_of entries.old) ≡ true }
     requires stands { IsSome (tree_of (forest_of entries.old) path.now) }
     requires below { IsBelowTop path.now }
-    ensures tree { tree_of (forest_of entries.new) ≡ without (tree_of (forest_of entries.old)) path.now }
+    ensures tree { tree_of (forest_of entries.new)
+        ≡ without (tree_of (forest_of entries.old)) path.now }
     ensures proper { is_proper (forest_of entries.new) ≡ true }
 {
     if let Some((dir, name)) = path.split() {
@@ -26,7 +27,8 @@ pub fn take(entries: &mut Entries, path: &NamePath)
 /// Adds a piece to the file at a path, if one is there.
 pub fn append(entries: &mut Entries, path: &NamePath, piece: &[u8]) -> Result<(), MemoryFault>
     requires { is_proper (forest_of entries.old) ≡ true }
-    ensures ok { OnOk result (tree_of (forest_of entries.new) ≡ added (tree_of (forest_of entries.old)) path.now piece.now) }
+    ensures ok { OnOk result (tree_of (forest_of entries.new)
+        ≡ added (tree_of (forest_of entries.old)) path.now piece.now) }
     ensures err { OnErr result (tree_of (forest_of entries.new) ≡ tree_of (forest_of entries.old)) }
     ensures proper { is_proper (forest_of entries.new) ≡ true }
 {
@@ -44,7 +46,9 @@ pub fn append(entries: &mut Entries, path: &NamePath, piece: &[u8]) -> Result<()
 pub fn rewrite(entries: &mut Entries, path: &NamePath, bytes: Vec<u8>)
     requires proper { is_proper (forest_of entries.old) ≡ true }
     requires below { 0 < length path.now }
-    ensures forest { forest_of entries.new ≡ changed (rewritten (λ _. bytes.items) (last_name path.now)) (forest_of entries.old) (parent path.now) }
+    ensures forest { forest_of entries.new
+        ≡ changed (rewritten (λ _. bytes.items) (last_name path.now)) (forest_of entries.old)
+        (parent path.now) }
     ensures marked { open_of entries.new ≡ open_of entries.old }
     ensures proper { is_proper (forest_of entries.new) ≡ true }
 {
@@ -58,7 +62,8 @@ pub fn rewrite(entries: &mut Entries, path: &NamePath, bytes: Vec<u8>)
 pub fn rename(entries: &mut Entries, from: &NamePath, to: &NamePath) -> Result<(), MemoryFault>
     requires proper { is_proper (forest_of entries.old) ≡ true }
     requires may { CanMove (tree_of (forest_of entries.old)) from.now to.now }
-    ensures ok { OnOk result (tree_of (forest_of entries.new) ≡ moved (tree_of (forest_of entries.old)) from.now to.now) }
+    ensures ok { OnOk result (tree_of (forest_of entries.new)
+        ≡ moved (tree_of (forest_of entries.old)) from.now to.now) }
     ensures err { OnErr result (forest_of entries.new ≡ forest_of entries.old) }
     ensures proper { is_proper (forest_of entries.new) ≡ true }
 {

@@ -80,7 +80,8 @@ fn read_file(file: &mut File, block: &mut Block) -> bool
     ensures bytes { file.new.bytes.items ≡ file.old.bytes.items }
     ensures marked { result ≡ is_some file.old.place }
     ensures block { block.new.items ≡ block_after (marked_file file.old) block.old.items }
-    ensures moved { file.new.place ≡ option_map (λ place. place + length block.new.items) file.old.place }
+    ensures moved { file.new.place
+        ≡ option_map (λ place. place + length block.new.items) file.old.place }
 {
     let Some(place) = file.place else {
         return false;

@@ -1,5 +1,5 @@
 //! Planting in a memory tree: what is refused, and the entries that are planted.
-ghost use Rattle.std.specs.Prelude.{◌≡◌, None, true, IfOk, IsTrue, is_some};
+ghost use Rattle.std.specs.Prelude.{◌≡◌, None, Some, true, IfErr, IfOk, OnOk, IsTrue, is_some};
 ghost use Rattle.std.specs.Option.{option_copied, option_map};
 ghost use Rattle.pt_memory.specs.declared.planting.PlantFault.TheVariants as fault;
 ghost use Rattle.pt_tree.specs.Path.{last_name};
@@ -65,6 +65,22 @@ pub fn refusal(entries: &Entries, path: &NamePath) -> Option<PlantFault>
     None
 }
 
+/// The name of what may be planted at a path; the refusal, if nothing can be planted there.
+pub fn free_name<'a>(entries: &Entries, path: &'a NamePath) -> Result<&'a Name, PlantFault>
+    ensures free { OnOk result (plant_refusal (tree_of (forest_of entries.now)) path.now ≡ None) }
+    ensures name { IfOk result (λ name. name.now ≡ last_name path.now) }
+    ensures refused { IfErr result
+        (λ why. plant_refusal (tree_of (forest_of entries.now)) path.now ≡ Some why) }
+{
+    if let Some(refusal) = refusal(entries, path) {
+        return Err(refusal);
+    }
+    match path.split() {
+        Some((_, name)) => Ok(name),
+        None => Err(PlantFault::Taken),
+    }
+}
+
 fn is_dir(found: Option<Found<'_>>) -> bool
     ensures { result ≡ is_folder (option_map entry_of (option_map node_of found.entry)) }
 {
@@ -77,7 +93,8 @@ pub fn plant(entries: &mut Entries, path: &NamePath, leaf: Entries)
     requires free { plant_refusal (tree_of (forest_of entries.old)) path.now ≡ None }
     requires leaf { IsLeafOf (last_name path.now) (forest_of leaf) }
     requires shut { open_of leaf ≡ None }
-    ensures tree { tree_of (forest_of entries.new) ≡ put (tree_of (forest_of entries.old)) path.now (leaf_entry (forest_of leaf)) }
+    ensures tree { tree_of (forest_of entries.new)
+        ≡ put (tree_of (forest_of entries.old)) path.now (leaf_entry (forest_of leaf)) }
     ensures proper { is_proper (forest_of entries.new) ≡ true }
     ensures marked { open_of entries.new ≡ open_of entries.old }
 {
@@ -88,7 +105,8 @@ pub fn plant(entries: &mut Entries, path: &NamePath, leaf: Entries)
 
 /// A file alone.
 pub fn file_leaf(alloc: Global, name: &Name, bytes: &[u8]) -> Result<Entries, MemoryFault>
-    ensures leaf { IfOk result (λ leaf. (forest_of leaf ≡ file name.now bytes.now none) × (open_of leaf ≡ None)) }
+    ensures leaf { IfOk result (λ leaf. (forest_of leaf ≡ file name.now bytes.now none)
+        × (open_of leaf ≡ None)) }
     ensures name { IsTrue (is_name name.now) }
 {
     let name = name.copy()?;
@@ -101,7 +119,8 @@ pub fn file_leaf(alloc: Global, name: &Name, bytes: &[u8]) -> Result<Entries, Me
 
 /// An empty directory alone.
 pub fn dir_leaf(alloc: Global, name: &Name) -> Result<Entries, MemoryFault>
-    ensures leaf { IfOk result (λ leaf. (forest_of leaf ≡ dir name.now none none) × (open_of leaf ≡ None)) }
+    ensures leaf { IfOk result (λ leaf. (forest_of leaf ≡ dir name.now none none)
+        × (open_of leaf ≡ None)) }
     ensures name { IsTrue (is_name name.now) }
 {
     let name = name.copy()?;
@@ -111,7 +130,8 @@ pub fn dir_leaf(alloc: Global, name: &Name) -> Result<Entries, MemoryFault>
 
 /// Something that is neither, alone.
 pub fn other_leaf(alloc: Global, name: &Name) -> Result<Entries, MemoryFault>
-    ensures leaf { IfOk result (λ leaf. (forest_of leaf ≡ other name.now none) × (open_of leaf ≡ None)) }
+    ensures leaf { IfOk result (λ leaf. (forest_of leaf ≡ other name.now none)
+        × (open_of leaf ≡ None)) }
     ensures name { IsTrue (is_name name.now) }
 {
     Ok(Entries::Other(name.copy()?, Box::new(alloc, Entries::End)?))

@@ -27,8 +27,9 @@ use Rattle.pt_move.specs.Fault.{fault_number, fault_of}
 use Rattle.pt_move.specs.Leaving.{TurnLeaves}
 use Rattle.pt_move.specs.Lines.{TellsFront}
 use Rattle.pt_move.specs.Promises.{TurnKeeps}
-use Rattle.pt_move.specs.Running.{BeganSomewhere, FedUntilEnd, HasBegun, InProgress, IsBegun, IsNew, IsWell, LeavesBehind, Running, fresh_kept, run_of}
-use Rattle.pt_move.specs.Stepping.{BlamesRightly, EndsAs, IsCounted, IsTurn, MakesTurn, StepLeaves, Stays as StaysAs, most_calls_at}
+use Rattle.pt_move.specs.Running.{BeganSomewhere, FedUntilEnd, HasBegun, InProgress, IsBegun, IsNew, IsWell, LeavesBehind, Running, as_told, fresh_kept, run_of}
+use Rattle.pt_move.specs.Stepping.{Any, BlamesRightly, EndsAs, IsCounted, IsTurn, MakesTurn, StepLeaves, Stays as StaysAs, most_calls_at}
+use Rattle.pt_move.proofs.Told.{to_told}
 use Rattle.pt_move.specs.declared.fault.Fault.{Fault}
 use Rattle.pt_move.specs.declared.fault.Fault.TheVariants as fault
 use Rattle.pt_move.proofs.Going.{is_going}
@@ -99,9 +100,9 @@ permits_fed job phase.Ended s fed r w may = tt
 pub may_turn : (here : Phase) (s : State) (now : World) → here ≢ phase.Ended → BeganSomewhere now (record { phase = here; state = s }) → Permits (job_of s.job) here (held_of s []) now.source now.dest
 unfolding BeganSomewhere IsBegun
 may_turn here s now going (start, begun) =
-    let is : InProgress start now (record { phase = here; state = s }) = begun in
+    let is : InProgress start (as_told now) (record { phase = here; state = s }) = begun in
     let was = fed_going here s.job.algorithm s.hasher is.fed going is.was in
-    permits_fed (job_of s.job) here s is.fed now.source now.dest (begun_permits (job_of s.job) start now (record { phase = here; kept = kept_of s is.fed }) (within_work_is_begun (job_of s.job) start now (record { phase = here; kept = kept_of s is.fed }) is.begun))
+    permits_fed (job_of s.job) here s is.fed now.source now.dest (begun_permits (job_of s.job) start (as_told now) (record { phase = here; kept = kept_of s is.fed }) (within_work_is_begun (job_of s.job) start (as_told now) (record { phase = here; kept = kept_of s is.fed }) is.begun))
 
 held_at : (job : Job) (start : Start) (world : World) (run : Run) → Begun job start world run → (past : Past) × HeldAt job past run.phase run.kept.held
 unfolding Begun
@@ -110,9 +111,9 @@ held_at job start world run (past, is) = (past, is.held)
 pub stands_there : (here : Phase) (s : State) (now : World) → here ≢ phase.Ended → BeganSomewhere now (record { phase = here; state = s }) → Stands here s
 unfolding BeganSomewhere IsBegun
 stands_there here s now going (start, begun) =
-    let is : InProgress start now (record { phase = here; state = s }) = begun in
+    let is : InProgress start (as_told now) (record { phase = here; state = s }) = begun in
     let was = fed_going here s.job.algorithm s.hasher is.fed going is.was in
-    let held = held_at (job_of s.job) start now (record { phase = here; kept = kept_of s is.fed }) (within_work_is_begun (job_of s.job) start now (record { phase = here; kept = kept_of s is.fed }) is.begun) in
+    let held = held_at (job_of s.job) start (as_told now) (record { phase = here; kept = kept_of s is.fed }) (within_work_is_begun (job_of s.job) start (as_told now) (record { phase = here; kept = kept_of s is.fed }) is.begun) in
     stands here s is.fed held.0 going was held.1
 
 fed_there : (here : Phase) (a : Algorithm) (h : Hasher) (fed : List ℕ) → HasBeenFed a h fed → HasFed here a h
@@ -121,7 +122,7 @@ fed_there here a h fed was = OnFalse_from (is_ended here) ((fed : List ℕ) × H
 pub has_fed : (here : Phase) (s : State) (now : World) → here ≢ phase.Ended → BeganSomewhere now (record { phase = here; state = s }) → HasFed here s.job.algorithm s.hasher
 unfolding BeganSomewhere IsBegun
 has_fed here s now going (start, begun) =
-    let is : InProgress start now (record { phase = here; state = s }) = begun in
+    let is : InProgress start (as_told now) (record { phase = here; state = s }) = begun in
     fed_there here s.job.algorithm s.hasher is.fed (fed_going here s.job.algorithm s.hasher is.fed going is.was)
 
 pub same_job : (here : Phase) (s s' : State) (old new : World) (answer : Answer) → CountedTurn here s s' old new answer → s'.job ≡ s.job
@@ -137,14 +138,14 @@ pub left_by_turn : (here : Phase) (s s' : State) (old new : World) (answer : Ans
     → TurnLeaves s s' old.log new.log old.failures new.failures answer
 unfolding BeganSomewhere IsBegun CountedTurn
 left_by_turn here s s' old new answer going (start, begun) turned =
-    let is : InProgress start old (record { phase = here; state = s }) = begun in
+    let is : InProgress start (as_told old) (record { phase = here; state = s }) = begun in
     let was = fed_going here s.job.algorithm s.hasher is.fed going is.was in
     let made = turned.1 is.fed was in
     turn_leaves (job_of s.job) here s s' is.fed made.0 old new answer made.1.1
 
 -- what is counted doesn't lean on what the hasher was fed
 bounded_fed : (job : Job) (here : Phase) (s : State) (fed fed' : List ℕ) → IsBounded job here (kept_of s fed) → IsBounded job here (kept_of s fed')
-bounded_fed job here s fed fed' bounded = record { lines = bounded.lines; turns = bounded.turns; few = record { rows = bounded.few.rows; lengths = bounded.few.lengths }; within = within here bounded.within }
+bounded_fed job here s fed fed' bounded = record { lines = bounded.lines; turns = bounded.turns; few = record { rows = bounded.few.rows; lengths = bounded.few.lengths }; within = within here bounded.within; prefix = bounded.prefix }
   where
     within : (here : Phase) → IsWithin job here (held_of s fed) s.counts.turns → IsWithin job here (held_of s fed') s.counts.turns
     within phase.Begin is = is
@@ -178,7 +179,7 @@ pub well_after : (here : Phase) (s s' : State) (old new : World) (answer : Answe
     → CountedTurn here s s' old new answer → IsWell (record { phase = phase_after answer; state = s' })
 unfolding BeganSomewhere IsBegun CountedTurn
 well_after here s s' old new answer going (start, begun) well more turned =
-    let is : InProgress start old (record { phase = here; state = s }) = begun in
+    let is : InProgress start (as_told old) (record { phase = here; state = s }) = begun in
     let was = fed_going here s.job.algorithm s.hasher is.fed going is.was in
     let made = turned.1 is.fed was in
     record {
@@ -194,9 +195,9 @@ well_after here s s' old new answer going (start, begun) well more turned =
 pub begun_ends : (start : Start) (world : World) (r t : Running) → t.phase ≡ phase.Ended → t.state ≡ r.state → IsBegun start world r → IsBegun start world t
 unfolding IsBegun
 begun_ends start world r t ended same is =
-    subst (λ (p : Phase). InProgress start world (record { phase = p; state = t.state })) (sym ended)
-    (subst (λ (s : State). InProgress start world (record { phase = phase.Ended; state = s })) (sym same)
-    (record { fed = is.fed; was = tt; begun = stops_within_work (job_of r.state.job) start world (run_of r is.fed) is.begun }))
+    subst (λ (p : Phase). InProgress start (as_told world) (record { phase = p; state = t.state })) (sym ended)
+    (subst (λ (s : State). InProgress start (as_told world) (record { phase = phase.Ended; state = s })) (sym same)
+    (record { fed = is.fed; was = tt; begun = stops_within_work (job_of r.state.job) start (as_told world) (run_of r is.fed) is.begun }))
 
 -- ---- what is left in the destination
 
@@ -212,7 +213,7 @@ left_in job start world run (past, is) = left_at job start.dest world.dest past 
 
 pub leaves_behind : (start : Start) (world : World) (r : Running) → IsBegun start world r → LeavesBehind r.state.job start.dest world.dest
 unfolding IsBegun LeavesBehind
-leaves_behind start world r is = left_in (job_of r.state.job) start world (run_of r is.fed) (within_work_is_begun (job_of r.state.job) start world (run_of r is.fed) is.begun)
+leaves_behind start world r is = left_in (job_of r.state.job) start (as_told world) (run_of r is.fed) (within_work_is_begun (job_of r.state.job) start (as_told world) (run_of r is.fed) is.begun)
 
 -- ---- how often the source was called
 
@@ -299,7 +300,7 @@ counted_halt halt.StagingLeft old new turn ended counted = ((turn, ended), count
 counted_halt halt.Target old new turn ended counted = ((turn, ended), counted)
 counted_halt halt.Changed old new turn ended counted = ((turn, ended), counted)
 
-stays_halt : {X : Type 0} (why : Halt) (old new : X) → StaysAs (Err (fault_of why)) old new
+stays_halt : {X : Type 0} (why : Halt) (old new : X) → StaysAs Any (Err (fault_of why)) old new
 stays_halt halt.Source old new = tt
 stays_halt halt.Dest old new = tt
 stays_halt halt.Log old new = tt
@@ -327,11 +328,11 @@ err_counted old new g g' F F' why f is left = subst (λ f. IsCounted old new (Er
     by halt.Target = (left.turns, left.lines)
     by halt.Changed = (left.turns, left.lines)
 
-pub err_stays : {X : Type 0} (why : Halt) (f : Fault) (old new : X) → f ≡ fault_of why → StaysAs (Err f) old new
-err_stays why f old new is = subst (λ f. StaysAs (Err f) old new) (sym is) (stays_halt why old new)
+pub err_stays : {X : Type 0} (why : Halt) (f : Fault) (old new : X) → f ≡ fault_of why → StaysAs Any (Err f) old new
+err_stays why f old new is = subst (λ f. StaysAs Any (Err f) old new) (sym is) (stays_halt why old new)
 
 new_bounded : (job : Job) → IsBounded job phase.Begin fresh_kept
-new_bounded job = record { lines = omega (arith); turns = omega (arith); few = record { rows = omega (arith); lengths = omega (arith) }; within = refl }
+new_bounded job = record { lines = omega (arith); turns = omega (arith); few = record { rows = omega (arith); lengths = omega (arith) }; within = refl; prefix = omega (arith) }
 
 pub new_well : (job : own.Job) (r : Running) → IsNew job r → IsWell r
 new_well job r new = record {
@@ -349,7 +350,7 @@ told_nothing g g' c c' same counts = (inl same, (ap (λ (k : Report). k.done) co
 
 pub ended_well : (r : Running) (s : Running) → IsWell r → s.phase ≡ phase.Ended → s.state ≡ r.state → IsWell s
 ended_well r s well ended same = record {
-  bounded = subst (λ (p : Phase). IsBounded (job_of s.state.job) p (kept_of s.state [])) (sym ended) (subst (λ (t : State). IsBounded (job_of t.job) phase.Ended (kept_of t [])) (sym same) (record { lines = well.bounded.lines; turns = well.bounded.turns; few = record { rows = well.bounded.few.rows; lengths = well.bounded.few.lengths }; within = tt }));
+  bounded = subst (λ (p : Phase). IsBounded (job_of s.state.job) p (kept_of s.state [])) (sym ended) (subst (λ (t : State). IsBounded (job_of t.job) phase.Ended (kept_of t [])) (sym same) (record { lines = well.bounded.lines; turns = well.bounded.turns; few = record { rows = well.bounded.few.rows; lengths = well.bounded.few.lengths }; within = tt; prefix = well.bounded.prefix }));
   fresh = λ begins. absurd (let no : phase.Ended ≡ phase.Begin = sym ended ∙ begins in cc);
 }
 
@@ -362,7 +363,7 @@ begun_somewhere r world (inl begins) well layout is = (
   record {
     fed = [];
     was = fed_to_end r.phase r.state.job.algorithm r.state.hasher [] (well.fresh begins).fed;
-    begun = subst (λ (run : Run). BegunWithinWork (job_of r.state.job) (start_of world) world run) (sym run_is) (new_run_is_within_work (job_of r.state.job) world layout is);
+    begun = subst (λ (run : Run). BegunWithinWork (job_of r.state.job) (start_of world) (as_told world) run) (sym run_is) (to_told (job_of r.state.job) (start_of world) world new_run (new_run_is_within_work (job_of r.state.job) world layout is));
   },
 )
   where

@@ -1,6 +1,9 @@
 -- Each turn keeps the numbers within their bounds.
 use Rattle.std.proofs.Common.{◌≡◌, ◌<◌, ◌≤◌, ◌*◌, ℕ, ◌+◌, ◌==◌, Bool, true, false, List, [], ◌∷◌, ◌++◌, refl, sym, subst, ap, ◌∙◌, inl, inr, length, cond, arith}
-use Rattle.std.specs.Prelude.{Option, None, Some, Ok, nat_lt, ◌||◌}
+use Rattle.std.specs.Prelude.{Option, None, Some, Ok, nat_lt, ◌||◌, if◌then◌else◌}
+use Rattle.std.specs.Str.{is_utf8}
+use Rattle.pt_name.specs.Prefix.{ends_line, kept_before, prefix_refusal, without_line_ends}
+use Rattle.pt_name.specs.declared.prefix.PrefixFault.TheVariants as fault
 use Rattle.std.proofs.lemmas.Bool.{ltb-false, leb-false}
 use Rattle.std.proofs.lemmas.List.{length-append}
 use Rattle.std.proofs.lemmas.List.Sums.{sum_by-append}
@@ -219,6 +222,52 @@ follows_within job counts here prefix read held new calls next turns (Scan _ _ _
 follows_within job counts here prefix read held new calls next turns (Make _ _ _ _ _ _ makes) within = makes_within job here held new calls next (turns + 1) makes
 follows_within job counts here prefix read held new calls next turns (Place _ _ _ _ _ _ places) within = places_within job counts here held new calls next (turns + 1) places
 
+-- ---- the prefix
+
+kept_length : (byte : ℕ) (rest : List ℕ) → length (kept_before byte rest) ≤ length rest + 1
+kept_length byte [] = by (ends_line byte)
+  where
+    by : (b : Bool) → length (if b then [] else byte ∷ []) ≤ 1
+    by true = omega (arith)
+    by false = omega (arith)
+kept_length byte (next ∷ rest) = omega (arith)
+
+ends_length : (bytes : List ℕ) → length (without_line_ends bytes) ≤ length bytes
+ends_length [] = omega (arith)
+ends_length (byte ∷ rest) = let here = kept_length byte (without_line_ends rest) in let later = ends_length rest in omega (arith, here, later)
+
+good_length : (block : List ℕ) → prefix_refusal block ≡ None → length (without_line_ends block) ≤ 1024
+good_length block is = let short = by (nat_lt 1024 (length block)) refl is in let shorter = ends_length block in omega (arith, short, shorter)
+  where
+    by : (b : Bool) → nat_lt 1024 (length block) ≡ b → (if b then Some fault.TooLong else if is_utf8 (without_line_ends block) then None else Some fault.NotUtf8) ≡ None → length block ≤ 1024
+    by true e is = absurd (cc)
+    by false e is = ltb-false 1024 (length block) e
+
+starts_prefix : (job : Job) (here : Phase) (prefix read : List ℕ) (calls : Calls) (answer : Answer) → Starts job here prefix read calls answer → length prefix ≤ 1024 → length read ≤ 1024
+starts_prefix job _ _ _ _ _ (start.IsStore _ entries is) few = few
+starts_prefix job _ _ _ _ _ (start.IsNoStore _ entries is) few = few
+starts_prefix job _ _ _ _ _ (start.HasNoPrefix _) few = few
+starts_prefix job _ _ _ _ _ (start.IsNoPrefixFile _ kind some is) few = few
+starts_prefix job _ _ _ _ _ (start.HasPrefix _ block is) few = good_length block is
+starts_prefix job _ _ _ _ _ (start.IsNoPrefix _ block why is) few = few
+starts_prefix job _ _ _ _ _ (start.HasNoStaging _) few = few
+starts_prefix job _ _ _ _ _ (start.HasStaging _ kind) few = few
+starts_prefix job _ _ _ _ _ (start.HasNoRoot _) few = few
+starts_prefix job _ _ _ _ _ (start.HasRoot _) few = few
+starts_prefix job _ _ _ _ _ (start.IsNoRoot _ kind is) few = few
+starts_prefix job _ _ _ _ _ (start.MakesRoot _ number item is) few = few
+starts_prefix job _ _ _ _ _ (start.RenamesRoot _) few = few
+starts_prefix job _ _ _ _ _ (start.IsNoFile _ number path bytes kind is other) few = few
+starts_prefix job _ _ _ _ _ (start.IsSame _ number path bytes is) few = few
+starts_prefix job _ _ _ _ _ (start.Differs _ number path bytes block is other) few = few
+
+follows_prefix : (job : Job) (counts : Counts) (here : Phase) (prefix read : List ℕ) (held new : Held) (calls : Calls) (answer : Answer) → Follows job counts here prefix held read new calls answer → length prefix ≤ 1024 → length read ≤ 1024
+follows_prefix job counts here prefix read held new calls answer (Start _ _ _ _ _ _ starts) few = starts_prefix job here prefix read calls answer starts few
+follows_prefix job counts here prefix read held new calls answer (Walk _ _ _ _ _ _ walks) few = few
+follows_prefix job counts here prefix read held new calls answer (Scan _ _ _ _ _ _ scans) few = few
+follows_prefix job counts here prefix read held new calls answer (Make _ _ _ _ _ _ makes) few = few
+follows_prefix job counts here prefix read held new calls answer (Place _ _ _ _ _ _ places) few = few
+
 -- ---- a whole turn
 
 halted_bounds : (job : Job) (here : Phase) (rows : List Row) (held : Held) (kept after : Kept) → IsBounded job here kept → kept.counts.turns < job.limits.turns → AreFew job held → held.rows ≡ rows → IsHalted rows (turning kept) after → IsBounded job phase.Ended after
@@ -226,7 +275,7 @@ halted_bounds job here rows held kept after bounded more few same halted =
     let lines = bounded.lines in
     let put = ap lines_put halted.counts in
     let made = ap (λ (c : Counts). c.turns) halted.counts in
-    record { lines = omega (arith, lines, put, made); turns = omega (arith, more, made); few = few_same job held after.held few (halted.rows_are ∙ sym same); within = tt }
+    record { lines = omega (arith, lines, put, made); turns = omega (arith, more, made); few = few_same job held after.held few (halted.rows_are ∙ sym same); within = tt; prefix = subst (λ (p : List ℕ). length p ≤ 1024) (sym halted.prefix) bounded.prefix }
 
 pub turn_keeps_bounds : (job : Job) (here : Phase) (kept after : Kept) (old new : World) (answer : Answer) → IsBounded job here kept → kept.counts.turns < job.limits.turns → Turn job here (turning kept) after old new answer → IsBounded job (phase_after answer) after
 turn_keeps_bounds job here kept after old new _ bounded more (GoesOn calls next follows did counts) =
@@ -238,6 +287,7 @@ turn_keeps_bounds job here kept after old new _ bounded more (GoesOn calls next 
       lines = omega (arith, lines, one, put, made);
       turns = omega (arith, more, made);
       few = follows_few job _ here _ _ kept.held after.held calls (Ok next) kept.counts.turns follows bounded.few bounded.within;
+      prefix = follows_prefix job _ here _ _ kept.held after.held calls (Ok next) follows bounded.prefix;
       within = subst (λ (n : ℕ). IsWithin job next after.held n) (sym made) (follows_within job _ here _ _ kept.held after.held calls next kept.counts.turns follows bounded.within);
     }
 turn_keeps_bounds job here kept after old new _ bounded more (IsRefused prefix held calls why follows did halted) = halted_bounds job here kept.held.rows kept.held kept after bounded more bounded.few refl halted

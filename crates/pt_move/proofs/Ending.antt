@@ -11,7 +11,8 @@ use Rattle.pt_work.proofs.Within.{new_run_is_within_work}
 use Rattle.pt_work.specs.WorkLaws.{BegunWithinWork}
 use Rattle.pt_state.specs.States.{job_of}
 use Rattle.pt_state.specs.declared.job.Job.{Job}
-use Rattle.pt_move.specs.Running.{HasBegun, IsBegun, IsNew, Running, run_of}
+use Rattle.pt_move.specs.Running.{HasBegun, IsBegun, IsNew, Running, as_told, run_of}
+use Rattle.pt_move.proofs.Told.{to_told}
 use Rattle.pt_move.proofs.Answering.{fed_to_end, has_begun}
 use Rattle.pt_move.specs.Stepping.{EndsAs}
 use Rattle.pt_move.specs.declared.fault.Fault.{Fault}
@@ -34,7 +35,7 @@ unfolding IsBegun
 new_is_begun job r now new layout is = record {
   fed = [];
   was = fed_to_end r.phase r.state.job.algorithm r.state.hasher [] (subst (λ j. HasBeenFed j.algorithm r.state.hasher []) (sym new.job_is) new.fed);
-  begun = subst (λ j. BegunWithinWork (job_of j) (start_of now) now (run_of r [])) (sym new.job_is) (subst (λ (run : Run). BegunWithinWork (job_of job) (start_of now) now run) (sym run_is) (new_run_is_within_work (job_of job) now layout is));
+  begun = subst (λ j. BegunWithinWork (job_of j) (start_of now) (as_told now) (run_of r [])) (sym new.job_is) (subst (λ (run : Run). BegunWithinWork (job_of job) (start_of now) (as_told now) run) (sym run_is) (to_told (job_of job) (start_of now) now new_run (new_run_is_within_work (job_of job) now layout is)));
 }
   where
     run_is : run_of r [] ≡ new_run

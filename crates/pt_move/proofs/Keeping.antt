@@ -28,16 +28,17 @@ use Rattle.pt_state.specs.States.{held_of, job_of, kept_of}
 use Rattle.pt_state.specs.Outside.{FedAfter}
 use Rattle.pt_state.specs.declared.job.Job as own
 use Rattle.pt_state.specs.declared.state.State.{State}
-use Rattle.pt_move.specs.Turning.{CountedTurn}
+use Rattle.pt_move.specs.Turning.{BlamesLogLate, CountedTurn}
 use Rattle.pt_move.specs.Fault.{fault_of}
-use Rattle.pt_move.specs.Outcome.{FaultLeaves, HoldsWithinBound, IfEarly, LeavesAll, MadeWithinWork, SaysRightly, StandsStillIn, WantsMemory}
+use Rattle.pt_move.specs.Outcome.{FaultLeaves, HoldsWithinBound, IfEarly, IfLog, LeavesAll, LeavesNoStaging, MadeWithinWork, SaysRightly, StandsStillIn, WantsMemory}
 use Rattle.pt_move.specs.Promises.{IfHalted, Keeps, TurnKeeps, UnlessEnded}
-use Rattle.pt_move.specs.Running.{BeganSomewhere, FedUntilEnd, InProgress, IsBegun, LeavesBehind, Running, run_of}
+use Rattle.pt_move.specs.Running.{BeganSomewhere, FedUntilEnd, InProgress, IsBegun, LeavesBehind, Running, as_told, run_of}
 use Rattle.pt_move.specs.declared.fault.Fault.{Fault}
 use Rattle.pt_move.specs.declared.fault.Fault.TheVariants as fault
 use Rattle.pt_move.specs.declared.mover.Turn.TheVariants as turn
 use Rattle.pt_move.proofs.Answering.{begun_ends, fed_going, fed_to_end, leaves_behind, same_begun}
 use Rattle.pt_move.proofs.Going.{is_going}
+use Rattle.pt_move.proofs.Told.{of_told, to_told}
 use Rattle.pt_move.proofs.Outcomes.{bound_after, left_after, reading_of, says_after, stands_after, within_after, work_after}
 
 -- ---- the source's tree stays
@@ -46,7 +47,7 @@ pub tree_stays : (here : Phase) (s s' : State) (old new : World) (answer : Answe
     → CountedTurn here s s' old new answer → source_tree new.source ≡ source_tree old.source
 unfolding BeganSomewhere IsBegun CountedTurn
 tree_stays here s s' old new answer going (start, begun) turned =
-    let is : InProgress start old (record { phase = here; state = s }) = begun in
+    let is : InProgress start (as_told old) (record { phase = here; state = s }) = begun in
     let made = turned.1 is.fed (fed_going here s.job.algorithm s.hasher is.fed going is.was) in
     turn_tree (job_of s.job) here (turning (kept_of s is.fed)) (kept_of s' made.0) old new answer made.1.1
 
@@ -56,27 +57,28 @@ fed_after : (answer : Answer) (s s' : State) (fed : List ℕ) → s'.job ≡ s.j
 fed_after (Ok next) s s' fed job was = fed_to_end next s'.job.algorithm s'.hasher fed (subst (λ j. HasBeenFed j.algorithm s'.hasher fed) (sym job) was)
 fed_after (Err why) s s' fed job was = tt
 
-pub keeps_after : (here : Phase) (s s' : State) (old new : World) (answer : Answer) → here ≢ phase.Ended → CountedTurn here s s' old new answer
+pub keeps_after : (here : Phase) (s s' : State) (old new : World) (answer : Answer) → here ≢ phase.Ended → CountedTurn here s s' old new answer → BlamesLogLate here answer
     → (start : Start) → IsBegun start old (record { phase = here; state = s }) → TurnKeeps start old new s s' answer
 unfolding IsBegun CountedTurn TurnKeeps
-keeps_after here s s' old new answer going turned start is =
+keeps_after here s s' old new answer going turned late start is =
     let job = turned.0 in
     let made = turned.1 is.fed (fed_going here s.job.algorithm s.hasher is.fed going is.was) in
     let going_on = is_going here going in
+    let within = of_told (job_of s.job) start old (record { phase = here; kept = kept_of s is.fed }) is.begun in
     let begun : IsBegun start new (record { phase = phase_after answer; state = s' }) = record {
       fed = made.0;
       was = fed_after answer s s' made.0 job made.1.0;
-      begun = subst (λ j. BegunWithinWork (job_of j) start new (record { phase = phase_after answer; kept = kept_of s' made.0 })) (sym job)
-          (within_after s s' here is.fed made.0 old new start is.begun going_on answer made.1.1);
+      begun = subst (λ j. BegunWithinWork (job_of j) start (as_told new) (record { phase = phase_after answer; kept = kept_of s' made.0 })) (sym job)
+          (to_told (job_of s.job) start new (record { phase = phase_after answer; kept = kept_of s' made.0 }) (within_after s s' here is.fed made.0 old new start within going_on answer made.1.1));
     } in
     record {
       begun = begun;
       leaves = subst (λ j. LeavesBehind j start.dest new.dest) job (leaves_behind start new (record { phase = phase_after answer; state = s' }) begun);
-      stands = stands_after s s' here is.fed made.0 old new start is.begun going_on answer made.1.1;
-      work = work_after s s' here is.fed made.0 old new start is.begun going_on answer made.1.1;
-      bound = bound_after s s' here is.fed made.0 old new start is.begun going_on answer made.1.1;
-      left = left_after s s' here is.fed made.0 old new start is.begun going_on answer made.1.1;
-      says = says_after s s' here is.fed made.0 old new start is.begun going_on answer made.1.1;
+      stands = stands_after s s' here is.fed made.0 old new start within going_on answer made.1.1;
+      work = work_after s s' here is.fed made.0 old new start within going_on answer made.1.1;
+      bound = bound_after s s' here is.fed made.0 old new start within going_on answer made.1.1;
+      left = left_after s s' here is.fed made.0 old new start within going_on answer made.1.1;
+      says = says_after s s' here is.fed made.0 old new start within going_on answer made.1.1 late;
     }
 
 -- ---- by the answer
@@ -84,7 +86,7 @@ keeps_after here s s' old new answer going turned start is =
 -- there is more to do
 pub keeps_more : (start : Start) (old new : World) (before : Running) (s' : State) (next : Phase) → TurnKeeps start old new before.state s' (Ok next) → Keeps start old new before (record { phase = next; state = s' }) (Ok turn.More)
 unfolding Keeps TurnKeeps
-keeps_more start old new before s' next kept = record { begun = kept.begun; leaves = kept.leaves; stands = kept.stands; work = kept.work; bound = kept.bound; left = kept.left; ends = tt; states = tt; early = tt; says = tt; good = tt }
+keeps_more start old new before s' next kept = record { begun = kept.begun; leaves = kept.leaves; stands = kept.stands; work = kept.work; bound = kept.bound; left = kept.left; ends = tt; states = tt; early = tt; unstaged = tt; says = tt; good = tt }
 
 -- it was the last turn
 pub keeps_finished : (start : Start) (old new : World) (before : Running) (s' : State) (next : Phase) → next ≡ phase.Ended → TurnKeeps start old new before.state s' (Ok next) → Keeps start old new before (record { phase = phase.Ended; state = s' }) (Ok turn.Finished)
@@ -99,6 +101,7 @@ keeps_finished start old new before s' next ended kept = record {
   ends = (kept.says ended).ends;
   states = (kept.says ended).states;
   early = tt;
+  unstaged = tt;
   says = tt;
   good = tt;
 }
@@ -138,6 +141,7 @@ halted_so start old new before s' why kept = record {
   ends = tt;
   states = tt;
   early = halted (λ f. IfEarly f (LeavesAll start new.dest new.log)) why kept.says.early;
+  unstaged = halted (λ f. IfLog f (LeavesNoStaging new.dest)) why kept.says.unstaged;
   says = halted (SaysRightly before.state.job (source_tree old.source) start.dest) why kept.says.says;
   good = halted (WantsMemory before.state.job (source_tree old.source) start.dest old.failures new.failures) why kept.says.good;
 }
@@ -152,7 +156,7 @@ going_on start now r is = within_work_is_begun (job_of r.state.job) start now (r
 
 stands_there : (start : Start) (now : World) (r : Running) → IsBegun start now r → StandsStillIn start.dest now.dest
 unfolding IsBegun StandsStillIn
-stands_there start now r is = λ t w start_is dest_is. begun_stands_still (job_of r.state.job) start now (run_of r is.fed) t w (going_on start now r is) start_is dest_is
+stands_there start now r is = λ t w start_is dest_is. begun_stands_still (job_of r.state.job) start (as_told now) (run_of r is.fed) t w (going_on start (as_told now) r is) start_is dest_is
 
 so_far : (job : Job) (start : Start) (now : World) (run : Run) (s : Reading) (t : Tree) → BegunWithinWork job start now run → now.source ≡ Some s → start.dest ≡ Some t → run.kept.counts.turns ≤ work job s.tree (root_in t)
 unfolding BegunWithinWork
@@ -162,20 +166,20 @@ made_there : (start : Start) (now : World) (r : Running) → IsBegun start now r
 unfolding IsBegun MadeWithinWork
 made_there start now r is = λ f t source_is start_is.
     let reading = reading_of now.source f source_is in
-    subst (λ (f : Forest). r.state.counts.turns ≤ work (job_of r.state.job) f (root_in t)) reading.2 (so_far (job_of r.state.job) start now (run_of r is.fed) reading.0 t is.begun reading.1 start_is)
+    subst (λ (f : Forest). r.state.counts.turns ≤ work (job_of r.state.job) f (root_in t)) reading.2 (so_far (job_of r.state.job) start (as_told now) (run_of r is.fed) reading.0 t is.begun reading.1 start_is)
 
 bound_there : (start : Start) (now : World) (r : Running) → r.phase ≢ phase.Ended → IsBegun start now r → HoldsWithinBound r.state.job (source_tree now.source) r.state
 unfolding IsBegun HoldsWithinBound
 bound_there start now r going is = λ f source_is.
     let reading = reading_of now.source f source_is in
-    subst (λ (f : Forest). IsWithinBound (job_of r.state.job) f (held_of r.state [])) reading.2 (begun_is_within_bound (job_of r.state.job) start now (run_of r is.fed) reading.0 (going_on start now r is) (is_going r.phase going) reading.1)
+    subst (λ (f : Forest). IsWithinBound (job_of r.state.job) f (held_of r.state [])) reading.2 (begun_is_within_bound (job_of r.state.job) start (as_told now) (run_of r is.fed) reading.0 (going_on start (as_told now) r is) (is_going r.phase going) reading.1)
 
 left_there : (start : Start) (now : World) (r : Running) → IsBegun start now r → FaultLeaves r.state.job (source_tree now.source) start now.dest now.log
 unfolding IsBegun FaultLeaves
 left_there start now r is = λ f t w first last source_is start_is dest_is first_is last_is.
     let reading = reading_of now.source f source_is in
     subst (λ (f : Forest). IsLeftByFault (job_of r.state.job) f t w.tree first last) reading.2
-    (stops_leave (job_of r.state.job) start now (run_of r is.fed) reading.0 t w first last (going_on start now r is) reading.1 start_is dest_is first_is last_is)
+    (stops_leave (job_of r.state.job) start (as_told now) (run_of r is.fed) reading.0 t w first last (going_on start (as_told now) r is) reading.1 start_is dest_is first_is last_is)
 
 -- a limit of at least the work isn't reached
 good_there : (start : Start) (now : World) (r : Running) → r.phase ≢ phase.Ended → r.state.job.limits.turns ≤ r.state.counts.turns → IsBegun start now r → WantsMemory r.state.job (source_tree now.source) start.dest now.failures now.failures fault.Turns
@@ -183,7 +187,7 @@ unfolding IsBegun WantsMemory
 good_there start now r going made is = λ f t source_is start_is good free enough none.
     let reading = reading_of now.source f source_is in
     let less : r.state.counts.turns < work (job_of r.state.job) f (root_in t) =
-    subst (λ (f : Forest). r.state.counts.turns < work (job_of r.state.job) f (root_in t)) reading.2 (turn_is_left (job_of r.state.job) start now (run_of r is.fed) reading.0 t is.begun (is_going r.phase going) reading.1 start_is) in
+    subst (λ (f : Forest). r.state.counts.turns < work (job_of r.state.job) f (root_in t)) reading.2 (turn_is_left (job_of r.state.job) start (as_told now) (run_of r is.fed) reading.0 t is.begun (is_going r.phase going) reading.1 start_is) in
     absurd (omega (arith, less, enough, made))
 
 -- a limit that was made is less than the work
@@ -192,7 +196,7 @@ unfolding IsBegun
 limit_there start now r going made is = λ f t source_is start_is.
     let reading = reading_of now.source f source_is in
     let less : r.state.counts.turns < work (job_of r.state.job) f (root_in t) =
-    subst (λ (f : Forest). r.state.counts.turns < work (job_of r.state.job) f (root_in t)) reading.2 (turn_is_left (job_of r.state.job) start now (run_of r is.fed) reading.0 t is.begun (is_going r.phase going) reading.1 start_is) in
+    subst (λ (f : Forest). r.state.counts.turns < work (job_of r.state.job) f (root_in t)) reading.2 (turn_is_left (job_of r.state.job) start (as_told now) (run_of r is.fed) reading.0 t is.begun (is_going r.phase going) reading.1 start_is) in
     omega (arith, less, made)
 
 same_counts : (job : own.Job) (source : Option Forest) (start : Option Tree) (s s' : State) → s' ≡ s → MadeWithinWork job source start s.counts → MadeWithinWork job source start s'.counts
@@ -212,6 +216,7 @@ keeps_at_limit start now before after going made ended same is = record {
   ends = tt;
   states = tt;
   early = tt;
+  unstaged = tt;
   says = (λ s told. tt, λ t told. tt, limit_there start now before going made is);
   good = good_there start now before going made is;
 }
@@ -229,6 +234,7 @@ keeps_ended start now before after same is = record {
   ends = tt;
   states = tt;
   early = tt;
+  unstaged = tt;
   says = tt;
   good = tt;
 }

@@ -4,6 +4,7 @@ pub mod Changes
 pub mod Ending
 pub mod Going
 pub mod Keeping
+pub mod LateLog
 pub mod Leaves
 pub mod Migrating
 pub mod Needs
@@ -12,3 +13,4 @@ pub mod RunEnding
 pub mod Standing
 pub mod WholeLog
 pub mod Ran
+pub mod Told

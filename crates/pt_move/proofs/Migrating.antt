@@ -19,7 +19,7 @@ use Rattle.pt_move.specs.declared.mover.Turn.{Turn}
 use Rattle.pt_move.specs.declared.mover.Turn.TheVariants as turn
 use Rattle.pt_move.proofs.Ending.{new_goes_on, new_is_begun, not_ended}
 use Rattle.pt_move.proofs.Ran.{RanSoFar, blames_err, blames_ok, none_failed, ran_halted, ran_nothing, ran_on, ran_whole, step_all, step_front, step_job, step_told, step_tree}
-use Rattle.pt_move.proofs.RunEnding.{StepKeeps, run_begun, run_early, run_ends, run_good, run_leaves, run_left, run_says, run_stands, run_states, run_work}
+use Rattle.pt_move.proofs.RunEnding.{StepKeeps, run_begun, run_early, run_ends, run_good, run_leaves, run_left, run_says, run_stands, run_states, run_unstaged, run_work}
 use Rattle.pt_move.proofs.WholeLog.{told_none}
 
 -- ---- between two steps
@@ -77,6 +77,7 @@ module _ (job : Job) (first old new : World) (a b : Running) (so_far : SoFar job
     states = run_states (start_of first) a b old new job (source_tree first.source) so_far.begun so_far.same so_far.tree t is step.keeps;
     left = run_left (start_of first) a b old new job (source_tree first.source) so_far.begun so_far.same so_far.tree (Ok t) step.keeps;
     early = tt;
+    unstaged = tt;
     leaves = run_leaves (start_of first) a b old new job (source_tree first.source) so_far.begun so_far.same so_far.tree (Ok t) step.keeps;
     stands = run_stands (start_of first) a b old new job (source_tree first.source) so_far.begun so_far.same so_far.tree (Ok t) step.keeps;
     tree = step_tree old new a b (Ok t) step.leaves ∙ so_far.tree;
@@ -101,6 +102,7 @@ module _ (job : Job) (first old new : World) (a b : Running) (so_far : SoFar job
     states = tt;
     left = run_left (start_of first) a b old new job (source_tree first.source) so_far.begun so_far.same so_far.tree (Err f) step.keeps;
     early = run_early (start_of first) a b old new job (source_tree first.source) so_far.begun so_far.same so_far.tree f going step.keeps;
+    unstaged = run_unstaged (start_of first) a b old new job (source_tree first.source) so_far.begun so_far.same so_far.tree f going step.keeps;
     leaves = run_leaves (start_of first) a b old new job (source_tree first.source) so_far.begun so_far.same so_far.tree (Err f) step.keeps;
     stands = run_stands (start_of first) a b old new job (source_tree first.source) so_far.begun so_far.same so_far.tree (Err f) step.keeps;
     tree = step_tree old new a b (Err f) step.leaves ∙ so_far.tree;

@@ -23,6 +23,8 @@ use Rattle.pt_begun.specs.EndLaws.{is_ended}
 use Rattle.pt_begun.specs.FaultLeft.{IsLeftByFault}
 use Rattle.pt_begun.specs.RefusalLaws as law
 use Rattle.pt_begun.proofs.EarlyHalts.{early_leaves_dest, early_leaves_log}
+use Rattle.pt_begun.proofs.LogHalts.{failed_log_leaves_no_staging}
+use Rattle.pt_move.specs.Turning.{BlamesLogLate}
 use Rattle.pt_begun.proofs.Ending.{ends_well}
 use Rattle.pt_begun.proofs.EndStates.{ends_with_states}
 use Rattle.pt_begun.proofs.GoodStarts.{nothing_is_refused}
@@ -39,7 +41,7 @@ use Rattle.pt_work.specs.WorkLaws.{BegunWithinWork}
 use Rattle.pt_state.specs.States.{counts_of, held_of, job_of, kept_of}
 use Rattle.pt_state.specs.declared.state.State.{State}
 use Rattle.pt_move.specs.Fault.{fault_of}
-use Rattle.pt_move.specs.Outcome.{EndsWhole, FaultLeaves, HoldsWithinBound, IfEarly, IsWhole, LeavesAll, MadeWithinWork, SaysOfBoth, SaysOfDest, SaysOfSource, SaysRightly, StandsStillIn, StatesAreFiles, WantsMemory}
+use Rattle.pt_move.specs.Outcome.{EndsWhole, FaultLeaves, HoldsWithinBound, IfEarly, IfLog, IsWhole, LeavesAll, LeavesNoStaging, MadeWithinWork, SaysOfBoth, SaysOfDest, SaysOfSource, SaysRightly, StandsStillIn, StatesAreFiles, WantsMemory}
 use Rattle.pt_move.specs.Promises.{AnswerSays}
 use Rattle.pt_move.specs.declared.fault.Fault.TheVariants as fault
 
@@ -191,9 +193,21 @@ module _ (s s' : State) (here : Phase) (fed fed' : List ℕ) (old new : World) (
       let reading = reading_of old.source f source_is in
       ap fault_of (nothing_is_refused job start old new run after why reading.0 t begun turn reading.1 start_is (subst (λ (f : Forest). IsStart job f (root_in t)) (sym reading.2) good) free none)
 
+  unstaged_after : (why : Halt) → MadeTurn (Err why) → BlamesLogLate here (Err why) → IfLog (fault_of why) (LeavesNoStaging new.dest)
+  unfolding LeavesNoStaging
+  unstaged_after halt.Source turn late = tt
+  unstaged_after halt.Dest turn late = tt
+  unstaged_after halt.Log turn late = λ now dest_is. failed_log_leaves_no_staging job start old new run after now begun turn late dest_is
+  unstaged_after halt.Memory turn late = tt
+  unstaged_after halt.NotPairtree turn late = tt
+  unstaged_after halt.Prefix turn late = tt
+  unstaged_after halt.StagingLeft turn late = tt
+  unstaged_after halt.Target turn late = tt
+  unstaged_after halt.Changed turn late = tt
+
   -- by the answer
-  pub says_after : (answer : Answer) → MadeTurn answer → AnswerSays old start new s s' answer
-  says_after (Ok next) turn = λ ended.
+  pub says_after : (answer : Answer) → MadeTurn answer → BlamesLogLate here answer → AnswerSays old start new s s' answer
+  says_after (Ok next) turn late = λ ended.
       let last : MadeTurn (Ok phase.Ended) = subst (λ (p : Phase). MadeTurn (Ok p)) ended turn in
       record { ends = end_whole last; states = end_states last }
-  says_after (Err why) turn = record { early = if_early why (LeavesAll start new.dest new.log) (leaves_all why turn); says = halt_says why turn; good = halt_good why turn }
+  says_after (Err why) turn late = record { early = if_early why (LeavesAll start new.dest new.log) (leaves_all why turn); unstaged = unstaged_after why turn late; says = halt_says why turn; good = halt_good why turn }

@@ -6,7 +6,7 @@ use Rattle.pt_plan.specs.World.{Failures, World, source_tree}
 use Rattle.pt_begun.specs.Begun.{Start}
 use Rattle.pt_state.specs.declared.job.Job.{Job}
 use Rattle.pt_state.specs.declared.job.Report.{Report}
-use Rattle.pt_move.specs.Outcome.{EndsWhole, FaultLeaves, IfEarly, LeavesAll, MadeWithinWork, SaysRightly, StandsStillIn, StatesAreFiles, WantsMemory}
+use Rattle.pt_move.specs.Outcome.{EndsWhole, FaultLeaves, IfEarly, IfLog, LeavesAll, LeavesNoStaging, MadeWithinWork, SaysRightly, StandsStillIn, StatesAreFiles, WantsMemory}
 use Rattle.pt_move.specs.Promises.{IfHalted, Keeps}
 use Rattle.pt_move.specs.Running.{IsBegun, LeavesBehind, Running}
 use Rattle.pt_move.specs.declared.fault.Fault.{Fault}
@@ -74,6 +74,10 @@ module _ (start : Start) (before after : Running) (old new : World) (job : Job) 
     pub run_early : IfEarly f (LeavesAll start new.dest new.log)
     unfolding Keeps
     run_early = not_ended (λ f. IfEarly f (LeavesAll start new.dest new.log)) f going (keeps start is).early
+
+    pub run_unstaged : IfLog f (LeavesNoStaging new.dest)
+    unfolding Keeps
+    run_unstaged = not_ended (λ f. IfLog f (LeavesNoStaging new.dest)) f going (keeps start is).unstaged
 
     pub run_says : SaysRightly job source start.dest f
     unfolding Keeps

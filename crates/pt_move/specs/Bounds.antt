@@ -24,12 +24,13 @@ pub record AreFew (job : Job) (held : Held) : Type 0 where
   pub rows : length held.rows ≤ job.limits.files
   pub lengths : bytes_in_rows held.rows ≤ length held.rows * job.limits.file_bytes
 
--- each line took a turn, and the turns are within their limit; so are the rows, and what the phase counts
+-- each line took a turn, and the turns are within their limit; so are the rows, and what the phase counts; and the prefix is one that a store may have (Pairtree 0.1)
 pub record IsBounded (job : Job) (here : Phase) (kept : Kept) : Type 0 where
   pub lines : lines_put kept.counts ≤ kept.counts.turns
   pub turns : kept.counts.turns ≤ job.limits.turns
   pub few : AreFew job kept.held
   pub within : IsWithin job here kept.held kept.counts.turns
+  pub prefix : length kept.prefix ≤ 1024
 
 -- how often a turn of this phase calls the source at most
 abbrev pub most_calls : Phase → ℕ

@@ -5,6 +5,7 @@ pub mod Held
 pub mod Leaving
 pub mod Lines
 pub mod Migrates
+pub mod NextLine
 pub mod Outcome
 pub mod Promises
 pub mod Running

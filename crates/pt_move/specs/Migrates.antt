@@ -8,7 +8,7 @@ use Rattle.pt_state.specs.declared.job.Report.{Report}
 use Rattle.pt_move.specs.Bounds.{lines_put}
 use Rattle.pt_move.specs.Counting.{Counts}
 use Rattle.pt_move.specs.Lines.{HasToldAll, HasToldFront}
-use Rattle.pt_move.specs.Outcome.{EndsWhole, FaultLeaves, IfEarly, LeavesAll, MadeWithinWork, SaysRightly, StandsStillIn, StatesAreFiles, WantsMemory}
+use Rattle.pt_move.specs.Outcome.{EndsWhole, FaultLeaves, IfEarly, IfLog, LeavesAll, LeavesNoStaging, MadeWithinWork, SaysRightly, StandsStillIn, StatesAreFiles, WantsMemory}
 use Rattle.pt_move.specs.Running.{LeavesBehind}
 use Rattle.pt_move.specs.Runs.{IsRun}
 use Rattle.pt_move.specs.declared.fault.Fault.{Fault}
@@ -23,6 +23,8 @@ pub record Migrates (job : Job) (old new : World) (result : Result Report Fault)
   pub left : FaultLeaves job (source_tree old.source) (start_of old) new.dest new.log
   -- and as they were after an early fault
   pub early : IfErr result (λ f. IfEarly f (LeavesAll (start_of old) new.dest new.log))
+  -- and with nothing at `staging` where the log failed
+  pub unstaged : IfErr result (λ f. IfLog f (LeavesNoStaging new.dest))
   -- whatever the source gives, the destination holds only whole objects at places where nothing stood, and a part of one more in `staging`
   pub leaves : LeavesBehind job (dest_tree old.dest) new.dest
   -- and what stood in it stands

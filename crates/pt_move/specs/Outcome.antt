@@ -63,6 +63,15 @@ IfEarly fault.Prefix P = P
 IfEarly fault.StagingLeft P = P
 IfEarly _ P = ⊤
 
+-- where the log failed
+abbrev pub IfLog : Fault → Type 0 → Type 0
+IfLog fault.Log P = P
+IfLog _ P = ⊤
+
+-- nothing stands at `staging`, where the destination tells
+unfoldable pub LeavesNoStaging : Option Writing → Type 0
+LeavesNoStaging dest = (now : Writing) → dest ≡ Some now → IsFree now.tree staging
+
 -- what stood in the destination at the start stands, and what is new stands only at its two places, where it tells
 unfoldable pub StandsStillIn : Option Tree → Option Writing → Type 0
 StandsStillIn start now = (t : Tree) (w : Writing) → start ≡ Some t → now ≡ Some w → StandsStill t w.tree

@@ -6,7 +6,7 @@ use Rattle.pt_plan.specs.declared.phase.Phase.TheVariants as phase
 use Rattle.pt_begun.specs.Begun.{Start}
 use Rattle.pt_state.specs.declared.state.State.{State}
 use Rattle.pt_move.specs.Fault.{fault_of}
-use Rattle.pt_move.specs.Outcome.{EndsWhole, FaultLeaves, HoldsWithinBound, IfEarly, LeavesAll, MadeWithinWork, SaysRightly, StandsStillIn, StatesAreFiles, WantsMemory}
+use Rattle.pt_move.specs.Outcome.{EndsWhole, FaultLeaves, HoldsWithinBound, IfEarly, IfLog, LeavesAll, LeavesNoStaging, MadeWithinWork, SaysRightly, StandsStillIn, StatesAreFiles, WantsMemory}
 use Rattle.pt_move.specs.Running.{IsBegun, LeavesBehind, Running}
 use Rattle.pt_move.specs.declared.fault.Fault.{Fault}
 use Rattle.pt_move.specs.declared.fault.Fault.TheVariants as fault
@@ -54,6 +54,8 @@ pub record StepPromises (start : Start) (old new : World) (before after : Runnin
   pub left : FaultLeaves before.state.job (source_tree old.source) start new.dest new.log
   -- and as they were at the start after an early fault
   pub early : IfHalted answer (λ f. IfEarly f (LeavesAll start new.dest new.log))
+  -- and with nothing at `staging` where the log failed
+  pub unstaged : IfHalted answer (λ f. IfLog f (LeavesNoStaging new.dest))
   -- a source or destination is refused only for what it is
   pub says : IfHalted answer (SaysRightly before.state.job (source_tree old.source) start.dest)
   -- and over a good start none is
@@ -73,6 +75,7 @@ pub record EndPromises (start : Start) (old new : World) (s s' : State) : Type 0
 -- what one leaves and says that halted the run
 pub record HaltPromises (start : Start) (old new : World) (s : State) (f : Fault) : Type 0 where
   pub early : IfEarly f (LeavesAll start new.dest new.log)
+  pub unstaged : IfLog f (LeavesNoStaging new.dest)
   pub says : SaysRightly s.job (source_tree old.source) start.dest f
   pub good : WantsMemory s.job (source_tree old.source) start.dest old.failures new.failures f
 

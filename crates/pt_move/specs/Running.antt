@@ -69,8 +69,12 @@ pub record InProgress (start : Start) (world : World) (r : Running) : Type 0 whe
   pub was : FedUntilEnd r.phase r.state.job.algorithm r.state.hasher fed
   pub begun : BegunWithinWork (job_of r.state.job) start world (run_of r fed)
 
+-- what the devices of a world tell; how often they failed has no part in it, so a device that tells nothing may be another one
+abbrev pub as_told : World → World
+as_told world = record world { failures = record { source = 0; dest = 0; log = 0 } }
+
 unfoldable pub IsBegun : Start → World → Running → Type 0
-IsBegun start world r = InProgress start world r
+IsBegun start world r = InProgress start (as_told world) r
 
 -- it is to begin, or it began at some start
 unfoldable pub HasBegun : World → Running → Type 0

@@ -10,7 +10,7 @@ use Rattle.pt_move.specs.Counting.{Counts}
 use Rattle.pt_move.specs.Fault.{fault_of}
 use Rattle.pt_move.specs.Held.{Gains, Moves}
 use Rattle.pt_move.specs.Lines.{FinishTold, Tells}
-use Rattle.pt_move.specs.Running.{Running}
+use Rattle.pt_move.specs.Running.{BeganSomewhere, IsWell, Running}
 use Rattle.pt_move.specs.declared.fault.Fault.{Fault}
 use Rattle.pt_move.specs.declared.fault.Fault.TheVariants as fault
 use Rattle.pt_move.specs.declared.mover.Turn.{Turn}
@@ -20,6 +20,12 @@ use Rattle.pt_move.specs.declared.mover.Turn.TheVariants as turn
 pub record IsTurn (old : Running) : Type 0 where
   pub going : old.phase ≢ phase.Ended
   pub within : old.state.counts.turns < old.state.job.limits.turns
+
+-- and it began at some start over this world
+pub record IsReady (world : World) (r : Running) : Type 0 where
+  pub begun : BeganSomewhere world r
+  pub well : IsWell r
+  pub turn : IsTurn r
 
 -- the answer is given in its states alone: Ended after the end, Turns where the limit of turns was made before it, and any other after a turn; unless there is more to do, the run has ended
 abbrev pub EndsAs : Running → Running → Result Turn Fault → Type 0
@@ -35,11 +41,15 @@ IsCounted old new (Err fault.Ended) = new.state.counts ≡ old.state.counts
 IsCounted old new (Err fault.Turns) = new.state.counts ≡ old.state.counts
 IsCounted old new r = (new.state.counts.turns ≡ old.state.counts.turns + 1) × (lines_put (counts_of new.state.counts) ≤ lines_put (counts_of old.state.counts) + 1)
 
--- where no turn was made, the device is the very value that it was
-abbrev pub Stays : {X : Type 0} → Result Turn Fault → X → X → Type 0
-Stays (Err fault.Ended) old new = new ≡ old
-Stays (Err fault.Turns) old new = new ≡ old
-Stays r old new = ⊤
+-- where no turn was made, the device is the very value that it was; else it is the same device, as its calls left it
+abbrev pub Stays : {X : Type 0} → (X → X → Type 0) → Result Turn Fault → X → X → Type 0
+Stays keeps (Err fault.Ended) old new = new ≡ old
+Stays keeps (Err fault.Turns) old new = new ≡ old
+Stays keeps r old new = keeps old new
+
+-- what is kept of the devices as one is said with their calls
+abbrev pub Any : {X : Type 0} → X → X → Type 0
+Any old new = ⊤
 
 -- how often a step calls the source at most: twice in the second turn, which reads the prefix, and else once
 abbrev pub most_calls_at : Running → ℕ

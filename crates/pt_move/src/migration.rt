@@ -18,7 +18,8 @@ use std::alloc::Global;
 /// good start none comes (`says`, `good`); turns within the store's work (`work`).
 ///
 /// `Source`, `Dest` and `Log` are answered only where that device's count of failures rose, or stood at its greatest
-/// value, and then no other answer is given; `Ended` is never answered.
+/// value, and then no other answer is given; `Ended` is never answered. Each device stays the one that it is, as its calls
+/// keep it.
 pub fn migrate<S: Source, D: Dest, L: Log>(
     alloc: Global,
     source: &mut S,
@@ -26,12 +27,15 @@ pub fn migrate<S: Source, D: Dest, L: Log>(
     log: &mut L,
     job: Job,
 ) -> Result<Report, Fault>
-    ensures { Migrates job
+    ensures promises { Migrates job
         (world (S.told source.old) (D.told dest.old) (L.told log.old)
         (S.failed source.old) (D.failed dest.old) (L.failed log.old))
         (world (S.told source.new) (D.told dest.new) (L.told log.new)
         (S.failed source.new) (D.failed dest.new) (L.failed log.new))
         result }
+    ensures source_stays { S.keeps source.old source.new }
+    ensures dest_stays { D.keeps dest.old dest.new }
+    ensures log_stays { L.keeps log.old log.new }
 {
     run(alloc, &mut Devices { source, dest, log }, job)
 }

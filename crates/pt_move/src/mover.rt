@@ -12,7 +12,7 @@ ghost use Rattle.pt_walk.specs.Trail.{entries_held};
 ghost use Rattle.pt_move.specs.Leaving.{TurnLeaves};
 ghost use Rattle.pt_move.specs.Promises.{Keeps, TurnKeeps};
 ghost use Rattle.pt_move.specs.Running.{BeganSomewhere, HasBegun, IsBegun, IsNew, IsWell};
-ghost use Rattle.pt_move.specs.Stepping.{BlamesRightly, EndsAs, MakesTurn, Stays, StepLeaves, Steps, most_calls_at};
+ghost use Rattle.pt_move.specs.Stepping.{Any, BlamesRightly, EndsAs, IsReady, MakesTurn, Stays, StepLeaves, Steps, most_calls_at};
 
 use crate::Fault;
 use crate::turning::turn;
@@ -99,7 +99,8 @@ impl Mover {
     ///
     /// `Source`, `Dest` and `Log` are answered only where that device's count of failures rose, or stood at its greatest
     /// value, and then no other answer is given. The three devices have to be those of the earlier steps, as those left
-    /// them, if they tell what they hold: then the run is still in progress, from the start at which it began.
+    /// them, if they tell what they hold: then the run is still in progress, from the start at which it began. Each stays the
+    /// device that it is, as its calls keep it.
     pub fn step<S: Source, D: Dest, L: Log>(
         &mut self,
         source: &mut S,
@@ -132,9 +133,9 @@ impl Mover {
             (S.failed source.new) (D.failed dest.new) (L.failed log.new))
             self.old self.new result }
         ensures calls { AtMostCalls (most_calls_at self.old) (S.called source.old) (S.called source.new) }
-        ensures source_stays { Stays result source.old source.new }
-        ensures dest_stays { Stays result dest.old dest.new }
-        ensures log_stays { Stays result log.old log.new }
+        ensures source_stays { Stays S.keeps result source.old source.new }
+        ensures dest_stays { Stays D.keeps result dest.old dest.new }
+        ensures log_stays { Stays L.keeps result log.old log.new }
     {
         self.advance(&mut Devices { source, dest, log })
     }
@@ -150,7 +151,7 @@ impl Mover {
         ensures leaves { StepLeaves (O.world out.old) (O.world out.new) self.old self.new result }
         ensures turn { MakesTurn (O.world out.old) (O.world out.new) self.old self.new result }
         ensures calls { O.within (most_calls_at self.old) out.old out.new }
-        ensures stays { Stays result out.old out.new }
+        ensures stays { Stays Any result out.old out.new }
     {
         self.begun(out);
         let phase = match mem::replace(&mut self.phase, Phase::Ended) {
@@ -199,10 +200,7 @@ impl Mover {
 // Makes the turn of a phase, and gives the next one.
 #[tactic(auto, using(crate::proofs::Answering::making_turn, crate::proofs::Keeping::outcomes))]
 fn made_turn<O: Outside>(state: &mut State, here: Phase, out: &mut O) -> Result<Phase, Halt>
-    requires begun { BeganSomewhere (O.world out.old) (record { phase = here; state = state.old }) }
-    requires going { here ≢ phase.Ended }
-    requires well { IsWell (record { phase = here; state = state.old }) }
-    requires within { state.old.counts.turns < state.old.job.limits.turns }
+    requires { IsReady (O.world out.old) (record { phase = here; state = state.old }) }
     ensures keeps { (start : Start)
         → IsBegun start (O.world out.old) (record { phase = here; state = state.old })
         → TurnKeeps start (O.world out.old) (O.world out.new) state.old state.new result }

@@ -1,4 +1,4 @@
-#![tactic(auto, using(crate::proofs::Needs::standing))]
+#![tactic(auto, using(crate::proofs::Needs::standing, crate::proofs::LateLog::late))]
 // One turn: what is done at each phase.
 ghost use Rattle.std.specs.Prelude.{◌<◌, []};
 ghost use Rattle.pt_plan.specs.Permits.{Permits};
@@ -6,7 +6,7 @@ ghost use Rattle.pt_state.specs.Outside.{Turned};
 ghost use Rattle.pt_state.specs.States.{held_of, job_of, kept_of};
 ghost use Rattle.pt_move.specs.Bounds.{IsBounded, most_calls};
 ghost use Rattle.pt_move.specs.Stands.{CanAdd, Stands};
-ghost use Rattle.pt_move.specs.Turning.{CountedTurn, HasFed};
+ghost use Rattle.pt_move.specs.Turning.{BlamesLogLate, CountedTurn, HasFed};
 
 use pt_make::{copying, making, placing, telling};
 use pt_plan::{Halt, Phase};
@@ -16,7 +16,7 @@ use pt_state::{Outside, State};
 
 /// Makes the turn of a phase, which is counted as it begins, and gives the next phase, or why the run halts: `Source`,
 /// `Dest` and `Log` where that device failed, `Memory` where a growth was refused, the others where the table of turns
-/// says so (docs/MODEL.md). It is a turn of the run's definitions, whatever the devices tell.
+/// says so (docs/MODEL.md); `Log` only where lines may be told. It is a turn of the run's definitions, whatever the devices tell.
 pub(crate) fn turn<O: Outside>(state: &mut State, phase: Phase, out: &mut O) -> Result<Phase, Halt>
     requires permits { Permits (job_of state.old.job) phase (held_of state.old [])
         (O.world out.old).source (O.world out.old).dest }
@@ -26,6 +26,7 @@ pub(crate) fn turn<O: Outside>(state: &mut State, phase: Phase, out: &mut O) -> 
     requires within { state.old.counts.turns < state.old.job.limits.turns }
     ensures turn { CountedTurn phase state.old state.new
         (O.world out.old) (O.world out.new) result }
+    ensures late { BlamesLogLate phase result }
     ensures calls { O.within (most_calls phase) out.old out.new }
 {
     let _most = state.job.limits.turns();
@@ -40,6 +41,7 @@ fn turn_at<O: Outside>(state: &mut State, phase: Phase, out: &mut O) -> Result<P
     requires stands { Stands phase state.old }
     requires adds { CanAdd phase state.old }
     ensures turn { Turned phase state.old state.new (O.world out.old) (O.world out.new) result }
+    ensures late { BlamesLogLate phase result }
     ensures calls { O.within (most_calls phase) out.old out.new }
 {
     match phase {

@@ -39,7 +39,8 @@ fn push_clean(text: &mut Vec<u8>, byte: u8) -> Result<(), MemoryFault>
 
 // Adds `^` and the two digits of one byte.
 fn push_caret(text: &mut Vec<u8>, byte: u8) -> Result<(), MemoryFault>
-    ensures { OnOk result (text.new.items ≡ text.old.items ++ Rattle.pt_name.specs.Clean.caret_spelling byte) }
+    ensures { OnOk result (text.new.items ≡ text.old.items
+        ++ Rattle.pt_name.specs.Clean.caret_spelling byte) }
 {
     let [high, low] = hex_digits(byte);
     text.extend_from_slice(&[b'^', high, low])?;

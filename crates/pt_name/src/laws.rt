@@ -23,6 +23,7 @@ pub fn reading_is_computed()
 /// Two different identifiers have one place only where both encodings have more than 100 characters, agree in their
 /// first 100, and the identifiers have one SHA-256.
 pub fn one_place()
-    ensures { (tuples : Tuples) (a b : List ℕ) → All (λ byte. byte < 256) a → All (λ byte. byte < 256) b
+    ensures { (tuples : Tuples) (a b : List ℕ) → All (λ byte. byte < 256) a
+        → All (λ byte. byte < 256) b
         → a ≢ b → place_of tuples a ≡ place_of tuples b → SharesShortName a b }
 {}

@@ -41,7 +41,8 @@ impl PrefixFault {
 /// Refused, in this order, as `TooLong` (the whole has more than 1,024 bytes) and `NotUtf8` (what remains isn't
 /// UTF-8); then as `Memory`, where a growth was refused.
 pub fn read_prefix(alloc: Global, bytes: &[u8]) -> Result<String, PrefixFault>
-    ensures { Answers (prefix_refusal bytes.now) PrefixFault.Memory result (λ prefix. string_bytes prefix ≡ without_line_ends bytes.now) }
+    ensures { Answers (prefix_refusal bytes.now) PrefixFault.Memory result
+        (λ prefix. string_bytes prefix ≡ without_line_ends bytes.now) }
 {
     if bytes.len() > LONGEST {
         return Err(PrefixFault::TooLong);

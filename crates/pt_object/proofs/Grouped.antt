@@ -1,25 +1,23 @@
--- Paths that are grouped by the digest of their files, row by row.
-use Rattle.std.proofs.Common.{◌≡◌, ℕ, ◌+◌, ◌<◌, List, [], ◌∷◌, ◌++◌, Vec, length, get_or, set, take, map, cond, Bool, true, false, refl, sym, ◌∙◌, ap, arith, zero, suc, inl, inr}
+-- What rows have of each content, row by row.
+use Rattle.std.proofs.Common.{◌≡◌, ℕ, ◌+◌, ◌<◌, List, [], ◌∷◌, ◌++◌, length, get_or, set, take, map, cond, Bool, true, false, refl, sym, ◌∙◌, ap, arith, zero, suc, inl, inr}
 use Rattle.std.specs.Str.{bytes_eq}
-use Rattle.std.specs.declared.alloc.Global.{Global}
 use Rattle.std.specs.Cmp.Lexicographic.{bytes_decides}
 use Rattle.std.proofs.lemmas.Bool.{cases_Bool, false_from_ne_true, true≢false}
-use Rattle.std.proofs.lemmas.List.{take_more, map-append, map-set, get_or-map, length-map, append-nil}
+use Rattle.std.proofs.lemmas.List.{take_more, map-set, get_or-map, length-map, append-nil}
 use denote.Ref.{Bor}
 use Rattle.pt_tree.specs.Path.{Path, joined}
-use Rattle.pt_object.specs.Contents.{digest_at, DigestsDiffer, is_noted}
-use Rattle.pt_object.specs.Index.{IsAt}
-use Rattle.std.specs.Prelude.{fold}
-use Rattle.std.proofs.lemmas.List.Sums.{fold_push}
-use Rattle.hex.specs.Hex.{encode_lower}
-use Rattle.serde_json.specs.Data.{Data, array, Members, no_members, put}
-use Rattle.pt_object.proofs.Indexed.{digest_at-item}
-use Rattle.pt_object.specs.Inventory.{groups_lent, paths_with, put_paths, texts}
+use Rattle.pt_object.specs.Contents.{digest_at, DigestsDiffer, first_path, is_noted}
+use Rattle.pt_object.specs.Index.{IsAt, IsIndex}
+use Rattle.pt_object.proofs.Indexed.{digest_at-item, first_path-at}
+use Rattle.pt_object.proofs.Noting.{noting_gives_distinct, noting_keeps_first}
+use Rattle.std.specs.Prelude.{filter, find, Some}
+use Rattle.std.specs.Option.{option_map}
+use Rattle.pt_object.specs.Distinct.{content_of_row, distinct, row_has_digest}
+use Rattle.pt_object.specs.Inventory.{paths_with}
+use Rattle.pt_object.specs.Later.{group_lent, parted}
+use Rattle.pt_object.specs.declared.state.Group.{Group}
 use Rattle.pt_object.specs.declared.contents.Content.{Content}
 use Rattle.pt_object.specs.declared.rows.Row.{Row}
-
-abbrev pub no_paths : Content → List Path
-no_paths content = []
 
 abbrev pub digests : List Content → List (List ℕ)
 digests contents = map (λ (c : Content). c.digest) contents
@@ -48,14 +46,21 @@ paths_other rows i row d within is other =
     ∙ ap (λ (b : Bool). paths_with (take i rows) d ++ path_if b row.path) (false_from_ne_true (bytes_eq row.digest d) (λ e. other ((bytes_decides row.digest d).0 e)))
     ∙ append-nil (paths_with (take i rows) d)
 
-map_same : (ds : List (List ℕ)) (old new : List ℕ → List Path) → ((k : ℕ) → k < length ds → new (get_or ds k []) ≡ old (get_or ds k [])) → map old ds ≡ map new ds
+abbrev Part : Type 0
+Part = Bool × List Path
+
+-- what these rows have of a digest
+abbrev pub part_with : List Row → List ℕ → Part
+part_with rows d = parted (paths_with rows d)
+
+map_same : (ds : List (List ℕ)) (old new : List ℕ → Part) → ((k : ℕ) → k < length ds → new (get_or ds k []) ≡ old (get_or ds k [])) → map old ds ≡ map new ds
 map_same [] old new same = refl
 map_same (d ∷ ds) old new same =
     let first : new d ≡ old d = same 0 (omega arith) in
     let rest : map old ds ≡ map new ds = map_same ds old new (λ k h. same (suc k) (omega arith)) in
     cc
 
-set_map : (ds : List (List ℕ)) (p : ℕ) (old new : List ℕ → List Path) (y : List Path) → p < length ds → y ≡ new (get_or ds p [])
+set_map : (ds : List (List ℕ)) (p : ℕ) (old new : List ℕ → Part) (y : Part) → p < length ds → y ≡ new (get_or ds p [])
     → ((k : ℕ) → k < length ds → (k ≡ p → ⊥) → new (get_or ds k []) ≡ old (get_or ds k [])) → set (map old ds) p y ≡ map new ds
 set_map [] p old new y within at others = absurd (omega arith)
 set_map (d ∷ ds) zero old new y within at others =
@@ -67,41 +72,37 @@ set_map (d ∷ ds) (suc p) old new y within at others =
     let rest : set (map old ds) p y ≡ map new ds = set_map ds p old new y (omega arith) at (λ k h apart. others (suc k) (omega arith) (λ e. apart (omega arith))) in
     cc
 
-abbrev lent : Vec (Bor Path) Global → List Path
-lent group = map (λ (path : Bor Path). path.now) group.items
-
-pub length_groups : (groups : List (Vec (Bor Path) Global)) (f : List ℕ → List Path) (contents : List Content) → groups_lent groups ≡ map f (digests contents) → length groups ≡ length contents
+pub length_groups : (groups : List Group) (f : List ℕ → Part) (contents : List Content) → map group_lent groups ≡ map f (digests contents) → length groups ≡ length contents
 length_groups groups f contents e =
-    sym (length-map groups lent) ∙ ap length e ∙ length-map (digests contents) f ∙ length-map contents (λ (c : Content). c.digest)
+    sym (length-map groups group_lent) ∙ ap length e ∙ length-map (digests contents) f ∙ length-map contents (λ (c : Content). c.digest)
 
-pub group_at : (groups : List (Vec (Bor Path) Global)) (f : List ℕ → List Path) (contents : List Content) (p : ℕ) (g : Vec (Bor Path) Global) → groups_lent groups ≡ map f (digests contents)
-    → p < length contents → lent (get_or groups p g) ≡ f (digest_at contents p)
+pub group_at : (groups : List Group) (f : List ℕ → Part) (contents : List Content) (p : ℕ) (g : Group) → map group_lent groups ≡ map f (digests contents)
+    → p < length contents → group_lent (get_or groups p g) ≡ f (digest_at contents p)
 group_at groups f contents p g e within =
     let in_groups : p < length groups = omega (arith, length_groups groups f contents e) in
     let in_digests : p < length (digests contents) = omega (arith, length-map contents (λ (c : Content). c.digest)) in
-    sym (get_or-map lent groups p g [] in_groups) ∙ ap (λ (l : List (List Path)). get_or l p []) e ∙ get_or-map f (digests contents) p [] [] in_digests
+    sym (get_or-map group_lent groups p g (false, []) in_groups) ∙ ap (λ (l : List Part). get_or l p (false, [])) e ∙ get_or-map f (digests contents) p [] (false, []) in_digests
 
 -- a row whose digest is that of an item: its path comes to that item's group
-pub grouped_more : (groups : List (Vec (Bor Path) Global)) (contents : List Content) (rows : List Row) (i p : ℕ) (row : Row) (path : Bor Path) (old group : Vec (Bor Path) Global)
-    → DigestsDiffer contents → IsAt contents row.digest p → i < length rows → row ≡ get_or rows i row → path.now ≡ row.path
-    → groups_lent groups ≡ map (paths_with (take i rows)) (digests contents) → old ≡ get_or groups p old → group.items ≡ old.items ++ path ∷ []
-    → groups_lent (set groups p group) ≡ map (paths_with (take (i + 1) rows)) (digests contents)
-grouped_more groups contents rows i p row path old group differ at within is path_is e old_is pushed =
+pub grouped_more : (groups : List Group) (contents : List Content) (rows : List Row) (i p : ℕ) (row : Row) (path : Path) (old group : Group)
+    → DigestsDiffer contents → IsAt contents row.digest p → i < length rows → row ≡ get_or rows i row → path ≡ row.path
+    → map group_lent groups ≡ map (part_with (take i rows)) (digests contents) → old ≡ get_or groups p old
+    → ((paths : List Path) → group_lent old ≡ parted paths → group_lent group ≡ parted (paths ++ path ∷ []))
+    → map group_lent (set groups p group) ≡ map (part_with (take (i + 1) rows)) (digests contents)
+grouped_more groups contents rows i p row path old group differ at within is path_is e old_is added =
     let in_digests : p < length (digests contents) = omega (arith, length-map contents (λ (c : Content). c.digest), at.within) in
     let here : bytes_eq row.digest (digest_at contents p) ≡ true = (bytes_decides row.digest (digest_at contents p)).1 (sym at.same) in
-    let whole : lent group ≡ paths_with (take (i + 1) rows) (digest_at contents p) =
-    ap (map (λ (q : Bor Path). q.now)) pushed
-    ∙ map-append (λ (q : Bor Path). q.now) old.items (path ∷ [])
-    ∙ ap (λ (v : Vec (Bor Path) Global). lent v ++ path.now ∷ []) old_is
-    ∙ ap (λ (l : List Path). l ++ path.now ∷ []) (group_at groups (paths_with (take i rows)) contents p old e at.within)
-    ∙ ap (λ (q : Path). paths_with (take i rows) (digest_at contents p) ++ q ∷ []) path_is
+    let before : group_lent old ≡ part_with (take i rows) (digest_at contents p) = ap group_lent old_is ∙ group_at groups (part_with (take i rows)) contents p old e at.within in
+    let paths : paths_with (take i rows) (digest_at contents p) ++ path ∷ [] ≡ paths_with (take (i + 1) rows) (digest_at contents p) =
+    ap (λ (q : Path). paths_with (take i rows) (digest_at contents p) ++ q ∷ []) path_is
     ∙ ap (λ (b : Bool). paths_with (take i rows) (digest_at contents p) ++ path_if b row.path) (sym here)
     ∙ sym (paths_more rows i row (digest_at contents p) within is) in
-    map-set lent groups p group
-    ∙ ap (λ (l : List (List Path)). set l p (lent group)) e
-    ∙ set_map (digests contents) p (paths_with (take i rows)) (paths_with (take (i + 1) rows)) (lent group) in_digests whole
-    (λ k h apart. paths_other rows i row (digest_at contents k) within is
-    (λ same. apart (differ k p (omega (arith, length-map contents (λ (c : Content). c.digest))) at.within (sym same ∙ sym at.same))))
+    let whole : group_lent group ≡ part_with (take (i + 1) rows) (digest_at contents p) = added (paths_with (take i rows) (digest_at contents p)) before ∙ ap parted paths in
+    map-set group_lent groups p group
+    ∙ ap (λ (l : List Part). set l p (group_lent group)) e
+    ∙ set_map (digests contents) p (part_with (take i rows)) (part_with (take (i + 1) rows)) (group_lent group) in_digests whole
+    (λ k h apart. ap parted (paths_other rows i row (digest_at contents k) within is
+    (λ same. apart (differ k p (omega (arith, length-map contents (λ (c : Content). c.digest))) at.within (sym same ∙ sym at.same)))))
 
 later : (x : Content) (contents : List Content) (d : List ℕ) (k : ℕ) → is_noted contents d ≡ false → k < length (digests (x ∷ contents)) → d ≡ digest_at (x ∷ contents) k → bytes_eq x.digest d ≡ false
     → ((j : ℕ) → j < length (digests contents) → d ≡ digest_at contents j → ⊥) → ⊥
@@ -117,45 +118,65 @@ not_noted_at (x ∷ contents) d k none h same = elim (cases_Bool (bytes_eq x.dig
 ]
 
 -- a row whose digest no item has
-pub grouped_other : (groups : List (Vec (Bor Path) Global)) (contents : List Content) (rows : List Row) (i : ℕ) (row : Row)
+pub grouped_other : (groups : List Group) (contents : List Content) (rows : List Row) (i : ℕ) (row : Row)
     → is_noted contents row.digest ≡ false → i < length rows → row ≡ get_or rows i row
-    → groups_lent groups ≡ map (paths_with (take i rows)) (digests contents) → groups_lent groups ≡ map (paths_with (take (i + 1) rows)) (digests contents)
+    → map group_lent groups ≡ map (part_with (take i rows)) (digests contents) → map group_lent groups ≡ map (part_with (take (i + 1) rows)) (digests contents)
 grouped_other groups contents rows i row none within is e =
-    e ∙ map_same (digests contents) (paths_with (take i rows)) (paths_with (take (i + 1) rows))
-    (λ k h. paths_other rows i row (digest_at contents k) within is (λ same. not_noted_at contents row.digest k none h same))
+    e ∙ map_same (digests contents) (part_with (take i rows)) (part_with (take (i + 1) rows))
+    (λ k h. ap parted (paths_other rows i row (digest_at contents k) within is (λ same. not_noted_at contents row.digest k none h same)))
 
--- before the first row each group is empty
-pub none_yet : (contents : List Content) → map no_paths contents ≡ map (paths_with []) (digests contents)
+abbrev pub no_part : Content → Part
+no_part content = (false, [])
+
+-- before the first row nothing is there of any
+pub none_yet : (contents : List Content) → map no_part contents ≡ map (part_with []) (digests contents)
 none_yet [] = refl
-none_yet (x ∷ contents) = ap (λ (l : List (List Path)). [] ∷ l) (none_yet contents)
+none_yet (x ∷ contents) = ap (λ (l : List Part). (false, []) ∷ l) (none_yet contents)
+
+pub over_digests : (rows : List Row) (contents : List Content) → map (part_with rows) (digests contents) ≡ map (λ (c : Content). parted (paths_with rows c.digest)) contents
+over_digests rows [] = refl
+over_digests rows (x ∷ contents) = ap (λ (l : List Part). part_with rows x.digest ∷ l) (over_digests rows contents)
 
 map_map : (paths : List (Bor Path)) → map (λ (path : Bor Path). joined path.now) paths ≡ map joined (map (λ (path : Bor Path). path.now) paths)
 map_map [] = refl
 map_map (x ∷ paths) = ap (λ (l : List (List ℕ)). joined x.now ∷ l) (map_map paths)
 
--- the texts of a group's paths
-pub texts_at : (groups : List (Vec (Bor Path) Global)) (rows : List Row) (contents : List Content) (p : ℕ) (g : Vec (Bor Path) Global) → groups_lent groups ≡ map (paths_with rows) (digests contents)
-    → p < length contents → map (λ (path : Bor Path). joined path.now) (get_or groups p g).items ≡ map joined (paths_with rows (digest_at contents p))
-texts_at groups rows contents p g e within = map_map (get_or groups p g).items ∙ ap (map joined) (group_at groups (paths_with rows) contents p g e within)
+-- the first row with a digest has the first of the paths with it
+first_of : (rows : List Row) (d : List ℕ) (q : Path) → option_map (λ (row : Row). row.path) (find (row_has_digest d) rows) ≡ Some q → (rest : List Path) × (paths_with rows d ≡ q ∷ rest)
+first_of [] d q found = absurd (cc)
+first_of (x ∷ rows) d q found = elim (cases_Bool (bytes_eq x.digest d)) [
+  | inl here ↦
+      let one : Some x.path ≡ Some q = sym (ap (λ (b : Bool). option_map (λ (row : Row). row.path) (cond b (Some x) (find (row_has_digest d) rows))) here) ∙ found in
+      let same : x.path ≡ q = cc in (
+        paths_with rows d,
+        ap (λ (b : Bool). map (λ (row : Row). row.path) (cond b (x ∷ filter (row_has_digest d) rows) (filter (row_has_digest d) rows))) here ∙ ap (λ (p : Path). p ∷ paths_with rows d) same,
+      )
+  | inr other ↦
+      let later = first_of rows d q (sym (ap (λ (b : Bool). option_map (λ (row : Row). row.path) (cond b (Some x) (find (row_has_digest d) rows))) other) ∙ found) in (
+        later.0,
+        ap (λ (b : Bool). map (λ (row : Row). row.path) (cond b (x ∷ filter (row_has_digest d) rows) (filter (row_has_digest d) rows))) other ∙ later.1,
+      )
+]
 
--- one more content, with the paths of its group
-pub state_more : (groups : List (Vec (Bor Path) Global)) (rows rows' : List Row) (contents contents' : List Content) (i : ℕ) (x : Content) (g : Vec (Bor Path) Global) (paths : List (Bor Path)) (key : List ℕ) (value : Data) (old new : Members)
-    → rows' ≡ rows → contents' ≡ contents → groups_lent groups ≡ map (paths_with rows') (digests contents) → i < length contents' → x ≡ get_or contents' i x
-    → key ≡ encode_lower x.digest → g ≡ get_or groups i g → paths ≡ g.items → value ≡ array (texts (map (λ (path : Bor Path). joined path.now) paths))
-    → old ≡ fold (put_paths rows) no_members (take i contents') → new ≡ put key value old → new ≡ fold (put_paths rows) no_members (take (i + 1) contents')
-state_more groups rows rows' contents contents' i x g paths key value old new rows_are contents_are e within is key_is g_is paths_are value_is old_is new_is =
-    let inside : i < length contents = omega (arith, ap length contents_are) in
-    let at : digest_at contents i ≡ x.digest =
-    ap (λ (l : List Content). digest_at l i) (sym contents_are) ∙ digest_at-item contents' i x within ∙ ap (λ (c : Content). c.digest) (sym is) in
-    let list : map (λ (path : Bor Path). joined path.now) paths ≡ map joined (paths_with rows x.digest) =
-    ap (map (λ (path : Bor Path). joined path.now)) (paths_are ∙ ap (λ (v : Vec (Bor Path) Global). v.items) g_is)
-    ∙ texts_at groups rows' contents i g e inside
-    ∙ ap (λ (r : List Row). map joined (paths_with r (digest_at contents i))) rows_are
-    ∙ ap (λ (d : List ℕ). map joined (paths_with rows d)) at in
-    let last : take (i + 1) contents' ≡ take i contents' ++ x ∷ [] = take_more contents' i x within ∙ ap (λ (c : Content). take i contents' ++ c ∷ []) (sym is) in
-    new_is
-    ∙ ap (λ (k : List ℕ). put k value old) key_is
-    ∙ ap (λ (v : Data). put (encode_lower x.digest) v old) (value_is ∙ ap (λ (l : List (List ℕ)). array (texts l)) list)
-    ∙ ap (put (encode_lower x.digest) (array (texts (map joined (paths_with rows x.digest))))) old_is
-    ∙ sym (fold_push (put_paths rows) no_members (take i contents') x)
-    ∙ sym (ap (fold (put_paths rows) no_members) last)
+-- the texts of a content's paths
+pub content_texts : (groups : List Group) (rows rows' : List Row) (contents contents' : List Content) (index : List ℕ) (p : ℕ) (x : Content) (g : Group) (paths : List (Bor Path))
+    → rows' ≡ rows → contents' ≡ contents → contents ≡ map content_of_row (distinct rows) → IsIndex contents' index
+    → map group_lent groups ≡ map (λ (c : Content). parted (paths_with rows' c.digest)) contents → p < length contents' → x ≡ get_or contents' p x
+    → g ≡ get_or groups p g → paths ≡ g.later.items → joined x.path ∷ map (λ (path : Bor Path). joined path.now) paths ≡ map joined (paths_with rows x.digest)
+content_texts groups rows rows' contents contents' index p x g paths rows_are contents_are are ordered e within is g_is paths_are =
+    let inside : p < length contents = omega (arith, ap length contents_are) in
+    let own : digest_at contents' p ≡ x.digest = digest_at-item contents' p x within ∙ ap (λ (c : Content). c.digest) (sym is) in
+    let at : digest_at contents p ≡ x.digest = ap (λ (l : List Content). digest_at l p) (sym contents_are) ∙ own in
+    let path_is : first_path contents' x.digest ≡ Some x.path = first_path-at contents' index x.digest p x ordered (record { within = within; same = own }) is in
+    let first : option_map (λ (row : Row). row.path) (find (row_has_digest x.digest) rows) ≡ Some x.path =
+    sym (noting_keeps_first rows x.digest) ∙ ap (λ (l : List Content). first_path l x.digest) (noting_gives_distinct rows ∙ sym are ∙ sym contents_are) ∙ path_is in
+    let all = first_of rows x.digest x.path first in
+    let lent : group_lent g ≡ parted (x.path ∷ all.0) =
+    ap group_lent g_is
+    ∙ group_at groups (part_with rows') contents p g (e ∙ sym (over_digests rows' contents)) inside
+    ∙ ap (λ (r : List Row). part_with r (digest_at contents p)) rows_are
+    ∙ ap (part_with rows) at
+    ∙ ap parted all.1 in
+    let later : map (λ (path : Bor Path). path.now) g.later.items ≡ all.0 = ap (λ (l : Part). l.1) lent in
+    ap (λ (l : List (List ℕ)). joined x.path ∷ l) (ap (map (λ (path : Bor Path). joined path.now)) paths_are ∙ map_map g.later.items ∙ ap (map joined) later)
+    ∙ sym (ap (map joined) all.1)

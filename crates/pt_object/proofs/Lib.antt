@@ -16,6 +16,10 @@ pub mod ObjectScripts
 pub mod RootScripts
 mod DigestKeys
 mod InOrder
+mod HexOrder
+mod Sorted
+mod Entries
+mod Documents
 pub mod Stored
 pub mod Manifests
 pub mod Groups

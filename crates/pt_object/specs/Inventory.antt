@@ -1,7 +1,5 @@
 -- The inventory of an object of one version, as a tree of JSON over its rows.
-use Rattle.std.specs.Prelude.{ℕ, Vec, List, [], ◌∷◌, ◌++◌, codes, filter, fold, map, Option, None, Some}
-use Rattle.std.specs.declared.alloc.Global.{Global}
-use denote.Ref.{Bor}
+use Rattle.std.specs.Prelude.{ℕ, List, [], ◌∷◌, ◌++◌, codes, filter, fold, map, Option, None, Some}
 use Rattle.hex.specs.Hex.{encode_lower}
 use Rattle.serde_json.specs.Data.{Data, string, array, object, Items, Members, no_members, member, put}
 use Rattle.serde_json.specs.View.{items_of}
@@ -41,10 +39,6 @@ put_paths rows members content = put (encode_lower content.digest) (array (texts
 -- the state: each distinct digest with the logical paths of its files
 abbrev pub state_members : List Row → Members
 state_members rows = fold (put_paths rows) no_members (map content_of_row (distinct rows))
-
--- the paths that are lent, group by group
-abbrev pub groups_lent : List (Vec (Bor Path) Global) → List (List Path)
-groups_lent groups = map (λ group. map (λ path. path.now) group.items) groups
 
 -- who made the version: without an address the name alone
 abbrev pub user_tree : Option (List ℕ) → List ℕ → Data

@@ -9,6 +9,7 @@ pub mod Holding
 pub mod Index
 pub mod Inventory
 pub mod InventoryLaws
+pub mod Later
 pub mod Meta
 pub mod MetaParts
 pub mod Moment
@@ -20,5 +21,6 @@ pub mod RootFiles
 pub mod Rows
 pub mod Script
 pub mod Scripts
+pub mod Tokens
 pub mod VersionLaws
 pub mod VersionState

@@ -1,7 +1,7 @@
 ghost use Rattle.std.specs.Prelude.{◌≡◌, ◌==◌, ◌<◌, [], false, IfOk, IsTrue, MatchOption, OnOk, OnErr, length, not, slice_get};
 ghost use Rattle.std.specs.Option.{option_copied};
 ghost use Rattle.pt_object.specs.Contents.{DigestsDiffer, first_path, is_noted, noted};
-ghost use Rattle.pt_object.specs.Index.{IsAt, IsWithinBinaryDigits};
+ghost use Rattle.pt_object.specs.Index.{IsAt, IsIndex, IsWithinBinaryDigits};
 
 use crate::Digest;
 use crate::index::search;
@@ -128,6 +128,13 @@ impl Contents {
         ensures { result.now ≡ self.now }
     {
         &self.items
+    }
+
+    // The positions of the items in the order of their digests.
+    pub(crate) fn index(&self) -> &Positions
+        ensures { IsIndex self.now result.now }
+    {
+        &self.index
     }
 
     // The position of the item with the digest, which may well be this one: it is looked at first.

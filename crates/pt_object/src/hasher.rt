@@ -67,7 +67,8 @@ impl Hasher {
 
     /// The digest of all that it has been fed.
     pub fn end(self) -> Digest
-        ensures { (algorithm : Algorithm) (fed : List ℕ) → HasBeenFed algorithm self fed → result ≡ digest_of algorithm fed }
+        ensures { (algorithm : Algorithm) (fed : List ℕ) → HasBeenFed algorithm self fed
+            → result ≡ digest_of algorithm fed }
     {
         match self.core {
             Core::Sha512(core) => Digest::long(core.finalize()),

@@ -20,7 +20,8 @@ pub(crate) struct Searched {
 pub(crate) fn search(items: &[Content], index: &Positions, digest: &Digest) -> Searched
     requires { IsIndex items.now index.now }
     ensures known { is_ok result.found ≡ is_noted items.now digest.now }
-    ensures found { MatchResult result.found (IsAt items.now digest.now) (IsPlaceOf items.now index.now digest.now) }
+    ensures found { MatchResult result.found (IsAt items.now digest.now)
+        (IsPlaceOf items.now index.now digest.now) }
     ensures few { IsWithinBinaryDigits result.comparisons (length items.now) }
     ensures some { 0 < length items.now → 0 < result.comparisons }
 {

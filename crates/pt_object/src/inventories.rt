@@ -1,17 +1,19 @@
 // The inventory of an object of one version.
-ghost use Rattle.std.specs.Prelude.{◌≡◌, IfOk, Some, fold, map};
+ghost use Rattle.std.specs.Prelude.{◌≡◌, ◌∷◌, [], ◌++◌, IfOk, OnOk, Some, codes, fold, map};
 ghost use Rattle.std.specs.String.{string_bytes};
+ghost use Rattle.json.specs.Token.{begin_object, key, string};
 ghost use Rattle.serde_json.specs.Data.{object, no_members};
 ghost use Rattle.serde_json.specs.Read.{read};
-ghost use Rattle.serde_json.specs.View.{view};
+ghost use Rattle.pt_object.specs.Algorithm.{algorithm_word};
 ghost use Rattle.pt_object.specs.Distinct.{content_of_row, distinct};
-ghost use Rattle.pt_object.specs.Inventory.{document_tree, inventory_text, inventory_tree, put_content, user_tree, version_tree};
+ghost use Rattle.pt_object.specs.Inventory.{inventory_text, inventory_tree, put_paths, user_tree, version_tree};
+ghost use Rattle.pt_object.specs.Tokens.{tokens_of};
 
-use crate::grouping::state;
-use crate::json_parts::{put_at, put_text, stored_path};
+use crate::manifest::put_manifest;
+use crate::output::Output;
+use crate::state::put_state;
 use crate::{Algorithm, Contents, Meta, Rows};
 use pt_tree::MemoryFault;
-use serde_json::{Map, Value};
 use std::alloc::{AllocError, Global};
 
 /// The inventory of the object with this identifier and these files, as compact JSON with keys in byte order and no
@@ -28,76 +30,66 @@ pub fn inventory(
 ) -> Result<String, MemoryFault>
     requires { contents.now ≡ map content_of_row (distinct rows.now) }
     ensures text { IfOk result (λ text. string_bytes text ≡ inventory_text id.now rows.now meta.now algorithm) }
-    ensures reads { IfOk result (λ text. read (string_bytes text) ≡ Some (inventory_tree id.now rows.now meta.now algorithm)) }
+    ensures reads { IfOk result (λ text. read (string_bytes text)
+        ≡ Some (inventory_tree id.now rows.now meta.now algorithm)) }
 {
-    let manifest = manifest(alloc, contents)?;
-    let state = state(alloc, rows, contents)?;
-    let version = version(alloc, meta, state)?;
-    let value = document(alloc, id, manifest, version, algorithm)?;
-    Ok(value.to_string(alloc)?)
+    let mut out = Output::new(alloc);
+    put_head(&mut out, id, algorithm)?;
+    put_manifest(&mut out, contents)?;
+    out.member("type", "https://ocfl.io/1.1/spec/#inventory")?;
+    out.key("versions")?;
+    out.begin_object()?;
+    out.key("v1")?;
+    put_version(alloc, &mut out, rows, contents, meta)?;
+    out.end_object()?;
+    out.end_object()?;
+    Ok(out.into_text())
 }
 
-fn document(
+// The members before the manifest, and its key.
+fn put_head(out: &mut Output, id: &str, algorithm: Algorithm) -> Result<(), MemoryFault>
+    ensures { OnOk result (out.new ≡ out.old ++ begin_object
+        ∷ key (codes "digestAlgorithm") ∷ string (algorithm_word algorithm)
+        ∷ key (codes "head") ∷ string (codes "v1") ∷ key (codes "id") ∷ string id.now
+        ∷ key (codes "manifest") ∷ []) }
+{
+    out.begin_object()?;
+    out.member("digestAlgorithm", algorithm.word())?;
+    out.member("head", "v1")?;
+    out.member("id", id)?;
+    Ok(out.key("manifest")?)
+}
+
+// What the inventory says of its version.
+fn put_version(
     alloc: Global,
-    id: &str,
-    manifest: Value,
-    version: Value,
-    algorithm: Algorithm,
-) -> Result<Value, AllocError>
-    ensures { IfOk result (λ value. view value ≡ document_tree id.now (view manifest) (view version) algorithm) }
+    out: &mut Output,
+    rows: &Rows,
+    contents: &Contents,
+    meta: &Meta,
+) -> Result<(), MemoryFault>
+    requires { contents.now ≡ map content_of_row (distinct rows.now) }
+    ensures { OnOk result (out.new ≡ out.old ++ tokens_of
+        (version_tree meta.now (object (fold (put_paths rows.now) no_members contents.now)))) }
 {
-    let mut versions = Map::new(alloc);
-    serde_json::put(&mut versions, alloc, "v1", version)?;
-    let mut members = Map::new(alloc);
-    put_text(&mut members, alloc, "digestAlgorithm", algorithm.word())?;
-    put_text(&mut members, alloc, "head", "v1")?;
-    put_text(&mut members, alloc, "id", id)?;
-    serde_json::put(&mut members, alloc, "manifest", manifest)?;
-    put_text(
-        &mut members,
-        alloc,
-        "type",
-        "https://ocfl.io/1.1/spec/#inventory",
-    )?;
-    serde_json::put(&mut members, alloc, "versions", Value::from(versions))?;
-    Ok(Value::from(members))
+    out.begin_object()?;
+    out.member("created", meta.created())?;
+    out.member("message", meta.message())?;
+    out.key("state")?;
+    put_state(alloc, out, rows, contents)?;
+    out.key("user")?;
+    put_user(out, meta)?;
+    Ok(out.end_object()?)
 }
 
-fn version(alloc: Global, meta: &Meta, state: Value) -> Result<Value, AllocError>
-    ensures { IfOk result (λ value. view value ≡ version_tree meta.now (view state)) }
+// Who made the version.
+fn put_user(out: &mut Output, meta: &Meta) -> Result<(), AllocError>
+    ensures { OnOk result (out.new ≡ out.old ++ tokens_of (user_tree meta.now.address meta.now.name)) }
 {
-    let mut members = Map::new(alloc);
-    put_text(&mut members, alloc, "created", meta.created())?;
-    put_text(&mut members, alloc, "message", meta.message())?;
-    serde_json::put(&mut members, alloc, "state", state)?;
-    let user = user(alloc, meta)?;
-    serde_json::put(&mut members, alloc, "user", user)?;
-    Ok(Value::from(members))
-}
-
-fn user(alloc: Global, meta: &Meta) -> Result<Value, AllocError>
-    ensures { IfOk result (λ value. view value ≡ user_tree meta.now.address meta.now.name) }
-{
-    let mut members = Map::new(alloc);
-    match meta.address() {
-        None => {
-            put_text(&mut members, alloc, "name", meta.name())?;
-            return Ok(Value::from(members));
-        }
-        Some(address) => put_text(&mut members, alloc, "address", address)?,
+    out.begin_object()?;
+    if let Some(address) = meta.address() {
+        out.member("address", address)?;
     }
-    put_text(&mut members, alloc, "name", meta.name())?;
-    Ok(Value::from(members))
-}
-
-fn manifest(alloc: Global, contents: &Contents) -> Result<Value, MemoryFault>
-    ensures { IfOk result (λ value. view value ≡ object (fold put_content no_members contents.now)) }
-{
-    let mut members = Map::new(alloc);
-    for content in contents.as_slice() {
-        let key = content.digest.hex(alloc)?;
-        let paths = stored_path(alloc, &content.path)?;
-        put_at(&mut members, key, paths)?;
-    }
-    Ok(Value::from(members))
+    out.member("name", meta.name())?;
+    out.end_object()
 }

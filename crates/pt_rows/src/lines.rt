@@ -409,3 +409,21 @@ fn an_object_may_be_six_hundred_deep(rt: HostRuntime) -> Result<(), Fail> {
     }
     Ok(())
 }
+
+// An identifier of 1,002 bytes, a name of 255 and a file of 100,000: its place was computed apart from this program.
+#[test]
+fn what_is_long_is_carried(rt: HostRuntime) -> Result<(), Fail> {
+    let alloc = rt.alloc();
+    let name = "n".repeat(alloc, 255)?;
+    let entries = format!(in alloc; "pairtree_prefix*1000 ab/obj/{name}*100000")?;
+    let (report, _, told) = told(alloc, entries.as_str(), job(alloc)?)?;
+    assert_eq!(rt; (report.done, report.present, report.skipped), (1, 0, 0));
+    let id = "a".repeat(alloc, 1001)?;
+    let front = "a".repeat(alloc, 100)?;
+    let digest = "d026b9af8545d3b965fb83ab5f10d5072c902affb8dc2629ef670baf8c651d74";
+    let line = format!(in alloc;
+        "{{\"as\":\"done\",\"at\":\"ab/obj\",\"bytes\":100000,\"empty\":0,\"files\":1,\"id\":\"{id}b\",\"to\":\"d02/6b9/af8/{front}-{digest}\"}}\n"
+    )?;
+    assert!(rt; told.starts_with(line.as_str()));
+    Ok(())
+}

@@ -21,6 +21,9 @@ fn logs()
     ensures names { BadNamesLog }
     ensures divided { DividedLog }
     ensures reserved { ExtensionsLog }
+{}
+
+fn object_logs()
     ensures object { OneObjectLog }
     ensures flat { OneObjectFlatLog }
     ensures order { LinesComeInOrder }
@@ -69,6 +72,7 @@ fn worked_stores_follow_from_the_definitions(_rt: HostRuntime) -> Result<(), Fai
     stores();
     verdicts();
     logs();
+    object_logs();
     limits();
     objects();
     turns();

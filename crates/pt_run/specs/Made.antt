@@ -1,5 +1,5 @@
 -- Which run was made, over what, and what it came to.
-use Rattle.std.specs.Prelude.{◌≡◌, ◌≢◌, ◌⊎◌, ℕ, Bool, true, false, List, Option, Some, None, Result, Ok, Err}
+use Rattle.std.specs.Prelude.{◌≡◌, ◌≢◌, ◌⊎◌, ⊤, ℕ, Bool, true, false, List, Option, Some, None, Result, Ok, Err}
 use Rattle.std.specs.IoError.{error_kind}
 use Rattle.std.specs.declared.io.Error.{Error}
 use Rattle.std.specs.declared.io.ErrorKind.TheVariants.{InvalidInput}
@@ -27,20 +27,26 @@ abbrev pub seen : Bool → World → World
 seen true world = record world { dest = None }
 seen false world = world
 
--- a run as it is wanted, or a rehearsal of it, was made from one world to another, with what `migrate` promises of it, and this is its status
+-- a run as it is wanted, or a rehearsal of it, was made from one world to another, with what `migrate` promises of
+-- it, and this is its status
 abbrev pub IsMade : Wanted → World → World → ℕ → Type 0
 IsMade wanted old new status =
-    (ran : Result Report Fault) × Migrates wanted.job (seen wanted.rehearse old) (seen wanted.rehearse new) ran × (status ≡ run_status ran)
+    (ran : Result Report Fault) × Migrates wanted.job (seen wanted.rehearse old)
+    (seen wanted.rehearse new) ran × (status ≡ run_status ran)
 
--- the paths of a run's two folders, the names of the entries that are left out of the store, and whether files are put onto the disk
+-- the paths of a run's two folders, the names of the entries that are left out of the store, and whether files are
+-- put onto the disk
 pub record Between : Type 0 where
   pub store : List ℕ
   pub folder : List ℕ
   pub ignored : List (List ℕ)
   pub synced : Bool
 
--- what the devices of a run tell: over the trees that the systems keep at these folders, with this open for reading and this for writing, and what the output holds
-abbrev pub world_of : {S D W F : Type 0} → (S → List ℕ → Option Forest) → (D → List ℕ → Kept F) → (W → Option (List ℕ)) → Between → Ground S D W → Option (List ℕ) → Option (Open F) → Failures → World
+-- what the devices of a run tell: over the trees that the systems keep at these folders, with this open for reading
+-- and this for writing, and what the output holds
+abbrev pub world_of : {S D W F : Type 0} → (S → List ℕ → Option Forest) → (D → List ℕ → Kept F)
+    → (W → Option (List ℕ)) → Between → Ground S D W → Option (List ℕ) → Option (Open F) → Failures
+    → World
 world_of forest kept contents at ground reading writing failures = record {
   source = told_without at.ignored (source_told (forest ground.store at.store) reading);
   dest = dest_told (unless_synced at.synced (kept ground.folder at.folder)) writing;
@@ -48,11 +54,20 @@ world_of forest kept contents at ground reading writing failures = record {
   failures = failures;
 }
 
--- a run was made from this world to what its devices then tell over these systems and this output, with this status
-abbrev pub RunsFrom : {S D W F : Type 0} → (S → List ℕ → Option Forest) → (D → List ℕ → Kept F) → (W → Option (List ℕ)) → Wanted → World → Ground S D W → ℕ → Type 0
-RunsFrom {S} {D} {W} {F} forest kept contents wanted old ground status =
-    (at : Between) × (reading : Option (List ℕ)) × (writing : Option (Open F)) × (failures : Failures)
+-- a rehearsal leaves all that the system keeps of the folder
+abbrev pub LeavesKept : {F : Type 0} → Bool → Kept F → Kept F → Type 0
+LeavesKept true old new = new ≡ old
+LeavesKept false old new = ⊤
+
+-- a run was made between these folders, from this world to what its devices then tell over these systems and this output, with this status; a
+-- rehearsal left of the folder what the system kept
+abbrev pub RunsFrom : {S D W F : Type 0} → (S → List ℕ → Option Forest) → (D → List ℕ → Kept F)
+    → (W → Option (List ℕ)) → Wanted → Between → World → Kept F
+    → Ground S D W → ℕ → Type 0
+RunsFrom {S} {D} {W} {F} forest kept contents wanted at old was ground status =
+    (reading : Option (List ℕ)) × (writing : Option (Open F)) × (failures : Failures)
     × IsMade wanted old (world_of forest kept contents at ground reading writing failures) status
+    × LeavesKept wanted.rehearse was (kept ground.folder at.folder)
 
 -- no device failed yet
 abbrev pub none_failed : Failures
@@ -63,53 +78,79 @@ abbrev pub between : Wanted → List ℕ → List ℕ → Between
 between wanted store folder = record { store = store; folder = folder; ignored = wanted.ignored; synced = wanted.sync }
 
 -- a run was made over these folders of the systems, with no file open, and left the systems and the output so
-abbrev pub RunsOver : {S D W F : Type 0} → (S → List ℕ → Option Forest) → (D → List ℕ → Kept F) → (W → Option (List ℕ)) → Wanted → List ℕ → List ℕ → Ground S D W → Ground S D W → ℕ → Type 0
+abbrev pub RunsOver : {S D W F : Type 0} → (S → List ℕ → Option Forest) → (D → List ℕ → Kept F)
+    → (W → Option (List ℕ)) → Wanted → List ℕ → List ℕ → Ground S D W → Ground S D W → ℕ → Type 0
 RunsOver {S} {D} {W} {F} forest kept contents wanted store folder old new status =
-    RunsFrom forest kept contents wanted (world_of forest kept contents (between wanted store folder) old None None none_failed) new status
+    RunsFrom forest kept contents wanted (between wanted store folder)
+    (world_of forest kept contents (between wanted store folder) old None None none_failed)
+    (kept old.folder folder) new status
 
 -- ---- the log's file
 
--- what was found is put onto its disk once, before the run: where that isn't possible there it is left, and another failure is told
+-- what was found is put onto its disk once, before the run: where that isn't possible there it is left, and another
+-- failure is told
 abbrev pub IsSynced : {F : Type 0} → F → Result (Unit {0}) Error → Result (Option F) Error → Type 0
 IsSynced after (Ok done) answer = answer ≡ Ok (Some after)
 IsSynced after (Err error) answer =
-    ((error_kind error ≡ InvalidInput) × (answer ≡ Ok None)) ⊎ ((error_kind error ≢ InvalidInput) × (answer ≡ Err error))
+    ((error_kind error ≡ InvalidInput) × (answer ≡ Ok None))
+    ⊎ ((error_kind error ≢ InvalidInput) × (answer ≡ Err error))
 
 -- nothing is put onto a disk where the output goes to no file, or to one that can't be opened
-abbrev pub IsTried : {F : Type 0} → (F → Result (Unit {0}) Error → F → Type 0) → Result (Option F) Error → Result (Option F) Error → Type 0
+abbrev pub IsTried : {F : Type 0} → (F → Result (Unit {0}) Error → F → Type 0)
+    → Result (Option F) Error → Result (Option F) Error → Type 0
 IsTried syncs (Err error) answer = answer ≡ Ok None
 IsTried syncs (Ok None) answer = answer ≡ Ok None
-IsTried {F} syncs (Ok (Some file)) answer = (reply : Result (Unit {0}) Error) × (after : F) × syncs file reply after × IsSynced after reply answer
+IsTried {F} syncs (Ok (Some file)) answer = (reply : Result (Unit {0}) Error) × (after : F)
+    × syncs file reply after × IsSynced after reply answer
 
 -- where the log is to be synced its file is asked for, and tried; else nothing is asked
-abbrev pub FindsLog : {H F : Type 0} → (H → Result (Option F) Error → H → Type 0) → (F → Result (Unit {0}) Error → F → Type 0) → Bool → H → H → Result (Option F) Error → Type 0
+abbrev pub FindsLog : {H F : Type 0} → (H → Result (Option F) Error → H → Type 0)
+    → (F → Result (Unit {0}) Error → F → Type 0) → Bool → H → H → Result (Option F) Error → Type 0
 FindsLog finds syncs false old new answer = (answer ≡ Ok None) × (new ≡ old)
-FindsLog {H} {F} finds syncs true old new answer = (found : Result (Option F) Error) × finds old found new × IsTried syncs found answer
+FindsLog {H} {F} finds syncs true old new answer = (found : Result (Option F) Error)
+    × finds old found new × IsTried syncs found answer
 
 -- ---- the run, on a machine
 
--- a run over what the machine lends, which is given back as the run left it; none is made where the log can't be put onto its disk, which is a fault
-abbrev pub GoesOver : {H S D W F : Type 0} → (H → Ground S D W → H → Type 0) → (H → Ground S D W → H → Type 0) → (Ground S D W → Ground S D W → ℕ → Type 0) → Result (Option F) Error → H → H → ℕ → Type 0
+-- a run over what the machine lends, which is given back as the run left it; none is made where the log can't be
+-- put onto its disk, which is a fault
+abbrev pub GoesOver : {H S D W F : Type 0} → (H → Ground S D W → H → Type 0)
+    → (H → Ground S D W → H → Type 0) → (Ground S D W → Ground S D W → ℕ → Type 0)
+    → Result (Option F) Error → H → H → ℕ → Type 0
 GoesOver lends takes_back runs (Err error) mid new status = (status ≡ 3) × (new ≡ mid)
 GoesOver {H} {S} {D} {W} lends takes_back runs (Ok file) mid new status =
-    (ground : Ground S D W) × (lent : H) × lends mid ground lent × (after : Ground S D W) × runs ground after status × takes_back lent after new
+    (ground : Ground S D W) × (lent : H) × lends mid ground lent × (after : Ground S D W)
+    × runs ground after status × takes_back lent after new
 
 -- ---- the guard, the lock and the run
 
--- where a run may not begin, that is its status, and nothing is done; else it is made, and then the lock is given back, if there is one
-abbrev pub GoesOn : {H L : Type 0} → (H → H → ℕ → Type 0) → (H → L → H → Type 0) → Result (Result L Error) GuardFault → H → H → ℕ → Type 0
+-- where a run may not begin, that is its status, and nothing is done; else it is made, and then the lock is given
+-- back, if there is one
+abbrev pub GoesOn : {H L : Type 0} → (H → H → ℕ → Type 0) → (H → L → H → Type 0)
+    → Result (Result L Error) GuardFault → H → H → ℕ → Type 0
 GoesOn carries releases (Err fault) mid new status = (status ≡ guard_status fault) × (new ≡ mid)
 GoesOn carries releases (Ok (Err error)) mid new status = carries mid new status
-GoesOn {H} carries releases (Ok (Ok lock)) mid new status = (after : H) × carries mid after status × releases after lock new
+GoesOn {H} carries releases (Ok (Ok lock)) mid new status = (after : H) × carries mid after status
+    × releases after lock new
 
 -- the guard is asked, and then it goes on by its answer
-abbrev pub Guarded : {H L : Type 0} → (H → H → Result (Result L Error) GuardFault → Type 0) → (H → H → ℕ → Type 0) → (H → L → H → Type 0) → H → H → ℕ → Type 0
+abbrev pub Guarded : {H L : Type 0} → (H → H → Result (Result L Error) GuardFault → Type 0)
+    → (H → H → ℕ → Type 0) → (H → L → H → Type 0) → H → H → ℕ → Type 0
 Guarded {H} {L} begins carries releases old new status =
-    (answer : Result (Result L Error) GuardFault) × (mid : H) × begins old mid answer × GoesOn carries releases answer mid new status
+    (answer : Result (Result L Error) GuardFault) × (mid : H) × begins old mid answer
+    × GoesOn carries releases answer mid new status
 
--- what `migrate` does on a machine, by the words of its calls (where paths lead, what they are known by, the lock taken and given back; the log's file; what is lent and taken back) and of what is lent (the trees of the two systems, and what the output holds): the guard, the run that is wanted from one folder to the other, and the lock
-abbrev pub Runs : {H L S D W E F : Type 0} → (H → List ℕ → Result Place Error → H → Type 0) → (H → List ℕ → Result Folder Error → H → Type 0) → (H → List ℕ → Hold L → H → Type 0) → (H → L → H → Type 0) → (H → Result (Option E) Error → H → Type 0) → (E → Result (Unit {0}) Error → E → Type 0) → (H → Ground S D W → H → Type 0) → (H → Ground S D W → H → Type 0) → (S → List ℕ → Option Forest) → (D → List ℕ → Kept F) → (W → Option (List ℕ)) → Wanted → List ℕ → List ℕ → H → H → ℕ → Type 0
-Runs {H} {L} {S} {D} {W} {E} {F} resolves identifies holds releases finds syncs lends takes_back forest kept contents wanted source dest =
+-- what `migrate` does on a machine, by the words of its calls (where paths lead, what they are known by, the lock
+-- taken and given back; the log's file; what is lent and taken back) and of what is lent (the trees of the two
+-- systems, and what the output holds): the guard, the run that is wanted from one folder to the other, and the lock
+abbrev pub Runs : {H L S D W E F : Type 0} → (H → List ℕ → Result Place Error → H → Type 0)
+    → (H → List ℕ → Result Folder Error → H → Type 0) → (H → List ℕ → Hold L → H → Type 0)
+    → (H → L → H → Type 0) → (H → Result (Option E) Error → H → Type 0)
+    → (E → Result (Unit {0}) Error → E → Type 0) → (H → Ground S D W → H → Type 0)
+    → (H → Ground S D W → H → Type 0) → (S → List ℕ → Option Forest) → (D → List ℕ → Kept F)
+    → (W → Option (List ℕ)) → Wanted → List ℕ → List ℕ → H → H → ℕ → Type 0
+Runs {H} {L} {S} {D} {W} {E} {F} resolves identifies holds releases finds syncs lends takes_back
+    forest kept contents wanted source dest =
     Guarded (Begins resolves identifies holds source dest)
     (λ old new status. (file : Result (Option E) Error) × (mid : H) × FindsLog finds syncs wanted.sync old mid file
     × GoesOver lends takes_back (RunsOver forest kept contents wanted source dest) file mid new status)

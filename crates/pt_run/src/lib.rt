@@ -2,6 +2,7 @@
 //! ends with.
 #![tactic(auto)]
 
+mod auditing;
 mod devices;
 mod expected;
 mod host;
@@ -16,6 +17,7 @@ mod tally;
 mod terminal;
 mod watch;
 
+pub use auditing::{WantedAudit, audit};
 pub use host::{Ground, Host, OutputFile};
 pub use log::{DurableLog, Syncs};
 pub use migration::{Wanted, migrate};

@@ -1,11 +1,11 @@
-ghost use Rattle.std.specs.Prelude.{◌≡◌, IfSome, MatchBool, Ok, OnErr, OnOk};
+ghost use Rattle.std.specs.Prelude.{◌≡◌, IfSome, IsSome, Ok, OnErr, OnOk};
 ghost use Rattle.std.specs.declared.io.Error.{Error};
 ghost use Rattle.std.specs.declared.result.Result.{Result};
 ghost use Rattle.std.specs.Io.KnownBytes.{Appends};
 ghost use Rattle.pt_tree.specs.Failures.{HasRisen, IsCounted};
 ghost use Rattle.pt_tree.specs.Log.{AppendsFront};
 
-use pt_tree::{Log, TreeFault};
+use pt_tree::{Log, TreeFault, write_out};
 use std::io;
 use std::io::Write;
 
@@ -52,6 +52,7 @@ impl<W: Write, F: Syncs + Drop> DurableLog<W, F> {
     fn failed(&mut self) -> TreeFault
         ensures fault { result ≡ TreeFault.Device }
         ensures same { self.new.writer ≡ self.old.writer }
+        ensures file { self.new.file ≡ self.old.file }
         ensures risen { HasRisen self.old.failures self.new.failures }
     {
         self.failures = self.failures.saturating_add(1);
@@ -64,17 +65,28 @@ impl<W: Write, F: Syncs + Drop> Log for DurableLog<W, F> {
 
     ghost failed = { λ l. l.failures };
 
+    // Where its output is put onto the disk it goes on to be.
+    ghost keeps = { λ a b. IsSome a.file → IsSome b.file };
+
+    ghost is_kept = { λ _ is. is };
+
+    ghost keeps_on = { λ _ _ _ p q is. q (p is) };
+
     fn failures(&self) -> u64 {
         self.failures
     }
 
     fn put(&mut self, piece: &[u8]) -> Result<(), TreeFault>
-        ensures ok { OnOk result (Appends (W.contents self.old.writer) (W.contents self.new.writer) piece.now) }
-        ensures part { OnErr result (AppendsFront (W.contents self.old.writer) (W.contents self.new.writer) piece.now) }
-        ensures synced { OnOk result (IfSome self.old.file (λ file. (after : F) × F.syncs file (Ok tt) after)) }
+        ensures ok { OnOk result (Appends (W.contents self.old.writer)
+            (W.contents self.new.writer) piece.now) }
+        ensures part { OnErr result (AppendsFront (W.contents self.old.writer)
+            (W.contents self.new.writer) piece.now) }
+        ensures synced { OnOk result (IfSome self.old.file
+            (λ file. (after : F) × F.syncs file (Ok tt) after)) }
         ensures failures { IsCounted self.old.failures self.new.failures result }
+        ensures keeps { IsSome self.old.file → IsSome self.new.file }
     {
-        if !write_out(&mut self.writer, piece) {
+        if write_out(&mut self.writer, piece).is_err() {
             return Err(self.failed());
         }
         match sync_there(&mut self.file) {
@@ -84,25 +96,11 @@ impl<W: Write, F: Syncs + Drop> Log for DurableLog<W, F> {
     }
 }
 
-// Writes all the bytes and flushes, as a log over a writer does. An error, or zero for a piece that isn't empty, ends it; nothing is tried
-// again.
-fn write_out<W: Write>(out: &mut W, bytes: &[u8]) -> bool
-    ensures { MatchBool result (Appends (W.contents out.old) (W.contents out.new) bytes.now)
-        (AppendsFront (W.contents out.old) (W.contents out.new) bytes.now) }
-{
-    let mut done = 0;
-    while done < bytes.len() {
-        match out.write(&bytes[done..]) {
-            Ok(0) | Err(_) => return false,
-            Ok(taken) => done += taken,
-        }
-    }
-    out.flush().is_ok()
-}
-
 // Puts a file onto its disk, where there is one.
 fn sync_there<F: Syncs>(file: &mut Option<F>) -> io::Result<()>
-    ensures { OnOk result (IfSome file.old (λ file. (after : F) × F.syncs file (Ok tt) after)) }
+    ensures synced { OnOk result (IfSome file.old
+        (λ file. (after : F) × F.syncs file (Ok tt) after)) }
+    ensures still { IsSome file.old → IsSome file.new }
 {
     match file {
         Some(file) => match file.sync() {

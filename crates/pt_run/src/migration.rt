@@ -84,7 +84,7 @@ where
 }
 
 // Says why a run may not begin.
-fn refused(rt: &impl Eprint, fault: GuardFault) -> u8
+pub(crate) fn refused(rt: &impl Eprint, fault: GuardFault) -> u8
     ensures { result ≡ guard_status fault }
 {
     let _ = match fault {

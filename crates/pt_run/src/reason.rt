@@ -16,8 +16,26 @@ pub(crate) fn tell<R: Eprint + AllocGlobal, S: System, D: System>(
     store: &str,
 ) {
     match fault {
-        Fault::Source => failure(rt, source.last_failure()),
         Fault::Dest => failure(rt, dest.last_failure()),
+        Fault::StagingLeft => say(rt, dest.looked_path(), "it stands there already"),
+        Fault::Target => say(
+            rt,
+            dest.looked_path(),
+            "it is not what this program makes there with these tuples",
+        ),
+        _ => tell_of_source(rt, fault, source, store),
+    }
+}
+
+// Tells standard error why a fault of the source ended a run or an audit, where that has a path.
+fn tell_of_source<R: Eprint + AllocGlobal, S: System>(
+    rt: &R,
+    fault: &Fault,
+    source: &HostSource<'_, S>,
+    store: &str,
+) {
+    match fault {
+        Fault::Source => failure(rt, source.last_failure()),
         Fault::NotPairtree => say(
             rt,
             store,
@@ -28,18 +46,38 @@ pub(crate) fn tell<R: Eprint + AllocGlobal, S: System, D: System>(
             store,
             "pairtree_prefix in it is no file, has more than 1024 bytes, or is not UTF-8",
         ),
-        Fault::StagingLeft => say(rt, dest.looked_path(), "it stands there already"),
-        Fault::Target => say(
-            rt,
-            dest.looked_path(),
-            "it is not what this program makes there with these tuples",
-        ),
         Fault::Changed => say(
             rt,
             source.opened_path(),
             "it was not the same at its second reading",
         ),
-        Fault::Log | Fault::Memory | Fault::Turns | Fault::Ended => {}
+        Fault::Dest
+        | Fault::Log
+        | Fault::Memory
+        | Fault::StagingLeft
+        | Fault::Target
+        | Fault::Turns
+        | Fault::Ended => {}
+    }
+}
+
+/// Tells standard error why an audit of the root in a folder ended with a fault, where that has a path.
+pub(crate) fn tell_audit<R: Eprint + AllocGlobal, S: System, D: System>(
+    rt: &R,
+    fault: &Fault,
+    source: &HostSource<'_, S>,
+    root: &HostSource<'_, D>,
+    store: &str,
+    folder: &str,
+) {
+    match fault {
+        Fault::Dest => failure(rt, root.last_failure()),
+        Fault::Target => say(
+            rt,
+            folder,
+            "ocfl in it is not what this program makes there with these tuples",
+        ),
+        _ => tell_of_source(rt, fault, source, store),
     }
 }
 

@@ -6,7 +6,7 @@ ghost use Rattle.pt_folder.specs.SourceHeld.{told_of as source_told};
 ghost use Rattle.pt_ignore.specs.Ignoring.{told_without};
 ghost use Rattle.pt_move.specs.Migrates.{Migrates};
 ghost use Rattle.pt_run.specs.Ends.{run_status};
-ghost use Rattle.pt_run.specs.Made.{RunsFrom, seen};
+ghost use Rattle.pt_run.specs.Made.{LeavesKept, RunsFrom, seen};
 ghost use Rattle.pt_state.specs.Outside.{world};
 
 use crate::devices::Devices;
@@ -14,7 +14,7 @@ use crate::host::Ground;
 use crate::log::Syncs;
 use crate::tally::{TalliedLog, Tally};
 use crate::terminal::Terminals;
-use crate::watch::{Watched, Watching};
+use crate::watch::{Watched, Watching, Words};
 use crate::{Wanted, reason};
 use pt_folder::{HostDest, HostSource, Rehearsal, System};
 use pt_ignore::Ignoring;
@@ -49,6 +49,12 @@ pub(crate) fn run<R, S: System, D: System, W: Write, F: Syncs + Drop>(
 where
     R: Clock + Eprint + AllocGlobal + Terminals,
     ensures { RunsFrom S.forest D.kept W.contents wanted
+        (record {
+          store = devices.entry.source.folder.path.now;
+          folder = devices.entry.dest.folder.path.now;
+          ignored = wanted.ignored;
+          synced = devices.entry.dest.synced;
+        })
         (world (told_without wanted.ignored (source_told
         (S.forest devices.entry.source.system devices.entry.source.folder.path.now)
         (unread_open S.File.Input.bytes devices.entry.source.reading)))
@@ -57,6 +63,7 @@ where
         devices.entry.dest.writing)
         (W.contents devices.entry.log.writer)
         devices.entry.source.failures devices.entry.dest.failures devices.entry.log.failures)
+        (D.kept devices.entry.dest.system devices.entry.dest.folder.path.now)
         result.ground result.status }
 {
     let alloc = rt.alloc();
@@ -66,6 +73,7 @@ where
         when: wanted.progress,
         interval: wanted.interval,
         expected,
+        words: Words::Run,
     };
     let verbose = wanted.verbose;
     let ignores = !wanted.ignored.names().is_empty();
@@ -109,7 +117,7 @@ fn made<'a, S: Source, D: System, L: Log>(
     rehearse: bool,
     job: Job,
 ) -> Ran<'a, D>
-    ensures { Migrates job
+    ensures promises { Migrates job
         (seen rehearse (world (S.told source.old)
         (dest_told (unless_synced dest.entry.synced
         (D.kept dest.entry.system dest.entry.folder.path.now)) dest.entry.writing)
@@ -119,6 +127,13 @@ fn made<'a, S: Source, D: System, L: Log>(
         (D.kept result.dest.system result.dest.folder.path.now)) result.dest.writing)
         (L.told log.new) (S.failed source.new) result.dest.failures (L.failed log.new)))
         result.ran }
+    ensures source { S.keeps source.old source.new }
+    ensures log { L.keeps log.old log.new }
+    ensures dest { (result.dest.folder ≡ dest.entry.folder)
+        × (result.dest.synced ≡ dest.entry.synced) }
+    ensures rehearsed { LeavesKept rehearse
+        (D.kept dest.entry.system dest.entry.folder.path.now)
+        (D.kept result.dest.system dest.entry.folder.path.now) }
 {
     if rehearse {
         let mut rehearsal = Rehearsal::new(alloc, dest);

@@ -24,12 +24,12 @@ impl Tally {
         }
     }
 
-    /// The lines of objects that were carried.
+    /// The lines of objects that were carried, or that an audit found the same.
     pub fn done(&self) -> u64 {
         self.done.get()
     }
 
-    /// The lines of objects whose places were taken.
+    /// The lines of objects whose places were taken, or that an audit found otherwise.
     pub fn present(&self) -> u64 {
         self.present.get()
     }
@@ -51,16 +51,24 @@ impl Tally {
 
     // Counts a line by its kind, which stands at its start.
     fn add_line(&self, line: &[u8]) {
-        let counter = if line.starts_with(b"{\"as\":\"done\"".as_slice()) {
+        let counter = if begins(line, "done") || begins(line, "same") {
             &self.done
-        } else if line.starts_with(b"{\"as\":\"present\"".as_slice()) {
+        } else if begins(line, "present") || begins(line, "absent") || begins(line, "differs") {
             &self.present
-        } else if line.starts_with(b"{\"as\":\"skip\"".as_slice()) {
+        } else if begins(line, "skip") {
             &self.skipped
         } else {
             return;
         };
         counter.set(counter.get().saturating_add(1));
+    }
+}
+
+// Whether a line's first member says this.
+fn begins(line: &[u8], word: &str) -> bool {
+    match line.strip_prefix(b"{\"as\":\"".as_slice()) {
+        Some(rest) => rest.starts_with(word.as_bytes()),
+        None => false,
     }
 }
 
@@ -91,6 +99,12 @@ impl<'a, L: Log> Log for TalliedLog<'a, L> {
     ghost told = { λ l. L.told l.log };
 
     ghost failed = { λ l. L.failed l.log };
+
+    ghost keeps = { λ a b. L.keeps a.log b.log };
+
+    ghost is_kept = { λ a. L.is_kept a.log };
+
+    ghost keeps_on = { λ a b c p q. L.keeps_on a.log b.log c.log p q };
 
     fn failures(&self) -> u64 {
         self.log.failures()

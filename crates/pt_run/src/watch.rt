@@ -34,6 +34,17 @@ pub struct Watching {
     pub interval: u32,
     /// How many lines its log may come to, where that is known.
     pub expected: Option<u64>,
+    /// Which lines its log has.
+    pub words: Words,
+}
+
+/// Which lines a log has, as progress names them.
+#[derive(Clone, Copy, Debug, PartialEq, Eq)]
+pub enum Words {
+    /// Those of a run.
+    Run,
+    /// Those of an audit.
+    Audit,
 }
 
 /// A source that is watched, and is the source in all else.
@@ -47,6 +58,7 @@ pub struct Watched<'a, S: Source, R> {
     on_terminal: bool,
     period: u64,
     expected: Option<u64>,
+    words: Words,
     begun: u64,
     due: u64,
     at: Vec<u8>,
@@ -84,6 +96,7 @@ impl<'a, S: Source, R: Clock + Eprint + Terminals> Watched<'a, S, R> {
             on_terminal,
             period,
             expected: watching.expected,
+            words: watching.words,
             begun,
             due: begun.saturating_add(period),
             at: Vec::new(alloc),
@@ -171,8 +184,12 @@ impl<'a, S: Source, R: Clock + Eprint + Terminals> Watched<'a, S, R> {
             Ok(at) => escaped(self.alloc, at)?,
             Err(_) => String::new(self.alloc),
         };
+        let (carried, other) = match self.words {
+            Words::Run => ("done", "present"),
+            Words::Audit => ("same", "not the same"),
+        };
         let line = format!(in self.alloc;
-            "pairtree2ocfl: {seconds} s, {places}/s, {whole}.{tenth} MB/s{ahead}: {done} done, {present} present, {skipped} skipped, {bytes} bytes read, at {at}"
+            "pairtree2ocfl: {seconds} s, {places}/s, {whole}.{tenth} MB/s{ahead}: {done} {carried}, {present} {other}, {skipped} skipped, {bytes} bytes read, at {at}"
         )?;
         if self.on_terminal {
             return cut(self.alloc, line.as_str());
@@ -218,6 +235,12 @@ impl<'a, S: Source, R: Clock + Eprint + Terminals> Source for Watched<'a, S, R> 
     ghost failed = { λ w. S.failed w.source };
 
     ghost called = { λ w. S.called w.source };
+
+    ghost keeps = { λ a b. S.keeps a.source b.source };
+
+    ghost is_kept = { λ a. S.is_kept a.source };
+
+    ghost keeps_on = { λ a b c p q. S.keeps_on a.source b.source c.source p q };
 
     ghost proper = { λ w. S.proper w.source };
 

@@ -1,6 +1,6 @@
 #![tactic(auto, using(crate::proofs::Starting::starting))]
 //! The destination has to hold a storage root of this program and layout, or none, which is then made.
-ghost use Rattle.std.specs.Prelude.{◌≡◌, ◌<◌, IfOk};
+ghost use Rattle.std.specs.Prelude.{◌≡◌, ◌<◌, IfOk, IfErr};
 ghost use Rattle.pt_name.specs.Tuples.{Tuples};
 ghost use Rattle.pt_object.specs.Script.{MakeFile, MakeFolder};
 ghost use Rattle.pt_object.specs.Scripts.{staging as staging_path};
@@ -9,7 +9,7 @@ ghost use Rattle.pt_plan.specs.Roots.{storage_root};
 ghost use Rattle.pt_plan.specs.TurnStart.{after_file as after_file_of, after_item as after_item_of};
 ghost use Rattle.pt_plan.specs.declared.phase.Phase.TheVariants as phase;
 ghost use Rattle.pt_tree.specs.Dest.{MayMake, MayMove};
-ghost use Rattle.pt_state.specs.Outside.{Turned};
+ghost use Rattle.pt_state.specs.Outside.{IsNotOfLog, Turned};
 ghost use Rattle.pt_start.specs.Starting.{IsRootFile, IsRootItem};
 
 use crate::store::is_file;
@@ -29,6 +29,7 @@ const EXTENSION: &str = "0003-hash-and-id-n-tuple-storage-layout";
 pub fn staging<O: Outside>(state: &State, out: &mut O) -> Result<Phase, Halt>
     ensures turn { Turned phase.Staging state.now state.now
         (O.world out.old) (O.world out.new) result }
+    ensures other { IfErr result IsNotOfLog }
     ensures calls { O.within 0 out.old out.new }
 {
     let path = path_of(state.alloc, &[STAGING])?;
@@ -42,6 +43,7 @@ pub fn staging<O: Outside>(state: &State, out: &mut O) -> Result<Phase, Halt>
 pub fn root<O: Outside>(state: &State, out: &mut O) -> Result<Phase, Halt>
     ensures turn { Turned phase.Root state.now state.now
         (O.world out.old) (O.world out.new) result }
+    ensures other { IfErr result IsNotOfLog }
     ensures calls { O.within 0 out.old out.new }
 {
     let path = path_of(state.alloc, &[STORAGE_ROOT])?;
@@ -59,6 +61,7 @@ pub fn make_root<O: Outside>(state: &State, item: u8, out: &mut O) -> Result<Pha
     requires item { item < 6 }
     ensures turn { Turned (phase.RootMake item) state.now state.now
         (O.world out.old) (O.world out.new) result }
+    ensures other { IfErr result IsNotOfLog }
     ensures calls { O.within 0 out.old out.new }
 {
     if item < 3 {
@@ -84,6 +87,7 @@ fn make_folder<O: Outside>(
     requires here { IsRootItem state.now.job.layout item (MakeFolder path.now) }
     ensures turn { Turned (phase.RootMake item) state.now state.now
         (O.world out.old) (O.world out.new) result }
+    ensures other { IfErr result IsNotOfLog }
     ensures calls { O.within 0 out.old out.new }
 {
     out.mkdir(path)?;
@@ -102,6 +106,7 @@ fn make_file<O: Outside>(
     requires here { IsRootItem state.now.job.layout item (MakeFile path.now bytes.now) }
     ensures turn { Turned (phase.RootMake item) state.now state.now
         (O.world out.old) (O.world out.new) result }
+    ensures other { IfErr result IsNotOfLog }
     ensures calls { O.within 0 out.old out.new }
 {
     put_file(out, path, bytes)?;
@@ -139,6 +144,7 @@ pub fn rename_root<O: Outside>(state: &State, out: &mut O) -> Result<Phase, Halt
     requires { MayMove (O.world out.old).dest staging_path storage_root }
     ensures turn { Turned phase.RootRename state.now state.now
         (O.world out.old) (O.world out.new) result }
+    ensures other { IfErr result IsNotOfLog }
     ensures calls { O.within 0 out.old out.new }
 {
     let from = path_of(state.alloc, &[STAGING])?;
@@ -157,6 +163,7 @@ fn move_root<O: Outside>(
     requires to { to.now ≡ storage_root }
     ensures turn { Turned phase.RootRename state.now state.now
         (O.world out.old) (O.world out.new) result }
+    ensures other { IfErr result IsNotOfLog }
     ensures calls { O.within 0 out.old out.new }
 {
     out.rename(from, to)?;
@@ -168,6 +175,7 @@ pub fn check_root<O: Outside>(state: &mut State, file: usize, out: &mut O) -> Re
     requires { file < 3 }
     ensures turn { Turned (phase.RootCheck file) state.old state.new
         (O.world out.old) (O.world out.new) result }
+    ensures other { IfErr result IsNotOfLog }
     ensures calls { O.within 0 out.old out.new }
 {
     let files = root_files(state.alloc, state.job.layout)?;
@@ -189,6 +197,7 @@ fn compare<O: Outside>(
     requires here { IsRootFile state.old.job.layout file path.now bytes.now }
     ensures turn { Turned (phase.RootCheck file) state.old state.new
         (O.world out.old) (O.world out.new) result }
+    ensures other { IfErr result IsNotOfLog }
     ensures calls { O.within 0 out.old out.new }
 {
     let here = out.kind(path)?;

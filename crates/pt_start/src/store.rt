@@ -7,7 +7,7 @@ ghost use Rattle.pt_plan.specs.Permits.{MayOpenPrefix};
 ghost use Rattle.pt_plan.specs.TurnStart.{is_dir_kind, is_file_kind, kind_in as kind_in_of, lists_store};
 ghost use Rattle.pt_plan.specs.declared.phase.Phase.TheVariants as phase;
 ghost use Rattle.pt_tree.specs.Source.{CanList};
-ghost use Rattle.pt_state.specs.Outside.{Turned};
+ghost use Rattle.pt_state.specs.Outside.{IsNotOfLog, Turned};
 ghost use Rattle.pt_start.specs.Starting.{PrefixFails, kind_if_named};
 
 use pt_name::{PrefixFault, read_prefix};
@@ -23,6 +23,7 @@ pub fn begin<O: Outside>(state: &State, out: &mut O) -> Result<Phase, Halt>
     requires { CanList (O.world out.old).source [] }
     ensures turn { Turned phase.Begin state.now state.now
         (O.world out.old) (O.world out.new) result }
+    ensures other { IfErr result IsNotOfLog }
     ensures calls { O.within 1 out.old out.new }
 {
     let top = NamePath::new(state.alloc);
@@ -86,6 +87,7 @@ pub fn prefix<O: Outside>(state: &mut State, here: Option<Kind>, out: &mut O) ->
     requires { MayOpenPrefix (O.world out.old).source here }
     ensures turn { Turned (phase.Prefix here) state.old state.new
         (O.world out.old) (O.world out.new) result }
+    ensures other { IfErr result IsNotOfLog }
     ensures calls { O.within 2 out.old out.new }
 {
     match here {

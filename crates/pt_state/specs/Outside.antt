@@ -8,6 +8,8 @@ use Rattle.pt_tree.specs.Source.{Reading}
 use Rattle.pt_plan.specs.Answer.{Answer}
 use Rattle.pt_plan.specs.Turn.{Turn}
 use Rattle.pt_plan.specs.World.{World}
+use Rattle.pt_plan.specs.declared.halt.Halt.{Halt}
+use Rattle.pt_plan.specs.declared.halt.Halt.TheVariants as halt
 use Rattle.pt_plan.specs.declared.phase.Phase.{Phase}
 use Rattle.pt_state.specs.States.{job_of, kept_of}
 use Rattle.pt_state.specs.declared.state.State.{State}
@@ -27,3 +29,8 @@ Turned here s s' old new answer =
     (s'.job ≡ s.job)
     × ((fed : List ℕ) → HasBeenFed s.job.algorithm s.hasher fed
     → (fed' : List ℕ) × (FedAfter answer s.job.algorithm s'.hasher fed' × Turn (job_of s.job) here (kept_of s fed) (kept_of s' fed') old new answer))
+
+-- it isn't the log that failed
+abbrev pub IsNotOfLog : Halt → Type 0
+IsNotOfLog halt.Log = ⊥
+IsNotOfLog _ = ⊤

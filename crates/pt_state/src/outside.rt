@@ -11,7 +11,7 @@ ghost use Rattle.pt_tree.specs.Forest.{is_proper};
 ghost use Rattle.pt_tree.specs.Source.{Reading, CanList, CanOpen, CanRead};
 ghost use Rattle.pt_tree.specs.Tree.{IsTree};
 ghost use Rattle.pt_state.specs.Counting.{AtMostCalls, calls_after, calls_more, calls_most, calls_none, calls_still};
-ghost use Rattle.pt_state.specs.Outside.{world as world_of};
+ghost use Rattle.pt_state.specs.Outside.{IsNotOfLog, world as world_of};
 
 use pt_plan::Halt;
 use pt_tree::{Block, Dest, Kind, Listing, Log, NamePath, Source};
@@ -19,7 +19,7 @@ use pt_tree::{Block, Dest, Kind, Listing, Log, NamePath, Source};
 /// What stands outside a run: a source, a destination and a log.
 ///
 /// A call that fails for its device halts the run for that device, and one that wants memory for want of memory.
-/// It changes nothing then, but for `append` and `put`, which leave a part of what they were to add.
+/// It changes nothing then, but for `append` and `put`, which leave a part of what they were to add. Only `put` halts it for the log.
 pub trait Outside {
     /// What the three tell, and how often each failed.
     ghost world: { Self → World };
@@ -33,6 +33,7 @@ pub trait Outside {
         ensures ok { IfOk result (λ entries. Did (asks (Lists path.now entries))
             (world self.old) (world self.new)) }
         ensures err { IfErr result (λ why. Stays why (world self.old) (world self.new)) }
+        ensures other { IfErr result IsNotOfLog }
         ensures calls { within 1 self.old self.new };
 
     /// Opens a file of the source.
@@ -40,6 +41,7 @@ pub trait Outside {
         requires { CanOpen (world self.old).source path.now }
         ensures ok { OnOk result (Did (asks (Opens path.now)) (world self.old) (world self.new)) }
         ensures err { IfErr result (λ why. Stays why (world self.old) (world self.new)) }
+        ensures other { IfErr result IsNotOfLog }
         ensures calls { within 1 self.old self.new };
 
     /// Reads the next block of the open file of the source.
@@ -48,6 +50,7 @@ pub trait Outside {
         ensures ok { OnOk result (Did (asks (Reads block.new.items))
             (world self.old) (world self.new)) }
         ensures err { IfErr result (λ why. Stays why (world self.old) (world self.new)) }
+        ensures other { IfErr result IsNotOfLog }
         ensures calls { within 1 self.old self.new };
 
     /// Asks what stands at a path of the destination.
@@ -55,6 +58,7 @@ pub trait Outside {
         ensures ok { IfOk result (λ here. Did (does (Finds path.now here))
             (world self.old) (world self.new)) }
         ensures err { IfErr result (λ why. Stays why (world self.old) (world self.new)) }
+        ensures other { IfErr result IsNotOfLog }
         ensures calls { within 0 self.old self.new };
 
     /// Reads the first block of a file of the destination.
@@ -63,6 +67,7 @@ pub trait Outside {
         ensures ok { OnOk result (Did (does (Peeks path.now block.new.items))
             (world self.old) (world self.new)) }
         ensures err { IfErr result (λ why. Stays why (world self.old) (world self.new)) }
+        ensures other { IfErr result IsNotOfLog }
         ensures calls { within 0 self.old self.new };
 
     /// Makes a directory in the destination.
@@ -71,6 +76,7 @@ pub trait Outside {
         ensures ok { OnOk result (Did (does (Makes (MakeFolder path.now)))
             (world self.old) (world self.new)) }
         ensures err { IfErr result (λ why. Stays why (world self.old) (world self.new)) }
+        ensures other { IfErr result IsNotOfLog }
         ensures calls { within 0 self.old self.new };
 
     /// Makes an empty file in the destination, which is then the open one.
@@ -78,6 +84,7 @@ pub trait Outside {
         requires { MayMake (world self.old).dest path.now }
         ensures ok { OnOk result (Did (does (Creates path.now)) (world self.old) (world self.new)) }
         ensures err { IfErr result (λ why. Stays why (world self.old) (world self.new)) }
+        ensures other { IfErr result IsNotOfLog }
         ensures calls { within 0 self.old self.new };
 
     /// Adds a piece to the destination's open file.
@@ -86,6 +93,7 @@ pub trait Outside {
         ensures ok { OnOk result (Did (does (Adds piece.now)) (world self.old) (world self.new)) }
         ensures err { IfErr result (λ why. LeavesSome (does (Adds piece.now)) why
             (world self.old) (world self.new)) }
+        ensures other { IfErr result IsNotOfLog }
         ensures calls { within 0 self.old self.new };
 
     /// Closes the destination's open file.
@@ -93,6 +101,7 @@ pub trait Outside {
         requires { CanWrite (world self.old).dest }
         ensures ok { OnOk result (Did (does Finishes) (world self.old) (world self.new)) }
         ensures err { IfErr result (λ why. Stays why (world self.old) (world self.new)) }
+        ensures other { IfErr result IsNotOfLog }
         ensures calls { within 0 self.old self.new };
 
     /// Moves what stands at a path of the destination to another.
@@ -101,6 +110,7 @@ pub trait Outside {
         ensures ok { OnOk result (Did (does (Renames from.now to.now))
             (world self.old) (world self.new)) }
         ensures err { IfErr result (λ why. Stays why (world self.old) (world self.new)) }
+        ensures other { IfErr result IsNotOfLog }
         ensures calls { within 0 self.old self.new };
 
     /// Puts the text of a line at the end of the log.
@@ -151,43 +161,68 @@ impl<'s, 'd, 'l, S: Source, D: Dest, L: Log> Outside for Devices<'s, 'd, 'l, S, 
 
     ghost within = { λ n a b. (b.source.ghost_name ≡ a.source.ghost_name)
         × (b.dest.ghost_name ≡ a.dest.ghost_name) × (b.log.ghost_name ≡ a.log.ghost_name)
+        × S.keeps a.source.now b.source.now × D.keeps a.dest.now b.dest.now
+        × L.keeps a.log.now b.log.now
         × AtMostCalls n (S.called a.source.now) (S.called b.source.now) };
 
-    ghost none = { λ a. (refl, refl, refl, calls_none (S.called a.source.now)) };
+    ghost none = { λ a. (
+      refl,
+      refl,
+      refl,
+      S.is_kept a.source.now,
+      D.is_kept a.dest.now,
+      L.is_kept a.log.now,
+      calls_none (S.called a.source.now),
+    ) };
 
     ghost most = { λ a b m n p few. (
       p.0,
       p.1,
       p.2,
-      calls_most (S.called a.source.now) (S.called b.source.now) m n p.3 few,
+      p.3,
+      p.4,
+      p.5,
+      calls_most (S.called a.source.now) (S.called b.source.now) m n p.6 few,
     ) };
 
     ghost still = { λ a b c n p q. (
       q.0 ∙ p.0,
       q.1 ∙ p.1,
       q.2 ∙ p.2,
-      calls_still (S.called a.source.now) (S.called b.source.now) (S.called c.source.now) n p.3 q.3,
+      S.keeps_on a.source.now b.source.now c.source.now p.3 q.3,
+      D.keeps_on a.dest.now b.dest.now c.dest.now p.4 q.4,
+      L.keeps_on a.log.now b.log.now c.log.now p.5 q.5,
+      calls_still (S.called a.source.now) (S.called b.source.now) (S.called c.source.now) n p.6 q.6,
     ) };
 
     ghost after = { λ a b c n p q. (
       q.0 ∙ p.0,
       q.1 ∙ p.1,
       q.2 ∙ p.2,
-      calls_after (S.called a.source.now) (S.called b.source.now) (S.called c.source.now) n p.3 q.3,
+      S.keeps_on a.source.now b.source.now c.source.now p.3 q.3,
+      D.keeps_on a.dest.now b.dest.now c.dest.now p.4 q.4,
+      L.keeps_on a.log.now b.log.now c.log.now p.5 q.5,
+      calls_after (S.called a.source.now) (S.called b.source.now) (S.called c.source.now) n p.6 q.6,
     ) };
 
     ghost more = { λ a b c m n p q. (
       q.0 ∙ p.0,
       q.1 ∙ p.1,
       q.2 ∙ p.2,
-      calls_more (S.called a.source.now) (S.called b.source.now) (S.called c.source.now) m n p.3 q.3,
+      S.keeps_on a.source.now b.source.now c.source.now p.3 q.3,
+      D.keeps_on a.dest.now b.dest.now c.dest.now p.4 q.4,
+      L.keeps_on a.log.now b.log.now c.log.now p.5 q.5,
+      calls_more (S.called a.source.now) (S.called b.source.now) (S.called c.source.now) m n p.6 q.6,
     ) };
 
     ghost twice = { λ a b c p q. (
       q.0 ∙ p.0,
       q.1 ∙ p.1,
       q.2 ∙ p.2,
-      calls_more (S.called a.source.now) (S.called b.source.now) (S.called c.source.now) 1 1 p.3 q.3,
+      S.keeps_on a.source.now b.source.now c.source.now p.3 q.3,
+      D.keeps_on a.dest.now b.dest.now c.dest.now p.4 q.4,
+      L.keeps_on a.log.now b.log.now c.log.now p.5 q.5,
+      calls_more (S.called a.source.now) (S.called b.source.now) (S.called c.source.now) 1 1 p.6 q.6,
     ) };
 
     ghost proper = { λ o told is. S.proper o.source.now told is };

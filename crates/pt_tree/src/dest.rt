@@ -20,6 +20,9 @@ pub trait Dest {
     /// How often it failed, up to 2^64 - 1.
     ghost failed: { Self → ℕ };
 
+    /// What no call changes beside: it is the first device still, as its calls left it.
+    ghost keeps: { Self → Self → Type 0 };
+
     /// How often it failed.
     fn failures(&self) -> u64
         ensures { result ≡ failed self.now };
@@ -28,7 +31,8 @@ pub trait Dest {
     fn kind(&mut self, path: &NamePath) -> Result<Option<Kind>, TreeFault>
         ensures kind { IfOk result (λ kind. IsKindAt (told self.old) path.now kind) }
         ensures same { told self.new ≡ told self.old }
-        ensures failures { IsCounted (failed self.old) (failed self.new) result };
+        ensures failures { IsCounted (failed self.old) (failed self.new) result }
+        ensures keeps { keeps self.old self.new };
 
     /// The block becomes the first bytes of the file at a path, up to 8,192. On a fault the block is empty.
     ///
@@ -38,38 +42,46 @@ pub trait Dest {
         ensures block { OnOk result (IsPeeked (told self.old) path.now block.new.items) }
         ensures empty { OnErr result (block.new.items ≡ []) }
         ensures same { told self.new ≡ told self.old }
-        ensures failures { IsCounted (failed self.old) (failed self.new) result };
+        ensures failures { IsCounted (failed self.old) (failed self.new) result }
+        ensures keeps { keeps self.old self.new };
 
     /// Makes a directory. Where the destination tells, the path has to be absent and its parent a directory.
     fn mkdir(&mut self, path: &NamePath) -> Result<(), TreeFault>
         requires { MayMake (told self.old) path.now }
-        ensures made { OnOk result (told self.new ≡ option_map (after_mkdir path.now) (told self.old)) }
+        ensures made { OnOk result (told self.new
+            ≡ option_map (after_mkdir path.now) (told self.old)) }
         ensures same { OnErr result (told self.new ≡ told self.old) }
-        ensures failures { IsCounted (failed self.old) (failed self.new) result };
+        ensures failures { IsCounted (failed self.old) (failed self.new) result }
+        ensures keeps { keeps self.old self.new };
 
     /// Makes an empty file and opens it; a file that was open keeps its bytes. Where the destination tells, the path
     /// has to be absent and its parent a directory.
     fn create(&mut self, path: &NamePath) -> Result<(), TreeFault>
         requires { MayMake (told self.old) path.now }
-        ensures made { OnOk result (told self.new ≡ option_map (after_create path.now) (told self.old)) }
+        ensures made { OnOk result (told self.new
+            ≡ option_map (after_create path.now) (told self.old)) }
         ensures same { OnErr result (told self.new ≡ told self.old) }
-        ensures failures { IsCounted (failed self.old) (failed self.new) result };
+        ensures failures { IsCounted (failed self.old) (failed self.new) result }
+        ensures keeps { keeps self.old self.new };
 
     /// Adds a piece to the open file, which stays open. A failed call leaves a part of the piece, from its start.
     ///
     /// Where the destination tells, a file has to be open.
     fn append(&mut self, piece: &[u8]) -> Result<(), TreeFault>
         requires { CanWrite (told self.old) }
-        ensures added { OnOk result (told self.new ≡ option_map (after_append piece.now) (told self.old)) }
+        ensures added { OnOk result (told self.new
+            ≡ option_map (after_append piece.now) (told self.old)) }
         ensures part { OnErr result (LeavesPart (told self.old) (told self.new) piece.now) }
-        ensures failures { IsCounted (failed self.old) (failed self.new) result };
+        ensures failures { IsCounted (failed self.old) (failed self.new) result }
+        ensures keeps { keeps self.old self.new };
 
     /// Closes the open file. Where the destination tells, a file has to be open.
     fn finish(&mut self) -> Result<(), TreeFault>
         requires { CanWrite (told self.old) }
         ensures closed { OnOk result (told self.new ≡ option_map after_finish (told self.old)) }
         ensures same { OnErr result (told self.new ≡ told self.old) }
-        ensures failures { IsCounted (failed self.old) (failed self.new) result };
+        ensures failures { IsCounted (failed self.old) (failed self.new) result }
+        ensures keeps { keeps self.old self.new };
 
     /// Moves what stands at `from`, with all below, to `to`; a file that is open there is closed.
     ///
@@ -77,9 +89,17 @@ pub trait Dest {
     /// and not at or below `from`.
     fn rename(&mut self, from: &NamePath, to: &NamePath) -> Result<(), TreeFault>
         requires { MayMove (told self.old) from.now to.now }
-        ensures moved { OnOk result (told self.new ≡ option_map (after_rename from.now to.now) (told self.old)) }
+        ensures moved { OnOk result (told self.new
+            ≡ option_map (after_rename from.now to.now) (told self.old)) }
         ensures same { OnErr result (told self.new ≡ told self.old) }
-        ensures failures { IsCounted (failed self.old) (failed self.new) result };
+        ensures failures { IsCounted (failed self.old) (failed self.new) result }
+        ensures keeps { keeps self.old self.new };
+
+    /// It is itself.
+    ghost is_kept: { (a : Self) → keeps a a };
+
+    /// And so it is after further calls.
+    ghost keeps_on: { (a b c : Self) → keeps a b → keeps b c → keeps a c };
 
     /// What is told is a tree: a folder is above each entry.
     ghost is_tree: { (dest : Self) (state : Writing) → told dest ≡ Some state → IsTree state.tree };

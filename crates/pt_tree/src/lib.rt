@@ -20,7 +20,7 @@ pub use log::Log;
 pub use name::{Name, NameFault};
 pub use name_path::NamePath;
 pub use source::Source;
-pub use writer_log::WriterLog;
+pub use writer_log::{WriterLog, write_out};
 
 /// What is read at a time: up to 8,192 bytes.
 pub type Block = ArrayVec<u8, 8192>;

@@ -16,6 +16,9 @@ pub trait Log {
     /// How often it failed, up to 2^64 - 1.
     ghost failed: { Self → ℕ };
 
+    /// What no call changes beside: it is the first device still, as its calls left it.
+    ghost keeps: { Self → Self → Type 0 };
+
     /// How often it failed.
     fn failures(&self) -> u64
         ensures { result ≡ failed self.now };
@@ -24,5 +27,12 @@ pub trait Log {
     fn put(&mut self, piece: &[u8]) -> Result<(), TreeFault>
         ensures ok { OnOk result (Appends (told self.old) (told self.new) piece.now) }
         ensures part { OnErr result (AppendsFront (told self.old) (told self.new) piece.now) }
-        ensures failures { IsCounted (failed self.old) (failed self.new) result };
+        ensures failures { IsCounted (failed self.old) (failed self.new) result }
+        ensures keeps { keeps self.old self.new };
+
+    /// It is itself.
+    ghost is_kept: { (a : Self) → keeps a a };
+
+    /// And so it is after further calls.
+    ghost keeps_on: { (a b c : Self) → keeps a b → keeps b c → keeps a c };
 }

@@ -69,7 +69,8 @@ impl Name {
     /// Refused, in this order, as `Empty`, `TooLong` (over 255 bytes), `NotUtf8` and `Forbidden` (it holds `/` or
     /// NUL, or is `.` or `..`); then as `Memory`, where the copy was refused.
     pub fn of(alloc: Global, bytes: &[u8]) -> Result<Name, NameFault>
-        ensures { Answers (name_refusal bytes.now) NameFault.Memory result (λ name. name ≡ bytes.now) }
+        ensures { Answers (name_refusal bytes.now) NameFault.Memory result
+            (λ name. name ≡ bytes.now) }
     {
         if let Some(refusal) = refusal(bytes) {
             return Err(refusal);

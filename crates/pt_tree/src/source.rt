@@ -24,6 +24,9 @@ pub trait Source {
     /// It was called so many times.
     ghost called: { Self → ℕ → Type 0 };
 
+    /// What no call changes beside: it is the first device still, as its calls left it.
+    ghost keeps: { Self → Self → Type 0 };
+
     /// How often it failed.
     fn failures(&self) -> u64
         ensures { result ≡ failed self.now };
@@ -36,17 +39,20 @@ pub trait Source {
         ensures listing { IfOk result (λ listing. IsListed (told self.old) path.now listing) }
         ensures same { told self.new ≡ told self.old }
         ensures failures { IsCounted (failed self.old) (failed self.new) result }
-        ensures calls { IsOneMoreCall (called self.old) (called self.new) };
+        ensures calls { IsOneMoreCall (called self.old) (called self.new) }
+        ensures keeps { keeps self.old self.new };
 
     /// Makes the file at a path the open one, read from its start; after a fault the open file stays as it was.
     ///
     /// Where the source tells, a file has to be there.
     fn open(&mut self, path: &NamePath) -> Result<(), TreeFault>
         requires { CanOpen (told self.old) path.now }
-        ensures opened { OnOk result (told self.new ≡ option_map (after_open path.now) (told self.old)) }
+        ensures opened { OnOk result (told self.new
+            ≡ option_map (after_open path.now) (told self.old)) }
         ensures same { OnErr result (told self.new ≡ told self.old) }
         ensures failures { IsCounted (failed self.old) (failed self.new) result }
-        ensures calls { IsOneMoreCall (called self.old) (called self.new) };
+        ensures calls { IsOneMoreCall (called self.old) (called self.new) }
+        ensures keeps { keeps self.old self.new };
 
     /// The block becomes the next bytes of the open file: 8,192 of them unless the file ends first, none at its end,
     /// and none again after it. On a fault the block is empty, and the file is read on from where it was.
@@ -59,8 +65,16 @@ pub trait Source {
         ensures empty { OnErr result (block.new.items ≡ []) }
         ensures same { OnErr result (told self.new ≡ told self.old) }
         ensures failures { IsCounted (failed self.old) (failed self.new) result }
-        ensures calls { IsOneMoreCall (called self.old) (called self.new) };
+        ensures calls { IsOneMoreCall (called self.old) (called self.new) }
+        ensures keeps { keeps self.old self.new };
+
+    /// It is itself.
+    ghost is_kept: { (a : Self) → keeps a a };
+
+    /// And so it is after further calls.
+    ghost keeps_on: { (a b c : Self) → keeps a b → keeps b c → keeps a c };
 
     /// In each directory of a tree that is told the names rise, so that none comes twice.
-    ghost proper: { (source : Self) (state : Reading) → told source ≡ Some state → is_proper state.tree ≡ true };
+    ghost proper: { (source : Self) (state : Reading) → told source ≡ Some state
+        → is_proper state.tree ≡ true };
 }

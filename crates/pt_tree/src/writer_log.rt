@@ -1,9 +1,10 @@
-ghost use Rattle.std.specs.Prelude.{◌≡◌, ◌≢◌, Err, OnOk, OnErr, MatchBool};
+ghost use Rattle.std.specs.Prelude.{◌≡◌, ◌≢◌, ⊤, Err, OnOk, OnErr};
 ghost use Rattle.std.specs.Io.KnownBytes.{Appends};
 ghost use Rattle.pt_tree.specs.Failures.{IsCounted};
 ghost use Rattle.pt_tree.specs.Log.{AppendsFront};
 
 use crate::{Log, TreeFault};
+use std::io;
 use std::io::Write;
 
 /// A log over a writer, flushed at each put. It takes no memory, and tells what its writer tells.
@@ -31,35 +32,46 @@ impl<W: Write> Log for WriterLog<W> {
 
     ghost failed = { λ l. l.failures };
 
+    ghost keeps = { λ _ _. ⊤ };
+
+    ghost is_kept = { λ _. tt };
+
+    ghost keeps_on = { λ _ _ _ _ _. tt };
+
     fn failures(&self) -> u64 {
         self.failures
     }
 
     fn put(&mut self, piece: &[u8]) -> Result<(), TreeFault>
-        ensures ok { OnOk result (Appends (W.contents self.old.writer) (W.contents self.new.writer) piece.now) }
-        ensures part { OnErr result (AppendsFront (W.contents self.old.writer) (W.contents self.new.writer) piece.now) }
+        ensures ok { OnOk result (Appends (W.contents self.old.writer)
+            (W.contents self.new.writer) piece.now) }
+        ensures part { OnErr result (AppendsFront (W.contents self.old.writer)
+            (W.contents self.new.writer) piece.now) }
         ensures failures { IsCounted self.old.failures self.new.failures result }
         ensures no_memory { result ≢ Err TreeFault.Memory }
     {
-        if write_out(&mut self.writer, piece) {
-            return Ok(());
+        if write_out(&mut self.writer, piece).is_err() {
+            self.failures = self.failures.saturating_add(1);
+            return Err(TreeFault::Device);
         }
-        self.failures = self.failures.saturating_add(1);
-        Err(TreeFault::Device)
+        Ok(())
     }
 }
 
-// Writes all the bytes and flushes. An error, or zero for a piece that isn't empty, ends it; nothing is tried again.
-fn write_out<W: Write>(out: &mut W, bytes: &[u8]) -> bool
-    ensures { MatchBool result (Appends (W.contents out.old) (W.contents out.new) bytes.now)
+/// Writes all the bytes and flushes. An error ends it, as `WriteZero` does where the writer takes nothing of a piece that isn't
+/// empty: then a front of the bytes was written. Nothing is tried again.
+pub fn write_out<W: Write>(out: &mut W, bytes: &[u8]) -> io::Result<()>
+    ensures ok { OnOk result (Appends (W.contents out.old) (W.contents out.new) bytes.now) }
+    ensures part { OnErr result
         (AppendsFront (W.contents out.old) (W.contents out.new) bytes.now) }
 {
     let mut done = 0;
     while done < bytes.len() {
         match out.write(&bytes[done..]) {
-            Ok(0) | Err(_) => return false,
+            Ok(0) => return Err(io::Error::from(io::ErrorKind::WriteZero)),
             Ok(taken) => done += taken,
+            Err(error) => return Err(error),
         }
     }
-    out.flush().is_ok()
+    out.flush()
 }

@@ -55,11 +55,30 @@ impl Model for Limits {
 
     ghost Value = { Bounds };
 
-    ghost view = { λ l. record { files = l.files; path_bytes = l.path_bytes; depth = l.depth; file_bytes = l.file_bytes; turns = l.turns } };
+    ghost view = { λ l. record {
+      files = l.files;
+      path_bytes = l.path_bytes;
+      depth = l.depth;
+      file_bytes = l.file_bytes;
+      turns = l.turns;
+    } };
 
-    ghost invariant = { λ l. are_limits (record { files = l.files; path_bytes = l.path_bytes; depth = l.depth; file_bytes = l.file_bytes; turns = l.turns }) ≡ true };
+    ghost invariant = { λ l. are_limits
+        (record {
+          files = l.files;
+          path_bytes = l.path_bytes;
+          depth = l.depth;
+          file_bytes = l.file_bytes;
+          turns = l.turns;
+        }) ≡ true };
 
-    ghost inverse = { λ l. record { files = l.files; path_bytes = l.path_bytes; depth = l.depth; file_bytes = l.file_bytes; turns = l.turns } };
+    ghost inverse = { λ l. record {
+      files = l.files;
+      path_bytes = l.path_bytes;
+      depth = l.depth;
+      file_bytes = l.file_bytes;
+      turns = l.turns;
+    } };
 }
 
 impl Limits {
@@ -72,7 +91,13 @@ impl Limits {
         file_bytes: u64,
         turns: u64,
     ) -> Result<Limits, LimitsFault>
-        ensures { result ≡ limits_of (record { files = files; path_bytes = path_bytes; depth = depth; file_bytes = file_bytes; turns = turns }) }
+        ensures { result ≡ limits_of (record {
+          files = files;
+          path_bytes = path_bytes;
+          depth = depth;
+          file_bytes = file_bytes;
+          turns = turns;
+        }) }
     {
         if files == 0 || path_bytes == 0 || depth == 0 || file_bytes == 0 || turns == 0 {
             return Err(LimitsFault::Zero);

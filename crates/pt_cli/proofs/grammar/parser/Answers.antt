@@ -10,5 +10,7 @@ returns c =
     let names_is : app_of c.in_ok-names_parser.field-0 ≡ names_app = search rules in
     let first = c.in_ok-with_names.ensures.shape (search rules) ∙ ap₂ with_subcommand top_is (ap (λ (a : App). a.top) names_is) in
     let migrate = c.in_ok-migrate_parser.ensures.0 in
-    IfOk-weaker c.subcommand-2.result _ _
-    (λ r adds. (migrate.0, adds.shape c.in_ok-migrate_parser.ensures.1 ∙ ap₂ with_subcommand first (ap (λ (a : App). a.top) migrate.1))) c.subcommand-2.ensures
+    let audit = c.in_ok-audit_parser.ensures.0 in
+    let second = c.in_ok-with_migrate.ensures.shape c.in_ok-migrate_parser.ensures.1 ∙ ap₂ with_subcommand first (ap (λ (a : App). a.top) migrate.1) in
+    IfOk-weaker c.subcommand-3.result _ _
+    (λ r adds. (migrate.0, audit.0, adds.shape c.in_ok-audit_parser.ensures.1 ∙ ap₂ with_subcommand second (ap (λ (a : App). a.top) audit.1))) c.subcommand-3.ensures

@@ -1,4 +1,4 @@
-use Rattle.std.proofs.Common.{◌-◌, ◌≤◌, List, ℕ, length, take, drop}
+use Rattle.std.proofs.Common.{◌-◌, ◌≤◌, List, ℕ, length, drop}
 use Rattle.std.specs.List.{FoldsTo}
 use Rattle.pt_folder.specs.Runs.{WritesMore, on_pairs}
 use Rattle.pt_folder.proofs.bytes.write_out.Given as goal

@@ -15,18 +15,3 @@ returns-clause-divided c = worked.divided_log
 
 pub returns-clause-reserved : goal.returns-clause-reserved
 returns-clause-reserved c = worked.extensions_log
-
-pub returns-clause-object : goal.returns-clause-object
-returns-clause-object c = worked.one_object_log
-
-pub returns-clause-flat : goal.returns-clause-flat
-returns-clause-flat c = worked.one_object_flat_log
-
-pub returns-clause-order : goal.returns-clause-order
-returns-clause-order c = worked.lines_come_in_order
-
-pub returns-clause-escaped : goal.returns-clause-escaped
-returns-clause-escaped c = worked.line_feed_log
-
-pub returns-clause-present : goal.returns-clause-present
-returns-clause-present c = worked.one_identifier_flat_log

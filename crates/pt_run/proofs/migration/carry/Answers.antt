@@ -1,6 +1,4 @@
-use Rattle.std.proofs.Common.{Ok, subst}
-use Rattle.pt_plan.specs.World.{World}
-use Rattle.pt_run.specs.Made.{RunsFrom}
+use Rattle.std.proofs.Common.{Ok}
 use Rattle.pt_run.proofs.Begun.{begun}
 use Rattle.pt_run.proofs.migration.carry.Goals as goal
 
@@ -18,10 +16,8 @@ returns g c =
         c.lend-ground.new.self,
         c.lend-ground.ensures,
         c.run-status.result.ground,
-        subst (λ (w : World). RunsFrom forest kept contents c.args.wanted w c.run-status.result.ground c.run-status.result.status)
-            (begun forest kept contents g.H.Store.File.Input.bytes c.args.wanted c.args.store.now c.args.folder.now c.lend-ground.result
-            _ _ _ _ _ _ _ _ _ _ _ made.store made.unread made.folder made.unwritten made.synced made.log)
-            c.run-status.ensures,
+        begun forest kept contents g.H.Store.File.Input.bytes c.args.wanted c.args.store.now c.args.folder.now c.lend-ground.result
+            _ _ _ _ _ _ _ _ _ _ _ made.store made.unread made.folder made.unwritten made.synced made.log _ _ c.run-status.ensures,
         c.take_back.ensures,
       ),
     )

@@ -3,10 +3,9 @@ use Rattle.pt_run.proofs.running.run.Goals as goal
 
 pub returns : goal.returns
 returns g c =
-    let ignoring = c.made-ran.new.source.source in
-    let source = ignoring.source in
-    let dest = c.made-ran.result.dest in (
-      record { store = source.folder.path.now; folder = dest.folder.path.now; ignored = ignoring.names; synced = dest.synced },
+    let source = c.made-ran.new.source.source.source in
+    let dest = c.made-ran.result.dest in
+    let made = c.made-ran.ensures in (
       unread_open g.S.File.Input.bytes source.reading,
       dest.writing,
       record { source = source.failures; dest = dest.failures; log = c.made-ran.new.log.log.failures },
@@ -23,7 +22,8 @@ returns g c =
           ← c.new-ignoring.ensures.names,
           ← c.new-source.ensures,
           ← c.new-log.ensures,
-        ) c.made-ran.ensures,
+        ) (rw (made.source.1, made.source.0, made.dest.0, made.dest.1) at made.promises),
         c.told-status.ensures,
       ),
+      rw (c.into_system-2.ensures) made.rehearsed,
     )

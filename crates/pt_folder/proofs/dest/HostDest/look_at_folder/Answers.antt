@@ -1,4 +1,4 @@
-use Rattle.std.proofs.Common.{[], subst, sym}
+use Rattle.std.proofs.Common.{subst, sym}
 use Rattle.pt_folder.specs.Calls.{IsThere}
 use Rattle.pt_folder.specs.DestHeld.{IsPlaced, seen}
 use Rattle.pt_folder.proofs.DestTold.{kind_keeps}

@@ -22,5 +22,5 @@ returns-clause-same g c =
     let now = c.first_bytes.new.self in
     let same = peek_keeps kept folder g.S.File.Input.left g.S.File.Input.reads (λ s. g.S.System.opens s for_reading) law self.system c.first_bytes.new.self.system c.args.path.now c.first_bytes.new.block.items c.first_bytes.result c.first_bytes.ensures.asked in
     let put : told_of (unless_synced now.synced (g.S.System.kept now.system now.folder.path.now)) now.writing ≡ told_of (unless_synced self.synced (g.S.System.kept now.system folder)) self.writing =
-    λ i. told_of (unless_synced (c.first_bytes.ensures.settings.1 i) (g.S.System.kept now.system (c.first_bytes.ensures.folder i).path.now)) (c.first_bytes.ensures.writing i) in
+    λ i. told_of (unless_synced (c.first_bytes.ensures.call.keeps.1.1 i) (g.S.System.kept now.system (c.first_bytes.ensures.call.keeps.0 i).path.now)) (c.first_bytes.ensures.writing i) in
     put ∙ ap (λ k. told_of k self.writing) same

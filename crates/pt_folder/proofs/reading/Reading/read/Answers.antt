@@ -1,7 +1,7 @@
-use Rattle.std.proofs.Common.{◌≡◌, ◌∙◌, ◌+◌, ap, subst, drop, take, List, ℕ, sym}
+use Rattle.std.proofs.Common.{◌∙◌, ◌+◌, ap, subst, drop, List, ℕ}
 use Rattle.std.specs.Prelude.{not, Option}
-use Rattle.std.specs.Option.{option_map, ForSome}
-use Rattle.pt_folder.specs.Reading.{IsNext, unread_of}
+use Rattle.std.specs.Option.{option_map}
+use Rattle.pt_folder.specs.Reading.{IsNext}
 use Rattle.pt_folder.proofs.Forward.{read_stands, read_next, read_moved, unread_same}
 use Rattle.pt_folder.proofs.reading.Reading.read.Goals as goal
 

@@ -1,8 +1,4 @@
-use Rattle.std.specs.Prelude.{IfOk, Result, Ok, Err, Option}
-use Rattle.std.specs.Option.{ForSome}
-use Rattle.std.proofs.Common.{List, ℕ, ◌≡◌}
-use Rattle.pt_tree.specs.declared.faults.TreeFault.{TreeFault}
-use Rattle.pt_tree.specs.Listing.{Item}
+use Rattle.std.specs.Prelude.{IfOk, Result, Ok, Err}
 use Rattle.pt_folder.specs.Reading.{unread_open}
 use Rattle.pt_folder.proofs.SourceTold.{can_list, is_listed}
 use Rattle.pt_folder.proofs.source.HostSourceSource.list.Goals as goal

@@ -1,7 +1,5 @@
-use Rattle.std.specs.Prelude.{OnOk, Result, Ok, Err, Option}
-use Rattle.std.proofs.Common.{List, ℕ}
-use Rattle.pt_tree.specs.declared.faults.TreeFault.{TreeFault}
-use Rattle.pt_folder.specs.Reading.{IsNext, unread_open}
+use Rattle.std.specs.Prelude.{OnOk, Result, Ok, Err}
+use Rattle.pt_folder.specs.Reading.{unread_open}
 use Rattle.pt_folder.proofs.SourceTold.{is_read}
 use Rattle.pt_folder.proofs.source.HostSourceSource.next.Goals as goal
 

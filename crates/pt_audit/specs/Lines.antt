@@ -1,0 +1,72 @@
+-- The lines of an audit's log: each one compact JSON object with its keys in byte order, and LF.
+use Rattle.std.specs.Prelude.{◌≡◌, ℕ, List, [], ◌∷◌, ◌++◌, Option, None, Some, codes}
+use Rattle.pt_audit.specs.Difference.{why_word}
+use Rattle.pt_audit.specs.declared.difference.Finding.{Finding}
+use Rattle.pt_audit.specs.declared.difference.Finding.TheVariants as finding
+use Rattle.pt_audit.specs.declared.difference.Why.{Why}
+use Rattle.pt_audit.specs.declared.counts.Counts.{Counts}
+use Rattle.pt_plan.specs.Lines.{number_member, text_member}
+use Rattle.pt_tree.specs.Path.{Path, joined}
+use Rattle.serde_json.specs.Data.{Data, no_members}
+use Rattle.serde_json.specs.Data as json
+use Rattle.serde_json.specs.Written.{compact_text}
+
+-- an object of the store, as a line tells of it
+pub record Told : Type 0 where
+  pub at : Path
+  pub bytes : ℕ
+  pub empty : ℕ
+  pub files : ℕ
+  pub id : List ℕ
+  pub to : Path
+
+-- what a line tells: the object stands, nothing stands at its place, it differs there, or the audit ended
+pub data Line : Type 0 where
+  Same : Told → Line
+  Absent : Told → Line
+  Differs : Told → (path : Path) → (why : Why) → Line
+  End : (same absent differs skipped : ℕ) → Line
+
+-- the line of an object, by what was found at its place
+abbrev pub line_by : Told → Finding → Line
+line_by told finding.Same = Same told
+line_by told finding.Absent = Absent told
+line_by told (finding.Differs difference) = Differs told difference.path difference.why
+
+-- the line as a tree of JSON
+abbrev pub line_tree : Line → Data
+line_tree (Same told) = json.object
+    (text_member (codes "as") (codes "same")
+    (text_member (codes "at") (joined told.at)
+    (number_member (codes "bytes") told.bytes
+    (number_member (codes "empty") told.empty
+    (number_member (codes "files") told.files
+    (text_member (codes "id") told.id
+    (text_member (codes "to") (joined told.to) no_members)))))))
+line_tree (Absent told) = json.object
+    (text_member (codes "as") (codes "absent")
+    (text_member (codes "at") (joined told.at)
+    (text_member (codes "id") told.id
+    (text_member (codes "to") (joined told.to) no_members))))
+line_tree (Differs told path why) = json.object
+    (text_member (codes "as") (codes "differs")
+    (text_member (codes "at") (joined told.at)
+    (text_member (codes "id") told.id
+    (text_member (codes "path") (joined path)
+    (text_member (codes "to") (joined told.to)
+    (text_member (codes "why") (why_word why) no_members))))))
+line_tree (End same absent differs skipped) = json.object
+    (number_member (codes "absent") absent
+    (text_member (codes "as") (codes "end")
+    (number_member (codes "differs") differs
+    (number_member (codes "same") same
+    (number_member (codes "skip") skipped no_members)))))
+
+-- the compact text of the line, and LF
+abbrev pub line_text : Line → List ℕ
+line_text line = compact_text (line_tree line) ++ 10 ∷ []
+
+-- what is put in place of a piece, if anything is
+abbrev pub in_place : Option (List ℕ) → List ℕ → List ℕ
+in_place None piece = piece
+in_place (Some text) piece = text

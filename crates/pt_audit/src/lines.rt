@@ -1,0 +1,134 @@
+#![tactic(auto, using(crate::proofs::LineTexts::texts))]
+//! The lines of an audit's log: each one compact JSON object with its keys in byte order, and LF.
+ghost use Rattle.std.specs.Prelude.{◌≡◌, ◌++◌, ◌∷◌, [], false, IfOk, OnOk};
+ghost use Rattle.std.specs.String.{string_bytes};
+ghost use Rattle.serde_json.specs.Data.{number, put as put_member, string, unsigned};
+ghost use Rattle.serde_json.specs.View.{members_view, view};
+ghost use Rattle.serde_json.specs.Written.{compact_text, has_float};
+ghost use Rattle.pt_audit.specs.Lines.{line_by, line_text, line_tree};
+ghost use Rattle.pt_audit.specs.Lines as line;
+ghost use Rattle.pt_audit.specs.Telling.{told_of};
+
+use crate::{Counts, Difference, Finding};
+use pt_move::Carried;
+use pt_state::paths::text_of;
+use pt_tree::MemoryFault;
+use serde_json::{Map, Value};
+use std::alloc::{AllocError, Global};
+
+/// The line of an object, by what was found at its place.
+pub(crate) fn object_line(
+    alloc: Global,
+    object: &Carried<'_>,
+    finding: &Finding,
+) -> Result<String, MemoryFault>
+    ensures { IfOk result (λ text. string_bytes text
+        ≡ line_text (line_by (told_of object.now) finding.now)) }
+{
+    match finding {
+        Finding::Same => text(alloc, &same_line(alloc, object)?),
+        Finding::Absent => text(alloc, &absent_line(alloc, object)?),
+        Finding::Differs(difference) => text(alloc, &differs_line(alloc, object, difference)?),
+    }
+}
+
+fn same_line(alloc: Global, object: &Carried<'_>) -> Result<Value, MemoryFault>
+    ensures { IfOk result (λ value. view value ≡ line_tree (line.Same (told_of object.now))) }
+{
+    let at = text_of(&object.at)?;
+    let to = text_of(object.to)?;
+    let mut members = Map::new(alloc);
+    put_text(&mut members, alloc, "as", "same")?;
+    put_text(&mut members, alloc, "at", at.as_str())?;
+    put_number(&mut members, alloc, "bytes", object.bytes)?;
+    put_number(&mut members, alloc, "empty", object.empty)?;
+    put_number(&mut members, alloc, "files", object.files)?;
+    put_text(&mut members, alloc, "id", object.id.as_str())?;
+    put_text(&mut members, alloc, "to", to.as_str())?;
+    Ok(Value::from(members))
+}
+
+fn absent_line(alloc: Global, object: &Carried<'_>) -> Result<Value, MemoryFault>
+    ensures { IfOk result (λ value. view value ≡ line_tree (line.Absent (told_of object.now))) }
+{
+    let at = text_of(&object.at)?;
+    let to = text_of(object.to)?;
+    let mut members = Map::new(alloc);
+    put_text(&mut members, alloc, "as", "absent")?;
+    put_text(&mut members, alloc, "at", at.as_str())?;
+    put_text(&mut members, alloc, "id", object.id.as_str())?;
+    put_text(&mut members, alloc, "to", to.as_str())?;
+    Ok(Value::from(members))
+}
+
+fn differs_line(
+    alloc: Global,
+    object: &Carried<'_>,
+    difference: &Difference,
+) -> Result<Value, MemoryFault>
+    ensures { IfOk result (λ value. view value
+        ≡ line_tree (line.Differs (told_of object.now) difference.now.path difference.now.why)) }
+{
+    let at = text_of(&object.at)?;
+    let path = text_of(&difference.path)?;
+    let to = text_of(object.to)?;
+    let mut members = Map::new(alloc);
+    put_text(&mut members, alloc, "as", "differs")?;
+    put_text(&mut members, alloc, "at", at.as_str())?;
+    put_text(&mut members, alloc, "id", object.id.as_str())?;
+    put_text(&mut members, alloc, "path", path.as_str())?;
+    put_text(&mut members, alloc, "to", to.as_str())?;
+    put_text(&mut members, alloc, "why", difference.why.word())?;
+    Ok(Value::from(members))
+}
+
+/// The end line, with these counts.
+pub(crate) fn end_line(alloc: Global, counts: &Counts) -> Result<String, MemoryFault>
+    ensures { IfOk result (λ text. string_bytes text ≡ line_text (line.End counts.now.same
+        counts.now.absent counts.now.differs counts.now.skipped)) }
+{
+    let mut members = Map::new(alloc);
+    put_number(&mut members, alloc, "absent", counts.absent)?;
+    put_text(&mut members, alloc, "as", "end")?;
+    put_number(&mut members, alloc, "differs", counts.differs)?;
+    put_number(&mut members, alloc, "same", counts.same)?;
+    put_number(&mut members, alloc, "skip", counts.skipped)?;
+    text(alloc, &Value::from(members))
+}
+
+// The text of a line that this is the JSON of.
+fn text(alloc: Global, value: &Value) -> Result<String, MemoryFault>
+    requires { has_float (view value.now) ≡ false }
+    ensures { IfOk result (λ text. string_bytes text ≡ compact_text (view value.now) ++ 10 ∷ []) }
+{
+    let mut text = value.to_string(alloc)?;
+    text.push_str("\n")?;
+    Ok(text)
+}
+
+// Puts a text at a key.
+fn put_text(
+    members: &mut Map<String, Value>,
+    alloc: Global,
+    key: &str,
+    text: &str,
+) -> Result<(), AllocError>
+    ensures { OnOk result (members_view members.new.entries
+        ≡ put_member key.now (string text.now) (members_view members.old.entries)) }
+{
+    let text = String::from_str(alloc, text)?;
+    serde_json::put(members, alloc, key, Value::from(text))
+}
+
+// Puts a number at a key.
+fn put_number(
+    members: &mut Map<String, Value>,
+    alloc: Global,
+    key: &str,
+    n: u64,
+) -> Result<(), AllocError>
+    ensures { OnOk result (members_view members.new.entries
+        ≡ put_member key.now (number (unsigned n)) (members_view members.old.entries)) }
+{
+    serde_json::put(members, alloc, key, Value::from(n))
+}

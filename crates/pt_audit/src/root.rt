@@ -1,0 +1,45 @@
+//! The storage root that stands, as an audit reads it.
+ghost use Rattle.std.specs.Prelude.{◌≡◌, IfOk, IfSome};
+ghost use Rattle.pt_tree.specs.Failures.{IsCounted};
+ghost use Rattle.pt_audit.specs.Root.{CanLook, Stands, tree_in};
+
+use pt_tree::{Kind, NamePath, Source, TreeFault};
+use std::alloc::Global;
+
+/// A source that is asked, too, what stands at a path.
+pub trait Root: Source {
+    /// The kind of what stands at a path, links not followed; None where nothing is found.
+    ///
+    /// Where it tells, a directory has to be above the path. The open file stays as it is.
+    fn kind(&mut self, path: &NamePath) -> Result<Option<Kind>, TreeFault>
+        requires { CanLook (tree_in (Self.told self.old)) path.now }
+        ensures kind { IfOk result (λ here. IfSome here
+            (λ kind. Stands (tree_in (Self.told self.old)) (path.now, kind))) }
+        ensures same { Self.told self.new ≡ Self.told self.old }
+        ensures failures { IsCounted (Self.failed self.old) (Self.failed self.new) result };
+}
+
+/// The kind of what stands at a path; None where nothing does, also below what is no directory. Each entry on its way is
+/// looked at, from the top on, up to the first that isn't a directory.
+#[tactic(auto, using(crate::proofs::Roots::roots))]
+pub fn standing<R: Root>(
+    alloc: Global,
+    root: &mut R,
+    path: &NamePath,
+) -> Result<Option<Kind>, TreeFault>
+    ensures kind { IfOk result (λ here. IfSome here
+        (λ kind. Stands (tree_in (R.told root.old)) (path.now, kind))) }
+    ensures same { R.told root.new ≡ R.told root.old }
+    ensures failures { IsCounted (R.failed root.old) (R.failed root.new) result }
+{
+    let mut way = NamePath::new(alloc);
+    let mut here = Some(Kind::Dir);
+    for name in path.names() {
+        let Some(Kind::Dir) = here else {
+            return Ok(None);
+        };
+        way.push(name.copy()?)?;
+        here = root.kind(&way)?;
+    }
+    Ok(here)
+}

@@ -1,0 +1,21 @@
+use Rattle.pt_begun.specs.Begun.{Start}
+use Rattle.pt_move.specs.Running.{HasBegun}
+use Rattle.pt_state.specs.Outside.{world}
+use Rattle.pt_tree.specs.Forest.{Forest}
+use Rattle.pt_clients.specs.Holding.{GoesOn, IsMost}
+use Rattle.pt_clients.proofs.owning.Run.most.Given as goal
+
+-- the run is to begin, or in progress over its devices, and held no more than the bound
+abbrev pub invariant-loop : goal.invariant-loop
+invariant-loop g l =
+    let now =
+    world (g.S.Source.told l.self.source) (g.D.Dest.told l.self.dest) (g.L.Log.told l.self.log) (g.S.Source.failed l.self.source) (g.D.Dest.failed l.self.dest)
+    (g.L.Log.failed l.self.log) in
+    let first =
+    world (g.S.Source.told l.fn.self.source) (g.D.Dest.told l.fn.self.dest) (g.L.Log.told l.fn.self.log) (g.S.Source.failed l.fn.self.source)
+    (g.D.Dest.failed l.fn.self.dest) (g.L.Log.failed l.fn.self.log) in
+    let job = l.fn.self.mover.state.job in record {
+      begun : HasBegun now l.self.mover;
+      held :
+          (start : Start) (s : Forest) → GoesOn start s job first l.fn.self.mover → GoesOn start s job now l.self.mover × IsMost job start s l.most.records l.most.turns;
+    }

@@ -1,0 +1,111 @@
+-- What a folder as a destination tells, and what its calls ask of the system and leave.
+use Rattle.std.specs.Prelude.{◌≡◌, ℕ, List, Option, Result, Err, IfSome}
+use Rattle.std.specs.declared.fs.Metadata.{Metadata}
+use Rattle.std.specs.declared.io.Error.{Error}
+use Rattle.pt_tree.specs.Dest.{Writing}
+use Rattle.pt_tree.specs.Failures.{IsCounted}
+use Rattle.pt_tree.specs.Path.{Path}
+use Rattle.pt_tree.specs.declared.faults.TreeFault.{TreeFault}
+use Rattle.pt_folder.specs.Calls.{AsksOnce, IsAnswer, MakesOnce, for_making, for_reading}
+use Rattle.pt_folder.specs.DestHeld.{told_of, unless_synced}
+use Rattle.pt_folder.specs.Failure.{FailsToPeek, KeepsCall, KeepsMaking}
+use Rattle.pt_folder.specs.Folder.{entry_text}
+use Rattle.pt_folder.specs.Moving.{IsOfMove, MovesOnce}
+use Rattle.pt_folder.specs.Runs.{PeeksAt}
+use Rattle.pt_folder.specs.Settings.{IsSetAs}
+use Rattle.pt_folder.specs.Writing.{FailsToAdd, ClosesBy, IsOfWriting, MakesAt, WritesTo}
+use Rattle.pt_folder.specs.declared.dest.HostDest.{HostDest}
+use Rattle.pt_folder.specs.declared.system.Handle.{Ghosts as OfHandle}
+use Rattle.pt_folder.specs.declared.system.Input.{Ghosts as OfInput}
+use Rattle.pt_folder.specs.declared.system.System.{Ghosts as OfSystem}
+
+module _ {S F D : Type 0} {sys : OfSystem S F D} {handle : OfHandle F} {file : OfInput F} {dir : OfInput D} where
+  -- the tree that the system keeps there, where files aren't put onto the disk, and the path of the open file
+  abbrev pub told : HostDest S F D sys handle file dir → Option Writing
+  told d = told_of (unless_synced d.synced (sys.kept d.system d.folder.path.now)) d.writing
+
+  -- the same folder, with the same settings
+  abbrev pub IsSame : (old new : HostDest S F D sys handle file dir) → Type 0
+  IsSame old new = (new.folder ≡ old.folder) × IsSetAs old.longest old.synced new.longest new.synced
+
+  -- a call on the same folder, whose failure is counted
+  pub record IsCall {T : Type 0} (old new : HostDest S F D sys handle file dir)
+      (result : Result T TreeFault) : Type 0 where
+    pub keeps : IsSame old new
+    pub failures : IsCounted old.failures new.failures result
+
+  -- the system is asked once to look at an entry, and its answer leads to this
+  abbrev pub Looks : {T : Type 0} → (Result Metadata Error → Result T TreeFault → Type 0)
+      → (old new : HostDest S F D sys handle file dir) → Path → Result T TreeFault → Type 0
+  Looks leads old new p result = AsksOnce sys.looks leads old.folder.path.now p old.system new.system result
+
+  -- what is kept, where memory allowed it, of a failed look
+  abbrev pub KeepsLook : (old new : HostDest S F D sys handle file dir) → Path → Type 0
+  KeepsLook old new p =
+      KeepsCall old.folder.path.now p
+      (λ e. sys.looks old.system (entry_text old.folder.path.now p) (Err e) new.system) new.last
+
+  -- the system is asked once to open an entry for reading, and its first bytes are this block, or the answer leads to this
+  abbrev pub Peeks : (old new : HostDest S F D sys handle file dir) → Path → List ℕ
+      → Result (Unit {0}) TreeFault → Type 0
+  Peeks old new p block result =
+      AsksOnce (λ s. sys.opens s for_reading) (PeeksAt file.left file.reads block)
+      old.folder.path.now p old.system new.system result
+
+  -- what is kept, where memory allowed it, of first bytes that aren't had
+  abbrev pub KeepsPeek : (old new : HostDest S F D sys handle file dir) → Path → Type 0
+  KeepsPeek old new p =
+      KeepsCall old.folder.path.now p
+      (FailsToPeek (λ s. sys.opens s for_reading) file.reads (entry_text old.folder.path.now p) old.system new.system)
+      new.last
+
+  -- the system is asked once to make a directory, unless its path is too long, and so it was answered
+  abbrev pub MakesDir : (old new : HostDest S F D sys handle file dir) → Path → Result (Unit {0}) TreeFault → Type 0
+  MakesDir old new p result =
+      MakesOnce old.longest sys.makes_dir IsAnswer old.folder.path.now p old.system new.system result
+
+  -- what is kept, where memory allowed it, of a directory that isn't made
+  abbrev pub KeepsDir : (old new : HostDest S F D sys handle file dir) → Path → Type 0
+  KeepsDir old new p =
+      KeepsMaking old.longest old.folder.path.now p
+      (λ e. sys.makes_dir old.system (entry_text old.folder.path.now p) (Err e) new.system) new.last
+
+  -- the system is asked once to make a file, unless its path is too long, and by its answer that is the open one
+  abbrev pub MakesFile : (old new : HostDest S F D sys handle file dir) → Path → Result (Unit {0}) TreeFault → Type 0
+  MakesFile old new p result =
+      MakesOnce old.longest (λ s. sys.opens s for_making) (MakesAt p old.writing new.writing)
+      old.folder.path.now p old.system new.system result
+
+  -- what is kept, where memory allowed it, of a file that isn't made
+  abbrev pub KeepsFile : (old new : HostDest S F D sys handle file dir) → Path → Type 0
+  KeepsFile old new p =
+      KeepsMaking old.longest old.folder.path.now p
+      (λ e. sys.opens old.system for_making (entry_text old.folder.path.now p) (Err e) new.system) new.last
+
+  -- the writes that the open file is asked for, and so they were answered; where none is open, that is a failure
+  abbrev pub Writes : (old new : HostDest S F D sys handle file dir) → List ℕ → Result (Unit {0}) TreeFault → Type 0
+  Writes old new piece result = WritesTo sys.writes old.system old.writing new.system new.writing piece result
+
+  -- what is kept, where memory allowed it, of a failed write
+  abbrev pub KeepsWrite : (old new : HostDest S F D sys handle file dir) → List ℕ → Type 0
+  KeepsWrite old new piece =
+      IfSome new.last (IsOfWriting old.folder.path.now (FailsToAdd sys.writes piece old.system) old.writing)
+
+  -- the open file is closed, put onto the disk before where that is asked for; where none is open, that is a failure
+  abbrev pub Closes : HostDest S F D sys handle file dir → Result (Unit {0}) TreeFault → Type 0
+  Closes old result = ClosesBy handle.syncs old.synced old.writing result
+
+  -- what is kept, where memory allowed it, of a file that isn't put onto the disk
+  abbrev pub KeepsClose : (old new : HostDest S F D sys handle file dir) → Type 0
+  KeepsClose old new =
+      IfSome new.last (IsOfWriting old.folder.path.now (λ w e. (after : F) × handle.syncs w (Err e) after) old.writing)
+
+  -- the system is asked once to move an entry, and what comes after that
+  abbrev pub Moves : (old new : HostDest S F D sys handle file dir) → Path → Path → Result (Unit {0}) TreeFault → Type 0
+  Moves old new from to result =
+      MovesOnce sys.renames sys.opens handle.syncs old.synced old.folder.path.now from to old.system new.system result
+
+  -- what is kept, where memory allowed it, of a failed move
+  abbrev pub KeepsMove : (old new : HostDest S F D sys handle file dir) → Path → Path → Type 0
+  KeepsMove old new from to =
+      IfSome new.last (IsOfMove sys.renames sys.opens handle.syncs old.folder.path.now from to old.system new.system)

@@ -1,0 +1,75 @@
+-- What a folder as a source tells, and what its calls ask of the system and leave.
+use Rattle.std.specs.Prelude.{◌≡◌, ◌≤◌, ℕ, List, length, Option, Result, IfSome, string_bytes}
+use Rattle.pt_tree.specs.declared.faults.TreeFault.{TreeFault}
+use Rattle.pt_tree.specs.Failures.{IsCounted, IsOneMoreCall}
+use Rattle.pt_tree.specs.Listing.{Item}
+use Rattle.pt_tree.specs.Path.{Path}
+use Rattle.pt_tree.specs.Source.{Reading}
+use Rattle.pt_folder.specs.declared.source.HostSource.{HostSource}
+use Rattle.pt_folder.specs.declared.system.Handle.{Ghosts as OfHandle}
+use Rattle.pt_folder.specs.declared.system.Input.{Ghosts as OfInput}
+use Rattle.pt_folder.specs.declared.system.System.{Ghosts as OfSystem}
+use Rattle.pt_folder.specs.Calls.{IsDueTo, for_reading}
+use Rattle.pt_folder.specs.Devices.{was_called}
+use Rattle.pt_folder.specs.Failure.{KeepsListing}
+use Rattle.pt_folder.specs.Folder.{entry_text}
+use Rattle.pt_folder.specs.Listing.{FailsToList, IsListedBy, dir_front, most_entries}
+use Rattle.pt_folder.specs.Opening.{KeepsOpening, OpensOnce}
+use Rattle.pt_folder.specs.Reading.{IsOfReading, ReadsBy, unread_open}
+use Rattle.pt_folder.specs.SourceHeld.{told_of}
+
+module _ {S F D : Type 0} {sys : OfSystem S F D} {handle : OfHandle F} {file : OfInput F} {dir : OfInput D} where
+  -- the tree that the system keeps there, and what isn't read of the open file
+  abbrev pub told : HostSource S F D sys handle file dir → Option Reading
+  told s = told_of (sys.forest s.system s.folder.path.now) (unread_open file.bytes s.reading)
+
+  -- the directory was listed so, by calls of the system; it has no more entries than a listing may have
+  abbrev pub Lists : (old new : HostSource S F D sys handle file dir) → Path → List Item → Type 0
+  Lists old new p listing =
+      (length listing ≤ most_entries)
+      × IsListedBy sys.opens_dir sys.looks dir.reads dir.left
+      (entry_text old.folder.path.now p) (dir_front old.folder.path.now p) old.system new.system listing
+
+  -- why it wasn't
+  abbrev pub CannotList : (old new : HostSource S F D sys handle file dir) → Path → TreeFault → Type 0
+  CannotList old new p fault =
+      IsDueTo fault (FailsToList sys.opens_dir sys.looks dir.reads old.folder.path.now p old.system new.system)
+
+  -- what is kept, where memory allowed it, of a failed listing
+  abbrev pub KeepsList : (old new : HostSource S F D sys handle file dir) → Path → Type 0
+  KeepsList old new p = KeepsListing sys.looks old.folder.path.now p new.last
+
+  -- the system is asked to look, and to open what is a file, and so it was answered
+  abbrev pub Opens : (old new : HostSource S F D sys handle file dir) → Path → Result (Unit {0}) TreeFault → Type 0
+  Opens old new p result =
+      OpensOnce sys.looks (λ s. sys.opens s for_reading) old.folder.path.now p
+      old.reading new.reading old.system new.system result
+
+  -- what is kept, where memory allowed it, of a failed opening
+  abbrev pub KeepsOpen : (old new : HostSource S F D sys handle file dir) → Path → Type 0
+  KeepsOpen old new p =
+      KeepsOpening sys.looks (λ s. sys.opens s for_reading) old.folder.path.now p old.system new.system new.last
+
+  -- the open file is read on, into this block, and so it was answered; where none is open, that is a failure
+  abbrev pub Reads : (old new : HostSource S F D sys handle file dir) → List ℕ → Result (Unit {0}) TreeFault → Type 0
+  Reads old new block result = ReadsBy file.reads handle.goes old.reading new.reading block result
+
+  -- what is kept, where memory allowed it, of a failed reading
+  abbrev pub KeepsRead : (old new : HostSource S F D sys handle file dir) → Type 0
+  KeepsRead old new = IfSome new.last (IsOfReading file.reads handle.goes (string_bytes old.at) old.reading)
+
+  -- a call on the same folder is counted, and its failure is
+  pub record IsCall {T : Type 0} (old new : HostSource S F D sys handle file dir)
+      (result : Result T TreeFault) : Type 0 where
+    pub folder : new.folder ≡ old.folder
+    pub failures : IsCounted old.failures new.failures result
+    pub calls : IsOneMoreCall (was_called old.calls) (was_called new.calls)
+
+  -- the same, and nothing is asked of the system but to read the open file, whose path stays
+  pub record IsReading {T : Type 0} (old new : HostSource S F D sys handle file dir)
+      (result : Result T TreeFault) : Type 0 where
+    pub folder : new.folder ≡ old.folder
+    pub failures : IsCounted old.failures new.failures result
+    pub calls : IsOneMoreCall (was_called old.calls) (was_called new.calls)
+    pub system : new.system ≡ old.system
+    pub at : new.at ≡ old.at

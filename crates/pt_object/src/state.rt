@@ -1,0 +1,100 @@
+// The state of an inventory: each content's digest with the logical paths of all its files.
+ghost use Rattle.std.specs.Prelude.{◌≡◌, ◌∷◌, [], ◌++◌, IfOk, List, OnOk, fold, map};
+ghost use Rattle.hex.specs.Hex.{IsBytes, encode_lower};
+ghost use Rattle.json.specs.Token.{key};
+ghost use Rattle.pt_tree.specs.Path.{Path, joined};
+ghost use Rattle.serde_json.specs.Data.{array, no_members, object};
+ghost use Rattle.pt_object.specs.Distinct.{content_of_row, distinct};
+ghost use Rattle.pt_object.specs.Inventory.{paths_with, put_paths, texts};
+ghost use Rattle.pt_object.specs.Later.{group_lent, parted};
+ghost use Rattle.pt_object.specs.Tokens.{tokens_of};
+
+use crate::output::Output;
+use crate::{Content, Contents, Row, Rows};
+use pt_tree::{MemoryFault, NamePath};
+use std::alloc::{AllocError, Global};
+
+// What some rows have of a content: whether it has one of them, and the paths of those behind its first.
+#[derive(Drop)]
+struct Group<'a> {
+    is_met: bool,
+    later: Vec<&'a NamePath>,
+}
+
+impl<'a> Group<'a> {
+    // Adds the path of one more row.
+    fn add(&mut self, path: &'a NamePath) -> Result<(), AllocError>
+        ensures { OnOk result ((paths : List Path) → group_lent self.old ≡ parted paths
+            → group_lent self.new ≡ parted (paths ++ path.now ∷ [])) }
+    {
+        if self.is_met {
+            self.later.push(path)?;
+        }
+        self.is_met = true;
+        Ok(())
+    }
+}
+
+// Puts all contents, in the order of their digests.
+pub(crate) fn put_state(
+    alloc: Global,
+    out: &mut Output,
+    rows: &Rows,
+    contents: &Contents,
+) -> Result<(), MemoryFault>
+    requires { contents.now ≡ map content_of_row (distinct rows.now) }
+    ensures { OnOk result (out.new ≡ out.old
+        ++ tokens_of (object (fold (put_paths rows.now) no_members contents.now))) }
+{
+    let groups = grouped(alloc, rows.as_slice(), contents)?;
+    let items = contents.as_slice();
+    let index = contents.index();
+    out.begin_object()?;
+    for place in 0..items.len() {
+        let position = index.get(place);
+        put_paths(out, &items[position], &groups[position].later)?;
+    }
+    Ok(out.end_object()?)
+}
+
+// Puts one content: the path of its first file and the later ones.
+fn put_paths(out: &mut Output, content: &Content, later: &[&NamePath]) -> Result<(), MemoryFault>
+    ensures tokens { OnOk result (out.new ≡ out.old ++ key (encode_lower content.now.digest)
+        ∷ tokens_of (array (texts (joined content.now.path ∷ map (λ path. joined path.now) later.now)))) }
+    ensures bytes { IsBytes content.now.digest }
+{
+    out.digest(&content.digest)?;
+    out.begin_array()?;
+    out.path(&content.path)?;
+    for path in later {
+        out.path(path)?;
+    }
+    Ok(out.end_array()?)
+}
+
+// For each content, what the rows have of it.
+fn grouped<'a>(
+    alloc: Global,
+    rows: &'a [Row],
+    contents: &Contents,
+) -> Result<Vec<Group<'a>>, MemoryFault>
+    ensures { IfOk result (λ groups. map group_lent groups.items
+        ≡ map (λ content. parted (paths_with rows.now content.digest)) contents.now) }
+{
+    let mut groups = Vec::with_capacity(alloc, contents.len())?;
+    for _ in contents.as_slice() {
+        groups.push(Group {
+            is_met: false,
+            later: Vec::new(alloc),
+        })?;
+    }
+    // Where no digest comes twice, the rows have the contents one by one.
+    let mut next = 0;
+    for row in rows {
+        if let Some(position) = contents.position_near(next, &row.digest) {
+            groups[position].add(&row.path)?;
+            next = next.max(position.saturating_add(1));
+        }
+    }
+    Ok(groups)
+}

@@ -1,0 +1,172 @@
+//! An audit of the root in a folder against a store, on a machine.
+ghost use Rattle.std.specs.Prelude.{◌≡◌};
+ghost use Rattle.pt_run.specs.Audits.{AuditEnds, Audits, audit_status};
+
+use crate::host::{Ground, Host};
+use crate::log::{DurableLog, Syncs};
+use crate::migration::refused;
+use crate::running::Ended;
+use crate::tally::{TalliedLog, Tally};
+use crate::terminal::Terminals;
+use crate::watch::{Progress, Watched, Watching, Words};
+use crate::{prefix, reason};
+use pt_audit::{Comparing, Counts};
+use pt_folder::{HostSource, System};
+use pt_guard::begin;
+use pt_ignore::{Ignored, Ignoring};
+use pt_move::{Fault, Job};
+use std::alloc::AllocGlobal;
+use std::io::Write;
+use std::rt::{Clock, Files};
+
+const SAME: u8 = 0;
+
+const TOLD: u8 = 1;
+
+const FAILED: u8 = 3;
+
+// How many seconds pass between two lines of progress that don't go to a terminal.
+const INTERVAL: u32 = 10;
+
+/// What an audit is asked for, beside its folders.
+#[derive(Debug, Drop)]
+pub struct WantedAudit {
+    /// The run that is compared.
+    pub job: Job,
+    /// The names of the entries of the store that are left out.
+    pub ignored: Ignored,
+    /// Whether the reason of a fault is told too.
+    pub verbose: bool,
+    /// When to show how far it is.
+    pub progress: Progress,
+}
+
+/// Holds the root in a destination against a store on a machine, and gives the exit status: 0 each object stands as a run makes
+/// it; 1 the log has lines that tell of others; 2 the folders lie in one another, or it isn't known where; 3 a fault, or a run
+/// holds the destination. Standard error tells of 2 and 3.
+///
+/// The guard is asked first. Where the audit may begin it is made over what the machine lends, which is given back then; and at
+/// last the lock is given back. Nothing is made or changed in either folder.
+pub fn audit<R, H: Host>(rt: &R, host: &mut H, wanted: WantedAudit, source: &str, dest: &str) -> u8
+where
+    R: Files + Clock + Eprint + AllocGlobal + Terminals,
+    ensures { Audits H.resolves H.identifies H.holds H.releases H.lends H.takes_back
+        source.now dest.now host.old host.new result }
+{
+    match begin(host, rt.alloc(), source, dest) {
+        Ok(Ok(lock)) => {
+            if wanted.verbose {
+                prefix::tell(rt, source);
+            }
+            let status = hold(rt, host, wanted, source, dest);
+            host.release(lock);
+            status
+        }
+        Ok(Err(error)) => {
+            if wanted.verbose {
+                prefix::tell(rt, source);
+                reason::unlocked(rt, dest, &error);
+            }
+            hold(rt, host, wanted, source, dest)
+        }
+        Err(fault) => refused(rt, fault),
+    }
+}
+
+// Holds the root against the store over what the machine lends.
+fn hold<R, H: Host>(rt: &R, host: &mut H, wanted: WantedAudit, store: &str, folder: &str) -> u8
+where
+    R: Files + Clock + Eprint + AllocGlobal + Terminals,
+    ensures { (given : _) × (lent : H) × H.lends host.old given lent × (after : _)
+        × AuditEnds result × H.takes_back lent after host.new }
+{
+    let ground = host.lend();
+    let file: Option<H::File> = None;
+    let Ended { status, ground } = compare(rt, ground, file, wanted, store, folder);
+    host.take_back(ground);
+    status
+}
+
+// Holds the root in a folder against a store, watched as that is wanted, and tells standard error of a fault.
+fn compare<R, S: System, D: System, W: Write, F: Syncs + Drop>(
+    rt: &R,
+    ground: Ground<S, D, W>,
+    file: Option<F>,
+    wanted: WantedAudit,
+    store: &str,
+    folder: &str,
+) -> Ended<S, D, W>
+where
+    R: Clock + Eprint + AllocGlobal + Terminals,
+    ensures { AuditEnds result.status }
+{
+    let alloc = rt.alloc();
+    let tally = Tally::new();
+    let watching = Watching {
+        when: wanted.progress,
+        interval: INTERVAL,
+        expected: None,
+        words: Words::Audit,
+    };
+    let verbose = wanted.verbose;
+    let ignores = !wanted.ignored.names().is_empty();
+    let ignoring = Ignoring::new(HostSource::new(ground.store, alloc, store), wanted.ignored);
+    let mut source = Watched::new(ignoring, rt, alloc, &tally, watching);
+    let root = HostSource::new(ground.folder, alloc, folder);
+    let mut dest = Comparing::new(alloc, root, wanted.job.algorithm);
+    let mut log = TalliedLog::new(DurableLog::new(ground.output, file), &tally);
+    let ran = pt_audit::audit(alloc, &mut source, &mut dest, &mut log, wanted.job);
+    source.end();
+    let ignoring = source.into_source();
+    reason::left_out(rt, verbose & ignores, ignoring.left_out());
+    let source = ignoring.into_source();
+    let root = dest.into_root();
+    let status = told(rt, &ran, verbose, &source, &root, store, folder);
+    let ground = Ground {
+        store: source.into_system(),
+        folder: root.into_system(),
+        output: log.into_log().into_writer(),
+    };
+    Ended { status, ground }
+}
+
+// Says what an audit came to, if a fault ended it, and why, if that is asked for; and gives the status.
+fn told<R: Eprint + AllocGlobal, S: System, D: System>(
+    rt: &R,
+    ran: &Result<Counts, Fault>,
+    verbose: bool,
+    source: &HostSource<'_, S>,
+    root: &HostSource<'_, D>,
+    store: &str,
+    folder: &str,
+) -> u8
+    ensures { result ≡ audit_status ran.now }
+{
+    if let Err(fault) = ran {
+        failed(rt, fault);
+        if verbose {
+            reason::tell_audit(rt, fault, source, root, store, folder);
+        }
+    }
+    status_of(ran)
+}
+
+// Says which fault ended an audit.
+fn failed(rt: &impl Eprint, fault: &Fault) {
+    let number = fault.number();
+    let _ = match fault {
+        Fault::Dest => eprintln!(rt; "pairtree2ocfl: fault {number}: cannot read the destination"),
+        _ => eprintln!(rt; "pairtree2ocfl: fault {number}: {fault}"),
+    };
+}
+
+// The exit status of an audit.
+fn status_of(ran: &Result<Counts, Fault>) -> u8
+    ensures { result ≡ audit_status ran.now }
+{
+    match ran {
+        Ok(counts) if counts.absent > 0 || counts.differs > 0 || counts.skipped > 0 => TOLD,
+        Ok(_) => SAME,
+        Err(_) => FAILED,
+    }
+}
