@@ -1,11 +1,12 @@
 """Every test of the repository: the toolchain's gate, then the tests of the program that the gate built.
 
 Usage: all.py RT PROGRAM. Every few minutes it says how far the gate is, and at the gate's end how long each crate
-took. What the gate said of a failure is said again at the end. The last line is 'N passed, M failed', over all of
-them; the status is 0 only where nothing failed.
+took. What the gate and the program's tests said of a failure is said again at the end. The last line is
+'N passed, M failed', over all of them; the status is 0 only where nothing failed.
 """
 
 import collections
+import contextlib
 import os
 import re
 import subprocess
@@ -21,7 +22,26 @@ import progress
 import system
 
 # What the gate says of itself, but for what went well.
-SAID = re.compile(r"^rt: (?!must-fail .*: refused, as it must be|.* proved$|.* passed$|.*: trying its )|: error: |^Traceback|^\w*Error: ")
+WENT_WELL = re.compile(r"^rt: (must-fail .*: refused, as it must be|.* proved$|.* passed$|.*: trying its |.* ran[ ,(])")
+SAID = re.compile(r"^rt: |: error: |^Traceback|^\w*Error: ")
+
+# What the program's tests say of what went well.
+PASSED = re.compile(r"\.\.\. (ok|skipped: .*)$|^system: .* sequences, .* calls ")
+
+
+class Heard:
+    """An output that is written on to another, and keeps the last lines that tell of a failure."""
+
+    def __init__(self, output):
+        self.output, self.line, self.said = output, "", collections.deque(maxlen=30)
+
+    def write(self, text):
+        *lines, self.line = (self.line + text).split("\n")
+        self.said += [line for line in lines if line and not PASSED.search(line)]
+        return self.output.write(text)
+
+    def flush(self):
+        self.output.flush()
 
 
 def run_gate(rt):
@@ -46,7 +66,7 @@ def run_once(rt):
             told = re.fullmatch(r"(\d+) passed, (\d+) failed", line)
             counts = told or counts
             print(f"the gate: {line}" if told else line, flush=True)
-            if SAID.search(line):
+            if SAID.search(line) and not WENT_WELL.search(line):
                 last.append(line)
     print(far.table(), flush=True)
     last.append(f"the gate ended with status {gate.returncode}")
@@ -56,19 +76,21 @@ def run_once(rt):
     return passed, max(failed, int(gate.returncode != 0)), last
 
 
+def run_tests(path):
+    """Runs the tests of the program that stands at a path; gives how many passed and failed, and what to say again."""
+    if not os.path.exists(path):
+        return 0, 1, [f"{path} was not built, so its tests did not run"]
+    with contextlib.redirect_stdout(Heard(sys.stdout)) as heard:
+        counts = [program.run_cases(path), migration.run_cases(path), system.run_cases()]
+    return *map(sum, zip(*counts)), list(heard.said)
+
+
 def main():
     rt, path = sys.argv[1:]
-    gate_passed, gate_failed, said = run_gate(rt)
-    counts = [(gate_passed, gate_failed)]
-    if os.path.exists(path):
-        counts += [program.run_cases(path), migration.run_cases(path)]
-    else:
-        counts.append((0, 1))
-        said.append(f"{path} was not built, so its tests did not run")
-    counts.append(system.run_cases())
-    passed, failed = map(sum, zip(*counts))
+    results = [run_gate(rt), run_tests(path)]
+    passed, failed = (sum(result[n] for result in results) for n in (0, 1))
     if failed:
-        print("\n".join(said))
+        print("\n".join(line for result in results if result[1] for line in result[2]))
     print(f"{passed} passed, {failed} failed", flush=True)
     sys.exit(1 if failed else 0)
 

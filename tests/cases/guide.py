@@ -227,7 +227,8 @@ def stopped(program, folder):
     for number in (signal.SIGINT, signal.SIGTERM):
         subprocess.run(["rm", "-rf", f"{folder}/d"], check=True)
         os.mkdir(f"{folder}/d")
-        with subprocess.Popen([program, "migrate", *MEANT, "s", "d"], cwd=folder, stdout=subprocess.PIPE, stderr=subprocess.PIPE) as first:
+        command = ["env", "--default-signal=INT", program, "migrate", *MEANT, "s", "d"]
+        with subprocess.Popen(command, cwd=folder, stdout=subprocess.PIPE, stderr=subprocess.PIPE) as first:
             first.stdout.readline()
             first.send_signal(number)
             first.communicate(timeout=120)

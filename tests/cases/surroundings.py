@@ -15,7 +15,9 @@ from running import MEANT, mounted, started
 from stores import DIR, FIFO, ONE, build, read_tree
 
 HIDDEN = b"pairtree2ocfl: the system cannot tell where SOURCE and DEST lie\n"
-NOBODY = 65534
+# A command's words before which it runs as another user. Python's own way keeps for a moment what other cases have open: a lock, or a
+# program that is being written, which can't be run then.
+AS_NOBODY = ("setpriv", "--reuid=65534", "--keep-groups")
 ALLOWED = os.geteuid() == 0
 
 
@@ -97,8 +99,8 @@ def no_lock(program, folder):
         shutil.copy(program, f"{folder}/program")
         subprocess.run(["chmod", "-R", "a+rX", folder], check=True)
         os.chmod(f"{folder}/d", 0o333)
-        command = [f"{folder}/program", "migrate", *MEANT, *words, "s", "d"]
-        done = subprocess.run(command, cwd=folder, capture_output=True, preexec_fn=lambda: os.setuid(NOBODY), timeout=120)
+        command = [*AS_NOBODY, f"{folder}/program", "migrate", *MEANT, *words, "s", "d"]
+        done = subprocess.run(command, cwd=folder, capture_output=True, timeout=120)
         faults += differs(**{" ".join(words): ((done.returncode, done.stderr), (0, err))})
     return faults
 
@@ -114,9 +116,8 @@ def another_users_log(program, folder):
         shutil.copy(program, f"{folder}/program")
         os.chmod(f"{folder}/program", 0o755)
         subprocess.run(["chmod", "-R", "a+rX", f"{folder}/s"], check=True)
-        command = [f"{folder}/program", "migrate", *MEANT, "--sync", "s", "d"]
-        options = {"stdout": log, "stderr": subprocess.PIPE, "timeout": 120, "preexec_fn": lambda: os.setuid(NOBODY)}
-        done = subprocess.run(command, cwd=folder, **options)
+        command = [*AS_NOBODY, f"{folder}/program", "migrate", *MEANT, "--sync", "s", "d"]
+        done = subprocess.run(command, cwd=folder, stdout=log, stderr=subprocess.PIPE, timeout=120)
     with open(f"{folder}/logs/log", "rb") as file:
         lines = file.read().splitlines()
     said = b"pairtree2ocfl: the log's file will not be put onto its disk: Permission denied (os error 13)\n"
