@@ -185,7 +185,7 @@ fn meet_file<O: Outside>(state: &mut State, object: Object, out: &mut O) -> Resu
     if text.len() as u64 > state.job.limits.path_bytes() {
         return pass_object(state, object, Cause::Limit, out);
     }
-    let path = in_pairtree(state.alloc, &entry)?;
+    let path = in_pairtree(state.alloc, entry)?;
     out.open(&path)?;
     state.hasher = Hasher::start(state.job.algorithm);
     Ok(Phase::Read(object, 0))

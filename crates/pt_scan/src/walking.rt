@@ -123,7 +123,7 @@ fn enter_site<O: Outside>(state: &mut State, out: &mut O) -> Result<Phase, Halt>
 pub(crate) fn listed_path(state: &State) -> Result<NamePath, MemoryFault>
     ensures { IfOk result (λ path. path ≡ in_pairtree_of (names_to state.now.trail)) }
 {
-    in_pairtree(state.alloc, &entry_path(&state.trail)?)
+    in_pairtree(state.alloc, entry_path(&state.trail)?)
 }
 
 // Whether the site at a path below `pairtree_root` is of a name of one byte, below which no site is.

@@ -46,6 +46,7 @@ pub fn path_of(alloc: Global, names: &[&str]) -> Result<NamePath, MemoryFault>
 pub fn extended(mut path: NamePath, names: &[Name]) -> Result<NamePath, MemoryFault>
     ensures { IfOk result (λ longer. longer ≡ path ++ names.now) }
 {
+    path.reserve(names.len())?;
     for name in names {
         path.push(name.copy()?)?;
     }
@@ -53,10 +54,14 @@ pub fn extended(mut path: NamePath, names: &[Name]) -> Result<NamePath, MemoryFa
 }
 
 /// The path in the source of what stands at a path below its `pairtree_root`.
-pub fn in_pairtree(alloc: Global, path: &NamePath) -> Result<NamePath, MemoryFault>
-    ensures { IfOk result (λ whole. whole ≡ in_pairtree_of path.now) }
+pub fn in_pairtree(alloc: Global, mut path: NamePath) -> Result<NamePath, MemoryFault>
+    ensures { IfOk result (λ whole. whole ≡ in_pairtree_of path) }
 {
-    extended(path_of(alloc, &[PAIRTREE_ROOT])?, path.names())
+    match Name::of(alloc, PAIRTREE_ROOT.as_bytes()) {
+        Ok(name) => path.push_front(name)?,
+        Err(_) => return Err(MemoryFault::Memory),
+    }
+    Ok(path)
 }
 
 /// A path of the storage root, in the destination.
@@ -118,7 +123,7 @@ pub fn source_path(
         ≡ in_pairtree_of (path_of_source object.now trail.now ++ path.now)) }
 {
     let directory = object_path(object, trail)?;
-    extended(in_pairtree(alloc, &directory)?, path.names())
+    extended(in_pairtree(alloc, directory)?, path.names())
 }
 
 /// The content path in `staging` that has so many names of a logical path.

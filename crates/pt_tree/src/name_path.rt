@@ -43,6 +43,23 @@ impl NamePath {
         Ok(())
     }
 
+    /// Adds a name at the front. After `Memory` the path is as before.
+    pub fn push_front(&mut self, name: Name) -> Result<(), MemoryFault>
+        ensures ok { OnOk result (self.new ≡ name ∷ self.old) }
+        ensures err { OnErr result (self.new ≡ self.old) }
+    {
+        self.names.insert(0, name)?;
+        Ok(())
+    }
+
+    /// Makes room for so many more names; `Memory` where it was refused.
+    pub fn reserve(&mut self, names: usize) -> Result<(), MemoryFault>
+        ensures { self.new ≡ self.old }
+    {
+        self.names.reserve(names)?;
+        Ok(())
+    }
+
     /// How many names it has.
     pub fn len(&self) -> usize
         ensures { result ≡ length self.now }

@@ -109,6 +109,8 @@ impl Trail {
     {
         let mut path = NamePath::new(*self.frames.allocator());
         let outer = self.frames.len().saturating_sub(1);
+        // For the entry and for what stands above the trail too.
+        path.reserve(outer.saturating_add(2))?;
         for frame in &self.frames[..outer] {
             frame.add_name(&mut path)?;
         }
