@@ -108,7 +108,7 @@ impl NamePath {
         ensures names { IfOk result (λ text. text.items ≡ joined self.now) }
         ensures utf8 { IfOk result (λ text. IsTrue (is_utf8 text.items)) }
     {
-        let mut text = Vec::new(*self.names.allocator());
+        let mut text = Vec::with_capacity(*self.names.allocator(), self.text_len())?;
         for (i, name) in self.names.iter().enumerate() {
             if i > 0 {
                 text.push(b'/')?;
@@ -116,6 +116,15 @@ impl NamePath {
             text.extend_from_slice(name.bytes())?;
         }
         Ok(text)
+    }
+
+    // How many bytes the names have with a `/` behind each.
+    fn text_len(&self) -> usize {
+        let mut len: usize = 0;
+        for name in &self.names {
+            len = len.saturating_add(name.bytes().len()).saturating_add(1);
+        }
+        len
     }
 
     /// A second path of the same names; `Memory` where a growth was refused.

@@ -6,7 +6,7 @@ use Rattle.pt_tree.proofs.name_path.NamePath.join.Goals as goal
 use Rattle.pt_tree.proofs.name_path.NamePath.join.Goals.{then-i-gt0+in_ok-push, else-i-gt0}
 
 pub loop-i-init : goal.loop-i-init
-loop-i-init c = (c.new-text.ensures.items, ap is_utf8 c.new-text.ensures.items ∙ is_utf8-empty)
+loop-i-init c = (c.in_ok-text.ensures.items, ap is_utf8 c.in_ok-text.ensures.items ∙ is_utf8-empty)
 
 pub loop-i-preserved : goal.loop-i-preserved
 loop-i-preserved c =
