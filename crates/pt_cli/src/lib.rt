@@ -1,6 +1,7 @@
 //! The program `pairtree2ocfl`: its words, its commands and its statuses.
 #![tactic(auto)]
 
+mod audit_words;
 mod auditing;
 mod command;
 mod grammar;

@@ -3,16 +3,17 @@ ghost use Rattle.pt_tree.specs.Name.{is_name};
 ghost use Rattle.std.specs.Option.{option_map, unwrap_or};
 ghost use Rattle.pt_tree.specs.Refusal.{Answers as AnswersTo};
 ghost use Rattle.clap.specs.Words.{all_of, first_of, found_of, kind_of, rows_of, subcommand_rows_of};
-ghost use Rattle.pt_cli.specs.Options.{algorithm_of, asked_in, audit_in, is_set_in, number_in, number_of, options_in, progress_of};
+ghost use Rattle.pt_cli.specs.Options.{algorithm_of, asked_in, is_set_in, number_in, number_of, options_in, progress_of};
 ghost use Rattle.pt_cli.specs.Words.{Answers, OrMemory, OrNone, ReadsWords, RefusedAs, answer_to};
-ghost use Rattle.pt_cli.specs.Words.{AreNamed, audit_answer, migrate_answer, names_answer, not_a_name, share_asked, share_in, words_number};
+ghost use Rattle.pt_cli.specs.Words.{AreNamed, migrate_answer, names_answer, not_a_name, share_asked, share_in, words_number};
 
+use crate::audit_words::{audit, audit_options};
 use crate::grammar::{
     ADDRESS, AUDIT, CREATED, DEST, DIGEST, EXPECT, GATHER, ID, IGNORE, INTERVAL, MESSAGE, MIGRATE,
     NAME, NAMES, PREFIX, PROGRESS, REHEARSE, SHARE, SOURCE, SYNC, TUPLE_SIZE, TUPLES, VERBOSE,
     parser,
 };
-use crate::{Audit, Command, Migrate, Named, Text};
+use crate::{Command, Migrate, Named, Text};
 use clap::error::ErrorKind;
 use clap::{ArgMatches, Error};
 use pt_ignore::Ignored;
@@ -180,42 +181,6 @@ impl<'m, 'a> Model for Given<'m, 'a> {
     } };
 }
 
-// What `audit` was given, as its parser reads it.
-#[derive(Drop)]
-struct GivenAudit<'m, 'a> {
-    algorithm: Algorithm,
-    size: u32,
-    count: u32,
-    gather: bool,
-    share: Option<&'a str>,
-    ignored: Option<&'m [&'a str]>,
-    verbose: bool,
-    progress: Progress,
-    source: &'a str,
-    dest: &'a str,
-}
-
-impl<'m, 'a> Model for GivenAudit<'m, 'a> {
-    ghost use Rattle.std.specs.Prelude.{[], map};
-    ghost use Rattle.std.specs.Option.{option_map, unwrap_or};
-    ghost use Rattle.pt_cli.specs.Options.{AuditOptions};
-
-    ghost Value = { AuditOptions };
-
-    ghost view = { λ g. record {
-      algorithm = g.algorithm;
-      size = g.size;
-      count = g.count;
-      gather = g.gather;
-      share = option_map (λ s. s.now) g.share;
-      ignored = unwrap_or (option_map (λ s. map (λ v. v.now) s.now) g.ignored) [];
-      verbose = g.verbose;
-      progress = g.progress;
-      source = g.source.now;
-      dest = g.dest.now;
-    } };
-}
-
 // What `names` was given, as its parser reads it.
 #[derive(Drop)]
 struct Request<'a> {
@@ -332,29 +297,8 @@ fn migrate(alloc: Global, given: &Given<'_, '_>) -> Result<Command, WordsFault>
     }))
 }
 
-fn audit(alloc: Global, given: &GivenAudit<'_, '_>) -> Result<Command, WordsFault>
-    ensures { OrMemory (audit_answer given.now) result }
-{
-    let layout = Layout::of(given.size, given.count)?;
-    let Some(share) = share(given.share) else {
-        return Err(WordsFault::Share);
-    };
-    let ignored = names_asked(alloc, given.ignored)?;
-    Ok(Command::Audit(Audit {
-        algorithm: given.algorithm,
-        layout,
-        gather: given.gather,
-        share,
-        ignored,
-        verbose: given.verbose,
-        progress: given.progress,
-        source: Text::of(alloc, given.source)?,
-        dest: Text::of(alloc, given.dest)?,
-    }))
-}
-
 // The share that is asked for: the whole store where none is.
-fn share(text: Option<&str>) -> Option<Share>
+pub(crate) fn share(text: Option<&str>) -> Option<Share>
     ensures { result ≡ share_asked (option_map (λ s. s.now) text.entry) }
 {
     match text {
@@ -379,7 +323,7 @@ fn number_in_text(text: &str) -> Option<u32>
 }
 
 // The names that texts write, if there are any.
-fn names_asked(alloc: Global, texts: Option<&[&str]>) -> Result<Ignored, WordsFault>
+pub(crate) fn names_asked(alloc: Global, texts: Option<&[&str]>) -> Result<Ignored, WordsFault>
     ensures { AreNamed (unwrap_or (option_map (λ s. map (λ v. v.now) s.now) texts.entry) [])
         result }
 {
@@ -448,25 +392,6 @@ fn options<'m, 'a>(matches: &'m ArgMatches<'a>) -> Option<Given<'m, 'a>>
     })
 }
 
-// The options of `audit` in its matches. The parser leaves none out that is wanted here.
-fn audit_options<'m, 'a>(matches: &'m ArgMatches<'a>) -> Option<GivenAudit<'m, 'a>>
-    ensures { result ≡ audit_in (rows_of (found_of matches.now)) }
-{
-    let (from, to) = (text(matches, SOURCE)?, text(matches, DEST)?);
-    Some(GivenAudit {
-        algorithm: algorithm(text(matches, DIGEST)?)?,
-        size: number(matches, TUPLE_SIZE)?,
-        count: number(matches, TUPLES)?,
-        gather: is_set(matches, GATHER),
-        share: text(matches, SHARE),
-        ignored: texts(matches, IGNORE),
-        verbose: is_set(matches, VERBOSE),
-        progress: progress(text(matches, PROGRESS)?)?,
-        source: from,
-        dest: to,
-    })
-}
-
 // The options of `names` in its matches. The parser leaves none out that is wanted here.
 fn asked<'a>(matches: &ArgMatches<'a>) -> Option<Request<'a>>
     ensures { result ≡ asked_in (rows_of (found_of matches.now)) }
@@ -479,32 +404,32 @@ fn asked<'a>(matches: &ArgMatches<'a>) -> Option<Request<'a>>
     })
 }
 
-fn is_set(matches: &ArgMatches<'_>, id: &str) -> bool
+pub(crate) fn is_set(matches: &ArgMatches<'_>, id: &str) -> bool
     ensures { result ≡ is_set_in id.now (rows_of (found_of matches.now)) }
 {
     text(matches, id) == Some("true")
 }
 
-fn text<'a>(matches: &ArgMatches<'a>, id: &str) -> Option<&'a str>
+pub(crate) fn text<'a>(matches: &ArgMatches<'a>, id: &str) -> Option<&'a str>
     ensures { option_map (λ s. s.now) result ≡ first_of id.now (rows_of (found_of matches.now)) }
 {
     matches.get_str(id)
 }
 
-fn texts<'m, 'a>(matches: &'m ArgMatches<'a>, id: &str) -> Option<&'m [&'a str]>
+pub(crate) fn texts<'m, 'a>(matches: &'m ArgMatches<'a>, id: &str) -> Option<&'m [&'a str]>
     ensures { option_map (λ s. map (λ v. v.now) s.now) result
         ≡ all_of id.now (rows_of (found_of matches.now)) }
 {
     matches.get_strs(id)
 }
 
-fn number(matches: &ArgMatches<'_>, id: &str) -> Option<u32>
+pub(crate) fn number(matches: &ArgMatches<'_>, id: &str) -> Option<u32>
     ensures { result ≡ number_in id.now (rows_of (found_of matches.now)) }
 {
     matches.get_one(id)
 }
 
-fn algorithm(word: &str) -> Option<Algorithm>
+pub(crate) fn algorithm(word: &str) -> Option<Algorithm>
     ensures { result ≡ algorithm_of word.now }
 {
     match word {
@@ -514,7 +439,7 @@ fn algorithm(word: &str) -> Option<Algorithm>
     }
 }
 
-fn progress(word: &str) -> Option<Progress>
+pub(crate) fn progress(word: &str) -> Option<Progress>
     ensures { result ≡ progress_of word.now }
 {
     match word {
