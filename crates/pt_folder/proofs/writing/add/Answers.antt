@@ -4,7 +4,7 @@ use Rattle.pt_folder.specs.Failure.{OnDevice}
 use Rattle.pt_folder.specs.Folder.{entry_text}
 use Rattle.pt_folder.specs.Writing.{FailsToAdd, IsOfWriting}
 use Rattle.pt_folder.proofs.Kept.{kept_call}
-use Rattle.pt_folder.proofs.dest.add.Goals as goal
+use Rattle.pt_folder.proofs.writing.add.Goals as goal
 
 pub returns-in-Err-clause-kept : goal.returns-in-Err-clause-kept
 returns-in-Err-clause-kept g c =
