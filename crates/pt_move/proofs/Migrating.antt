@@ -12,7 +12,7 @@ use Rattle.pt_move.specs.Bounds.{lines_put}
 use Rattle.pt_move.specs.Lines.{HasTold, HasToldAll}
 use Rattle.pt_move.specs.Migrates.{Migrates}
 use Rattle.pt_move.specs.Running.{IsBegun, IsNew, IsWell, Running}
-use Rattle.pt_move.specs.Stepping.{Blamed, BlamesRightly, EndsAs, MakesTurn, StepLeaves}
+use Rattle.pt_move.specs.Stepping.{Blamed, BlamesRightly, EndsAs, Steps}
 use Rattle.pt_move.specs.declared.fault.Fault.{Fault}
 use Rattle.pt_move.specs.declared.fault.Fault.TheVariants as fault
 use Rattle.pt_move.specs.declared.mover.Turn.{Turn}
@@ -48,31 +48,28 @@ new_so_far job r w new layout is = record {
 -- what a step says
 pub record Stepped (old new : World) (a b : Running) (answer : Result Turn Fault) : Type 0 where
   pub keeps : StepKeeps old new a b answer
-  pub ends : EndsAs a b answer
-  pub blames : BlamesRightly old new answer
-  pub leaves : StepLeaves old new a b answer
-  pub turn : MakesTurn old new a b answer
+  pub steps : Steps old new a b answer
 
 module _ (job : Job) (first old new : World) (a b : Running) (so_far : SoFar job first old a) where
   -- it goes on
   pub so_far_on : (t : Turn) → t ≡ turn.More → Stepped old new a b (Ok t) → SoFar job first new b
   so_far_on t is step = record {
     begun = run_begun (start_of first) a b old new job (source_tree first.source) so_far.begun so_far.same so_far.tree (Ok t) step.keeps;
-    tree = step_tree old new a b (Ok t) step.leaves ∙ so_far.tree;
-    failures = none_failed old new t step.blames ∙ so_far.failures;
-    same = step_job old new a b (Ok t) step.leaves ∙ so_far.same;
+    tree = step_tree old new a b (Ok t) step.steps.leaves ∙ so_far.tree;
+    failures = none_failed old new t step.steps.blames ∙ so_far.failures;
+    same = step_job old new a b (Ok t) step.steps.leaves ∙ so_far.same;
     going = more.1;
-    told = step_told first old new a b t so_far.told step.leaves;
-    ran = ran_on job first old new a b so_far.same so_far.going so_far.ran t is step.leaves step.turn;
+    told = step_told first old new a b t so_far.told step.steps.leaves;
+    ran = ran_on job first old new a b so_far.same so_far.going so_far.ran t is step.steps.leaves step.steps.turn;
   }
     where
       more : EndsAs a b (Ok turn.More)
-      more = subst (λ (t : Turn). EndsAs a b (Ok t)) is step.ends
+      more = subst (λ (t : Turn). EndsAs a b (Ok t)) is step.steps.answer
 
   -- it comes to its end
   pub migrates_whole : (t : Turn) (report : Report) → t ≡ turn.Finished → report ≡ b.state.counts → IsWell b → Stepped old new a b (Ok t) → Migrates job first new (Ok report)
   unfolding BlamesRightly
-  migrates_whole t report is counts well step = let blames : Blamed {T = Report} first new (Ok report) = blames_ok first old new t report so_far.failures step.blames in record {
+  migrates_whole t report is counts well step = let blames : Blamed {T = Report} first new (Ok report) = blames_ok first old new t report so_far.failures step.steps.blames in record {
     ends = run_ends (start_of first) a b old new job (source_tree first.source) so_far.begun so_far.same so_far.tree t is step.keeps report counts;
     states = run_states (start_of first) a b old new job (source_tree first.source) so_far.begun so_far.same so_far.tree t is step.keeps;
     left = run_left (start_of first) a b old new job (source_tree first.source) so_far.begun so_far.same so_far.tree (Ok t) step.keeps;
@@ -80,24 +77,24 @@ module _ (job : Job) (first old new : World) (a b : Running) (so_far : SoFar job
     unstaged = tt;
     leaves = run_leaves (start_of first) a b old new job (source_tree first.source) so_far.begun so_far.same so_far.tree (Ok t) step.keeps;
     stands = run_stands (start_of first) a b old new job (source_tree first.source) so_far.begun so_far.same so_far.tree (Ok t) step.keeps;
-    tree = step_tree old new a b (Ok t) step.leaves ∙ so_far.tree;
+    tree = step_tree old new a b (Ok t) step.steps.leaves ∙ so_far.tree;
     says = tt;
     good = tt;
     source = blames.source;
     dest = blames.dest;
     log = blames.log;
     never_ended = tt;
-    told = subst (λ (c : Report). HasToldAll first.log new.log c) (sym counts) (step_all first old new a b t so_far.told step.leaves is);
+    told = subst (λ (c : Report). HasToldAll first.log new.log c) (sym counts) (step_all first old new a b t so_far.told step.steps.leaves is);
     told_front = tt;
-    run = ran_whole job first old new a b so_far.same so_far.going so_far.ran t report is counts step.leaves step.turn;
+    run = ran_whole job first old new a b so_far.same so_far.going so_far.ran t report is counts step.steps.leaves step.steps.turn;
     work = run_work (start_of first) a b old new job (source_tree first.source) so_far.begun so_far.same so_far.tree t is step.keeps report counts;
-    turns = subst (λ (c : Report). c.turns ≤ job.limits.turns) (sym counts) (subst (λ (j : Job). b.state.counts.turns ≤ j.limits.turns) (step_job old new a b (Ok t) step.leaves ∙ so_far.same) well.bounded.turns);
+    turns = subst (λ (c : Report). c.turns ≤ job.limits.turns) (sym counts) (subst (λ (j : Job). b.state.counts.turns ≤ j.limits.turns) (step_job old new a b (Ok t) step.steps.leaves ∙ so_far.same) well.bounded.turns);
     lines = subst (λ (c : Report). lines_put (counts_of c) ≤ c.turns) (sym counts) well.bounded.lines;
   }
 
   halted : (f : Fault) → Stepped old new a b (Err f) → Migrates job first new (Err f)
   unfolding BlamesRightly
-  halted f step = let blames : Blamed {T = Report} first new (Err f) = blames_err first old new f so_far.failures step.blames in record {
+  halted f step = let blames : Blamed {T = Report} first new (Err f) = blames_err first old new f so_far.failures step.steps.blames in record {
     ends = tt;
     states = tt;
     left = run_left (start_of first) a b old new job (source_tree first.source) so_far.begun so_far.same so_far.tree (Err f) step.keeps;
@@ -105,7 +102,7 @@ module _ (job : Job) (first old new : World) (a b : Running) (so_far : SoFar job
     unstaged = run_unstaged (start_of first) a b old new job (source_tree first.source) so_far.begun so_far.same so_far.tree f going step.keeps;
     leaves = run_leaves (start_of first) a b old new job (source_tree first.source) so_far.begun so_far.same so_far.tree (Err f) step.keeps;
     stands = run_stands (start_of first) a b old new job (source_tree first.source) so_far.begun so_far.same so_far.tree (Err f) step.keeps;
-    tree = step_tree old new a b (Err f) step.leaves ∙ so_far.tree;
+    tree = step_tree old new a b (Err f) step.steps.leaves ∙ so_far.tree;
     says = run_says (start_of first) a b old new job (source_tree first.source) so_far.begun so_far.same so_far.tree f going step.keeps;
     good = run_good (start_of first) a b old new job (source_tree first.source) so_far.begun so_far.same so_far.tree f going step.keeps first.failures new.failures (sym so_far.failures) refl;
     source = blames.source;
@@ -113,15 +110,15 @@ module _ (job : Job) (first old new : World) (a b : Running) (so_far : SoFar job
     log = blames.log;
     never_ended = going;
     told = tt;
-    told_front = step_front first old new a b f so_far.told step.leaves;
-    run = ran_halted job first old new a b so_far.same so_far.going so_far.ran f step.ends step.turn;
+    told_front = step_front first old new a b f so_far.told step.steps.leaves;
+    run = ran_halted job first old new a b so_far.same so_far.going so_far.ran f step.steps.answer step.steps.turn;
     work = tt;
     turns = tt;
     lines = tt;
   }
     where
       going : f ≢ fault.Ended
-      going = not_ended f a b so_far.going step.ends
+      going = not_ended f a b so_far.going step.steps.answer
 
   -- or it is halted
   pub migrates_halted : (f : Fault) (result : Result Report Fault) → IsErrAnd result (λ g. g ≡ f) → Stepped old new a b (Err f) → Migrates job first new result

@@ -12,7 +12,7 @@ ghost use Rattle.pt_walk.specs.Trail.{entries_held};
 ghost use Rattle.pt_move.specs.Leaving.{TurnLeaves};
 ghost use Rattle.pt_move.specs.Promises.{Keeps, TurnKeeps};
 ghost use Rattle.pt_move.specs.Running.{BeganSomewhere, HasBegun, IsBegun, IsNew, IsWell};
-ghost use Rattle.pt_move.specs.Stepping.{Any, BlamesRightly, EndsAs, IsReady, MakesTurn, Stays, StepLeaves, Steps, most_calls_at};
+ghost use Rattle.pt_move.specs.Stepping.{Any, IsReady, Stays, Steps, most_calls_at};
 
 use crate::Fault;
 use crate::turning::turn;
@@ -146,10 +146,7 @@ impl Mover {
         ensures keeps { (start : Start) → IsBegun start (O.world out.old) self.old
             → Keeps start (O.world out.old) (O.world out.new) self.old self.new result }
         ensures goes_on { HasBegun (O.world out.new) self.new }
-        ensures answer { EndsAs self.old self.new result }
-        ensures blames { BlamesRightly (O.world out.old) (O.world out.new) result }
-        ensures leaves { StepLeaves (O.world out.old) (O.world out.new) self.old self.new result }
-        ensures turn { MakesTurn (O.world out.old) (O.world out.new) self.old self.new result }
+        ensures steps { Steps (O.world out.old) (O.world out.new) self.old self.new result }
         ensures calls { O.within (most_calls_at self.old) out.old out.new }
         ensures stays { Stays Any result out.old out.new }
     {

@@ -16,17 +16,17 @@ advance-requires g c = has_begun _ _ _ c.loop-mover.invariant.0.begun
 pub loop-mover-preserved : goal.loop-mover-preserved
 loop-mover-preserved g c = (
   so_far_on _ _ _ _ _ _ c.loop-mover.invariant.0 c.in_ok-advance.field-0 c.in-More.is
-      (record { keeps = c.in_ok-advance.ensures.keeps; ends = c.in_ok-advance.ensures.answer; blames = c.in_ok-advance.ensures.blames; leaves = c.in_ok-advance.ensures.leaves; turn = c.in_ok-advance.ensures.turn }),
+      (record { keeps = c.in_ok-advance.ensures.keeps; steps = c.in_ok-advance.ensures.steps }),
   (_, g.met.O.Outside.more _ _ _ _ _ c.loop-mover.invariant.1.1 c.advance.ensures.calls),
 )
 
 pub loop-mover-smaller : goal.loop-mover-smaller
-loop-mover-smaller g c = smaller _ _ _ _ c.in_ok-advance.field-0 c.in-More.is c.in_ok-advance.ensures.leaves c.in_ok-advance.ensures.answer
+loop-mover-smaller g c = smaller _ _ _ _ c.in_ok-advance.field-0 c.in-More.is c.in_ok-advance.ensures.steps.leaves c.in_ok-advance.ensures.steps.answer
 
 pub returns-in_err-advance-clause-run : goal.returns-in_err-advance-clause-run
 returns-in_err-advance-clause-run g c =
     migrates_halted _ _ _ _ _ _ c.loop-mover.invariant.0 c.in_err-advance.field-0.0 _ (search rules)
-    (record { keeps = c.in_err-advance.ensures.keeps; ends = c.in_err-advance.ensures.answer; blames = c.in_err-advance.ensures.blames; leaves = c.in_err-advance.ensures.leaves; turn = c.in_err-advance.ensures.turn })
+    (record { keeps = c.in_err-advance.ensures.keeps; steps = c.in_err-advance.ensures.steps })
 
 pub returns-in_err-advance-clause-same : goal.returns-in_err-advance-clause-same
 returns-in_err-advance-clause-same g c = (_, g.met.O.Outside.more _ _ _ _ _ c.loop-mover.invariant.1.1 c.advance.ensures.calls)
@@ -34,7 +34,7 @@ returns-in_err-advance-clause-same g c = (_, g.met.O.Outside.more _ _ _ _ _ c.lo
 pub returns-clause-run : goal.returns-clause-run
 returns-clause-run g c =
     migrates_whole _ _ _ _ _ _ c.loop-mover.invariant.0 c.in_ok-advance.field-0 c.report.result (search rules) (search rules) (search rules)
-    (record { keeps = c.in_ok-advance.ensures.keeps; ends = c.in_ok-advance.ensures.answer; blames = c.in_ok-advance.ensures.blames; leaves = c.in_ok-advance.ensures.leaves; turn = c.in_ok-advance.ensures.turn })
+    (record { keeps = c.in_ok-advance.ensures.keeps; steps = c.in_ok-advance.ensures.steps })
 
 pub returns-clause-same : goal.returns-clause-same
 returns-clause-same g c = (_, g.met.O.Outside.more _ _ _ _ _ c.loop-mover.invariant.1.1 c.advance.ensures.calls)
