@@ -5,11 +5,11 @@ ghost use Rattle.pt_run.specs.Audits.{AuditEnds, Audits, audit_status};
 use crate::host::{Ground, Host};
 use crate::log::{DurableLog, Syncs};
 use crate::migration::refused;
-use crate::running::Ended;
+use crate::running::{Ended, FAILED, TOLD};
 use crate::tally::{TalliedLog, Tally};
 use crate::terminal::Terminals;
 use crate::watch::{Progress, Watched, Watching, Words};
-use crate::{prefix, reason};
+use crate::{prefix, reason, running};
 use pt_audit::{Comparing, Counts};
 use pt_folder::{HostSource, System};
 use pt_guard::begin;
@@ -20,10 +20,6 @@ use std::io::Write;
 use std::rt::{Clock, Files};
 
 const SAME: u8 = 0;
-
-const TOLD: u8 = 1;
-
-const FAILED: u8 = 3;
 
 // How many seconds pass between two lines of progress that don't go to a terminal.
 const INTERVAL: u32 = 10;
@@ -151,13 +147,15 @@ fn told<R: Eprint + AllocGlobal, S: System, D: System>(
     status_of(ran)
 }
 
-// Says which fault ended an audit.
+// Says which fault ended an audit, by which a destination is only read.
 fn failed(rt: &impl Eprint, fault: &Fault) {
-    let number = fault.number();
-    let _ = match fault {
-        Fault::Dest => eprintln!(rt; "pairtree2ocfl: fault {number}: cannot read the destination"),
-        _ => eprintln!(rt; "pairtree2ocfl: fault {number}: {fault}"),
-    };
+    match fault {
+        Fault::Dest => {
+            let number = fault.number();
+            let _ = eprintln!(rt; "pairtree2ocfl: fault {number}: cannot read the destination");
+        }
+        _ => running::failed(rt, fault),
+    }
 }
 
 // The exit status of an audit.

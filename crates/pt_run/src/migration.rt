@@ -7,7 +7,7 @@ use crate::devices::equipped;
 use crate::expected::lines_expected;
 use crate::host::Host;
 use crate::log::Syncs;
-use crate::running::{Ended, log_failed, run};
+use crate::running::{Ended, FAILED, log_failed, run};
 use crate::terminal::Terminals;
 use crate::watch::Progress;
 use crate::{prefix, reason};
@@ -20,8 +20,6 @@ use std::io::ErrorKind;
 use std::rt::{Clock, Files};
 
 const REFUSED: u8 = 2;
-
-const FAILED: u8 = 3;
 
 /// What a run is asked for, beside its folders.
 #[derive(Debug, Drop)]

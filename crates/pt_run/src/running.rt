@@ -26,9 +26,11 @@ use std::rt::Clock;
 
 const CARRIED: u8 = 0;
 
-const TOLD: u8 = 1;
+/// The exit status where the log has lines of what wasn't carried, or isn't the same.
+pub(crate) const TOLD: u8 = 1;
 
-const FAILED: u8 = 3;
+/// The exit status of a fault.
+pub(crate) const FAILED: u8 = 3;
 
 /// A run that has ended: its status, and what it was made over.
 #[derive(Drop)]
@@ -176,8 +178,8 @@ pub(crate) fn log_failed(rt: &impl Eprint) -> u8
     FAILED
 }
 
-// Says which fault ended a run.
-fn failed(rt: &impl Eprint, fault: &Fault) {
+/// Says which fault it was that ended a run or an audit, in its own words.
+pub(crate) fn failed(rt: &impl Eprint, fault: &Fault) {
     let number = fault.number();
     let _ = eprintln!(rt; "pairtree2ocfl: fault {number}: {fault}");
 }
