@@ -20,8 +20,13 @@ abbrev pub AuditEnds : ℕ → Type 0
 AuditEnds status = (result : Result Counts Fault) × (status ≡ audit_status result)
 
 -- what `audit` does on a machine, by the words of its calls: the guard, the audit over what is lent, which is given back, and the lock
-abbrev pub Audits : {H L S D W : Type 0} → (H → List ℕ → Result Place Error → H → Type 0) → (H → List ℕ → Result Folder Error → H → Type 0) → (H → List ℕ → Hold L → H → Type 0) → (H → L → H → Type 0) → (H → Ground S D W → H → Type 0) → (H → Ground S D W → H → Type 0) → List ℕ → List ℕ → H → H → ℕ → Type 0
+abbrev pub Audits : {H L S D W : Type 0}
+    → (H → List ℕ → Result Place Error → H → Type 0) → (H → List ℕ → Result Folder Error → H → Type 0)
+    → (H → List ℕ → Hold L → H → Type 0) → (H → L → H → Type 0)
+    → (H → Ground S D W → H → Type 0) → (H → Ground S D W → H → Type 0)
+    → List ℕ → List ℕ → H → H → ℕ → Type 0
 Audits {H} {L} {S} {D} {W} resolves identifies holds releases lends takes_back source dest =
     Guarded (Begins resolves identifies holds source dest)
-    (λ old new status. (ground : Ground S D W) × (lent : H) × lends old ground lent × (after : Ground S D W) × AuditEnds status × takes_back lent after new)
+    (λ old new status. (ground : Ground S D W) × (lent : H) × lends old ground lent
+    × (after : Ground S D W) × AuditEnds status × takes_back lent after new)
     releases

@@ -152,6 +152,7 @@ abbrev pub Runs : {H L S D W E F : Type 0} → (H → List ℕ → Result Place 
 Runs {H} {L} {S} {D} {W} {E} {F} resolves identifies holds releases finds syncs lends takes_back
     forest kept contents wanted source dest =
     Guarded (Begins resolves identifies holds source dest)
-    (λ old new status. (file : Result (Option E) Error) × (mid : H) × FindsLog finds syncs wanted.sync old mid file
+    (λ old new status. (file : Result (Option E) Error) × (mid : H)
+    × FindsLog finds syncs wanted.sync old mid file
     × GoesOver lends takes_back (RunsOver forest kept contents wanted source dest) file mid new status)
     releases
