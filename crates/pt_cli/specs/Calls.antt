@@ -63,10 +63,14 @@ pub record WritesNames (layout : Tuples) (prefix id : List ℕ) (old new : Optio
   pub err : IfErr written (λ fault. LeavesWritten fault old new (names_text layout prefix id))
 
 -- the names that are asked for are written to the output that a machine lends, which is given back with all else as it was; and the status is by that
-abbrev pub TellsNames : {H S D W : Type 0} → (H → Ground S D W → H → Type 0) → (H → Ground S D W → H → Type 0) → (W → Option (List ℕ)) → Named → H → H → ℕ → Type 0
+abbrev pub TellsNames : {H S D W : Type 0}
+    → (H → Ground S D W → H → Type 0) → (H → Ground S D W → H → Type 0) → (W → Option (List ℕ))
+    → Named → H → H → ℕ → Type 0
 TellsNames {H} {S} {D} {W} lends takes_back contents asked old new status =
-    (ground : Ground S D W) × (lent : H) × lends old ground lent × (output : W) × (written : Result (Unit {0}) NamesFault)
-    × WritesNames asked.layout asked.prefix asked.id (contents ground.output) (contents output) written × takes_back lent (record ground { output = output }) new
+    (ground : Ground S D W) × (lent : H) × lends old ground lent
+    × (output : W) × (written : Result (Unit {0}) NamesFault)
+    × WritesNames asked.layout asked.prefix asked.id (contents ground.output) (contents output) written
+    × takes_back lent (record ground { output = output }) new
     × (status ≡ names_status written)
 
 -- an audit is made, or memory was wanting before anything was asked of the machine, which is 3

@@ -146,7 +146,8 @@ IsMigrateApp app = (words : Spelled) × (app ≡ migrate_app words)
 -- the options of `audit` and its two paths
 abbrev pub audit_rules : Spelled → List Rule
 audit_rules words =
-    digest_rule words.algorithms ∷ size_rule ∷ count_rule ∷ gather_rule ∷ share_rule ∷ ignore_rule ∷ verbose_rule ∷ progress_rule words.times
+    digest_rule words.algorithms ∷ size_rule ∷ count_rule ∷ gather_rule ∷ share_rule ∷ ignore_rule
+    ∷ verbose_rule ∷ progress_rule words.times
     ∷ source_rule ∷ dest_rule ∷ []
 
 -- `audit [OPTIONS] SOURCE DEST`
@@ -162,7 +163,9 @@ top_app = on_top (λ s. record s { has_version = true; subcommand_required = tru
 
 -- the program, whose parser reads the values of `migrate` and of `audit` from these words
 abbrev pub program : Spelled → Spelled → App
-program words others = with_subcommand (with_subcommand (with_subcommand top_app names_app.top) (migrate_app words).top) (audit_app others).top
+program words others =
+    with_subcommand (with_subcommand (with_subcommand top_app names_app.top) (migrate_app words).top)
+    (audit_app others).top
 
 abbrev pub IsProgram : App → Type 0
 IsProgram app = (words : Spelled) × (others : Spelled) × (app ≡ program words others)

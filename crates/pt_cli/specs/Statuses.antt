@@ -20,7 +20,9 @@ IsTold old new status = ((status ≡ 0) ⊎ (status ≡ 3)) × (new ≡ old)
 
 -- what is done where the words were answered so: a command's call is made, with what its words ask for, and its status is the program's;
 -- help and the version are told; refused words are 2, and want of memory is 3
-abbrev pub Does : {H : Type 0} → (Named → H → H → ℕ → Type 0) → (Migration → H → H → ℕ → Type 0) → (Comparison → H → H → ℕ → Type 0) → Result Command WordsFault → H → H → ℕ → Type 0
+abbrev pub Does : {H : Type 0}
+    → (Named → H → H → ℕ → Type 0) → (Migration → H → H → ℕ → Type 0) → (Comparison → H → H → ℕ → Type 0)
+    → Result Command WordsFault → H → H → ℕ → Type 0
 Does names migrates audits (Ok (Names asked)) = names asked
 Does names migrates audits (Ok (Migrate migration)) = migrates migration
 Does names migrates audits (Ok (Audit audit)) = audits audit
@@ -36,10 +38,17 @@ Does names migrates audits (Err words.Share) = Refuses 2
 Does names migrates audits (Err words.Ignored) = Refuses 2
 
 -- these words, the program's name first, are answered, and that is done
-abbrev pub EndsWith : {H : Type 0} → (Named → H → H → ℕ → Type 0) → (Migration → H → H → ℕ → Type 0) → (Comparison → H → H → ℕ → Type 0) → List Text → H → H → ℕ → Type 0
-EndsWith names migrates audits words old new status = (answer : Result Command WordsFault) × ReadsWords words answer × Does names migrates audits answer old new status
+abbrev pub EndsWith : {H : Type 0}
+    → (Named → H → H → ℕ → Type 0) → (Migration → H → H → ℕ → Type 0) → (Comparison → H → H → ℕ → Type 0)
+    → List Text → H → H → ℕ → Type 0
+EndsWith names migrates audits words old new status =
+    (answer : Result Command WordsFault) × ReadsWords words answer
+    × Does names migrates audits answer old new status
 
 -- words come, and are done; or none do, which is refused, and is 3 for want of memory
-abbrev pub Ends : {H : Type 0} → (Named → H → H → ℕ → Type 0) → (Migration → H → H → ℕ → Type 0) → (Comparison → H → H → ℕ → Type 0) → H → H → ℕ → Type 0
+abbrev pub Ends : {H : Type 0}
+    → (Named → H → H → ℕ → Type 0) → (Migration → H → H → ℕ → Type 0) → (Comparison → H → H → ℕ → Type 0)
+    → H → H → ℕ → Type 0
 Ends names migrates audits old new status =
-    ((words : List Text) × EndsWith names migrates audits words old new status) ⊎ (Refuses 2 old new status ⊎ Refuses 3 old new status)
+    ((words : List Text) × EndsWith names migrates audits words old new status)
+    ⊎ (Refuses 2 old new status ⊎ Refuses 3 old new status)

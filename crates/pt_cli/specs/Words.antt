@@ -188,7 +188,8 @@ RefusedAs k _ = ⊥
 -- what these words, the program's name first, are answered
 abbrev pub ReadsWords : List Text → Result Command WordsFault → Type 0
 ReadsWords words result =
-    (spelled : Spelled) × (others : Spelled) × Answers (fault_of (program spelled others) words) (subcommand_of (program spelled others) words) result
+    (spelled : Spelled) × (others : Spelled)
+    × Answers (fault_of (program spelled others) words) (subcommand_of (program spelled others) words) result
 
 abbrev pub words_number : WordsFault → ℕ
 words_number (fault.Help text) = 1

@@ -147,7 +147,8 @@ fn migrate_parser<'a>(alloc: Global) -> Result<Parser<'a>, AllocError>
 }
 
 fn audit_parser<'a>(alloc: Global) -> Result<Parser<'a>, AllocError>
-    ensures { IfOk result (λ parser. IsAuditApp (app_of parser) × ((out-Command parser).has_globals ≡ false)) }
+    ensures { IfOk result (λ parser. IsAuditApp (app_of parser)
+        × ((out-Command parser).has_globals ≡ false)) }
 {
     let parser = Parser::new(alloc, AUDIT)
         .about("Holds an OCFL storage root against the Pairtree store that it was made of")
