@@ -3,6 +3,7 @@ pub mod Kept
 pub mod LineTexts
 pub mod Listed
 pub mod Noted
+pub mod Passed
 pub mod Reading
 pub mod Roots
 pub mod Steps

@@ -20,7 +20,7 @@ can_read (Some r) reads = λ s is. let same : r ≡ s = cc in subst (λ (s : Rea
     there None h = absurd (cc)
     there (Some x) h = refl
 
-next_reads : (old : Option Reading) → Reads old → Reads (option_map after_next old)
+pub next_reads : (old : Option Reading) → Reads old → Reads (option_map after_next old)
 next_reads None reads = refl
 next_reads (Some r) reads = on r.unread reads
   where
@@ -28,7 +28,7 @@ next_reads (Some r) reads = on r.unread reads
     on None h = absurd (cc)
     on (Some x) h = refl
 
-next_tree : (old : Option Reading) → tree_in (option_map after_next old) ≡ tree_in old
+pub next_tree : (old : Option Reading) → tree_in (option_map after_next old) ≡ tree_in old
 next_tree None = refl
 next_tree (Some r) = refl
 

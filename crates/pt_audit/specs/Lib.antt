@@ -1,4 +1,5 @@
 pub mod Auditing
+pub mod Bytes
 pub mod Comparing
 pub mod Difference
 pub mod Lines

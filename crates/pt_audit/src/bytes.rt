@@ -1,6 +1,7 @@
-#![tactic(auto, using(crate::proofs::Reading::reading))]
+#![tactic(auto, using(crate::proofs::Reading::reading, crate::proofs::Passed::passed))]
 //! The bytes of the open file of a root, held against others.
-ghost use Rattle.std.specs.Prelude.{◌≡◌};
+ghost use Rattle.std.specs.Prelude.{◌≡◌, true, false, IfOk};
+ghost use Rattle.pt_audit.specs.Bytes.{CameNext, IsAllLeft, IsNotNext, TellsEnd, TellsRest};
 ghost use Rattle.pt_audit.specs.Root.{Reads, tree_in};
 
 use crate::Root;
@@ -10,7 +11,7 @@ use std::alloc::Global;
 // How many bytes are read at a time.
 const PIECE: usize = 8192;
 
-// How many blocks of a text are read at most: 2^40 bytes.
+// How many blocks of a text are read at most, the last of them empty: 2^40 - 8,192 bytes.
 const MOST: u32 = 1 << 27;
 
 /// Whether these bytes come next in the open file of a root: block by block, of which all but the last have to be full.
@@ -22,12 +23,18 @@ pub(crate) fn come_next<R: Root>(
     requires { Reads (R.told root.old) }
     ensures tree { tree_in (R.told root.new) ≡ tree_in (R.told root.old) }
     ensures reads { Reads (R.told root.new) }
+    ensures next { IfOk result (λ same. same ≡ true
+        → CameNext bytes.now (R.told root.old) (R.told root.new)) }
+    ensures other { IfOk result (λ same. same ≡ false → IsNotNext bytes.now (R.told root.old)) }
 {
-    for piece in bytes.chunks(PIECE) {
+    let mut rest = bytes;
+    while !rest.is_empty() {
+        let (piece, behind) = rest.split_at(rest.len().min(PIECE));
         root.next(block)?;
         if block.as_slice() != piece {
             return Ok(false);
         }
+        rest = behind;
     }
     Ok(true)
 }
@@ -37,6 +44,7 @@ pub(crate) fn has_ended<R: Root>(root: &mut R, block: &mut Block) -> Result<bool
     requires { Reads (R.told root.old) }
     ensures tree { tree_in (R.told root.new) ≡ tree_in (R.told root.old) }
     ensures reads { Reads (R.told root.new) }
+    ensures ended { IfOk result (TellsEnd (R.told root.old)) }
 {
     root.next(block)?;
     Ok(block.is_empty())
@@ -51,6 +59,7 @@ pub(crate) fn are_the_rest<R: Root>(
     requires { Reads (R.told root.old) }
     ensures tree { tree_in (R.told root.new) ≡ tree_in (R.told root.old) }
     ensures reads { Reads (R.told root.new) }
+    ensures same { IfOk result (TellsRest bytes.now (R.told root.old)) }
 {
     if !come_next(root, block, bytes)? {
         return Ok(false);
@@ -58,7 +67,7 @@ pub(crate) fn are_the_rest<R: Root>(
     has_ended(root, block)
 }
 
-/// All that is left of the open file of a root; None where it has more than 2^40 bytes.
+/// All that is left of the open file of a root; None where that is more than 2^40 - 8,192 bytes.
 pub(crate) fn rest_of<R: Root>(
     alloc: Global,
     root: &mut R,
@@ -67,6 +76,7 @@ pub(crate) fn rest_of<R: Root>(
     requires { Reads (R.told root.old) }
     ensures tree { tree_in (R.told root.new) ≡ tree_in (R.told root.old) }
     ensures reads { Reads (R.told root.new) }
+    ensures rest { IfOk result (IsAllLeft (R.told root.old)) }
 {
     let mut bytes = Vec::new(alloc);
     for _ in 0..MOST {
