@@ -1,11 +1,16 @@
 -- What a comparing destination keeps.
-use Rattle.std.specs.Prelude.{◌≡◌, Bool, true, Option, None, Some}
+use Rattle.std.specs.Prelude.{◌≡◌, ◌⊎◌, ℕ, List, Bool, true, Option, None, Some}
 use Rattle.pt_tree.specs.Dest.{Writing}
 use Rattle.pt_tree.specs.Source.{Reading}
 use Rattle.pt_tree.specs.Tree.{IsTree}
+use Rattle.pt_tree.specs.Path.{Path}
+use Rattle.pt_audit.specs.Bytes.{CameNext, IsNotNext}
 use Rattle.pt_audit.specs.Root.{is_reading}
 use Rattle.pt_audit.specs.declared.comparing.Open.{Open}
 use Rattle.pt_audit.specs.declared.comparing.Open.TheVariants as state
+use Rattle.pt_audit.specs.declared.difference.Finding.{Finding}
+use Rattle.pt_audit.specs.declared.difference.Finding.TheVariants as finding
+use Rattle.pt_audit.specs.declared.difference.Why.TheVariants as why
 
 -- it tells nothing
 abbrev pub no_dest : {D : Type 0} → D → Option Writing
@@ -21,3 +26,20 @@ is_reading_if state.Content told = is_reading told
 is_reading_if (state.Version text) told = is_reading told
 is_reading_if state.Inventory told = is_reading told
 is_reading_if state.Sidecar told = is_reading told
+
+-- this was found at the file
+abbrev pub differs_in : Path → Finding
+differs_in path = finding.Differs (record { path = path; why = why.Bytes })
+
+-- what a piece of a content tells: it came next, and nothing more was found, or other bytes did
+abbrev pub IsPieceOf : Finding → Finding → Path → List ℕ → Option Reading → Option Reading → Type 0
+IsPieceOf before after path piece old new =
+    ((after ≡ before) × CameNext piece old new) ⊎ ((after ≡ differs_in path) × IsNotNext piece old)
+
+-- what is found with a piece, by how the file at hand is compared: only a content is compared piece by piece
+abbrev pub FindsByPiece : Open → Finding → Finding → Path → List ℕ → Option Reading → Option Reading → Type 0
+FindsByPiece state.Content before after path piece old new = IsPieceOf before after path piece old new
+FindsByPiece state.Nothing before after path piece old new = after ≡ before
+FindsByPiece (state.Version text) before after path piece old new = after ≡ before
+FindsByPiece state.Inventory before after path piece old new = after ≡ before
+FindsByPiece state.Sidecar before after path piece old new = after ≡ before

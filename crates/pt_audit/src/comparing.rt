@@ -1,15 +1,17 @@
 #![tactic(auto, using(crate::proofs::Reading::calls, crate::proofs::Kept::kept))]
 //! A destination that holds what a run makes against what stands, and makes nothing.
-ghost use Rattle.std.specs.Prelude.{◌≡◌, ⊤, ◌++◌, [], ◌∷◌, IfOk, IfSome, Option, OnErr, true};
+ghost use Rattle.std.specs.Prelude.{◌≡◌, ⊤, ◌++◌, [], ◌∷◌, IfOk, IfSome, Option, OnErr, OnOk, true};
 ghost use Rattle.pt_tree.specs.Failures.{IsCounted};
 ghost use Rattle.pt_tree.specs.Forest.{Forest};
-ghost use Rattle.pt_audit.specs.Comparing.{is_reading_if};
+ghost use Rattle.pt_audit.specs.Comparing.{FindsByPiece, is_reading_if};
+ghost use Rattle.pt_audit.specs.declared.difference.Finding.TheVariants as finding;
 ghost use Rattle.pt_tree.specs.declared.kind.Kind.TheVariants as kind;
 ghost use Rattle.pt_audit.specs.Root.{AllStand, Lists, Reads, Stands, tree_in};
 
 use crate::bytes::{are_the_rest, come_next, has_ended, rest_of};
 use crate::entries::Entries;
 use crate::inventories::with_meta_of;
+use crate::paths::{Part, below, is_named, joined, part_of};
 use crate::root::standing;
 use crate::{Difference, Finding, Root, Why};
 use pt_object::{Algorithm, sidecar};
@@ -179,6 +181,7 @@ impl<R: Root> Comparing<R> {
 
     // Notes the first difference, after which nothing more is held of the object.
     fn differs(&mut self, path: NamePath, why: Why)
+        ensures found { self.new.finding ≡ finding.Differs (record { path = path; why = why }) }
         ensures failures { self.new.failures ≡ self.old.failures }
         ensures root { self.new.root ≡ self.old.root }
     {
@@ -258,7 +261,9 @@ impl<R: Root> Comparing<R> {
 
     // A piece is added to the file at hand.
     fn meet_piece(&mut self, piece: &[u8]) -> Result<(), TreeFault>
-        ensures { self.new.failures ≡ self.old.failures }
+        ensures failures { self.new.failures ≡ self.old.failures }
+        ensures found { OnOk result (FindsByPiece self.old.file self.old.finding self.new.finding
+            self.old.opened piece.now (R.told self.old.root) (R.told self.new.root)) }
     {
         let same = match &mut self.file {
             Open::Nothing | Open::Inventory | Open::Sidecar => true,
@@ -345,43 +350,6 @@ fn why_not(here: Option<Kind>) -> Why {
     }
 }
 
-// Which part of the destination a path leads to.
-enum Part {
-    // `staging`.
-    Staging,
-    // The storage root.
-    Top,
-    // A file of the root's own.
-    OwnFile,
-    // A place, or a folder on the way to one.
-    Place,
-}
-
-fn part_of(path: &NamePath) -> Part {
-    match path.names() {
-        [top] if is_named(top, "ocfl") => Part::Top,
-        [top, .., last] if is_named(top, "ocfl") => {
-            if is_own_name(last) {
-                Part::OwnFile
-            } else {
-                Part::Place
-            }
-        }
-        _ => Part::Staging,
-    }
-}
-
-// Whether a file of the root's own has this name; no place has it.
-fn is_own_name(name: &Name) -> bool {
-    is_named(name, "0=ocfl_1.1")
-        || is_named(name, "ocfl_layout.json")
-        || is_named(name, "config.json")
-}
-
-fn is_named(name: &Name, text: &str) -> bool {
-    name.bytes() == text.as_bytes()
-}
-
 // How the file at this path of an object is compared.
 fn opened_as(alloc: Global, path: &NamePath) -> Open {
     match path.names() {
@@ -392,24 +360,6 @@ fn opened_as(alloc: Global, path: &NamePath) -> Open {
         }
         _ => Open::Content,
     }
-}
-
-// The path without its first so many names.
-fn below(alloc: Global, path: &NamePath, count: usize) -> Result<NamePath, MemoryFault> {
-    let mut inner = NamePath::new(alloc);
-    for name in path.names().iter().skip(count) {
-        inner.push(name.copy()?)?;
-    }
-    Ok(inner)
-}
-
-// A path with another behind it.
-fn joined(path: &NamePath, inner: &NamePath) -> Result<NamePath, MemoryFault> {
-    let mut whole = path.copy()?;
-    for name in inner.names() {
-        whole.push(name.copy()?)?;
-    }
-    Ok(whole)
 }
 
 // Notes the entries of the directory at a path.
