@@ -7,6 +7,7 @@ use Rattle.std.specs.Global.{Vec}
 use Rattle.std.specs.Option.{option_and_then, option_map, ForSome}
 use Rattle.std.proofs.lemmas.Bool.{cases_order, false_from_ne_true, true≢false}
 use Rattle.std.proofs.lemmas.Bool.Decides.{Decides-eqb}
+use Rattle.std.proofs.lemmas.Slice.Eq.{bytes_eq-Decides}
 use Rattle.std.proofs.lemmas.List.{append-nil, append_assoc, append_cancel_left, drop_all, length-append, length-take, length-take-le, take-append-drop, take-append-le, take_all}
 use Rattle.pt_tree.specs.Source.{IsRead, Reading, after_next}
 use Rattle.pt_audit.specs.Bytes.{CameNext, EndsBlock, IsAllLeft, IsNotNext, TellsEnd, TellsRest, left_in}
@@ -201,6 +202,11 @@ more_left bytes blocks old now has many = λ left here.
     let p = has left here in
     let both : length left ≡ length bytes + length p.behind = ap length p.left_is ∙ length-append bytes p.behind in
     omega (arith, both, p.nearly, many)
+
+-- a text of all that is left is just what is left
+pub all_told : (bytes : Vec ℕ) (text : List ℕ) (old : Option Reading) → IsAllLeft old (Some bytes) → text ≡ bytes.items → TellsRest text old true
+unfolding IsAllLeft TellsRest
+all_told bytes text old all is = λ left here. sym ((bytes_eq-Decides left text).1 (sym (is ∙ all left here)))
 
 -- what the test of two texts has told
 pub told_other : (x block piece : List ℕ) → true ≡ not (bytes_eq x piece) → x ≡ block → block ≢ piece

@@ -1,10 +1,10 @@
 -- What a comparing destination keeps.
-use Rattle.std.specs.Prelude.{◌≡◌, ◌⊎◌, ℕ, List, Bool, true, Option, None, Some}
+use Rattle.std.specs.Prelude.{◌≡◌, ◌⊎◌, ℕ, List, Bool, true, false, Option, None, Some}
 use Rattle.pt_tree.specs.Dest.{Writing}
 use Rattle.pt_tree.specs.Source.{Reading}
 use Rattle.pt_tree.specs.Tree.{IsTree}
 use Rattle.pt_tree.specs.Path.{Path}
-use Rattle.pt_audit.specs.Bytes.{CameNext, IsNotNext}
+use Rattle.pt_audit.specs.Bytes.{CameNext, IsNotNext, TellsEnd, TellsRest}
 use Rattle.pt_audit.specs.Root.{is_reading}
 use Rattle.pt_audit.specs.declared.comparing.Open.{Open}
 use Rattle.pt_audit.specs.declared.comparing.Open.TheVariants as state
@@ -43,3 +43,19 @@ FindsByPiece state.Nothing before after path piece old new = after ≡ before
 FindsByPiece (state.Version text) before after path piece old new = after ≡ before
 FindsByPiece state.Inventory before after path piece old new = after ≡ before
 FindsByPiece state.Sidecar before after path piece old new = after ≡ before
+
+-- what the end of a file tells: that it is the same, and nothing more was found, or that it differs
+abbrev pub IsEndOf : Finding → Finding → Path → (Bool → Type 0) → Type 0
+IsEndOf before after path Tells = ((after ≡ before) × Tells true) ⊎ ((after ≡ differs_in path) × Tells false)
+
+-- of the version's inventory that is the same, the text that stands is held from then on
+abbrev pub IsEndOfVersion : Finding → Finding → Path → List ℕ → Option Reading → Type 0
+IsEndOfVersion before after path held old = ((after ≡ before) × TellsRest held old true) ⊎ (after ≡ differs_in path)
+
+-- what is found with the end of the file at hand, by how it is compared; these inventories are held before and after
+abbrev pub FindsByEnd : Open → Finding → Finding → Path → List ℕ → List ℕ → List ℕ → Option Reading → Type 0
+FindsByEnd state.Nothing before after path inventory sidecar held old = after ≡ before
+FindsByEnd state.Content before after path inventory sidecar held old = IsEndOf before after path (TellsEnd old)
+FindsByEnd (state.Version text) before after path inventory sidecar held old = IsEndOfVersion before after path held old
+FindsByEnd state.Inventory before after path inventory sidecar held old = IsEndOf before after path (TellsRest inventory old)
+FindsByEnd state.Sidecar before after path inventory sidecar held old = IsEndOf before after path (TellsRest sidecar old)

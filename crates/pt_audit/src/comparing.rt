@@ -3,7 +3,9 @@
 ghost use Rattle.std.specs.Prelude.{◌≡◌, ⊤, ◌++◌, [], ◌∷◌, IfOk, IfSome, Option, OnErr, OnOk, true};
 ghost use Rattle.pt_tree.specs.Failures.{IsCounted};
 ghost use Rattle.pt_tree.specs.Forest.{Forest};
-ghost use Rattle.pt_audit.specs.Comparing.{FindsByPiece, is_reading_if};
+ghost use Rattle.pt_audit.specs.Comparing.{FindsByEnd, FindsByPiece, is_reading_if};
+ghost use Rattle.pt_audit.specs.Bytes.{TellsRest};
+ghost use Rattle.std.specs.String.{string_bytes};
 ghost use Rattle.pt_audit.specs.declared.difference.Finding.TheVariants as finding;
 ghost use Rattle.pt_tree.specs.declared.kind.Kind.TheVariants as kind;
 ghost use Rattle.pt_audit.specs.Root.{AllStand, Lists, Reads, Stands, tree_in};
@@ -282,7 +284,10 @@ impl<R: Root> Comparing<R> {
 
     // The file at hand is ended.
     fn meet_end(&mut self) -> Result<(), TreeFault>
-        ensures { self.new.failures ≡ self.old.failures }
+        ensures failures { self.new.failures ≡ self.old.failures }
+        ensures found { OnOk result (FindsByEnd self.old.file self.old.finding self.new.finding
+            self.old.opened (string_bytes self.old.inventory) (string_bytes self.old.sidecar)
+            (string_bytes self.new.inventory) (R.told self.old.root)) }
     {
         let same = match mem::replace(&mut self.file, Open::Nothing) {
             Open::Nothing => true,
@@ -305,7 +310,11 @@ impl<R: Root> Comparing<R> {
     // Whether the version's inventory that stands is the one that was made, but for what it says of its version.
     fn meet_version(&mut self, made: &[u8]) -> Result<bool, TreeFault>
         requires { Reads (R.told self.old.root) }
-        ensures { self.new.failures ≡ self.old.failures }
+        ensures failures { self.new.failures ≡ self.old.failures }
+        ensures finding { self.new.finding ≡ self.old.finding }
+        ensures opened { self.new.opened ≡ self.old.opened }
+        ensures held { IfOk result (λ same. same ≡ true
+            → TellsRest (string_bytes self.new.inventory) (R.told self.old.root) true) }
     {
         let Some(stands) = rest_of(self.alloc, &mut self.root, &mut self.block)? else {
             return Ok(false);
