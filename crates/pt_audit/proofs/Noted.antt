@@ -1,6 +1,6 @@
 -- What holds of noted entries.
-use Rattle.std.proofs.Common.{◌≡◌, ℕ, List, sym, subst, true}
-use Rattle.std.specs.Prelude.{Bool, Option, Some, IfSome}
+use Rattle.std.proofs.Common.{◌≡◌, ◌∙◌, ap, ℕ, [], ◌∷◌, List, sym, subst, true}
+use Rattle.std.specs.Prelude.{Bool, Option, Some, IfSome, slice_get}
 use Rattle.std.specs.BTreeMap.{insert_entry}
 use Rattle.std.specs.Global.{Vec}
 use Rattle.std.specs.List.{All}
@@ -23,3 +23,8 @@ pub taken_stands : (tree : Option Forest) (test : Vec ℕ → Bool) (old : List 
 taken_stands tree test old found path kind is same all =
     subst (λ p. Stands tree (p, kind)) (same_from found path same)
     (subst (λ o. IfSome o (Stands tree)) (sym is) (IfSome-lookup_from_All (Stands tree) test old all))
+
+-- the entry of the first text comes first
+pub first_noted : (e : Vec ℕ × (Path × Kind)) (es : List (Vec ℕ × (Path × Kind))) (now : List (Path × Kind)) → slice_get es 0 ≡ Some e → now ≡ values_of es → (kind : Kind) × (later : List (Path × Kind)) × (now ≡ (e.1.0, kind) ∷ later)
+first_noted e [] now first is = absurd (cc)
+first_noted e (d ∷ es) now first is = let same : d ≡ e = cc in (e.1.1, values_of es, is ∙ ap (λ (d : Vec ℕ × (Path × Kind)). d.1 ∷ values_of es) same)

@@ -1,5 +1,7 @@
 -- What a comparing destination keeps.
-use Rattle.std.specs.Prelude.{◌≡◌, ◌⊎◌, ℕ, List, Bool, true, false, Option, None, Some}
+use Rattle.pt_audit.specs.Difference.{is_same}
+use Rattle.pt_tree.specs.declared.kind.Kind.{Kind}
+use Rattle.std.specs.Prelude.{[], ◌∷◌, cond, not, length, drop, ◌==◌, ◌&&◌, ◌≡◌, ◌⊎◌, ℕ, List, Bool, true, false, Option, None, Some}
 use Rattle.pt_tree.specs.Dest.{Writing}
 use Rattle.pt_tree.specs.Source.{Reading}
 use Rattle.pt_tree.specs.Tree.{IsTree}
@@ -59,3 +61,8 @@ FindsByEnd state.Content before after path inventory sidecar held old = IsEndOf 
 FindsByEnd (state.Version text) before after path inventory sidecar held old = IsEndOfVersion before after path held old
 FindsByEnd state.Inventory before after path inventory sidecar held old = IsEndOf before after path (TellsRest inventory old)
 FindsByEnd state.Sidecar before after path inventory sidecar held old = IsEndOf before after path (TellsRest sidecar old)
+
+-- where an object is compared, its first entry that wasn't made is one too many
+abbrev pub FindsByMove : Path → List (Path × Kind) → Finding → Finding → Type 0
+FindsByMove place [] before after = after ≡ before
+FindsByMove place (entry ∷ later) before after = after ≡ cond (not (length place == 0) && is_same before) (finding.Differs (record { path = drop (length place) entry.0; why = why.Extra })) before

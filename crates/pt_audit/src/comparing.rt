@@ -1,9 +1,10 @@
 #![tactic(auto, using(crate::proofs::Reading::calls, crate::proofs::Kept::kept))]
 //! A destination that holds what a run makes against what stands, and makes nothing.
-ghost use Rattle.std.specs.Prelude.{◌≡◌, ⊤, ◌++◌, [], ◌∷◌, IfOk, IfSome, Option, OnErr, OnOk, true};
+ghost use Rattle.std.specs.Prelude.{not, length, ◌==◌, ◌&&◌, ◌≡◌, ⊤, ◌++◌, [], ◌∷◌, IfOk, IfSome, Option, OnErr, OnOk, true};
 ghost use Rattle.pt_tree.specs.Failures.{IsCounted};
 ghost use Rattle.pt_tree.specs.Forest.{Forest};
-ghost use Rattle.pt_audit.specs.Comparing.{FindsByEnd, FindsByPiece, is_reading_if};
+ghost use Rattle.pt_audit.specs.Comparing.{FindsByEnd, FindsByMove, FindsByPiece, is_reading_if};
+ghost use Rattle.pt_audit.specs.Difference.{is_same};
 ghost use Rattle.pt_audit.specs.Bytes.{TellsRest};
 ghost use Rattle.std.specs.String.{string_bytes};
 ghost use Rattle.pt_audit.specs.declared.difference.Finding.TheVariants as finding;
@@ -177,7 +178,9 @@ impl<R: Root> Comparing<R> {
     }
 
     // Whether what is made is compared: a place was asked for, and no difference was found there.
-    fn compares(&self) -> bool {
+    fn compares(&self) -> bool
+        ensures { result ≡ (not (length self.now.place == 0) && is_same self.now.finding) }
+    {
         !self.place.is_empty() && self.finding.is_same()
     }
 
@@ -336,7 +339,9 @@ impl<R: Root> Comparing<R> {
 
     // What was made is moved to its place: what stands there beside it is more than the object has.
     fn meet_move(&mut self) -> Result<(), TreeFault>
-        ensures { self.new.failures ≡ self.old.failures }
+        ensures failures { self.new.failures ≡ self.old.failures }
+        ensures found { OnOk result (FindsByMove self.old.place self.old.entries
+            self.old.finding self.new.finding) }
     {
         self.making = false;
         if !self.compares() {

@@ -1,6 +1,7 @@
 //! The entries of an object that stands which weren't met yet.
-ghost use Rattle.std.specs.Prelude.{◌≡◌, [], IfOk, IfSome, OnOk, OnErr};
-ghost use Rattle.std.specs.Prelude.{Option};
+ghost use Rattle.std.specs.Prelude.{◌≡◌, [], IfOk, IfSome, OnErr, OnOk, ◌∷◌, List, MatchOption, Option};
+ghost use Rattle.pt_tree.specs.Path.{Path};
+ghost use Rattle.pt_tree.specs.declared.kind.Kind.{Kind};
 ghost use Rattle.pt_tree.specs.Forest.{Forest};
 ghost use Rattle.pt_audit.specs.Root.{AllStand, Stands};
 
@@ -62,7 +63,10 @@ impl Entries {
     }
 
     /// The path of the first, by the order of their texts.
-    pub(crate) fn first(&self) -> Option<&NamePath> {
+    pub(crate) fn first(&self) -> Option<&NamePath>
+        ensures { MatchOption result (self.now ≡ [])
+            (λ path. (kind : Kind) × (later : List (Path × Kind)) × (self.now ≡ (path.now, kind) ∷ later)) }
+    {
         match self.by_text.first_key_value() {
             Some((_, (path, _))) => Some(path),
             None => None,
