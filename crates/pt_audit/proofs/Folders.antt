@@ -1,5 +1,5 @@
 -- What a folder of the system tells as a root.
-use Rattle.std.proofs.Common.{◌≡◌, ℕ, List, true, false, refl, ap, ◌∙◌}
+use Rattle.std.proofs.Common.{◌≡◌, ℕ, List, false, refl, ap, ◌∙◌}
 use Rattle.std.specs.Prelude.{Option, None, Some, IsSome, IfOk, IfSome, Result, Ok, Err}
 use Rattle.std.specs.Option.{option_map, option_map_or, ForSome}
 use Rattle.pt_folder.specs.SourceHeld.{told_of}

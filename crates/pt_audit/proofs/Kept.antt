@@ -1,17 +1,13 @@
 -- What a comparing destination keeps between two calls.
-use Rattle.std.proofs.Common.{◌≡◌, ℕ, zero, suc, List, [], ◌∷◌, ◌++◌, true, false, refl, sym, ap, subst, ◌∙◌, cond}
-use Rattle.std.specs.Prelude.{Bool, Option, None, Some, slice_get, ◌&&◌}
-use Rattle.std.specs.Option.{option_map, option_map_or, option_and_then, ForSome}
-use Rattle.std.specs.Str.{bytes_eq}
+use Rattle.std.proofs.Common.{◌≡◌, ℕ, List, true, refl, subst}
+use Rattle.std.specs.Prelude.{Option, None, Some}
 use Rattle.pt_tree.specs.Dest.{LeavesPart}
-use Rattle.pt_tree.specs.Forest.{Forest, Node, File, Dir, Other, none, file, other, dir, as_dir, dir_at, find, is_proper, kind_of, listing_at, listing_of, node_at}
+use Rattle.pt_tree.specs.Forest.{is_proper, listing_at}
 use Rattle.pt_tree.specs.Listing.{Item}
 use Rattle.pt_tree.specs.Path.{Path}
 use Rattle.pt_tree.specs.Source.{IsListed, Reading}
-use Rattle.pt_tree.proofs.AtPaths.{proper_dir_at}
-use Rattle.pt_tree.proofs.Finding.{proper_dir, proper_file, proper_other, comes_before-trans}
 use Rattle.pt_audit.specs.Comparing.{is_reading_if, no_dest}
-use Rattle.pt_audit.specs.Root.{Lists, Reads, Stands, same_kind, tree_in}
+use Rattle.pt_audit.specs.Root.{Lists, Reads, tree_in}
 use Rattle.pt_audit.specs.declared.comparing.Open.{Open}
 use Rattle.pt_audit.specs.declared.comparing.Open.TheVariants as state
 

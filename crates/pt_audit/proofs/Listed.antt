@@ -1,7 +1,7 @@
 -- What a directory lists stands in it.
-use Rattle.std.proofs.Common.{◌≡◌, ℕ, zero, suc, List, [], ◌∷◌, ◌++◌, true, false, refl, sym, ap, subst, ◌∙◌, cond}
-use Rattle.std.specs.Prelude.{Bool, Option, None, Some, slice_get}
-use Rattle.std.specs.Option.{option_map, option_map_or, option_and_then, ForSome}
+use Rattle.std.proofs.Common.{◌≡◌, ℕ, zero, suc, List, [], ◌∷◌, ◌++◌, true, false, refl, ap, subst, ◌∙◌, cond}
+use Rattle.std.specs.Prelude.{Option, None, Some, slice_get}
+use Rattle.std.specs.Option.{option_map, option_map_or, option_and_then}
 use Rattle.std.specs.Str.{bytes_eq}
 use Rattle.pt_tree.specs.Forest.{Forest, Node, File, Dir, Other, none, file, other, dir, as_dir, dir_at, find, is_proper, kind_of, listing_at, listing_of, node_at}
 use Rattle.pt_tree.specs.Listing.{Item}

@@ -4,7 +4,7 @@ use Rattle.std.specs.Prelude.{Option, None, Some}
 use Rattle.std.specs.Cmp.Lexicographic.{other_text, same_text}
 use Rattle.std.specs.Str.{bytes_eq}
 use Rattle.std.specs.Global.{Vec}
-use Rattle.std.specs.Option.{option_and_then, option_map, ForSome}
+use Rattle.std.specs.Option.{option_map, ForSome}
 use Rattle.std.proofs.lemmas.Bool.{cases_order, false_from_ne_true, true≢false}
 use Rattle.std.proofs.lemmas.Bool.Decides.{Decides-eqb}
 use Rattle.std.proofs.lemmas.Slice.Eq.{bytes_eq-Decides}
@@ -56,6 +56,7 @@ ends_on n rest piece behind front is back (inr (blocks, e)) = by (cases_order (l
         let taken : length piece ≡ n = ap length is.value ∙ length-take-le n rest (omega (arith, is.size, long)) in
         let both : length (front ++ piece) ≡ length front + length piece = length-append front piece in
         omega (arith, taken, both, e, is.size, long)
+
     by : (length rest ≡ 8192) ⊎ ((length rest < 8192) ⊎ (8192 < length rest)) → (behind ≡ []) ⊎ ((blocks : ℕ) × (length (front ++ piece) ≡ blocks * 8192))
     by (inl same) = inr (blocks + 1, whole (omega (arith, same)))
     by (inr (inl short)) = inl (back ∙ drop_all n rest (omega (arith, short, is.size)))
@@ -74,7 +75,8 @@ one_passed n bytes rest piece behind block old now new has read moved size value
       bytes_are = p.bytes_are ∙ ap (λ x. p.front ++ x) rest_is ∙ sym (append_assoc p.front piece behind);
       left_is = p.left_is ∙ ap (λ x. p.front ++ x) left_is ∙ sym (append_assoc p.front piece (drop 8192 p.behind));
       now_is = ap left_in moved ∙ left_next now ∙ ap (option_map (drop 8192)) p.now_is;
-      ends = ends_on n rest piece behind p.front (record { size = size; value = value }) back p.ends }
+      ends = ends_on n rest piece behind p.front (record { size = size; value = value }) back p.ends;
+    }
 
 -- a text that fills blocks, or ends the file, has nothing behind it where less than a block of it is left
 none_behind : (bytes rest front more : List ℕ) → bytes ≡ front ++ rest → 0 < length rest → length rest < 8192 → (rest ≡ []) ⊎ ((blocks : ℕ) × (length front ≡ blocks * 8192)) → EndsBlock bytes more → more ≡ []
@@ -89,6 +91,7 @@ taken_whole n rest more size none = by (cases_order (length rest) 8192)
   where
     whole : 8192 ≤ length rest → take 8192 (rest ++ more) ≡ take n rest
     whole long = let block : 8192 ≡ n = omega (arith, size, long) in take-append-le 8192 rest more long ∙ ap (λ k. take k rest) block
+
     by : (length rest ≡ 8192) ⊎ ((length rest < 8192) ⊎ (8192 < length rest)) → take 8192 (rest ++ more) ≡ take n rest
     by (inl same) = whole (omega (arith, same))
     by (inr (inl short)) = ap (λ m. take 8192 (rest ++ m)) (none short) ∙ ap (take 8192) (append-nil rest) ∙ take_all 8192 rest (omega (arith, short)) ∙ sym (take_all n rest (omega (arith, short, size)))
@@ -166,7 +169,8 @@ taken_next bytes block behind left blocks now left_is read now_is some whole =
       left_is = left_is ∙ ap (λ x. bytes ++ x) behind_is ∙ sym (append_assoc bytes block (drop 8192 behind));
       now_is = now_is;
       full = by size both (cases_order (length behind) 8192);
-      nearly = omega (arith, both, some, whole) }
+      nearly = omega (arith, both, some, whole);
+    }
   where
     by : length block ≡ min 8192 (length behind) → length (bytes ++ block) ≡ length bytes + length block → (length behind ≡ 8192) ⊎ ((length behind < 8192) ⊎ (8192 < length behind)) → (drop 8192 behind ≡ []) ⊎ (length (bytes ++ block) ≡ (blocks + 1) * 8192)
     by size both (inl same) = inl (drop_all 8192 behind (omega (arith, same)))

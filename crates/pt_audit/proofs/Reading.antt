@@ -1,8 +1,8 @@
 -- What a root tells after a call.
-use Rattle.std.proofs.Common.{◌≡◌, ℕ, List, [], true, refl, sym, ap, subst, ◌∙◌, drop}
+use Rattle.std.proofs.Common.{◌≡◌, ℕ, List, [], true, refl, ap, subst, ◌∙◌, drop}
 use Rattle.std.specs.Prelude.{Option, None, Some, IsSome, is_some, Result, Ok, Err, OnOk, OnErr}
-use Rattle.std.specs.Option.{option_map, ForSome}
-use Rattle.pt_tree.specs.Forest.{Forest, file_at, dir_at}
+use Rattle.std.specs.Option.{option_map}
+use Rattle.pt_tree.specs.Forest.{file_at}
 use Rattle.pt_tree.specs.Path.{Path}
 use Rattle.pt_tree.specs.Source.{CanList, CanOpen, CanRead, Reading, after_next, after_open}
 use Rattle.pt_tree.specs.declared.faults.TreeFault.{TreeFault}

@@ -1,10 +1,9 @@
 -- What stands on the way to a path of a root that tells.
-use Rattle.std.proofs.Common.{◌≡◌, ℕ, List, [], ◌∷◌, ◌++◌, true, false, refl, sym, ap, subst, ◌∙◌}
-use Rattle.std.specs.Prelude.{Bool, Option, None, Some, IsSome}
+use Rattle.std.proofs.Common.{◌≡◌, ℕ, List, [], ◌∷◌, ◌++◌, true, false, refl, sym, ap, subst}
+use Rattle.std.specs.Prelude.{Option, None, Some, IsSome}
 use Rattle.std.specs.Option.{option_map, option_map_or, option_and_then, ForSome}
 use Rattle.pt_tree.specs.Forest.{Forest, Node, File, Dir, Other, as_dir, as_file, dir_at, file_at, kind_of, node_at}
 use Rattle.pt_tree.specs.Path.{Path, parent}
-use Rattle.pt_tree.specs.declared.kind.Kind.{Kind}
 use Rattle.pt_tree.specs.declared.kind.Kind.TheVariants as kind
 use Rattle.pt_audit.specs.Root.{CanLook, Stands, same_kind}
 

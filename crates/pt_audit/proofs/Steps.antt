@@ -1,5 +1,5 @@
 -- A step of the run that is compared.
-use Rattle.std.proofs.Common.{◌≡◌, refl}
+use Rattle.std.proofs.Common.{refl}
 use Rattle.std.specs.Prelude.{IfOk, Result, Ok, Err}
 use Rattle.pt_move.proofs.Ran.{smaller}
 use Rattle.pt_move.specs.Running.{Running}

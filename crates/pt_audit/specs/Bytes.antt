@@ -1,5 +1,5 @@
 -- What is left to read of the open file of a root.
-use Rattle.std.specs.Prelude.{◌≡◌, ◌≢◌, ◌*◌, ◌-◌, ◌^◌, ◌<◌, ◌==◌, ◌++◌, ◌⊎◌, [], ℕ, Bool, List, length, Option, None, Some, MatchOption}
+use Rattle.std.specs.Prelude.{◌≡◌, ◌≢◌, ◌*◌, ◌-◌, ◌^◌, ◌<◌, ◌==◌, ◌++◌, ◌⊎◌, [], ℕ, Bool, List, length, Option, Some, MatchOption}
 use Rattle.std.specs.Global.{Vec}
 use Rattle.std.specs.Option.{option_and_then, ForSome}
 use Rattle.std.specs.Str.{bytes_eq}

@@ -1,10 +1,9 @@
 -- The lines of an audit's log: each one compact JSON object with its keys in byte order, and LF.
-use Rattle.std.specs.Prelude.{◌≡◌, ℕ, List, [], ◌∷◌, ◌++◌, Option, None, Some, codes}
+use Rattle.std.specs.Prelude.{ℕ, List, [], ◌∷◌, ◌++◌, Option, None, Some, codes}
 use Rattle.pt_audit.specs.Difference.{why_word}
 use Rattle.pt_audit.specs.declared.difference.Finding.{Finding}
 use Rattle.pt_audit.specs.declared.difference.Finding.TheVariants as finding
 use Rattle.pt_audit.specs.declared.difference.Why.{Why}
-use Rattle.pt_audit.specs.declared.counts.Counts.{Counts}
 use Rattle.pt_plan.specs.Lines.{number_member, text_member}
 use Rattle.pt_tree.specs.Path.{Path, joined}
 use Rattle.serde_json.specs.Data.{Data, no_members}

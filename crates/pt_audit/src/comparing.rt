@@ -1,6 +1,7 @@
 #![tactic(auto, using(crate::proofs::Reading::calls, crate::proofs::Kept::kept))]
 //! A destination that holds what a run makes against what stands, and makes nothing.
-ghost use Rattle.std.specs.Prelude.{not, length, ◌==◌, ◌&&◌, ◌≡◌, ⊤, ◌++◌, [], ◌∷◌, IfOk, IfSome, Option, OnErr, OnOk, true};
+ghost use Rattle.std.specs.Prelude.{not, length, true, ◌==◌, ◌&&◌, ◌≡◌, ⊤, ◌++◌, [], ◌∷◌};
+ghost use Rattle.std.specs.Prelude.{IfOk, IfSome, OnErr, OnOk, Option};
 ghost use Rattle.pt_tree.specs.Failures.{IsCounted};
 ghost use Rattle.pt_tree.specs.Forest.{Forest};
 ghost use Rattle.pt_audit.specs.Comparing.{FindsByEnd, FindsByMove, FindsByPiece, is_reading_if};

@@ -1,4 +1,4 @@
-use Rattle.std.proofs.Common.{ℕ, ◌-◌}
+use Rattle.std.proofs.Common.{◌-◌}
 use Rattle.pt_move.specs.Running.{HasBegun}
 use Rattle.pt_audit.specs.Auditing.{world_of}
 use Rattle.pt_audit.proofs.auditing.audit.Given as goal

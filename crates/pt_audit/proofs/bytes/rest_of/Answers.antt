@@ -18,8 +18,9 @@ pub loop-preserved : goal.loop-preserved
 loop-preserved g c =
     let told = g.R.Source.told in
     let longer = c.in_ok-extend_from_slice.ensures.items ∙ ap (λ b. c.loop.bytes.items ++ b) c.as_slice.ensures.value in
-    let moved = c.in_ok-next.ensures.moved in
-    (ap tree_in moved ∙ next_tree (told c.loop.root) ∙ c.loop.invariant.0,
+    let moved = c.in_ok-next.ensures.moved in (
+      ap tree_in moved ∙ next_tree (told c.loop.root) ∙ c.loop.invariant.0,
       ap is_reading moved ∙ next_reads (told c.loop.root) c.loop.invariant.1,
       one_taken c.loop.bytes.items c.next.new.block.items c.extend_from_slice.new.self.items c.loop.counter (told c.args.root.now) (told c.loop.root) (told c.next.new.self)
-        c.loop.invariant.2 c.in_ok-next.ensures.block moved c.if-is_empty.ensures longer)
+          c.loop.invariant.2 c.in_ok-next.ensures.block moved c.if-is_empty.ensures longer,
+    )
