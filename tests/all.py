@@ -1,7 +1,7 @@
 """Every test of the repository: the toolchain's gate, then the tests of the program that the gate built.
 
 Usage: all.py RT PROGRAM. Every few minutes it says how far the gate is, and at the gate's end how long each crate
-took. What the gate and the program's tests said of a failure is said again at the end. The last line is
+took. That, and what the gate and the program's tests said of a failure, is said again at the end. The last line is
 'N passed, M failed', over all of them; the status is 0 only where nothing failed.
 """
 
@@ -11,6 +11,7 @@ import os
 import re
 import subprocess
 import sys
+import textwrap
 
 HERE = os.path.dirname(os.path.abspath(__file__))
 sys.path += [f"{HERE}/cases", f"{HERE}/harness"]
@@ -45,13 +46,13 @@ class Heard:
 
 
 def run_gate(rt):
-    """Runs the gate, once more where it ended without a verdict, and gives how many passed and failed, and what to say again."""
+    """Runs the gate, once more where it ended without a verdict, and gives how many passed and failed, what to say again, and how long each crate took."""
     verdict = run_once(rt)
     if verdict[0] is None:
         print("\n".join([*verdict[2], "the gate gave no counts at its end: once more"]), flush=True)
         verdict = run_once(rt)
     if verdict[0] is None:
-        return 0, 1, [*verdict[2], "the gate gave no counts at its end"]
+        return 0, 1, [*verdict[2], "the gate gave no counts at its end"], verdict[3]
     return verdict
 
 
@@ -68,12 +69,13 @@ def run_once(rt):
             print(f"the gate: {line}" if told else line, flush=True)
             if SAID.search(line) and not WENT_WELL.search(line):
                 last.append(line)
-    print(far.table(), flush=True)
+    table = far.table()
+    print(table, flush=True)
     last.append(f"the gate ended with status {gate.returncode}")
     if counts is None:
-        return None, None, last
+        return None, None, last, table
     passed, failed = int(counts[1]), int(counts[2])
-    return passed, max(failed, int(gate.returncode != 0)), last
+    return passed, max(failed, int(gate.returncode != 0)), last, table
 
 
 def run_tests(path):
@@ -91,6 +93,7 @@ def main():
     passed, failed = (sum(result[n] for result in results) for n in (0, 1))
     if failed:
         print("\n".join(line for result in results if result[1] for line in result[2]))
+    print(textwrap.fill(" ".join(results[0][3].split()), 240))
     print(f"{passed} passed, {failed} failed", flush=True)
     sys.exit(1 if failed else 0)
 
