@@ -33,13 +33,20 @@ CASES = [case for file in FILES for case in file.CASES]
 
 def run_cases(path):
     """Runs each case, says what is wrong, and gives how many passed and failed."""
-    return running.run_all(CASES, path)
+    return run_these(CASES, path)
+
+
+def run_these(cases, path):
+    """The same of these cases."""
+    if any(case in peers.CASES for case in cases):
+        peers.built()
+    return running.run_all(cases, path)
 
 
 def run_some(path, words):
     """The same of the cases that have these words, and of those of tests/program.py."""
     some = program.run_cases(path, [case for case in program.CASES if words in case.name])
-    more = running.run_all([case for file in FILES for case in file.CASES if words in f"{file.__name__} {case.name}"], path)
+    more = run_these([case for file in FILES for case in file.CASES if words in f"{file.__name__} {case.name}"], path)
     return [sum(pair) for pair in zip(some, more)]
 
 

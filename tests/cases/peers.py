@@ -8,19 +8,17 @@ import random
 import shutil
 import subprocess
 import tempfile
-import threading
 
 from alone import Alone, differs, run
 from sharing import random_store
 from stores import build, differences, read_tree
 
 SOURCE = f"{os.path.dirname(os.path.dirname(os.path.dirname(os.path.abspath(__file__))))}/bench/peer.rs"
-LOCK = threading.Lock()
 
 
 @functools.cache
 def built():
-    """The peer, built once; None where there is no `rustc`."""
+    """The peer, built once, before the cases' processes begin; None where there is no `rustc`."""
     if not shutil.which("rustc"):
         return None
     folder = tempfile.mkdtemp(prefix="p")
@@ -33,8 +31,7 @@ def alike(seed):
     """Over a random store, twice, the peer's log and its root are the program's."""
 
     def test(program, folder):
-        with LOCK:
-            peer = built()
+        peer = built()
         if not peer:
             return None
         shutil.rmtree(f"{folder}/s")

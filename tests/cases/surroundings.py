@@ -15,8 +15,7 @@ from running import MEANT, mounted, started
 from stores import DIR, FIFO, ONE, build, read_tree
 
 HIDDEN = b"pairtree2ocfl: the system cannot tell where SOURCE and DEST lie\n"
-# A command's words before which it runs as another user. Python's own way keeps for a moment what other cases have open: a lock, or a
-# program that is being written, which can't be run then.
+# A command's words before which it runs as another user.
 AS_NOBODY = ("setpriv", "--reuid=65534", "--keep-groups")
 ALLOWED = os.geteuid() == 0
 

@@ -4,10 +4,11 @@ A case has a store and one or more runs over it and one destination. Of each run
 output, standard error, every entry of the destination, and that the source stands as it stood; and the status.
 """
 
-import concurrent.futures
 import contextlib
+import multiprocessing
 import os
 import subprocess
+import sys
 import tempfile
 
 import stores
@@ -172,12 +173,29 @@ def refused_by_parser(meant, *words, **options):
     return Run(b"", {}, 2, lambda err: err.startswith(b"error: "), meant=meant, words=words, **options)
 
 
+GIVEN = []
+
+
+def begin(cases, path):
+    """What each process of the cases begins with."""
+    GIVEN[:] = cases, path
+
+
+def outcome_of(number):
+    """What the case of this number found."""
+    cases, path = GIVEN
+    return cases[number].outcome(path)
+
+
 def run_all(cases, program):
-    """Runs each case, says what is wrong, and gives how many passed and failed."""
-    path = os.path.abspath(program)
+    """Runs each case, four at a time, says what is wrong, and gives how many passed and failed.
+
+    The four are processes: what a thread has open, as a lock or an end of a pipe, is open for a moment in what the others start, too.
+    """
     passed = failed = 0
-    with concurrent.futures.ThreadPoolExecutor(4) as pool:
-        for case, faults in zip(cases, pool.map(lambda case: case.outcome(path), cases)):
+    sys.stdout.flush()
+    with multiprocessing.get_context("fork").Pool(4, begin, (cases, os.path.abspath(program))) as pool:
+        for case, faults in zip(cases, pool.imap(outcome_of, range(len(cases)))):
             for text in faults or ():
                 print(f"{case.name}: {text}")
             said = "skipped: not possible here" if faults is None else "FAILED" if faults else "ok"
