@@ -79,7 +79,7 @@ fn next_step(state: &State, object: &Object, position: Position) -> Result<Step,
         return Ok(Step::Folder(path));
     }
     let to = content_path(state.alloc, &row.path, names)?;
-    let from = source_path(state.alloc, object, &state.trail, &row.path)?;
+    let from = source_path(object, &state.trail, &row.path)?;
     let length = row.length;
     Ok(Step::File(Copied { to, from, length }))
 }

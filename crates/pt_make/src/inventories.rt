@@ -13,14 +13,15 @@ ghost use Rattle.pt_plan.specs.declared.phase.Phase.TheVariants as phase;
 ghost use Rattle.pt_state.specs.Outside.{IsNotOfLog, Turned};
 ghost use Rattle.pt_state.specs.States.{job_of};
 ghost use Rattle.pt_tree.specs.Dest.{MayMake};
+ghost use Rattle.pt_tree.specs.Known.{known_text};
 ghost use Rattle.pt_make.specs.Making.{HasContentsOfRows, HasFedInventory, IsFedFor, in_folder, inventory_held, inventory_part, makes_file, sidecar_part};
 
 use pt_object::{Algorithm, Digest, Hasher, inventory, sidecar_of};
 use pt_plan::{Halt, Object, Part, Phase};
 use pt_state::files::put_file;
-use pt_state::paths::{STAGING, path_of};
+use pt_state::paths::path_of;
 use pt_state::{Outside, State};
-use pt_tree::{MemoryFault, NamePath};
+use pt_tree::{Known, MemoryFault, NamePath};
 use std::alloc::Global;
 
 // A folder of an object that holds an inventory.
@@ -49,7 +50,7 @@ pub(crate) fn make_inventory<O: Outside>(
     ensures other { IfErr result IsNotOfLog }
     ensures calls { O.within 0 out.old out.new }
 {
-    let path = path_in(state.alloc, folder, "inventory.json")?;
+    let path = path_in(state.alloc, folder, Known::Inventory)?;
     let text = inventory_of(state, &object)?;
     put_file(out, &path, text.as_bytes())?;
     match folder {
@@ -164,17 +165,19 @@ fn sidecar_path(
 ) -> Result<NamePath, MemoryFault>
     ensures { IfOk result (λ path. path ≡ in_folder folder (sidecar_name_of algorithm ∷ [])) }
 {
-    let mut name = String::from_str(alloc, "inventory.json.")?;
-    name.push_str(algorithm.word())?;
-    path_in(alloc, folder, name.as_str())
+    let name = match algorithm {
+        Algorithm::Sha512 => Known::Sha512Sidecar,
+        Algorithm::Sha256 => Known::Sha256Sidecar,
+    };
+    path_in(alloc, folder, name)
 }
 
 // The path of what has this name in a folder.
-fn path_in(alloc: Global, folder: Folder, name: &str) -> Result<NamePath, MemoryFault>
-    ensures { IfOk result (λ path. path ≡ in_folder folder (name.now ∷ [])) }
+fn path_in(alloc: Global, folder: Folder, name: Known) -> Result<NamePath, MemoryFault>
+    ensures { IfOk result (λ path. path ≡ in_folder folder (known_text name ∷ [])) }
 {
     match folder {
-        Folder::Version => path_of(alloc, &[STAGING, "v1", name]),
-        Folder::Top => path_of(alloc, &[STAGING, name]),
+        Folder::Version => path_of(alloc, &[Known::Staging, Known::Version, name]),
+        Folder::Top => path_of(alloc, &[Known::Staging, name]),
     }
 }

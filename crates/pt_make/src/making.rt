@@ -17,8 +17,9 @@ use crate::inventories::{Folder, make_inventory, make_sidecar};
 use pt_object::object_declaration;
 use pt_plan::{Halt, Object, Part, Phase, Position};
 use pt_state::files::put_file;
-use pt_state::paths::{STAGING, path_of};
+use pt_state::paths::path_of;
 use pt_state::{Outside, State};
+use pt_tree::Known;
 
 /// Makes a part of an object: its folder in `staging`, the declaration, the version's folder, the contents one after
 /// another, and the inventory with its sidecar, first in the version's folder and then at the top (OCFL 1.1, "Object
@@ -57,7 +58,7 @@ fn make_staging<O: Outside>(state: &State, object: Object, out: &mut O) -> Resul
     ensures other { IfErr result IsNotOfLog }
     ensures calls { O.within 0 out.old out.new }
 {
-    let path = path_of(state.alloc, &[STAGING])?;
+    let path = path_of(state.alloc, &[Known::Staging])?;
     out.mkdir(&path)?;
     Ok(Phase::Make(object, Part::Declaration))
 }
@@ -70,7 +71,7 @@ fn make_declaration<O: Outside>(state: &State, object: Object, out: &mut O) -> R
     ensures other { IfErr result IsNotOfLog }
     ensures calls { O.within 0 out.old out.new }
 {
-    let path = path_of(state.alloc, &[STAGING, "0=ocfl_object_1.1"])?;
+    let path = path_of(state.alloc, &[Known::Staging, Known::Declaration])?;
     put_file(out, &path, object_declaration())?;
     Ok(Phase::Make(object, Part::Version))
 }
@@ -83,7 +84,7 @@ fn make_version<O: Outside>(state: &State, object: Object, out: &mut O) -> Resul
     ensures other { IfErr result IsNotOfLog }
     ensures calls { O.within 0 out.old out.new }
 {
-    let path = path_of(state.alloc, &[STAGING, "v1"])?;
+    let path = path_of(state.alloc, &[Known::Staging, Known::Version])?;
     out.mkdir(&path)?;
     let first = Position {
         row: 0,

@@ -11,9 +11,9 @@ ghost use Rattle.pt_state.specs.Outside.{IsNotOfLog, Turned};
 ghost use Rattle.pt_tree.specs.Dest.{MayMove};
 
 use pt_plan::{Halt, Object, Phase};
-use pt_state::paths::{STAGING, front_in_storage_root, in_storage_root, path_of};
+use pt_state::paths::{front_in_storage_root, in_storage_root, path_of};
 use pt_state::{Outside, State};
-use pt_tree::{Kind, NamePath};
+use pt_tree::{Kind, Known, NamePath};
 
 /// Makes a tuple directory on the way to an object's place, where it is absent (extension 0003).
 pub fn make_tuple<O: Outside>(
@@ -81,7 +81,7 @@ pub fn rename<O: Outside>(state: &State, object: Object, out: &mut O) -> Result<
     ensures other { IfErr result IsNotOfLog }
     ensures calls { O.within 0 out.old out.new }
 {
-    let from = path_of(state.alloc, &[STAGING])?;
+    let from = path_of(state.alloc, &[Known::Staging])?;
     let to = in_storage_root(state.alloc, &object.place)?;
     move_object(state, object, &from, &to, out)
 }

@@ -13,9 +13,9 @@ ghost use Rattle.pt_scan.specs.Walking.{EntersSite, IsAtShorty, PassesShorty};
 
 use pt_plan::{Halt, Phase};
 use pt_state::lines::put_skip;
-use pt_state::paths::{PAIRTREE_ROOT, entry_path, in_pairtree, path_of};
+use pt_state::paths::{entry_path, in_pairtree, path_of};
 use pt_state::{Outside, State};
-use pt_tree::{MemoryFault, Name, NamePath};
+use pt_tree::{Known, MemoryFault, Name, NamePath};
 use pt_walk::{At, Cause, is_shorty};
 
 /// Lists `pairtree_root` and enters it; nothing is entered yet. Gives the phase that judges it.
@@ -28,7 +28,7 @@ pub fn open_root<O: Outside>(state: &mut State, out: &mut O) -> Result<Phase, Ha
         (O.world out.old) (O.world out.new) result }
     ensures calls { O.within 1 out.old out.new }
 {
-    let path = path_of(state.alloc, &[PAIRTREE_ROOT])?;
+    let path = path_of(state.alloc, &[Known::PairtreeRoot])?;
     let listing = out.list(&path)?;
     state.trail.enter(listing)?;
     Ok(Phase::Judge)
@@ -123,7 +123,7 @@ fn enter_site<O: Outside>(state: &mut State, out: &mut O) -> Result<Phase, Halt>
 pub(crate) fn listed_path(state: &State) -> Result<NamePath, MemoryFault>
     ensures { IfOk result (λ path. path ≡ in_pairtree_of (names_to state.now.trail)) }
 {
-    in_pairtree(state.alloc, entry_path(&state.trail)?)
+    in_pairtree(entry_path(&state.trail)?)
 }
 
 // Whether the site at a path below `pairtree_root` is of a name of one byte, below which no site is.

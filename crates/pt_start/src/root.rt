@@ -16,14 +16,12 @@ use crate::store::is_file;
 use pt_object::root_files;
 use pt_plan::{Halt, Phase};
 use pt_state::files::put_file;
-use pt_state::paths::{STAGING, STORAGE_ROOT, in_staging, in_storage_root, path_of};
+use pt_state::paths::{in_staging, in_storage_root, path_of};
 use pt_state::{Outside, State};
-use pt_tree::{Kind, MemoryFault, NamePath};
+use pt_tree::{Kind, Known, MemoryFault, NamePath};
 use std::alloc::Global;
 
 // The layout of the storage root (extension 0003).
-const EXTENSION: &str = "0003-hash-and-id-n-tuple-storage-layout";
-
 /// Asks whether `staging` is there.
 #[tactic(auto, using(crate::proofs::Starting::staging_rows))]
 pub fn staging<O: Outside>(state: &State, out: &mut O) -> Result<Phase, Halt>
@@ -32,7 +30,7 @@ pub fn staging<O: Outside>(state: &State, out: &mut O) -> Result<Phase, Halt>
     ensures other { IfErr result IsNotOfLog }
     ensures calls { O.within 0 out.old out.new }
 {
-    let path = path_of(state.alloc, &[STAGING])?;
+    let path = path_of(state.alloc, &[Known::Staging])?;
     match out.kind(&path)? {
         None => Ok(Phase::Root),
         Some(_) => Err(Halt::StagingLeft),
@@ -46,7 +44,7 @@ pub fn root<O: Outside>(state: &State, out: &mut O) -> Result<Phase, Halt>
     ensures other { IfErr result IsNotOfLog }
     ensures calls { O.within 0 out.old out.new }
 {
-    let path = path_of(state.alloc, &[STORAGE_ROOT])?;
+    let path = path_of(state.alloc, &[Known::StorageRoot])?;
     match out.kind(&path)? {
         None => Ok(Phase::RootMake(0)),
         Some(Kind::Dir) => Ok(Phase::RootCheck(0)),
@@ -119,11 +117,14 @@ fn root_folder(alloc: Global, item: u8) -> Result<NamePath, MemoryFault>
     ensures { (tuples : Tuples) → IfOk result (λ path. IsRootItem tuples item (MakeFolder path)) }
 {
     if item == 0 {
-        path_of(alloc, &[STAGING])
+        path_of(alloc, &[Known::Staging])
     } else if item == 1 {
-        path_of(alloc, &[STAGING, "extensions"])
+        path_of(alloc, &[Known::Staging, Known::Extensions])
     } else {
-        path_of(alloc, &[STAGING, "extensions", EXTENSION])
+        path_of(
+            alloc,
+            &[Known::Staging, Known::Extensions, Known::Extension],
+        )
     }
 }
 
@@ -147,8 +148,8 @@ pub fn rename_root<O: Outside>(state: &State, out: &mut O) -> Result<Phase, Halt
     ensures other { IfErr result IsNotOfLog }
     ensures calls { O.within 0 out.old out.new }
 {
-    let from = path_of(state.alloc, &[STAGING])?;
-    let to = path_of(state.alloc, &[STORAGE_ROOT])?;
+    let from = path_of(state.alloc, &[Known::Staging])?;
+    let to = path_of(state.alloc, &[Known::StorageRoot])?;
     move_root(state, &from, &to, out)
 }
 

@@ -13,9 +13,9 @@ ghost use Rattle.pt_start.specs.Starting.{PrefixFails, kind_if_named};
 use pt_name::{PrefixFault, read_prefix};
 use pt_plan::{Halt, Phase};
 use pt_state::files::read_first;
-use pt_state::paths::{PAIRTREE_ROOT, PREFIX_FILE, VERSION_FILE, path_of};
+use pt_state::paths::path_of;
 use pt_state::{Outside, State};
-use pt_tree::{Block, Kind, Listing, NamePath};
+use pt_tree::{Block, Kind, Known, Listing, NamePath};
 use std::alloc::Global;
 
 /// Lists the top.
@@ -31,14 +31,15 @@ pub fn begin<O: Outside>(state: &State, out: &mut O) -> Result<Phase, Halt>
     if !is_store(&listing) {
         return Err(Halt::NotPairtree);
     }
-    Ok(Phase::Prefix(kind_in(&listing, PREFIX_FILE)))
+    Ok(Phase::Prefix(kind_in(&listing, Known::PrefixFile.text())))
 }
 
 // Whether a top lists what a store has.
 fn is_store(listing: &Listing) -> bool
     ensures { result ≡ lists_store listing.now }
 {
-    is_file(kind_in(listing, VERSION_FILE)) && is_dir(kind_in(listing, PAIRTREE_ROOT))
+    is_file(kind_in(listing, Known::VersionFile.text()))
+        && is_dir(kind_in(listing, Known::PairtreeRoot.text()))
 }
 
 pub(crate) fn is_file(kind: Option<Kind>) -> bool
@@ -95,7 +96,7 @@ pub fn prefix<O: Outside>(state: &mut State, here: Option<Kind>, out: &mut O) ->
         Some(Kind::File) => {}
         Some(_) => return Err(Halt::Prefix),
     }
-    let path = path_of(state.alloc, &[PREFIX_FILE])?;
+    let path = path_of(state.alloc, &[Known::PrefixFile])?;
     read_first(out, &path, &mut state.block)?;
     state.prefix = prefix_of(state.alloc, &state.block)?;
     Ok(Phase::Staging)

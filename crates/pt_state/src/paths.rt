@@ -1,43 +1,34 @@
-//! The names that the program knows, and the paths of a run, in the source and in the destination.
-ghost use Rattle.std.specs.Prelude.{◌≡◌, ◌++◌, ◌∷◌, [], IfOk, map, take, length, ◌≤◌, true};
+//! The paths of a run, in the source and in the destination.
+ghost use Rattle.std.specs.Prelude.{◌≡◌, ◌++◌, ◌∷◌, [], IfOk, map, take, length, ◌≤◌};
 ghost use Rattle.std.specs.String.{string_bytes};
 ghost use Rattle.pt_plan.specs.TurnMake.{in_content, path_of_source};
 ghost use Rattle.pt_plan.specs.TurnScan.{logical_path as logical_path_of, to_site};
 ghost use Rattle.pt_object.specs.Scripts.{staging};
 ghost use Rattle.pt_plan.specs.TurnWalk.{in_pairtree as in_pairtree_of, in_root};
+ghost use Rattle.pt_tree.specs.Known.{known_text};
 ghost use Rattle.pt_tree.specs.Path.{joined};
 ghost use Rattle.pt_walk.specs.Trail.{names_to, trail_path};
 
 use pt_plan::Object;
-use pt_tree::{MemoryFault, Name, NamePath};
+use pt_tree::{Known, MemoryFault, Name, NamePath};
 use pt_walk::Trail;
 use std::alloc::Global;
 
-/// The file that marks a Pairtree store (Pairtree 0.1).
-pub const VERSION_FILE: &str = "pairtree_version0_1";
+/// The path of these names.
+pub fn path_of(alloc: Global, names: &[Known]) -> Result<NamePath, MemoryFault>
+    ensures { IfOk result (λ path. path ≡ map known_text names.now) }
+{
+    known_path(alloc, names, 0)
+}
 
-/// The file of a store's prefix (Pairtree 0.1).
-pub const PREFIX_FILE: &str = "pairtree_prefix";
-
-/// The directory of a store's pairtree (Pairtree 0.1).
-pub const PAIRTREE_ROOT: &str = "pairtree_root";
-
-/// The storage root in the destination.
-pub const STORAGE_ROOT: &str = "ocfl";
-
-/// Where a root or an object is made in the destination.
-pub const STAGING: &str = "staging";
-
-/// The path of these names. Only want of memory refuses it, where they are names.
-pub fn path_of(alloc: Global, names: &[&str]) -> Result<NamePath, MemoryFault>
-    ensures { IfOk result (λ path. path ≡ map (λ name. name.now) names.now) }
+// The path of these names, with room for so many more.
+fn known_path(alloc: Global, names: &[Known], room: usize) -> Result<NamePath, MemoryFault>
+    ensures { IfOk result (λ path. path ≡ map known_text names.now) }
 {
     let mut path = NamePath::new(alloc);
+    path.reserve(names.len().saturating_add(room))?;
     for name in names {
-        match Name::of(alloc, name.as_bytes()) {
-            Ok(name) => path.push(name)?,
-            Err(_) => return Err(MemoryFault::Memory),
-        }
+        path.push(Name::from(*name))?;
     }
     Ok(path)
 }
@@ -54,13 +45,10 @@ pub fn extended(mut path: NamePath, names: &[Name]) -> Result<NamePath, MemoryFa
 }
 
 /// The path in the source of what stands at a path below its `pairtree_root`.
-pub fn in_pairtree(alloc: Global, mut path: NamePath) -> Result<NamePath, MemoryFault>
+pub fn in_pairtree(mut path: NamePath) -> Result<NamePath, MemoryFault>
     ensures { IfOk result (λ whole. whole ≡ in_pairtree_of path) }
 {
-    match Name::of(alloc, PAIRTREE_ROOT.as_bytes()) {
-        Ok(name) => path.push_front(name)?,
-        Err(_) => return Err(MemoryFault::Memory),
-    }
+    path.push_front(Name::from(Known::PairtreeRoot))?;
     Ok(path)
 }
 
@@ -68,7 +56,10 @@ pub fn in_pairtree(alloc: Global, mut path: NamePath) -> Result<NamePath, Memory
 pub fn in_storage_root(alloc: Global, path: &NamePath) -> Result<NamePath, MemoryFault>
     ensures { IfOk result (λ whole. whole ≡ in_root path.now) }
 {
-    extended(path_of(alloc, &[STORAGE_ROOT])?, path.names())
+    extended(
+        known_path(alloc, &[Known::StorageRoot], path.len())?,
+        path.names(),
+    )
 }
 
 /// The path of the storage root that has the first so many names of a path there, or all if it has fewer.
@@ -80,14 +71,20 @@ pub fn front_in_storage_root(
     ensures { IfOk result (λ whole. whole ≡ in_root (take names path.now)) }
 {
     let most = names.min(path.len());
-    extended(path_of(alloc, &[STORAGE_ROOT])?, &path.names()[..most])
+    extended(
+        known_path(alloc, &[Known::StorageRoot], most)?,
+        &path.names()[..most],
+    )
 }
 
 /// A path of `staging`, in the destination.
 pub fn in_staging(alloc: Global, path: &NamePath) -> Result<NamePath, MemoryFault>
     ensures { IfOk result (λ whole. whole ≡ staging ++ path.now) }
 {
-    extended(path_of(alloc, &[STAGING])?, path.names())
+    extended(
+        known_path(alloc, &[Known::Staging], path.len())?,
+        path.names(),
+    )
 }
 
 /// The path of the entry at a trail's place, from below `pairtree_root` on; the innermost listing's at its end.
@@ -113,17 +110,12 @@ pub fn object_path(object: &Object, trail: &Trail) -> Result<NamePath, MemoryFau
 }
 
 /// The path in the source of the file with a logical path.
-pub fn source_path(
-    alloc: Global,
-    object: &Object,
-    trail: &Trail,
-    path: &NamePath,
-) -> Result<NamePath, MemoryFault>
+pub fn source_path(object: &Object, trail: &Trail, path: &NamePath) -> Result<NamePath, MemoryFault>
     ensures { IfOk result (λ whole. whole
         ≡ in_pairtree_of (path_of_source object.now trail.now ++ path.now)) }
 {
     let directory = object_path(object, trail)?;
-    extended(in_pairtree(alloc, directory)?, path.names())
+    extended(in_pairtree(directory)?, path.names())
 }
 
 /// The content path in `staging` that has so many names of a logical path.
@@ -131,8 +123,8 @@ pub fn content_path(alloc: Global, path: &NamePath, names: usize) -> Result<Name
     requires { names ≤ length path.now }
     ensures { IfOk result (λ whole. whole ≡ in_content (take names path.now)) }
 {
-    let content = path_of(alloc, &[STAGING, "v1", "content"])?;
-    extended(content, &path.names()[..names])
+    let above = [Known::Staging, Known::Version, Known::Content];
+    extended(known_path(alloc, &above, names)?, &path.names()[..names])
 }
 
 /// The names with `/` between, as a text.

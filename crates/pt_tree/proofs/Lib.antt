@@ -1,9 +1,10 @@
-mod Joining
+pub mod Joining
 mod Texts
 pub mod AtPaths
 pub mod Canonical
 pub mod Finding
 pub mod Held
+pub mod KnownNames
 pub mod Leaving
 pub mod Names
 pub mod Paths

@@ -2,9 +2,11 @@ pub mod Dest
 pub mod Failures
 pub mod Faults
 pub mod Forest
+pub mod Known
 pub mod Listing
 pub mod Log
 pub mod Name
+pub mod NameText
 pub mod Path
 pub mod Refusal
 pub mod Source

@@ -4,6 +4,7 @@
 mod dest;
 mod faults;
 mod kind;
+mod known;
 mod listing;
 mod log;
 mod name;
@@ -15,6 +16,7 @@ use arrayvec::ArrayVec;
 pub use dest::Dest;
 pub use faults::{MemoryFault, TreeFault};
 pub use kind::Kind;
+pub use known::Known;
 pub use listing::{Listing, ListingFault};
 pub use log::Log;
 pub use name::{Name, NameFault};

@@ -5,12 +5,15 @@ ghost use Rattle.std.specs.Cmp.Lexicographic.{slice_cmp, nat_list_eq_equiv, nat_
 ghost use Rattle.std.specs.Ordering.{nat_cmp};
 ghost use Rattle.std.proofs.Common.{rules};
 ghost use Rattle.pt_tree.specs.Name.{name_refusal, is_forbidden_name, is_name, name_number};
+ghost use Rattle.pt_tree.specs.Known.{known_text};
+ghost use Rattle.pt_tree.specs.NameText.{text_bytes};
 ghost use Rattle.pt_tree.specs.Refusal.{Answers};
 
-use crate::MemoryFault;
+use crate::{Known, MemoryFault};
 use std::alloc::Global;
 use std::cmp::Ordering;
 use std::marker::Model;
+use std::rc::Rc;
 use thiserror::Error;
 
 const LONGEST: usize = 255;
@@ -47,20 +50,29 @@ impl NameFault {
 }
 
 /// The name of an entry of a directory: 1 to 255 bytes of UTF-8 without `/` and NUL, neither `.` nor `..`.
+///
+/// A copy shares its text.
 #[derive(Debug, Drop)]
 pub struct Name {
-    bytes: Vec<u8>,
+    text: Text,
+}
+
+#[derive(Debug, Drop)]
+enum Text {
+    Known(Known),
+    Shared(Rc<Vec<u8>>),
 }
 
 impl Model for Name {
     ghost use Rattle.std.specs.Prelude.{◌≡◌, List, ℕ, true};
     ghost use Rattle.pt_tree.specs.Name.{is_name};
+    ghost use Rattle.pt_tree.specs.NameText.{text_bytes};
 
     ghost Value = { List ℕ };
 
-    ghost view = { λ n. n.bytes.items };
+    ghost view = { λ n. text_bytes n.text };
 
-    ghost invariant = { λ n. is_name n.bytes.items ≡ true };
+    ghost invariant = { λ n. is_name (text_bytes n.text) ≡ true };
 }
 
 impl Name {
@@ -75,8 +87,8 @@ impl Name {
         if let Some(refusal) = refusal(bytes) {
             return Err(refusal);
         }
-        match bytes.to_vec(alloc) {
-            Ok(bytes) => Ok(Name { bytes }),
+        match shared(alloc, bytes) {
+            Ok(text) => Ok(Name { text }),
             Err(_) => Err(NameFault::Memory),
         }
     }
@@ -86,7 +98,10 @@ impl Name {
         ensures bytes { result.now ≡ self.now }
         ensures name { IsTrue (is_name self.now) }
     {
-        &self.bytes
+        match &self.text {
+            Text::Known(known) => known.text().as_bytes(),
+            Text::Shared(bytes) => bytes.as_slice(),
+        }
     }
 
     /// A second name of the same bytes; `Memory` where a growth was refused.
@@ -94,9 +109,22 @@ impl Name {
         ensures bytes { IfOk result (λ name. name ≡ self.now) }
         ensures name { IsTrue (is_name self.now) }
     {
-        Ok(Name {
-            bytes: self.bytes.clone()?,
-        })
+        let text = match &self.text {
+            Text::Known(known) => Text::Known(*known),
+            Text::Shared(bytes) => Text::Shared(bytes.clone()?),
+        };
+        Ok(Name { text })
+    }
+}
+
+impl From<Known> for Name {
+    ghost from_gives = { λ known name. name ≡ known_text known };
+
+    #[tactic(auto, using(crate::proofs::KnownNames::known_is_name))]
+    fn from(known: Known) -> Name {
+        Name {
+            text: Text::Known(known),
+        }
     }
 }
 
@@ -106,7 +134,7 @@ impl PartialEq for Name {
     ghost laws = { partial_equiv_from_equiv nat_list_eq_equiv };
 
     fn eq(&self, other: &Name) -> bool {
-        self.bytes.as_slice() == other.bytes.as_slice()
+        self.bytes() == other.bytes()
     }
 }
 
@@ -135,7 +163,16 @@ impl Ord for Name {
     ghost matches_eq = { texts_ties };
 
     fn cmp(&self, other: &Name) -> Ordering {
-        self.bytes.as_slice().cmp(other.bytes.as_slice())
+        self.bytes().cmp(other.bytes())
+    }
+}
+
+fn shared(alloc: Global, bytes: &[u8]) -> Result<Text, MemoryFault>
+    ensures { IfOk result (λ text. text_bytes text ≡ bytes.now) }
+{
+    match Rc::new(alloc, bytes.to_vec(alloc)?) {
+        Ok(bytes) => Ok(Text::Shared(bytes)),
+        Err(_) => Err(MemoryFault::Memory),
     }
 }
 
