@@ -29,11 +29,12 @@ pub fn inventory(
     algorithm: Algorithm,
 ) -> Result<String, MemoryFault>
     requires { contents.now ≡ map content_of_row (distinct rows.now) }
-    ensures text { IfOk result (λ text. string_bytes text ≡ inventory_text id.now rows.now meta.now algorithm) }
+    ensures text { IfOk result (λ text. string_bytes text
+        ≡ inventory_text id.now rows.now meta.now algorithm) }
     ensures reads { IfOk result (λ text. read (string_bytes text)
         ≡ Some (inventory_tree id.now rows.now meta.now algorithm)) }
 {
-    let mut out = Output::new(alloc);
+    let mut out = Output::new(alloc)?;
     put_head(&mut out, id, algorithm)?;
     put_manifest(&mut out, contents)?;
     out.member("type", "https://ocfl.io/1.1/spec/#inventory")?;

@@ -82,7 +82,8 @@ impl Meta {
         message: &str,
     ) -> Result<Meta, MetaFault>
         ensures { Answers (meta_refusal created.now name.now) MetaFault.Memory result
-            (λ meta. meta ≡ parts_of created.now name.now (given_address (option_map (λ a. a.now) address.entry)) message.now) }
+            (λ meta. meta ≡ parts_of created.now name.now
+            (given_address (option_map (λ a. a.now) address.entry)) message.now) }
     {
         if !is_moment(created.as_bytes()) {
             return Err(MetaFault::Created);

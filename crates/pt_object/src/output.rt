@@ -13,6 +13,8 @@ use pt_tree::{MemoryFault, NamePath};
 use std::alloc::{AllocError, Global};
 use std::marker::Model;
 
+const ROOM: usize = 1024;
+
 // A text of JSON, seen as its tokens.
 #[derive(Drop)]
 pub(crate) struct Output {
@@ -34,14 +36,15 @@ impl Model for Output {
 }
 
 impl Output {
-    // No text yet.
-    pub(crate) fn new(alloc: Global) -> Output
-        ensures { result ≡ [] }
+    // No text yet, in room for that of a small object.
+    pub(crate) fn new(alloc: Global) -> Result<Output, AllocError>
+        ensures { IfOk result (λ out. out ≡ []) }
     {
-        Output {
+        let text = Vec::with_capacity(alloc, ROOM)?;
+        Ok(Output {
             alloc,
-            writer: Writer::new(Vec::new(alloc)),
-        }
+            writer: Writer::new(text),
+        })
     }
 
     // The text of the tokens.

@@ -1,5 +1,6 @@
 pub mod FileTurns
 pub mod HeldTurns
+pub mod JoinedLength
 pub mod Judged
 pub mod Leaving
 pub mod ObjectPaths

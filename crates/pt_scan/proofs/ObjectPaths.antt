@@ -82,10 +82,10 @@ first_of object trail (some, long) own = by object.gathered own
     by true own = omega (arith, some, long)
     by false own = omega (arith, some, long)
 
-pub logical_is : (object : Object) (trail : List Frame) (entry names start whole : Path) (first : ℕ) → is_trail trail ≡ true → IsSite object trail → 0 < own_listings object trail → entry ≡ names_to trail → first ≡ cond object.gathered (object.site - 1) object.site → names ≡ entry → start ≡ []
-    → whole ≡ start ++ take (length names - first) (drop first names) → whole ≡ logical_path object trail
-logical_is object trail entry names start whole first is site own at begin names_is none whole_is =
-    whole_is ∙ ap (λ (p : Path). p ++ take (length names - first) (drop first names)) none ∙ take_all (length names - first) (drop first names) (let short = length-drop first names in omega (arith, short))
+pub logical_is : (object : Object) (trail : List Frame) (entry names rest : Path) (first : ℕ) → is_trail trail ≡ true → IsSite object trail → 0 < own_listings object trail → entry ≡ names_to trail → first ≡ cond object.gathered (object.site - 1) object.site → names ≡ entry
+    → rest ≡ take (length names - first) (drop first names) → rest ≡ logical_path object trail
+logical_is object trail entry names rest first is site own at begin names_is rest_is =
+    rest_is ∙ take_all (length names - first) (drop first names) (let short = length-drop first names in omega (arith, short))
     ∙ ap (drop first) (names_is ∙ at) ∙ ap (λ (k : ℕ). drop k (names_to trail)) (begin ∙ sym (first_of object trail site own)) ∙ ap (λ (p : Path). drop (length trail - own_listings object trail) p) (path_splits (own_listings object trail) trail)
     ∙ drop_front (names_to (drop (own_listings object trail) trail)) (names_to (take (own_listings object trail) trail)) (length trail - own_listings object trail) (names_outside (own_listings object trail) trail is own)
 

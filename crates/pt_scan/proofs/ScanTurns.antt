@@ -161,22 +161,25 @@ or_right : (a b : Bool) → b ≡ true → (a || b) ≡ true
 or_right true b is = refl
 or_right false b is = is
 
-pub path_too_long : (s : State) (object : Object) (path : Path) (text : List ℕ) → IsAtFile s.trail → text ≡ joined path → path ≡ logical_path object s.trail → s.job.limits.path_bytes < length text → GivesUp (phase.Scan object) object cause.Limit s
+-- a test of the logical path's length
+long_is : (s : State) (object : Object) (names : Path) (most : ℕ) (longer : Bool) → longer ≡ nat_lt most (length (joined names)) → most ≡ s.job.limits.path_bytes → names ≡ logical_path object s.trail → nat_lt s.job.limits.path_bytes (length (joined (logical_path object s.trail))) ≡ longer
+long_is s object names most longer is limit there = ap (λ (p : Path). nat_lt s.job.limits.path_bytes (length (joined p))) (sym there) ∙ ap (λ (n : ℕ). nat_lt n (length (joined names))) (sym limit) ∙ sym is
+
+pub path_too_long : (s : State) (object : Object) (names : Path) (most : ℕ) (longer : Bool) → IsAtFile s.trail → longer ≡ nat_lt most (length (joined names)) → most ≡ s.job.limits.path_bytes → names ≡ logical_path object s.trail → longer ≡ true → GivesUp (phase.Scan object) object cause.Limit s
 unfolding IsAtFile GivesUp
-path_too_long s object path text (name, at) is there long = λ fed. MeetsLimit (held_of s fed) object name at
-    (or_right (nat_le s.job.limits.files (length s.rows)) _ (lt-ltb s.job.limits.path_bytes (length (joined (logical_path object s.trail))) (subst (λ (t : List ℕ). s.job.limits.path_bytes < length t) (is ∙ ap joined there) long)))
+path_too_long s object names most longer (name, at) is limit there long = λ fed. MeetsLimit (held_of s fed) object name at (or_right (nat_le s.job.limits.files (length s.rows)) _ (long_is s object names most longer is limit there ∙ long))
 
 pub may_open_entry : (told : Option Reading) (trail : List Frame) (entry path : Path) → MayOpen told trail → IsAtFile trail → entry ≡ names_to trail → path ≡ in_pairtree entry → CanOpen told path
 unfolding MayOpen IsAtFile
 may_open_entry told trail entry path may (name, at) names there = subst (λ (p : Path). CanOpen told p) (sym (there ∙ ap in_pairtree names)) (may name at)
 
-pub opened_file : (s s' : State) (a b : World) (object : Object) (entry path logical : Path) (text : List ℕ) → IsAtFile s.trail → length s.rows < s.job.limits.files → text ≡ joined logical → logical ≡ logical_path object s.trail → length text ≤ s.job.limits.path_bytes
+pub opened_file : (s s' : State) (a b : World) (object : Object) (entry path names : Path) (most : ℕ) (longer : Bool) → IsAtFile s.trail → length s.rows < s.job.limits.files → longer ≡ nat_lt most (length (joined names)) → most ≡ s.job.limits.path_bytes → names ≡ logical_path object s.trail → longer ≡ false
     → Did (asks (Opens path)) a b → entry ≡ names_to s.trail → path ≡ in_pairtree entry → HasBeenFed s.job.algorithm s'.hasher [] → KeepsAll s s' → Turned (phase.Scan object) s s' a b (Ok (phase.Read object 0))
 unfolding IsAtFile
-opened_file s s' a b object entry path logical text (name, at) few text_is logical_at short did names there fed_none keeps =
+opened_file s s' a b object entry path names most longer (name, at) few is limit logical_at short did entry_at there fed_none keeps =
     went (phase.Scan object) (phase.Read object 0) s s' a b (asks (Opens (in_pairtree (names_to s.trail)))) (λ fed. [])
-    (λ fed was. Scan (phase.Scan object) (string_bytes s.prefix) (held_of s fed) (held_of s []) _ _ (OpensFile (held_of s fed) object name at (neither _ _ (lt-leb s.job.limits.files (length s.rows) few) (le-ltb s.job.limits.path_bytes (length (joined (logical_path object s.trail))) (subst (λ (t : List ℕ). length t ≤ s.job.limits.path_bytes) (text_is ∙ ap joined logical_at) short)))))
-    (subst (λ (p : Path). Did (asks (Opens p)) a b) (there ∙ ap in_pairtree names) did) refl (λ fed was. fed_none) keeps
+    (λ fed was. Scan (phase.Scan object) (string_bytes s.prefix) (held_of s fed) (held_of s []) _ _ (OpensFile (held_of s fed) object name at (neither _ _ (lt-leb s.job.limits.files (length s.rows) few) (long_is s object names most longer is limit logical_at ∙ short))))
+    (subst (λ (p : Path). Did (asks (Opens p)) a b) (there ∙ ap in_pairtree entry_at) did) refl (λ fed was. fed_none) keeps
   where
     neither : (a b : Bool) → a ≡ false → b ≡ false → (a || b) ≡ false
     neither a b e f = ap (λ (x : Bool). x || b) e ∙ f

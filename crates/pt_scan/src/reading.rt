@@ -10,11 +10,12 @@ ghost use Rattle.pt_walk.specs.Trail.{current_entry};
 ghost use Rattle.pt_state.specs.Outside.{Turned};
 ghost use Rattle.pt_scan.specs.Scanning.{IsSite};
 
-use crate::scanning::{give_up, logical_part};
+use crate::scanning::{give_up, logical_names};
 use pt_object::Hasher;
 use pt_plan::{Halt, Object, Phase};
-use pt_state::paths::entry_path;
+use pt_state::paths::{entry_path, extended};
 use pt_state::{Outside, State};
+use pt_tree::NamePath;
 use pt_walk::Cause;
 use std::mem;
 
@@ -83,7 +84,8 @@ fn end_file(state: &mut State, object: Object, bytes: u64) -> Result<Phase, Halt
         → Turned (phase.Read object bytes) state.old state.new before after result }
 {
     let entry = entry_path(&state.trail)?;
-    let path = logical_part(state.alloc, &object, &state.trail, &entry)?;
+    let names = logical_names(&object, &state.trail, &entry);
+    let path = extended(NamePath::new(state.alloc), names)?;
     let hasher = mem::replace(&mut state.hasher, Hasher::start(state.job.algorithm));
     let digest = hasher.end();
     state.rows.push(&path, &digest, bytes)?;

@@ -1,6 +1,6 @@
 #![tactic(auto, using(crate::proofs::ScanTurns::scanning, crate::proofs::ObjectPaths::paths, crate::proofs::Leaving::leaving, pt_state::proofs::Turns::turns))]
 //! The turns that scan an object: its directories are listed and entered, its files opened.
-ghost use Rattle.std.specs.Prelude.{◌≡◌, ◌<◌, ◌+◌, ◌-◌, ◌==◌, ◌&&◌, ◌^◌, IfErr, IfOk, IsSome, IsTrue, None, Ok, OnErr, OnOk, cond, drop, false, length, not};
+ghost use Rattle.std.specs.Prelude.{◌≡◌, ◌<◌, ◌+◌, ◌-◌, ◌==◌, ◌&&◌, ◌^◌, IfErr, IfOk, IsSome, IsTrue, None, Ok, OnErr, OnOk, cond, drop, false, length, nat_lt, not};
 ghost use Rattle.pt_plan.specs.Lines.{Skipped};
 ghost use Rattle.pt_plan.specs.Permits.{MayEnter, MayOpen};
 ghost use Rattle.pt_plan.specs.Turn.{Did, LeavesSome, Stays};
@@ -8,6 +8,7 @@ ghost use Rattle.pt_plan.specs.TurnScan.{is_in_site as is_in_site_of, logical_pa
 ghost use Rattle.pt_plan.specs.World.{World, tells};
 ghost use Rattle.pt_plan.specs.declared.phase.Phase.{Phase};
 ghost use Rattle.pt_plan.specs.declared.phase.Phase.TheVariants as phase;
+ghost use Rattle.pt_tree.specs.Path.{joined};
 ghost use Rattle.pt_walk.specs.Site.{is_shorty as is_shorty_entry};
 ghost use Rattle.pt_walk.specs.Trail.{current_entry, is_dir_entry, names_to, trail_path};
 ghost use Rattle.pt_state.specs.Outside.{Turned};
@@ -181,32 +182,40 @@ fn meet_file<O: Outside>(state: &mut State, object: Object, out: &mut O) -> Resu
         return pass_object(state, object, Cause::Limit, out);
     }
     let entry = entry_path(&state.trail)?;
-    let text = logical_part(state.alloc, &object, &state.trail, &entry)?.join()?;
-    if text.len() as u64 > state.job.limits.path_bytes() {
+    let logical = logical_names(&object, &state.trail, &entry);
+    if is_longer(logical, state.job.limits.path_bytes()) {
         return pass_object(state, object, Cause::Limit, out);
     }
-    let path = in_pairtree(state.alloc, entry)?;
+    let path = in_pairtree(entry)?;
     out.open(&path)?;
     state.hasher = Hasher::start(state.job.algorithm);
     Ok(Phase::Read(object, 0))
 }
 
-// Of the path of the entry at the trail's place, the logical path: what follows the object's directory.
-pub(crate) fn logical_part(
-    alloc: Global,
-    object: &Object,
-    trail: &Trail,
-    entry: &NamePath,
-) -> Result<NamePath, MemoryFault>
+// Of the path of the entry at the trail's place, the names of the logical path: those behind the object's directory.
+pub(crate) fn logical_names<'a>(object: &Object, trail: &Trail, entry: &'a NamePath) -> &'a [Name]
     requires entry { entry.now ≡ names_to trail.now }
     requires some { IsSome (current_entry trail.now) }
     requires site { IsSite object.now trail.now }
     requires own { 0 < own_listings object.now trail.now }
-    ensures { IfOk result (λ path. path ≡ logical_path_of object.now trail.now) }
+    ensures { result.now ≡ logical_path_of object.now trail.now }
 {
     let _listings = trail.len();
-    let path = extended(NamePath::new(alloc), &entry.names()[first_name(object)..])?;
-    Ok(path)
+    &entry.names()[first_name(object)..]
+}
+
+// Whether the names with `/` between have more bytes than so many.
+fn is_longer(names: &[Name], most: u64) -> bool
+    ensures { result ≡ nat_lt most (length (joined names.now)) }
+{
+    let mut bytes: u128 = 0;
+    for (i, name) in names.iter().enumerate() {
+        if i > 0 {
+            bytes += 1;
+        }
+        bytes += name.bytes().len() as u128;
+    }
+    bytes > most as u128
 }
 
 // Of the names of a path in the source, from below `pairtree_root` on, the first that belongs to the logical path.

@@ -22,7 +22,7 @@ returns-clause-text c =
     let tokens =
     document_tokens id algorithm (object (fold put_content no_members c.args.contents.now)) (version_tree meta (object (fold (put_paths rows) no_members c.args.contents.now)))
     c.put_head.new.out c.put_manifest.new.out c.member.new.self c.key.new.self c.begin_object.new.self c.key-2.new.self c.put_version.new.out c.end_object.new.self c.end_object-2.new.self
-    (c.in_ok-put_head.ensures ∙ ap (λ (t : List Token). t ++ head_tokens id algorithm) c.new-out.ensures) c.in_ok-put_manifest.ensures c.in_ok-member.ensures c.in_ok-key.ensures c.in_ok-begin_object.ensures c.in_ok-key-2.ensures c.in_ok-put_version.ensures
+    (c.in_ok-put_head.ensures ∙ ap (λ (t : List Token). t ++ head_tokens id algorithm) c.in_ok-out.ensures) c.in_ok-put_manifest.ensures c.in_ok-member.ensures c.in_ok-key.ensures c.in_ok-begin_object.ensures c.in_ok-key-2.ensures c.in_ok-put_version.ensures
     c.in_ok-end_object.ensures c.in_ok-end_object-2.ensures
     in
     c.into_text.ensures ∙ ap print (tokens ∙ ap (λ (l : List Content). tokens_of (tree l)) c.requires) ∙ print-outline (inventory_tree id rows meta algorithm)

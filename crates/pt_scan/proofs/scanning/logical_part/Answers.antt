@@ -1,5 +1,0 @@
-use Rattle.pt_scan.proofs.ObjectPaths.{logical_is}
-use Rattle.pt_scan.proofs.scanning.logical_part.Goals as goal
-
-pub returns : goal.returns
-returns c = logical_is c.args.object.now c.args.trail.now c.args.entry.now c.names.result.now c.new.result _ c.first_name.result c.len-listings.ensures.trail c.requires.site c.requires.own c.requires.entry c.first_name.ensures c.names.ensures c.new.ensures c.in_ok-path.ensures
