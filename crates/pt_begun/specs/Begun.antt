@@ -55,7 +55,8 @@ items_placed _ count = count
 
 -- the place of the next item isn't taken
 abbrev pub IsNextFree : Job → Forest → Tree → ℕ → Type 0
-IsNextFree job source root count = (item : Item) × (slice_get (marked job source root) count ≡ Some (item, false))
+IsNextFree job source root count = (item : Item)
+    × (slice_get (marked job source root) count ≡ Some (item, false))
 
 -- while an object is under way, its place isn't taken
 abbrev pub IsFreeAt : Phase → Job → Forest → Tree → ℕ → Type 0
@@ -72,7 +73,8 @@ IsFreeAt _ job source root count = ⊤
 -- the objects placed so far are those that are carried of the items done, from this source over this root; of a run that has ended nothing is said
 abbrev pub ArePlaced : Job → Forest → Tree → Past → Phase → Type 0
 ArePlaced job source root past phase.Ended = ⊤
-ArePlaced job source root past here = past.placed ≡ carried_among job source root (items_placed here past.count)
+ArePlaced job source root past here =
+    past.placed ≡ carried_among job source root (items_placed here past.count)
 
 pub record PlacesItems (job : Job) (source : Forest) (root : Tree) (past : Past) (here : Phase) : Type 0 where
   pub placed : ArePlaced job source root past here
@@ -84,13 +86,15 @@ HasTold job source root past phase.Ended old now = ⊤
 HasTold job source root past here old now = now ≡ old ++ text job source root past.count
 
 -- the lines of each kind are those of the items done
-pub record CountsLines (job : Job) (source : Forest) (root : Tree) (count : ℕ) (counts : Counts) : Type 0 where
+pub record CountsLines (job : Job) (source : Forest) (root : Tree) (count : ℕ)
+    (counts : Counts) : Type 0 where
   pub done : counts.done ≡ count_by is_done (lines job source root count)
   pub present : counts.present ≡ count_by is_present (lines job source root count)
   pub skipped : counts.skipped ≡ count_by is_skipped (lines job source root count)
 
 -- where source and destination tell: the objects placed and the counts are those of the items done
-pub record ItemsPart (job : Job) (past : Past) (here : Phase) (counts : Counts) (source : Forest) (root : Tree) : Type 0 where
+pub record ItemsPart (job : Job) (past : Past) (here : Phase) (counts : Counts) (source : Forest)
+    (root : Tree) : Type 0 where
   pub places : PlacesItems job source root past here
   pub lines_are : CountsLines job source root past.count counts
 
@@ -119,10 +123,18 @@ pub record IsPast (job : Job) (start : Start) (world : World) (run : Run) (past 
   pub held : HeldAt job past run.phase run.kept.held
   pub source : ForSome world.source (SourcePart job past run.phase run.kept.prefix run.kept.held)
   pub dest : TellsAsBefore start.dest world.dest (DestPart job past run.phase run.kept.held)
-  pub items : ForSome world.source (λ s. ForSome start.dest (λ old. ItemsPart job past run.phase run.kept.counts s.tree (root_in old)))
-  pub log : ForSome world.source (λ s. ForSome start.dest (λ old. TellsStill start.log world.log (HasTold job s.tree (root_in old) past run.phase)))
+  pub items : ForSome world.source
+      (λ s. ForSome start.dest
+      (λ old. ItemsPart job past run.phase run.kept.counts s.tree (root_in old)))
+  pub log : ForSome world.source
+      (λ s. ForSome start.dest
+      (λ old. TellsStill start.log world.log (HasTold job s.tree (root_in old) past run.phase)))
   pub quiet : TellsStill start.log world.log (IsQuiet run.phase)
-  pub left : ForSome world.source (λ s. ForSome start.dest (λ old. ForSome world.dest (λ now. ForSome start.log (λ first. ForSome world.log (LeftAt run.phase job s.tree old now.tree first)))))
+  pub left : ForSome world.source
+      (λ s. ForSome start.dest
+      (λ old. ForSome world.dest
+      (λ now. ForSome start.log
+      (λ first. ForSome world.log (LeftAt run.phase job s.tree old now.tree first)))))
 
 -- a run of this job that began at this start is now in progress
 unfoldable pub Begun : Job → Start → World → Run → Type 0

@@ -32,11 +32,14 @@ root_now job start placed = with_objects job placed (base job.tuples (root_in st
 
 -- and with the first so many folders on the way to a place
 abbrev pub root_on_way : Job → Tree → List Carried → Path → ℕ → Tree
-root_on_way job start placed place number = λ path. option_or (root_now job start placed path) (folder_where (is_some (rest_below path (take number place))))
+root_on_way job start placed place number =
+    λ path. option_or (root_now job start placed path)
+    (folder_where (is_some (rest_below path (take number place))))
 
 -- the first so many files of the layout stand in the root
 abbrev pub HasRootFiles : Job → Tree → ℕ → Type 0
-HasRootFiles job root number = All (λ file. root file.0 ≡ Some (Bytes file.1)) (take number (root_files_of job.tuples))
+HasRootFiles job root number =
+    All (λ file. root file.0 ≡ Some (Bytes file.1)) (take number (root_files_of job.tuples))
 
 -- nothing stood at `staging`, and there was no root or one with the layout's files
 pub record IsRootOfStart (job : Job) (start : Tree) : Type 0 where
@@ -47,7 +50,8 @@ pub record IsRootOfStart (job : Job) (start : Tree) : Type 0 where
 
 -- each of the first so many folders on the way to a place is one
 abbrev pub HasFoldersTo : Job → Tree → List Carried → Path → ℕ → Type 0
-HasFoldersTo job start placed place number = (i : ℕ) → i ≤ number → root_on_way job start placed place number (take i place) ≡ Some Folder
+HasFoldersTo job start placed place number = (i : ℕ) → i ≤ number
+    → root_on_way job start placed place number (take i place) ≡ Some Folder
 
 -- the objects came to free places, each whole
 abbrev pub CameToFreePlaces : Job → Tree → List Carried → Type 0
@@ -77,7 +81,8 @@ pub record IsBetweenObjects (job : Job) (start : Tree) (placed : List Carried) (
   pub tree : now.tree ≡ with_root start (root_now job start placed)
 
 -- beside that this was made in `staging`, for an object whose place is free; so many folders on the way to it stand
-pub record IsMakingObject (job : Job) (start : Tree) (placed : List Carried) (object : Object) (items : List Item) (number : ℕ) (now : Writing) : Type 0 where
+pub record IsMakingObject (job : Job) (start : Tree) (placed : List Carried) (object : Object)
+    (items : List Item) (number : ℕ) (now : Writing) : Type 0 where
   pub root : IsRootOfStart job start
   pub came : CameToFreePlaces job start placed
   pub free : root_now job start placed object.place ≡ None
@@ -91,12 +96,16 @@ pub record IsWriting (held : Held) (position : Position) (now : Writing) : Type 
 
 -- the items before the file that is copied, and that file with the bytes read so far
 abbrev pub made_with_copy : Job → Object → Held → (Path → List ℕ) → Position → Path → List Item
-made_with_copy job object held bytes position path = made_before job object held.rows bytes (part.Content position) ++ MakeFile (in_content path) held.fed ∷ []
+made_with_copy job object held bytes position path =
+    made_before job object held.rows bytes (part.Content position)
+    ++ MakeFile (in_content path) held.fed ∷ []
 
 -- the destination while a file is copied
-pub record IsCopying (job : Job) (start : Tree) (past : Past) (object : Object) (held : Held) (position : Position) (now : Writing) : Type 0 where
+pub record IsCopying (job : Job) (start : Tree) (past : Past) (object : Object) (held : Held)
+    (position : Position) (now : Writing) : Type 0 where
   pub writes : IsWriting held position now
-  pub making : IsMakingObject job start past.placed object (made_with_copy job object held past.bytes position writes.row.path) 0 now
+  pub making : IsMakingObject job start past.placed object
+      (made_with_copy job object held past.bytes position writes.row.path) 0 now
 
 -- what a run left that has ended: what may be kept, and all as it was unless nothing stood at `staging`, and there was no root or one with the layout's files
 pub record IsLeftBehind (job : Job) (start : Tree) (now : Writing) : Type 0 where
@@ -109,25 +118,38 @@ DestAt job start past phase.Begin held now = IsUntouched start now
 DestAt job start past (phase.Prefix here) held now = IsUntouched start now
 DestAt job start past phase.Staging held now = IsUntouched start now
 DestAt job start past phase.Root held now = IsUntouched start now × IsFree start staging
-DestAt job start past (phase.RootMake number) held now = IsMakingRoot start (take number (root_script job.tuples)) now
+DestAt job start past (phase.RootMake number) held now =
+    IsMakingRoot start (take number (root_script job.tuples)) now
 DestAt job start past phase.RootRename held now = IsMakingRoot start (root_script job.tuples) now
 DestAt job start past (phase.RootCheck number) held now = IsCheckingRoot job start number now
 DestAt job start past phase.OpenRoot held now = IsBetweenObjects job start past.placed now
 DestAt job start past phase.Judge held now = IsBetweenObjects job start past.placed now
-DestAt job start past (phase.OpenObject object) held now = IsMakingObject job start past.placed object [] 0 now
+DestAt job start past (phase.OpenObject object) held now =
+    IsMakingObject job start past.placed object [] 0 now
 DestAt job start past (phase.Scan object) held now = IsMakingObject job start past.placed object [] 0 now
-DestAt job start past (phase.Read object bytes) held now = IsMakingObject job start past.placed object [] 0 now
-DestAt job start past (phase.Make object here) held now = IsMakingObject job start past.placed object (made_before job object held.rows past.bytes here) 0 now
-DestAt job start past (phase.Copy object position left) held now = IsCopying job start past object held position now
-DestAt job start past (phase.Tuples object number) held now = IsMakingObject job start past.placed object (script_of_object job object held.rows past.bytes) number now × HasFoldersTo job start past.placed object.place number
-DestAt job start past (phase.Rename object) held now = IsMakingObject job start past.placed object (script_of_object job object held.rows past.bytes) job.tuples.count now × HasFoldersTo job start past.placed object.place job.tuples.count
+DestAt job start past (phase.Read object bytes) held now =
+    IsMakingObject job start past.placed object [] 0 now
+DestAt job start past (phase.Make object here) held now =
+    IsMakingObject job start past.placed object
+    (made_before job object held.rows past.bytes here) 0 now
+DestAt job start past (phase.Copy object position left) held now =
+    IsCopying job start past object held position now
+DestAt job start past (phase.Tuples object number) held now =
+    IsMakingObject job start past.placed object
+    (script_of_object job object held.rows past.bytes) number now
+    × HasFoldersTo job start past.placed object.place number
+DestAt job start past (phase.Rename object) held now =
+    IsMakingObject job start past.placed object
+    (script_of_object job object held.rows past.bytes) job.tuples.count now
+    × HasFoldersTo job start past.placed object.place job.tuples.count
 DestAt job start past (phase.Line object) held now = IsBetweenObjects job start past.placed now
 DestAt job start past phase.Walk held now = IsBetweenObjects job start past.placed now
 DestAt job start past phase.End held now = IsBetweenObjects job start past.placed now
 DestAt job start past phase.Ended held now = IsLeftBehind job start now
 
 -- where the destination tells: it was a tree at the start and is one, and what of it was there and what was made
-pub record DestPart (job : Job) (past : Past) (here : Phase) (held : Held) (start : Tree) (now : Writing) : Type 0 where
+pub record DestPart (job : Job) (past : Past) (here : Phase) (held : Held) (start : Tree)
+    (now : Writing) : Type 0 where
   pub started : IsTree start
   pub tree : IsTree now.tree
   pub at : DestAt job start past here held now

@@ -37,7 +37,8 @@ StartsWithNone _ trail = ⊤
 
 -- an object that is encapsulated is entered from its directory's entry, and a file is read at its own
 abbrev pub StandsAtEntry : Phase → List Frame → Type 0
-StandsAtEntry (phase.OpenObject object) trail = object.gathered ≡ false → is_dir_entry (current_entry trail) ≡ true
+StandsAtEntry (phase.OpenObject object) trail =
+    object.gathered ≡ false → is_dir_entry (current_entry trail) ≡ true
 StandsAtEntry (phase.Read object bytes) trail = (item : Item) × (current_entry trail ≡ Some item)
 StandsAtEntry _ trail = ⊤
 
@@ -100,21 +101,27 @@ RowsAt job bytes _ held = HoldsNoRows held
 
 -- each of these paths comes before each of these entries of the directory at this path
 abbrev pub come_behind : List Path → Path → List Item → Bool
-come_behind earlier directory items = list_all (λ item. list_all (λ path. parts_before path (directory ++ item.0 ∷ [])) earlier) items
+come_behind earlier directory items =
+    list_all (λ item. list_all (λ path. parts_before path (directory ++ item.0 ∷ [])) earlier) items
 
 -- in these listings, the innermost first, the entries behind the places come behind
 abbrev pub outer_behind : List Path → List Frame → Bool
 outer_behind earlier [] = true
-outer_behind earlier (frame ∷ frames) = come_behind earlier (names_to frames) (drop (frame.place + 1) frame.listing) && outer_behind earlier frames
+outer_behind earlier (frame ∷ frames) =
+    come_behind earlier (names_to frames) (drop (frame.place + 1) frame.listing)
+    && outer_behind earlier frames
 
 -- and in the innermost the one at the place too
 abbrev pub all_behind : List Path → List Frame → Bool
 all_behind earlier [] = true
-all_behind earlier (frame ∷ frames) = come_behind earlier (names_to frames) (drop frame.place frame.listing) && outer_behind earlier frames
+all_behind earlier (frame ∷ frames) =
+    come_behind earlier (names_to frames) (drop frame.place frame.listing)
+    && outer_behind earlier frames
 
 -- in the object's own listings all entries still to come are behind its rows
 abbrev pub IsBehindRows : Object → Held → Type 0
-IsBehindRows object held = all_behind (row_paths held.rows) (take (own_listings object held.trail) held.trail) ≡ true
+IsBehindRows object held =
+    all_behind (row_paths held.rows) (take (own_listings object held.trail) held.trail) ≡ true
 
 -- while an object is scanned
 abbrev pub ScansInOrder : Phase → Held → Type 0

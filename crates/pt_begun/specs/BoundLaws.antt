@@ -14,11 +14,15 @@ use Rattle.pt_begun.specs.EndLaws.{is_ended}
 -- after a turn that halts the run no more is held than the source's bound, where the source told before it
 abbrev pub HaltedIsWithinBound : Type 0
 HaltedIsWithinBound =
-    (job : Job) (start : Start) (old new : World) (run : Run) (after : Kept) (why : Halt) (s : Reading) → Begun job start old run → is_ended run.phase ≡ false → Turn job run.phase (turning run.kept) after old new (Err why) → old.source ≡ Some s
+    (job : Job) (start : Start) (old new : World) (run : Run) (after : Kept) (why : Halt)
+    (s : Reading) → Begun job start old run → is_ended run.phase ≡ false
+    → Turn job run.phase (turning run.kept) after old new (Err why) → old.source ≡ Some s
     → IsWithinBound job s.tree after.held
 
 -- so it is after any turn
 abbrev pub TurnIsWithinBound : Type 0
 TurnIsWithinBound =
-    (job : Job) (start : Start) (old new : World) (run : Run) (after : Kept) (answer : Answer) (s : Reading) → Begun job start old run → is_ended run.phase ≡ false → Turn job run.phase (turning run.kept) after old new answer → old.source ≡ Some s
+    (job : Job) (start : Start) (old new : World) (run : Run) (after : Kept) (answer : Answer)
+    (s : Reading) → Begun job start old run → is_ended run.phase ≡ false
+    → Turn job run.phase (turning run.kept) after old new answer → old.source ≡ Some s
     → IsWithinBound job s.tree after.held

@@ -19,29 +19,47 @@ use Rattle.pt_begun.specs.Past.{Past, past_after}
 -- the turns of the start, with one of the layouts that there are
 abbrev pub StartingKeepsDest : Type 0
 StartingKeepsDest =
-    (job : Job) (past : Past) (start : Tree) (old new : Writing) (prefix read : List ℕ) (here next : Phase) (held : Held) (calls : Calls) → IsLayout job.tuples → Starts job here prefix read calls (Ok next)
-    → Changes calls.change (Some old) (Some new) → HeldAt job past here held → DestPart job past here held start old → DestPart job (past_after here next held past) next held start new
+    (job : Job) (past : Past) (start : Tree) (old new : Writing) (prefix read : List ℕ)
+    (here next : Phase) (held : Held) (calls : Calls) → IsLayout job.tuples
+    → Starts job here prefix read calls (Ok next)
+    → Changes calls.change (Some old) (Some new) → HeldAt job past here held
+    → DestPart job past here held start old
+    → DestPart job (past_after here next held past) next held start new
 
 -- the turns of the walk
 abbrev pub WalkingKeepsDest : Type 0
 WalkingKeepsDest =
-    (job : Job) (past : Past) (start : Tree) (old new : Writing) (prefix : List ℕ) (here next : Phase) (held after : Held) (calls : Calls) → Walks job prefix here held after calls (Ok next)
-    → Changes calls.change (Some old) (Some new) → HeldAt job past here held → DestPart job past here held start old → DestPart job (past_after here next held past) next after start new
+    (job : Job) (past : Past) (start : Tree) (old new : Writing) (prefix : List ℕ)
+    (here next : Phase) (held after : Held) (calls : Calls)
+    → Walks job prefix here held after calls (Ok next)
+    → Changes calls.change (Some old) (Some new) → HeldAt job past here held
+    → DestPart job past here held start old
+    → DestPart job (past_after here next held past) next after start new
 
 -- the turns of the scan of an object
 abbrev pub ScanningKeepsDest : Type 0
 ScanningKeepsDest =
-    (job : Job) (past : Past) (start : Tree) (old new : Writing) (here next : Phase) (held after : Held) (calls : Calls) → Scans job here held after calls (Ok next)
-    → Changes calls.change (Some old) (Some new) → HeldAt job past here held → DestPart job past here held start old → DestPart job (past_after here next held past) next after start new
+    (job : Job) (past : Past) (start : Tree) (old new : Writing) (here next : Phase)
+    (held after : Held) (calls : Calls) → Scans job here held after calls (Ok next)
+    → Changes calls.change (Some old) (Some new) → HeldAt job past here held
+    → DestPart job past here held start old
+    → DestPart job (past_after here next held past) next after start new
 
 -- the turns that make an object
 abbrev pub MakingKeepsDest : Type 0
 MakingKeepsDest =
-    (job : Job) (past : Past) (start : Tree) (old new : Writing) (here : Phase) (held after : Held) (calls : Calls) (next : Phase) → Makings job here held after calls (Ok next)
-    → Changes calls.change (Some old) (Some new) → HeldAt job past here held → DestPart job past here held start old → DestPart job (past_after here next held past) next after start new
+    (job : Job) (past : Past) (start : Tree) (old new : Writing) (here : Phase) (held after : Held)
+    (calls : Calls) (next : Phase) → Makings job here held after calls (Ok next)
+    → Changes calls.change (Some old) (Some new) → HeldAt job past here held
+    → DestPart job past here held start old
+    → DestPart job (past_after here next held past) next after start new
 
 -- the turns that bring an object to its place, and that tell of it and of the end
 abbrev pub PlacingKeepsDest : Type 0
 PlacingKeepsDest =
-    (job : Job) (counts : Counts) (past : Past) (start : Tree) (old new : Writing) (here next : Phase) (held after : Held) (calls : Calls) → Places job counts here held after calls (Ok next)
-    → Changes calls.change (Some old) (Some new) → HeldAt job past here held → DestPart job past here held start old → DestPart job (past_after here next held past) next after start new
+    (job : Job) (counts : Counts) (past : Past) (start : Tree) (old new : Writing)
+    (here next : Phase) (held after : Held) (calls : Calls)
+    → Places job counts here held after calls (Ok next)
+    → Changes calls.change (Some old) (Some new) → HeldAt job past here held
+    → DestPart job past here held start old
+    → DestPart job (past_after here next held past) next after start new

@@ -30,15 +30,22 @@ pub record IsEnd (job : Job) (source : Forest) (start now : Tree) (told : List �
 -- so it is after the turn that ends the run, where all three tell; and the counts are the numbers of the end line
 abbrev pub EndsWell : Type 0
 EndsWell =
-    (job : Job) (start : Start) (old new : World) (run : Run) (after : Kept) (s : Reading) (t : Tree) (now : Writing) (first last : List ℕ) → Begun job start old run → Turn job run.phase (turning run.kept) after old new (Ok phase.Ended)
-    → old.source ≡ Some s → start.dest ≡ Some t → new.dest ≡ Some now → start.log ≡ Some first → new.log ≡ Some last
-    → ((told : List ℕ) × (last ≡ first ++ told) × IsEnd job s.tree t now.tree told) × (last_line after.counts ≡ end_line (all_lines job s.tree (root_in t)))
+    (job : Job) (start : Start) (old new : World) (run : Run) (after : Kept) (s : Reading)
+    (t : Tree) (now : Writing) (first last : List ℕ) → Begun job start old run
+    → Turn job run.phase (turning run.kept) after old new (Ok phase.Ended)
+    → old.source ≡ Some s → start.dest ≡ Some t → new.dest ≡ Some now → start.log ≡ Some first
+    → new.log ≡ Some last
+    → ((told : List ℕ) × (last ≡ first ++ told) × IsEnd job s.tree t now.tree told)
+    × (last_line after.counts ≡ end_line (all_lines job s.tree (root_in t)))
 
 -- and the state of the version of each object that is carried is its files, where no two of them whose bytes differ have one digest
 abbrev pub EndsWithStates : Type 0
 EndsWithStates =
-    (job : Job) (start : Start) (old new : World) (run : Run) (after : Kept) (s : Reading) (t : Tree) (now : Writing) (first last : List ℕ) → Begun job start old run → Turn job run.phase (turning run.kept) after old new (Ok phase.Ended)
-    → old.source ≡ Some s → start.dest ≡ Some t → new.dest ≡ Some now → start.log ≡ Some first → new.log ≡ Some last
+    (job : Job) (start : Start) (old new : World) (run : Run) (after : Kept) (s : Reading)
+    (t : Tree) (now : Writing) (first last : List ℕ) → Begun job start old run
+    → Turn job run.phase (turning run.kept) after old new (Ok phase.Ended)
+    → old.source ≡ Some s → start.dest ≡ Some t → new.dest ≡ Some now → start.log ≡ Some first
+    → new.log ≡ Some last
     → All (HasItsFiles job now.tree) (all_carried job s.tree (root_in t))
 
 -- the run has ended
@@ -48,4 +55,6 @@ is_ended _ = false
 
 -- no more is held between two turns than the source's bound, where the source tells
 abbrev pub BegunIsWithinBound : Type 0
-BegunIsWithinBound = (job : Job) (start : Start) (world : World) (run : Run) (s : Reading) → Begun job start world run → is_ended run.phase ≡ false → world.source ≡ Some s → IsWithinBound job s.tree run.kept.held
+BegunIsWithinBound = (job : Job) (start : Start) (world : World) (run : Run) (s : Reading)
+    → Begun job start world run → is_ended run.phase ≡ false → world.source ≡ Some s
+    → IsWithinBound job s.tree run.kept.held

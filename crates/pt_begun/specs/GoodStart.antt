@@ -24,5 +24,9 @@ pub record NoneRose (old new : Failures) : Type 0 where
 -- then a turn halts a run for want of memory alone, where source and destination tell, the start was a good one and nothing stood at `staging`
 abbrev pub NothingIsRefused : Type 0
 NothingIsRefused =
-    (job : Job) (start : Start) (old new : World) (run : Run) (after : Kept) (why : Halt) (s : Reading) (t : Tree) → Begun job start old run → Turn job run.phase (turning run.kept) after old new (Err why) → old.source ≡ Some s → start.dest ≡ Some t
-    → IsStart job s.tree (root_in t) → IsFree t staging → NoneRose old.failures new.failures → why ≡ halt.Memory
+    (job : Job) (start : Start) (old new : World) (run : Run) (after : Kept) (why : Halt)
+    (s : Reading) (t : Tree) → Begun job start old run
+    → Turn job run.phase (turning run.kept) after old new (Err why) → old.source ≡ Some s
+    → start.dest ≡ Some t
+    → IsStart job s.tree (root_in t) → IsFree t staging → NoneRose old.failures new.failures
+    → why ≡ halt.Memory

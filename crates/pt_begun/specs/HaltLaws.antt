@@ -14,13 +14,18 @@ use Rattle.pt_begun.specs.FaultLeft.{IsLeftByFault}
 -- between any two turns of a run and after its end, where all three tell, destination and log are such as any fault may leave of the source
 abbrev pub StopsLeave : Type 0
 StopsLeave =
-    (job : Job) (start : Start) (world : World) (run : Run) (s : Reading) (t : Tree) (now : Writing) (first last : List ℕ) → Begun job start world run
-    → world.source ≡ Some s → start.dest ≡ Some t → world.dest ≡ Some now → start.log ≡ Some first → world.log ≡ Some last
+    (job : Job) (start : Start) (world : World) (run : Run) (s : Reading) (t : Tree) (now : Writing)
+    (first last : List ℕ) → Begun job start world run
+    → world.source ≡ Some s → start.dest ≡ Some t → world.dest ≡ Some now → start.log ≡ Some first
+    → world.log ≡ Some last
     → IsLeftByFault job s.tree t now.tree first last
 
 -- so they are after a turn that halts the run
 abbrev pub HaltsLeave : Type 0
 HaltsLeave =
-    (job : Job) (start : Start) (old new : World) (run : Run) (after : Kept) (why : Halt) (s : Reading) (t : Tree) (now : Writing) (first last : List ℕ) → Begun job start old run → Turn job run.phase (turning run.kept) after old new (Err why)
-    → old.source ≡ Some s → start.dest ≡ Some t → new.dest ≡ Some now → start.log ≡ Some first → new.log ≡ Some last
+    (job : Job) (start : Start) (old new : World) (run : Run) (after : Kept) (why : Halt)
+    (s : Reading) (t : Tree) (now : Writing) (first last : List ℕ) → Begun job start old run
+    → Turn job run.phase (turning run.kept) after old new (Err why)
+    → old.source ≡ Some s → start.dest ≡ Some t → new.dest ≡ Some now → start.log ≡ Some first
+    → new.log ≡ Some last
     → IsLeftByFault job s.tree t now.tree first last

@@ -16,29 +16,36 @@ use Rattle.pt_begun.specs.Past.{Past, past_after}
 -- the turns of the start
 abbrev pub StartingKeepsHeld : Type 0
 StartingKeepsHeld =
-    (job : Job) (past : Past) (prefix read : List ℕ) (here next : Phase) (held : Held) (calls : Calls) → Starts job here prefix read calls (Ok next)
+    (job : Job) (past : Past) (prefix read : List ℕ) (here next : Phase) (held : Held)
+    (calls : Calls) → Starts job here prefix read calls (Ok next)
     → HeldAt job past here held → HeldAt job (past_after here next held past) next held
 
 -- the turns of the walk
 abbrev pub WalkingKeepsHeld : Type 0
 WalkingKeepsHeld =
-    (job : Job) (past : Past) (old new : Option Reading) (prefix : List ℕ) (here next : Phase) (held after : Held) (calls : Calls) → Walks job prefix here held after calls (Ok next)
-    → Answers calls.asked old new → HeldAt job past here held → HeldAt job (past_after here next held past) next after
+    (job : Job) (past : Past) (old new : Option Reading) (prefix : List ℕ) (here next : Phase)
+    (held after : Held) (calls : Calls) → Walks job prefix here held after calls (Ok next)
+    → Answers calls.asked old new → HeldAt job past here held
+    → HeldAt job (past_after here next held past) next after
 
 -- the turns of the scan of an object
 abbrev pub ScanningKeepsHeld : Type 0
 ScanningKeepsHeld =
-    (job : Job) (past : Past) (old new : Option Reading) (here next : Phase) (held after : Held) (calls : Calls) → Scans job here held after calls (Ok next)
-    → Answers calls.asked old new → HeldAt job past here held → HeldAt job (past_after here next held past) next after
+    (job : Job) (past : Past) (old new : Option Reading) (here next : Phase) (held after : Held)
+    (calls : Calls) → Scans job here held after calls (Ok next)
+    → Answers calls.asked old new → HeldAt job past here held
+    → HeldAt job (past_after here next held past) next after
 
 -- the turns that make an object
 abbrev pub MakingKeepsHeld : Type 0
 MakingKeepsHeld =
-    (job : Job) (past : Past) (here : Phase) (held after : Held) (calls : Calls) (next : Phase) → Makings job here held after calls (Ok next)
+    (job : Job) (past : Past) (here : Phase) (held after : Held) (calls : Calls) (next : Phase)
+    → Makings job here held after calls (Ok next)
     → HeldAt job past here held → HeldAt job (past_after here next held past) next after
 
 -- the turns that bring an object to its place, and that tell of it and of the end
 abbrev pub PlacingKeepsHeld : Type 0
 PlacingKeepsHeld =
-    (job : Job) (counts : Counts) (past : Past) (here next : Phase) (held after : Held) (calls : Calls) → Places job counts here held after calls (Ok next)
+    (job : Job) (counts : Counts) (past : Past) (here next : Phase) (held after : Held)
+    (calls : Calls) → Places job counts here held after calls (Ok next)
     → HeldAt job past here held → HeldAt job (past_after here next held past) next after

@@ -21,7 +21,8 @@ use Rattle.pt_begun.specs.BegunSource.{SourcePart}
 use Rattle.pt_begun.specs.Past.{Past, past_after}
 
 -- all that is known before a turn of the items that are done: from what is held, from the source, from the destination and from both
-pub record KnowsItems (job : Job) (past : Past) (here : Phase) (prefix : List ℕ) (held : Held) (counts : Counts) (s : Reading) (start : Tree) (now : Writing) : Type 0 where
+pub record KnowsItems (job : Job) (past : Past) (here : Phase) (prefix : List ℕ) (held : Held)
+    (counts : Counts) (s : Reading) (start : Tree) (now : Writing) : Type 0 where
   pub held_at : HeldAt job past here held
   pub source : SourcePart job past here prefix held s
   pub dest : DestPart job past here held start now
@@ -29,39 +30,63 @@ pub record KnowsItems (job : Job) (past : Past) (here : Phase) (prefix : List �
 
 -- after a turn the items are those that are done then
 abbrev pub KeepsItems : Job → Past → Phase → Held → Counts → Reading → Tree → Calls → Phase → Type 0
-KeepsItems job past here held counts s start calls next = ItemsPart job (past_after here next held past) next (counted calls.line counts) s.tree (root_in start)
+KeepsItems job past here held counts s start calls next =
+    ItemsPart job (past_after here next held past) next (counted calls.line counts) s.tree
+    (root_in start)
 
 -- and the log has got their lines
 abbrev pub KeepsLog : Job → Past → Phase → Held → Reading → Tree → Calls → Phase → Type 0
 KeepsLog job past here held s start calls next =
-    (log old new : List ℕ) → HasTold job s.tree (root_in start) past here log old → Puts calls.line (Some old) (Some new) → HasTold job s.tree (root_in start) (past_after here next held past) next log new
+    (log old new : List ℕ) → HasTold job s.tree (root_in start) past here log old
+    → Puts calls.line (Some old) (Some new)
+    → HasTold job s.tree (root_in start) (past_after here next held past) next log new
 
 -- the turns of the start
 abbrev pub StartingKeepsItems : Type 0
 StartingKeepsItems =
-    (job : Job) (past : Past) (s : Reading) (prefix read : List ℕ) (start : Tree) (now : Writing) (here next : Phase) (held : Held) (counts : Counts) (calls : Calls) → Starts job here prefix read calls (Ok next)
-    → KnowsItems job past here prefix held counts s start now → KeepsItems job past here held counts s start calls next × KeepsLog job past here held s start calls next
+    (job : Job) (past : Past) (s : Reading) (prefix read : List ℕ) (start : Tree) (now : Writing)
+    (here next : Phase) (held : Held) (counts : Counts) (calls : Calls)
+    → Starts job here prefix read calls (Ok next)
+    → KnowsItems job past here prefix held counts s start now
+    → KeepsItems job past here held counts s start calls next
+    × KeepsLog job past here held s start calls next
 
 -- the turns of the walk
 abbrev pub WalkingKeepsItems : Type 0
 WalkingKeepsItems =
-    (job : Job) (past : Past) (s : Reading) (prefix : List ℕ) (start : Tree) (now new : Writing) (here next : Phase) (held after : Held) (counts : Counts) (calls : Calls) → Walks job prefix here held after calls (Ok next) → Changes calls.change (Some now) (Some new)
-    → KnowsItems job past here prefix held counts s start now → KeepsItems job past here held counts s start calls next × KeepsLog job past here held s start calls next
+    (job : Job) (past : Past) (s : Reading) (prefix : List ℕ) (start : Tree) (now new : Writing)
+    (here next : Phase) (held after : Held) (counts : Counts) (calls : Calls)
+    → Walks job prefix here held after calls (Ok next) → Changes calls.change (Some now) (Some new)
+    → KnowsItems job past here prefix held counts s start now
+    → KeepsItems job past here held counts s start calls next
+    × KeepsLog job past here held s start calls next
 
 -- the turns of the scan of an object
 abbrev pub ScanningKeepsItems : Type 0
 ScanningKeepsItems =
-    (job : Job) (past : Past) (s new : Reading) (prefix : List ℕ) (start : Tree) (now : Writing) (here next : Phase) (held after : Held) (counts : Counts) (calls : Calls) → Scans job here held after calls (Ok next) → Answers calls.asked (Some s) (Some new)
-    → KnowsItems job past here prefix held counts s start now → KeepsItems job past here held counts s start calls next × KeepsLog job past here held s start calls next
+    (job : Job) (past : Past) (s new : Reading) (prefix : List ℕ) (start : Tree) (now : Writing)
+    (here next : Phase) (held after : Held) (counts : Counts) (calls : Calls)
+    → Scans job here held after calls (Ok next) → Answers calls.asked (Some s) (Some new)
+    → KnowsItems job past here prefix held counts s start now
+    → KeepsItems job past here held counts s start calls next
+    × KeepsLog job past here held s start calls next
 
 -- the turns that make an object
 abbrev pub MakingKeepsItems : Type 0
 MakingKeepsItems =
-    (job : Job) (past : Past) (s : Reading) (prefix : List ℕ) (start : Tree) (now : Writing) (here : Phase) (held after : Held) (counts : Counts) (calls : Calls) (next : Phase) → Makings job here held after calls (Ok next)
-    → KnowsItems job past here prefix held counts s start now → KeepsItems job past here held counts s start calls next × KeepsLog job past here held s start calls next
+    (job : Job) (past : Past) (s : Reading) (prefix : List ℕ) (start : Tree) (now : Writing)
+    (here : Phase) (held after : Held) (counts : Counts) (calls : Calls) (next : Phase)
+    → Makings job here held after calls (Ok next)
+    → KnowsItems job past here prefix held counts s start now
+    → KeepsItems job past here held counts s start calls next
+    × KeepsLog job past here held s start calls next
 
 -- the turns that bring an object to its place, and that tell of it and of the end
 abbrev pub PlacingKeepsItems : Type 0
 PlacingKeepsItems =
-    (job : Job) (past : Past) (s : Reading) (prefix : List ℕ) (start : Tree) (now : Writing) (here next : Phase) (held after : Held) (counts : Counts) (calls : Calls) → Places job counts here held after calls (Ok next)
-    → KnowsItems job past here prefix held counts s start now → KeepsItems job past here held counts s start calls next × KeepsLog job past here held s start calls next
+    (job : Job) (past : Past) (s : Reading) (prefix : List ℕ) (start : Tree) (now : Writing)
+    (here next : Phase) (held after : Held) (counts : Counts) (calls : Calls)
+    → Places job counts here held after calls (Ok next)
+    → KnowsItems job past here prefix held counts s start now
+    → KeepsItems job past here held counts s start calls next
+    × KeepsLog job past here held s start calls next

@@ -17,3 +17,5 @@ pub mod Past
 pub mod RefusalLaws
 pub mod SourceLaws
 pub mod StillLaws
+pub mod WorkLaws
+pub mod WorkLeft

@@ -27,5 +27,7 @@ may_tell _ = false
 -- where the destination tells, nothing stands at `staging` after the log failed at such a phase
 abbrev pub FailedLogLeavesNoStaging : Type 0
 FailedLogLeavesNoStaging =
-    (job : Job) (start : Start) (old new : World) (run : Run) (after : Kept) (now : Writing) → Begun job start old run → Turn job run.phase (turning run.kept) after old new (Err halt.Log) → may_tell run.phase ≡ true → new.dest ≡ Some now
+    (job : Job) (start : Start) (old new : World) (run : Run) (after : Kept) (now : Writing)
+    → Begun job start old run → Turn job run.phase (turning run.kept) after old new (Err halt.Log)
+    → may_tell run.phase ≡ true → new.dest ≡ Some now
     → IsFree now.tree staging

@@ -27,18 +27,24 @@ contents_of rows bytes = map content_file (stored_files rows bytes)
 -- of the next file the folders that no earlier one needed, among the first so many on the way to it
 abbrev pub folders_before : List File → ℕ → Option File → List Item
 folders_before earlier number None = []
-folders_before earlier number (Some file) = map MakeFolder (filter (λ folder. not (leads_to earlier folder)) (take number (folders_above file.0)))
+folders_before earlier number (Some file) =
+    map MakeFolder
+    (filter (λ folder. not (leads_to earlier folder)) (take number (folders_above file.0)))
 
 -- the contents that are made at a position, and the folders of the next one
 abbrev pub contents_before : List File → Position → List Item
-contents_before files position = files_items [] (take position.stored files) ++ folders_before (take position.stored files) position.directories (slice_get files position.stored)
+contents_before files position =
+    files_items [] (take position.stored files)
+    ++ folders_before (take position.stored files) position.directories
+    (slice_get files position.stored)
 
 -- what is made of an object before a part of it, where these are its items and its contents
 abbrev pub items_before : List Item → List File → Part → List Item
 items_before items files part.Staging = []
 items_before items files part.Declaration = take 1 items
 items_before items files part.Version = take 2 items
-items_before items files (part.Content position) = take 3 items ++ map (item_in version_folder) (contents_before files position)
+items_before items files (part.Content position) =
+    take 3 items ++ map (item_in version_folder) (contents_before files position)
 items_before items files part.VersionInventory = take (3 + length (files_items [] files)) items
 items_before items files part.VersionSidecar = take (4 + length (files_items [] files)) items
 items_before items files part.Inventory = take (5 + length (files_items [] files)) items
@@ -47,7 +53,10 @@ items_before items files part.Sidecar = take (6 + length (files_items [] files))
 -- in `staging`, before a part of the object with these rows, whose files hold this
 abbrev pub made_before : Job → Object → List Row → (Path → List ℕ) → Part → List Item
 made_before job object rows bytes here =
-    map (item_in staging) (items_before (object_items job.algorithm (inventory_text object.id rows job.meta job.algorithm) (stored_files rows bytes)) (contents_of rows bytes) here)
+    map (item_in staging)
+    (items_before
+    (object_items job.algorithm (inventory_text object.id rows job.meta job.algorithm)
+    (stored_files rows bytes)) (contents_of rows bytes) here)
 
 -- all of it
 abbrev pub script_of_object : Job → Object → List Row → (Path → List ℕ) → List Item
@@ -66,13 +75,15 @@ is_above_one paths folder = list_any (λ path. is_some (rest_below folder path))
 -- of the folders above the next of these paths none from this number on is above an earlier one
 abbrev pub AreNewFrom : List Path → ℕ → Option Path → Type 0
 AreNewFrom earlier number None = ⊤
-AreNewFrom earlier number (Some path) = list_all (λ folder. not (is_above_one earlier folder)) (drop number (folders_above path)) ≡ true
+AreNewFrom earlier number (Some path) =
+    list_all (λ folder. not (is_above_one earlier folder)) (drop number (folders_above path)) ≡ true
 
 -- the position is at a row, so many contents are stored as the rows before it have, and the folders still to be made for the next one are new
 pub record IsAtRow (rows : List Row) (position : Position) : Type 0 where
   pub within : position.row < length rows
   pub stored : position.stored ≡ length (distinct (take position.row rows))
-  pub new : AreNewFrom (take position.stored (content_paths rows)) position.directories (slice_get (content_paths rows) position.stored)
+  pub new : AreNewFrom (take position.stored (content_paths rows)) position.directories
+      (slice_get (content_paths rows) position.stored)
 
 -- the row there is one that is stored, and all folders on the way to its content stand
 pub record IsAtStoredRow (held : Held) (position : Position) : Type 0 where

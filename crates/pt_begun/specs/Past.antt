@@ -82,7 +82,8 @@ object_held object rows bytes = record { id = object.id; files = files_held rows
 
 -- with the object that was renamed to its place; none is when the pairtree is opened
 abbrev pub placed_after : Phase → Phase → Held → Past → List Carried
-placed_after (phase.Rename object) next held past = past.placed ++ object_held object held.rows past.bytes ∷ []
+placed_after (phase.Rename object) next held past =
+    past.placed ++ object_held object held.rows past.bytes ∷ []
 placed_after _ phase.OpenRoot held past = []
 placed_after _ next held past = past.placed
 

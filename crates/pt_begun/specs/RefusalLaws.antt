@@ -33,20 +33,29 @@ SaysOfSource _ source = ⊤
 -- a turn that halts the run says so rightly, where the source tells
 abbrev pub RefusesRightly : Type 0
 RefusesRightly =
-    (job : Job) (start : Start) (old new : World) (run : Run) (after : Kept) (why : Halt) (s : Reading) → Begun job start old run → Turn job run.phase (turning run.kept) after old new (Err why) → old.source ≡ Some s → SaysOfSource why s.tree
+    (job : Job) (start : Start) (old new : World) (run : Run) (after : Kept) (why : Halt)
+    (s : Reading) → Begun job start old run
+    → Turn job run.phase (turning run.kept) after old new (Err why) → old.source ≡ Some s
+    → SaysOfSource why s.tree
 
 -- where the destination tells, a run halts for what stands at `staging` only where something stood there at the start
 abbrev pub FindsStaging : Type 0
 FindsStaging =
-    (job : Job) (start : Start) (old new : World) (run : Run) (after : Kept) (t : Tree) → Begun job start old run → Turn job run.phase (turning run.kept) after old new (Err halt.StagingLeft) → start.dest ≡ Some t → is_some (t staging) ≡ true
+    (job : Job) (start : Start) (old new : World) (run : Run) (after : Kept) (t : Tree)
+    → Begun job start old run
+    → Turn job run.phase (turning run.kept) after old new (Err halt.StagingLeft)
+    → start.dest ≡ Some t → is_some (t staging) ≡ true
 
 -- ---- a root that can't be gone on with
 
 -- what stands at its top is no folder; or that is one, and a file of the layout isn't there with its bytes; or what stands on the way to the place of one of these objects is no folder
 pub data IsBadTarget (job : Job) (root : Tree) (objects : Carried → Type 0) : Type 0 where
   IsNoFolder : is_folder_or_free (root []) ≡ false → IsBadTarget job root objects
-  HasOtherFile : (number : ℕ) (file : File) → root [] ≡ Some Folder → slice_get (root_files_of job.tuples) number ≡ Some file → root file.0 ≢ Some (Bytes file.1) → IsBadTarget job root objects
-  IsBarred : (object : Carried) → objects object → is_way_free job root object ≡ false → IsBadTarget job root objects
+  HasOtherFile : (number : ℕ) (file : File) → root [] ≡ Some Folder
+      → slice_get (root_files_of job.tuples) number ≡ Some file → root file.0 ≢ Some (Bytes file.1)
+      → IsBadTarget job root objects
+  IsBarred : (object : Carried) → objects object → is_way_free job root object ≡ false
+      → IsBadTarget job root objects
 
 -- the object is carried of the source
 abbrev pub IsCarriedOf : Job → Forest → Tree → Carried → Type 0
@@ -55,13 +64,18 @@ IsCarriedOf job source root object = (k : ℕ) × IsCarriedAs job source root k 
 -- where the destination tells, a run halts for it only where nothing stood at `staging` and its root can't be gone on with
 abbrev pub FindsTarget : Type 0
 FindsTarget =
-    (job : Job) (start : Start) (old new : World) (run : Run) (after : Kept) (t : Tree) → Begun job start old run → Turn job run.phase (turning run.kept) after old new (Err halt.Target) → start.dest ≡ Some t
+    (job : Job) (start : Start) (old new : World) (run : Run) (after : Kept) (t : Tree)
+    → Begun job start old run
+    → Turn job run.phase (turning run.kept) after old new (Err halt.Target) → start.dest ≡ Some t
     → IsFree t staging × IsBadTarget job (root_in t) (λ object. ⊤)
 
 -- where the source tells too, an object whose way is barred is one that is carried
 abbrev pub FindsTargetOf : Type 0
 FindsTargetOf =
-    (job : Job) (start : Start) (old new : World) (run : Run) (after : Kept) (s : Reading) (t : Tree) → Begun job start old run → Turn job run.phase (turning run.kept) after old new (Err halt.Target) → old.source ≡ Some s → start.dest ≡ Some t
+    (job : Job) (start : Start) (old new : World) (run : Run) (after : Kept) (s : Reading)
+    (t : Tree) → Begun job start old run
+    → Turn job run.phase (turning run.kept) after old new (Err halt.Target) → old.source ≡ Some s
+    → start.dest ≡ Some t
     → IsFree t staging × IsBadTarget job (root_in t) (IsCarriedOf job s.tree (root_in t))
 
 -- ---- what is left
@@ -76,17 +90,23 @@ is_early _ = false
 -- where the destination tells, it is as it was at the start after such a halt
 abbrev pub EarlyLeavesDest : Type 0
 EarlyLeavesDest =
-    (job : Job) (start : Start) (old new : World) (run : Run) (after : Kept) (why : Halt) (t : Tree) (now : Writing) → Begun job start old run → Turn job run.phase (turning run.kept) after old new (Err why) → is_early why ≡ true
+    (job : Job) (start : Start) (old new : World) (run : Run) (after : Kept) (why : Halt) (t : Tree)
+    (now : Writing) → Begun job start old run
+    → Turn job run.phase (turning run.kept) after old new (Err why) → is_early why ≡ true
     → start.dest ≡ Some t → new.dest ≡ Some now → now.tree ≡ t
 
 -- and so is a log that tells
 abbrev pub EarlyLeavesLog : Type 0
 EarlyLeavesLog =
-    (job : Job) (start : Start) (old new : World) (run : Run) (after : Kept) (why : Halt) (first last : List ℕ) → Begun job start old run → Turn job run.phase (turning run.kept) after old new (Err why) → is_early why ≡ true
+    (job : Job) (start : Start) (old new : World) (run : Run) (after : Kept) (why : Halt)
+    (first last : List ℕ) → Begun job start old run
+    → Turn job run.phase (turning run.kept) after old new (Err why) → is_early why ≡ true
     → start.log ≡ Some first → new.log ≡ Some last → last ≡ first
 
 -- ---- so it can't end well
 
 -- over a root that can't be gone on with, where an object is meant that is carried, no run of this source can end well
 abbrev pub BadTargetIsNone : Type 0
-BadTargetIsNone = (job : Job) (source : Forest) (t : Tree) → IsTree t → IsBadTarget job (root_in t) (IsCarriedOf job source (root_in t)) → IsTarget job source (root_in t) → ⊥
+BadTargetIsNone = (job : Job) (source : Forest) (t : Tree) → IsTree t
+    → IsBadTarget job (root_in t) (IsCarriedOf job source (root_in t))
+    → IsTarget job source (root_in t) → ⊥

@@ -17,29 +17,45 @@ use Rattle.pt_begun.specs.Past.{Past, past_after}
 -- the turns of the start, which may read the prefix
 abbrev pub StartingKeepsSource : Type 0
 StartingKeepsSource =
-    (job : Job) (past : Past) (s new : Reading) (prefix read : List ℕ) (here next : Phase) (held : Held) (calls : Calls) → Starts job here prefix read calls (Ok next)
-    → Answers calls.asked (Some s) (Some new) → HeldAt job past here held → SourcePart job past here prefix held s → SourcePart job (past_after here next held past) next read held new
+    (job : Job) (past : Past) (s new : Reading) (prefix read : List ℕ) (here next : Phase)
+    (held : Held) (calls : Calls) → Starts job here prefix read calls (Ok next)
+    → Answers calls.asked (Some s) (Some new) → HeldAt job past here held
+    → SourcePart job past here prefix held s
+    → SourcePart job (past_after here next held past) next read held new
 
 -- the turns of the walk
 abbrev pub WalkingKeepsSource : Type 0
 WalkingKeepsSource =
-    (job : Job) (past : Past) (s new : Reading) (prefix : List ℕ) (here next : Phase) (held after : Held) (calls : Calls) → Walks job prefix here held after calls (Ok next)
-    → Answers calls.asked (Some s) (Some new) → HeldAt job past here held → SourcePart job past here prefix held s → SourcePart job (past_after here next held past) next prefix after new
+    (job : Job) (past : Past) (s new : Reading) (prefix : List ℕ) (here next : Phase)
+    (held after : Held) (calls : Calls) → Walks job prefix here held after calls (Ok next)
+    → Answers calls.asked (Some s) (Some new) → HeldAt job past here held
+    → SourcePart job past here prefix held s
+    → SourcePart job (past_after here next held past) next prefix after new
 
 -- the turns of the scan of an object
 abbrev pub ScanningKeepsSource : Type 0
 ScanningKeepsSource =
-    (job : Job) (past : Past) (s new : Reading) (prefix : List ℕ) (here next : Phase) (held after : Held) (calls : Calls) → Scans job here held after calls (Ok next)
-    → Answers calls.asked (Some s) (Some new) → HeldAt job past here held → SourcePart job past here prefix held s → SourcePart job (past_after here next held past) next prefix after new
+    (job : Job) (past : Past) (s new : Reading) (prefix : List ℕ) (here next : Phase)
+    (held after : Held) (calls : Calls) → Scans job here held after calls (Ok next)
+    → Answers calls.asked (Some s) (Some new) → HeldAt job past here held
+    → SourcePart job past here prefix held s
+    → SourcePart job (past_after here next held past) next prefix after new
 
 -- the turns that make an object
 abbrev pub MakingKeepsSource : Type 0
 MakingKeepsSource =
-    (job : Job) (past : Past) (s new : Reading) (prefix : List ℕ) (here : Phase) (held after : Held) (calls : Calls) (next : Phase) → Makings job here held after calls (Ok next)
-    → Answers calls.asked (Some s) (Some new) → HeldAt job past here held → SourcePart job past here prefix held s → SourcePart job (past_after here next held past) next prefix after new
+    (job : Job) (past : Past) (s new : Reading) (prefix : List ℕ) (here : Phase) (held after : Held)
+    (calls : Calls) (next : Phase) → Makings job here held after calls (Ok next)
+    → Answers calls.asked (Some s) (Some new) → HeldAt job past here held
+    → SourcePart job past here prefix held s
+    → SourcePart job (past_after here next held past) next prefix after new
 
 -- the turns that bring an object to its place, and that tell of it and of the end
 abbrev pub PlacingKeepsSource : Type 0
 PlacingKeepsSource =
-    (job : Job) (counts : Counts) (past : Past) (s new : Reading) (prefix : List ℕ) (here next : Phase) (held after : Held) (calls : Calls) → Places job counts here held after calls (Ok next)
-    → Answers calls.asked (Some s) (Some new) → HeldAt job past here held → SourcePart job past here prefix held s → SourcePart job (past_after here next held past) next prefix after new
+    (job : Job) (counts : Counts) (past : Past) (s new : Reading) (prefix : List ℕ)
+    (here next : Phase) (held after : Held) (calls : Calls)
+    → Places job counts here held after calls (Ok next)
+    → Answers calls.asked (Some s) (Some new) → HeldAt job past here held
+    → SourcePart job past here prefix held s
+    → SourcePart job (past_after here next held past) next prefix after new

@@ -14,7 +14,8 @@ use Rattle.pt_begun.specs.BegunDest.{IsLeftBehind}
 
 -- the path is one where something new may stand: `ocfl` or below it, or, if nothing stood at `staging`, that or below it
 abbrev pub IsForNew : Tree → Path → Type 0
-IsForNew start path = (is_some (rest_below storage_root path) ≡ true) ⊎ (IsFree start staging × (is_some (rest_below staging path) ≡ true))
+IsForNew start path = (is_some (rest_below storage_root path) ≡ true)
+    ⊎ (IsFree start staging × (is_some (rest_below staging path) ≡ true))
 
 pub record StandsStill (start now : Tree) : Type 0 where
   -- what stood stands, with what it held
@@ -24,8 +25,11 @@ pub record StandsStill (start now : Tree) : Type 0 where
 
 -- so it is with whatever a run leaves that has ended
 abbrev pub LeftBehindStandsStill : Type 0
-LeftBehindStandsStill = (job : Job) (start : Tree) (now : Writing) → IsTree start → IsLeftBehind job start now → StandsStill start now.tree
+LeftBehindStandsStill = (job : Job) (start : Tree) (now : Writing) → IsTree start
+    → IsLeftBehind job start now → StandsStill start now.tree
 
 -- and between any two turns
 abbrev pub BegunStandsStill : Type 0
-BegunStandsStill = (job : Job) (start : Start) (world : World) (run : Run) (t : Tree) (now : Writing) → Begun job start world run → start.dest ≡ Some t → world.dest ≡ Some now → StandsStill t now.tree
+BegunStandsStill = (job : Job) (start : Start) (world : World) (run : Run) (t : Tree)
+    (now : Writing) → Begun job start world run → start.dest ≡ Some t → world.dest ≡ Some now
+    → StandsStill t now.tree

@@ -39,16 +39,16 @@ use Rattle.pt_state.specs.declared.job.Report.{Report}
 use Rattle.pt_move.proofs.Standing.{stands}
 use Rattle.pt_begun.specs.Begun.{Begun, IsWorld, Start, TellsAsBefore, start_of}
 use Rattle.pt_begun.specs.BegunDest.{DestPart, IsLeftBehind}
-use Rattle.pt_begun.proofs.KeptNow.{kept_now}
-use Rattle.pt_work.proofs.EndsWithin.{stops_within_work}
-use Rattle.pt_work.proofs.Within.{new_run_is_within_work, within_work_is_begun}
-use Rattle.pt_work.specs.WorkLaws.{BegunWithinWork}
+use Rattle.pt_begun.proofs.faults.KeptNow.{kept_now}
+use Rattle.pt_begun.proofs.turns_left.EndsWithin.{stops_within_work}
+use Rattle.pt_begun.proofs.turns_left.Within.{new_run_is_within_work, within_work_is_begun}
+use Rattle.pt_begun.specs.WorkLaws.{BegunWithinWork}
 use Rattle.pt_name.specs.Tuples.{IsLayout}
 use Rattle.pt_tree.specs.Tree.{Tree}
 use Rattle.pt_begun.specs.BegunHeld.{HeldAt}
 use Rattle.pt_begun.specs.EndLaws.{is_ended}
 use Rattle.pt_begun.specs.Past.{Past}
-use Rattle.pt_begun.proofs.Permitted.{begun_permits}
+use Rattle.pt_begun.proofs.ends.Permitted.{begun_permits}
 use Rattle.pt_plan.specs.Permits.{MayMakeContent}
 use Rattle.pt_plan.specs.declared.phase.Part.TheVariants as part
 use Rattle.pt_state.specs.States.{counts_of}

@@ -7,8 +7,8 @@ use Rattle.pt_plan.specs.Run.{Run, new_run}
 use Rattle.pt_plan.specs.World.{World}
 use Rattle.pt_plan.specs.declared.phase.Phase.TheVariants as phase
 use Rattle.pt_begun.specs.Begun.{IsWorld, start_of}
-use Rattle.pt_work.proofs.Within.{new_run_is_within_work}
-use Rattle.pt_work.specs.WorkLaws.{BegunWithinWork}
+use Rattle.pt_begun.proofs.turns_left.Within.{new_run_is_within_work}
+use Rattle.pt_begun.specs.WorkLaws.{BegunWithinWork}
 use Rattle.pt_state.specs.States.{job_of}
 use Rattle.pt_state.specs.declared.job.Job.{Job}
 use Rattle.pt_move.specs.Running.{HasBegun, IsBegun, IsNew, Running, as_told, run_of}

@@ -17,12 +17,12 @@ use Rattle.pt_plan.specs.declared.phase.Phase.TheVariants as phase
 use Rattle.pt_begun.specs.Begun.{Begun, Start}
 use Rattle.pt_begun.specs.BegunSource.{IsWithinBound}
 use Rattle.pt_begun.specs.FaultLeft.{IsLeftByFault}
-use Rattle.pt_begun.proofs.TurnEnds.{stops_leave}
-use Rattle.pt_begun.proofs.StandingStill.{begun_stands_still}
-use Rattle.pt_begun.proofs.WithinBound.{begun_is_within_bound}
-use Rattle.pt_work.proofs.EndsWithin.{turn_tree}
-use Rattle.pt_work.proofs.Within.{turn_is_left, within_work_is_begun}
-use Rattle.pt_work.specs.WorkLaws.{BegunWithinWork}
+use Rattle.pt_begun.proofs.ends.TurnEnds.{stops_leave}
+use Rattle.pt_begun.proofs.faults.StandingStill.{begun_stands_still}
+use Rattle.pt_begun.proofs.bounds.WithinBound.{begun_is_within_bound}
+use Rattle.pt_begun.proofs.turns_left.EndsWithin.{turn_tree}
+use Rattle.pt_begun.proofs.turns_left.Within.{turn_is_left, within_work_is_begun}
+use Rattle.pt_begun.specs.WorkLaws.{BegunWithinWork}
 use Rattle.pt_object.specs.Hasher.{HasBeenFed}
 use Rattle.pt_state.specs.States.{held_of, job_of, kept_of}
 use Rattle.pt_state.specs.Outside.{FedAfter}

@@ -22,22 +22,22 @@ use Rattle.pt_begun.specs.BegunSource.{IsWithinBound}
 use Rattle.pt_begun.specs.EndLaws.{is_ended}
 use Rattle.pt_begun.specs.FaultLeft.{IsLeftByFault}
 use Rattle.pt_begun.specs.RefusalLaws as law
-use Rattle.pt_begun.proofs.EarlyHalts.{early_leaves_dest, early_leaves_log}
-use Rattle.pt_begun.proofs.LogHalts.{failed_log_leaves_no_staging}
+use Rattle.pt_begun.proofs.refusals.EarlyHalts.{early_leaves_dest, early_leaves_log}
+use Rattle.pt_begun.proofs.faults.LogHalts.{failed_log_leaves_no_staging}
 use Rattle.pt_move.specs.Turning.{BlamesLogLate}
-use Rattle.pt_begun.proofs.Ending.{ends_well}
-use Rattle.pt_begun.proofs.EndStates.{ends_with_states}
-use Rattle.pt_begun.proofs.GoodStarts.{nothing_is_refused}
-use Rattle.pt_begun.proofs.InPairtree.{some_same}
-use Rattle.pt_begun.proofs.Refusing.{refuses_rightly}
-use Rattle.pt_begun.proofs.StagingFound.{finds_staging}
-use Rattle.pt_begun.proofs.StandingStill.{begun_stands_still}
-use Rattle.pt_begun.proofs.TargetFound.{finds_target, finds_target_of}
-use Rattle.pt_begun.proofs.TurnEnds.{stops_leave}
-use Rattle.pt_begun.proofs.TurnBound.{turn_is_within_bound}
-use Rattle.pt_work.proofs.EndsWithin.{turn_ends_within_work, turn_tree}
-use Rattle.pt_work.proofs.Within.{turn_keeps_within_work, turns_are_within_work, within_work_is_begun}
-use Rattle.pt_work.specs.WorkLaws.{BegunWithinWork}
+use Rattle.pt_begun.proofs.ends.Ending.{ends_well}
+use Rattle.pt_begun.proofs.ends.EndStates.{ends_with_states}
+use Rattle.pt_begun.proofs.refusals.GoodStarts.{nothing_is_refused}
+use Rattle.pt_begun.proofs.source.InPairtree.{some_same}
+use Rattle.pt_begun.proofs.refusals.Refusing.{refuses_rightly}
+use Rattle.pt_begun.proofs.refusals.StagingFound.{finds_staging}
+use Rattle.pt_begun.proofs.faults.StandingStill.{begun_stands_still}
+use Rattle.pt_begun.proofs.refusals.TargetFound.{finds_target, finds_target_of}
+use Rattle.pt_begun.proofs.ends.TurnEnds.{stops_leave}
+use Rattle.pt_begun.proofs.bounds.TurnBound.{turn_is_within_bound}
+use Rattle.pt_begun.proofs.turns_left.EndsWithin.{turn_ends_within_work, turn_tree}
+use Rattle.pt_begun.proofs.turns_left.Within.{turn_keeps_within_work, turns_are_within_work, within_work_is_begun}
+use Rattle.pt_begun.specs.WorkLaws.{BegunWithinWork}
 use Rattle.pt_state.specs.States.{counts_of, held_of, job_of, kept_of}
 use Rattle.pt_state.specs.declared.state.State.{State}
 use Rattle.pt_move.specs.Fault.{fault_of}

@@ -3,7 +3,7 @@ use Rattle.pt_begun.specs.Begun.{Start}
 use Rattle.pt_plan.specs.Job.{Job}
 use Rattle.pt_plan.specs.Run.{Run}
 use Rattle.pt_plan.specs.World.{World}
-use Rattle.pt_work.specs.WorkLaws.{BegunWithinWork}
+use Rattle.pt_begun.specs.WorkLaws.{BegunWithinWork}
 use Rattle.pt_move.specs.Running.{as_told}
 
 pub to_told : (job : Job) (start : Start) (world : World) (run : Run) → BegunWithinWork job start world run → BegunWithinWork job start (as_told world) run

@@ -13,7 +13,7 @@ use Rattle.pt_begun.specs.Begun.{Start, TellsAsBefore}
 use Rattle.pt_begun.specs.EndLaws.{is_ended}
 use Rattle.pt_begun.specs.BegunDest.{IsLeftBehind}
 use Rattle.pt_plan.specs.World.{World, dest_tree}
-use Rattle.pt_work.specs.WorkLaws.{BegunWithinWork}
+use Rattle.pt_begun.specs.WorkLaws.{BegunWithinWork}
 use Rattle.pt_state.specs.States.{job_of, kept_of}
 use Rattle.pt_state.specs.declared.job.Job.{Job}
 use Rattle.pt_state.specs.declared.job.Report.{Report}
@@ -31,7 +31,11 @@ no_lines = record { done = 0; present = 0; skipped = 0; turns = 0 }
 
 -- what a run keeps that is to begin
 abbrev pub fresh_kept : Kept
-fresh_kept = record { prefix = []; held = record { trail = []; rows = []; contents = []; fed = [] }; counts = record { done = 0; present = 0; skipped = 0; turns = 0 } }
+fresh_kept = record {
+  prefix = [];
+  held = record { trail = []; rows = []; contents = []; fed = [] };
+  counts = record { done = 0; present = 0; skipped = 0; turns = 0 };
+}
 
 -- a run of this job that is to begin, and holds nothing
 pub record IsNew (job : Job) (r : Running) : Type 0 where

@@ -1,4 +1,4 @@
-use Rattle.pt_begun.proofs.Permitted.{begun_permits}
+use Rattle.pt_begun.proofs.ends.Permitted.{begun_permits}
 use Rattle.pt_begun.proofs.laws.begun_permits.Goals as goal
 
 pub returns : goal.returns

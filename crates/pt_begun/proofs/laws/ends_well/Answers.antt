@@ -1,4 +1,4 @@
-use Rattle.pt_begun.proofs.Ending.{ends_well}
+use Rattle.pt_begun.proofs.ends.Ending.{ends_well}
 use Rattle.pt_begun.proofs.laws.ends_well.Goals as goal
 
 pub returns : goal.returns

@@ -1,4 +1,4 @@
-use Rattle.pt_begun.proofs.EndStates.{ends_with_states}
+use Rattle.pt_begun.proofs.ends.EndStates.{ends_with_states}
 use Rattle.pt_begun.proofs.laws.ends_with_states.Goals as goal
 
 pub returns : goal.returns

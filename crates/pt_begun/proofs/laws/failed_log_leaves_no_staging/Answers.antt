@@ -1,4 +1,4 @@
-use Rattle.pt_begun.proofs.LogHalts.{failed_log_leaves_no_staging}
+use Rattle.pt_begun.proofs.faults.LogHalts.{failed_log_leaves_no_staging}
 use Rattle.pt_begun.proofs.laws.failed_log_leaves_no_staging.Goals as goal
 
 pub returns : goal.returns

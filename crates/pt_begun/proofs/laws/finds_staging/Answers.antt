@@ -1,4 +1,4 @@
-use Rattle.pt_begun.proofs.StagingFound.{finds_staging}
+use Rattle.pt_begun.proofs.refusals.StagingFound.{finds_staging}
 use Rattle.pt_begun.proofs.laws.finds_staging.Goals as goal
 
 pub returns : goal.returns

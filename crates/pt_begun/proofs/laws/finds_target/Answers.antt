@@ -1,4 +1,4 @@
-use Rattle.pt_begun.proofs.TargetFound.{finds_target}
+use Rattle.pt_begun.proofs.refusals.TargetFound.{finds_target}
 use Rattle.pt_begun.proofs.laws.finds_target.Goals as goal
 
 pub returns : goal.returns

@@ -1,4 +1,4 @@
-use Rattle.pt_begun.proofs.TurnEnds.{halts_leave}
+use Rattle.pt_begun.proofs.ends.TurnEnds.{halts_leave}
 use Rattle.pt_begun.proofs.laws.halts_leave.Goals as goal
 
 pub returns : goal.returns

@@ -1,4 +1,4 @@
-use Rattle.pt_begun.proofs.MakesDest.{makes_dest}
+use Rattle.pt_begun.proofs.dest.MakesDest.{makes_dest}
 use Rattle.pt_begun.proofs.laws.making_keeps_dest.Goals as goal
 
 pub returns : goal.returns

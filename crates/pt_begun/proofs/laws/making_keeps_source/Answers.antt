@@ -1,4 +1,4 @@
-use Rattle.pt_begun.proofs.SourceKeeps.{makes_source}
+use Rattle.pt_begun.proofs.source.SourceKeeps.{makes_source}
 use Rattle.pt_begun.proofs.laws.making_keeps_source.Goals as goal
 
 pub returns : goal.returns

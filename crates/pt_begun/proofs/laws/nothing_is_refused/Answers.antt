@@ -1,4 +1,4 @@
-use Rattle.pt_begun.proofs.GoodStarts.{nothing_is_refused}
+use Rattle.pt_begun.proofs.refusals.GoodStarts.{nothing_is_refused}
 use Rattle.pt_begun.proofs.laws.nothing_is_refused.Goals as goal
 
 pub returns : goal.returns

@@ -1,4 +1,4 @@
-use Rattle.pt_begun.proofs.PlacesDest.{places_dest}
+use Rattle.pt_begun.proofs.dest.PlacesDest.{places_dest}
 use Rattle.pt_begun.proofs.laws.placing_keeps_dest.Goals as goal
 
 pub returns : goal.returns

@@ -1,4 +1,4 @@
-use Rattle.pt_begun.proofs.HeldKeeps.{places_hold}
+use Rattle.pt_begun.proofs.held.HeldKeeps.{places_hold}
 use Rattle.pt_begun.proofs.laws.placing_keeps_held.Goals as goal
 
 pub returns : goal.returns

@@ -1,4 +1,4 @@
-use Rattle.pt_begun.proofs.Refusing.{refuses_rightly}
+use Rattle.pt_begun.proofs.refusals.Refusing.{refuses_rightly}
 use Rattle.pt_begun.proofs.laws.refuses_rightly.Goals as goal
 
 pub returns : goal.returns

@@ -1,4 +1,4 @@
-use Rattle.pt_begun.proofs.ScansHold.{scans_hold}
+use Rattle.pt_begun.proofs.held.ScansHold.{scans_hold}
 use Rattle.pt_begun.proofs.laws.scanning_keeps_held.Goals as goal
 
 pub returns : goal.returns

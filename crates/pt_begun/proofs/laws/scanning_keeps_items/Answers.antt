@@ -1,4 +1,4 @@
-use Rattle.pt_begun.proofs.ItemsKeep.{scans_items}
+use Rattle.pt_begun.proofs.items.ItemsKeep.{scans_items}
 use Rattle.pt_begun.proofs.laws.scanning_keeps_items.Goals as goal
 
 pub returns : goal.returns

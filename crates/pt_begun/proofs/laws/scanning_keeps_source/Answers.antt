@@ -1,4 +1,4 @@
-use Rattle.pt_begun.proofs.ScansSource.{scans_source}
+use Rattle.pt_begun.proofs.source.ScansSource.{scans_source}
 use Rattle.pt_begun.proofs.laws.scanning_keeps_source.Goals as goal
 
 pub returns : goal.returns

@@ -1,4 +1,4 @@
-use Rattle.pt_begun.proofs.StartsDest.{starts_dest}
+use Rattle.pt_begun.proofs.dest.StartsDest.{starts_dest}
 use Rattle.pt_begun.proofs.laws.starting_keeps_dest.Goals as goal
 
 pub returns : goal.returns

@@ -1,4 +1,4 @@
-use Rattle.pt_begun.proofs.HeldKeeps.{starts_hold}
+use Rattle.pt_begun.proofs.held.HeldKeeps.{starts_hold}
 use Rattle.pt_begun.proofs.laws.starting_keeps_held.Goals as goal
 
 pub returns : goal.returns

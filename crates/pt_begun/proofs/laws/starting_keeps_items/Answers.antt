@@ -1,4 +1,4 @@
-use Rattle.pt_begun.proofs.ItemsKeep.{starts_items}
+use Rattle.pt_begun.proofs.items.ItemsKeep.{starts_items}
 use Rattle.pt_begun.proofs.laws.starting_keeps_items.Goals as goal
 
 pub returns : goal.returns

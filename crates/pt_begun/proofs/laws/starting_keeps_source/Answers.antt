@@ -1,4 +1,4 @@
-use Rattle.pt_begun.proofs.SourceKeeps.{starts_source}
+use Rattle.pt_begun.proofs.source.SourceKeeps.{starts_source}
 use Rattle.pt_begun.proofs.laws.starting_keeps_source.Goals as goal
 
 pub returns : goal.returns

@@ -1,4 +1,4 @@
-use Rattle.pt_begun.proofs.TurnEnds.{stops_leave}
+use Rattle.pt_begun.proofs.ends.TurnEnds.{stops_leave}
 use Rattle.pt_begun.proofs.laws.stops_leave.Goals as goal
 
 pub returns : goal.returns

@@ -1,4 +1,4 @@
-use Rattle.pt_begun.proofs.DestKeeps.{walks_dest}
+use Rattle.pt_begun.proofs.dest.DestKeeps.{walks_dest}
 use Rattle.pt_begun.proofs.laws.walking_keeps_dest.Goals as goal
 
 pub returns : goal.returns

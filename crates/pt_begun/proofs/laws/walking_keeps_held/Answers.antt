@@ -1,4 +1,4 @@
-use Rattle.pt_begun.proofs.HeldKeeps.{walks_hold}
+use Rattle.pt_begun.proofs.held.HeldKeeps.{walks_hold}
 use Rattle.pt_begun.proofs.laws.walking_keeps_held.Goals as goal
 
 pub returns : goal.returns

@@ -1,4 +1,4 @@
-use Rattle.pt_begun.proofs.SourceKeeps.{walks_source}
+use Rattle.pt_begun.proofs.source.SourceKeeps.{walks_source}
 use Rattle.pt_begun.proofs.laws.walking_keeps_source.Goals as goal
 
 pub returns : goal.returns

@@ -1,0 +1,5 @@
+pub mod Bounds
+pub mod HaltedBound
+pub mod Rooms
+pub mod TurnBound
+pub mod WithinBound

@@ -1,0 +1,159 @@
+-- What a halted run holds is within the source's bound, with the row that a turn may have added.
+use Rattle.std.proofs.Common.{◌≤◌, ℕ, ◌+◌, Bool, true, false, List, [], ◌∷◌, ◌++◌, refl, ap, sym, subst, arith, cond, length, inl, inr}
+use Rattle.std.specs.Prelude.{Option, Some}
+use Rattle.std.proofs.lemmas.List.{length-append}
+use Rattle.pt_object.specs.Algorithm.{digest_of}
+use Rattle.pt_object.specs.Contents.{content_of, is_noted, noted}
+use Rattle.pt_object.specs.declared.contents.Content.{Content}
+use Rattle.pt_object.specs.declared.rows.Row.{Row}
+use Rattle.pt_tree.specs.Forest.{Forest}
+use Rattle.pt_tree.specs.Path.{Path}
+use Rattle.pt_tree.specs.Source.{Reading, after_next}
+use Rattle.pt_walk.specs.Trail.{entries_held}
+use Rattle.pt_plan.specs.Answer.{Answer}
+use Rattle.pt_plan.specs.Bound.{bound}
+use Rattle.pt_plan.specs.Job.{Job}
+use Rattle.pt_plan.specs.Run.{Counts, Held, Kept, turning}
+use Rattle.pt_plan.specs.Turn.{FailsAtFirst, FailsLater, Follows, IsHalted, IsRefused, Make, Place, Scan, Start as a_start, Walk}
+use Rattle.pt_plan.specs.TurnMake.{CopiesOn, EndsCopy, MakesDeclaration, MakesFolder, MakesInventory, MakesSidecar, MakesStaging, MakesVersion, MakesVersionInventory, MakesVersionSidecar, Makings, OpensCopy, PassesRow, ReadsMore, ReadsOther}
+use Rattle.pt_plan.specs.TurnPlace.{FindsTuple, IsInTheWay, MakesTuple, Places, RenamesObject, TellsDone, TellsEnd}
+use Rattle.pt_plan.specs.TurnScan.{EndsFile, EndsObject, EndsSite, EntersDirectory, EntersObject, IsTooDeep, IsTooLong, LeavesDirectory, MeetsDeep, MeetsLimit, MeetsOther, OpensFile, PassesShorty, ReadsOn, Scans, StartsInSite, logical_path, with_file}
+use Rattle.pt_plan.specs.TurnWalk.{EndsWalk, EntersSite, IsDeep, IsNew, IsPast, IsPresent, IsSkipped, LeadsOn, LeavesSite, OpensRoot, PassesEntry, Walks}
+use Rattle.pt_plan.specs.World.{Answers, Calls, Reads, asks}
+use Rattle.pt_plan.specs.declared.object.Object.{Object}
+use Rattle.pt_plan.specs.declared.phase.Phase.{Phase}
+use Rattle.pt_plan.specs.declared.phase.Phase.TheVariants as phase
+use Rattle.pt_begun.specs.Begun.{Begun}
+use Rattle.pt_begun.specs.BegunHeld.{HeldAt}
+use Rattle.pt_begun.specs.BegunSource.{IsWithinBound, SourcePart}
+use Rattle.pt_begun.specs.BoundLaws.{HaltedIsWithinBound}
+use Rattle.pt_begun.specs.Past.{Past, past_after}
+use Rattle.pt_begun.proofs.bounds.Rooms.{entries_advanced}
+use Rattle.pt_begun.proofs.held.ScansHold.{scans_hold}
+use Rattle.pt_begun.proofs.source.ScansSource.{scans_source}
+use Rattle.pt_begun.proofs.bounds.WithinBound.{within}
+
+-- what is held, but these rows in place of its own, is within the bound
+abbrev AreFew : Job → Forest → Held → List Row → Type 0
+AreFew job source held rows = entries_held held.trail + length rows + length held.contents ≤ bound job source
+
+-- ---- the rows that a turn leaves
+
+few_none : (job : Job) (source : Forest) (held : Held) → IsWithinBound job source held → AreFew job source held []
+few_none job source held few = omega (arith, few)
+
+-- a content that is noted isn't one fewer
+no_fewer : (contents : List Content) (digest : List ℕ) (path : Path) → length contents ≤ length (noted contents digest path)
+no_fewer contents digest path = by (is_noted contents digest)
+  where
+    by : (b : Bool) → length contents ≤ length (cond b contents (contents ++ content_of digest path ∷ []))
+    by true = omega arith
+    by false = let more = length-append contents (content_of digest path ∷ []) in omega (arith, more)
+
+-- the row of a file that was read to its end
+few_with_file : (job : Job) (past : Past) (prefix : List ℕ) (held : Held) (object : Object) (bytes : ℕ) (s : Reading) (new : Option Reading) → HeldAt job past (phase.Read object bytes) held → SourcePart job past (phase.Read object bytes) prefix held s
+    → Answers (Reads []) (Some s) new → AreFew job s.tree held (with_file job object held bytes).rows
+unfolding Answers
+few_with_file job past prefix held object bytes s new at known answers =
+    let here = phase.Read object bytes in
+    let next = phase.Scan object in
+    let after = with_file job object held bytes in
+    let calls = asks (Reads []) in
+    let v = after_next s in
+    let said : Answers (Reads []) (Some s) (Some v) = (answers.0, refl) in
+    let later = past_after here next held past in
+    let at_next = scans_hold job past (Some s) (Some v) here next held after calls (EndsFile held object bytes) said at in
+    let known_next = scans_source job past s v prefix here next held after calls (EndsFile held object bytes) said at known in
+    let few = within job later next prefix after v at_next known_next refl in
+    let same = entries_advanced held.trail in
+    let fewer = no_fewer held.contents (digest_of job.algorithm held.fed) (logical_path object held.trail) in
+    omega (arith, few, same, fewer)
+
+walks_few : (job : Job) (source : Forest) (prefix : List ℕ) (here : Phase) (held new : Held) (calls : Calls) (answer : Answer) → Walks job prefix here held new calls answer → IsWithinBound job source held → AreFew job source held new.rows
+walks_few job source prefix here held new calls answer (OpensRoot was items) few = few
+walks_few job source prefix here held new calls answer (LeadsOn was found) few = few
+walks_few job source prefix here held new calls answer (IsSkipped was why found) few = few
+walks_few job source prefix here held new calls answer (IsPresent was index id kind found) few = few
+walks_few job source prefix here held new calls answer (IsNew was index id found) few = few
+walks_few job source prefix here held new calls answer (IsPast was name e short last) few = few
+walks_few job source prefix here held new calls answer (IsDeep was name e short last deep) few = few
+walks_few job source prefix here held new calls answer (EntersSite was name items e short last shallow) few = few
+walks_few job source prefix here held new calls answer (PassesEntry was item e other) few = few
+walks_few job source prefix here held new calls answer (LeavesSite was e inner) few = few
+walks_few job source prefix here held new calls answer (EndsWalk was e outer) few = few
+
+scans_few : (job : Job) (past : Past) (prefix : List ℕ) (here : Phase) (held new : Held) (calls : Calls) (answer : Answer) (s : Reading) (now : Option Reading) → Scans job here held new calls answer → HeldAt job past here held → SourcePart job past here prefix held s
+    → Answers calls.asked (Some s) now → IsWithinBound job s.tree held → AreFew job s.tree held new.rows
+scans_few job past prefix here held new calls answer s now (StartsInSite was object gathered) at known answers few = few
+scans_few job past prefix here held new calls answer s now (EntersObject was object items apart shallow) at known answers few = few
+scans_few job past prefix here held new calls answer s now (IsTooDeep was object apart deep) at known answers few = few_none job s.tree was few
+scans_few job past prefix here held new calls answer s now (PassesShorty was object item e passed) at known answers few = few
+scans_few job past prefix here held new calls answer s now (EntersDirectory was object name items e apart shallow) at known answers few = few
+scans_few job past prefix here held new calls answer s now (MeetsDeep was object name e apart deep) at known answers few = few_none job s.tree was few
+scans_few job past prefix here held new calls answer s now (OpensFile was object name e room) at known answers few = few
+scans_few job past prefix here held new calls answer s now (MeetsLimit was object name e room) at known answers few = few_none job s.tree was few
+scans_few job past prefix here held new calls answer s now (MeetsOther was object name e) at known answers few = few_none job s.tree was few
+scans_few job past prefix here held new calls answer s now (EndsSite was object e in_site) at known answers few = few
+scans_few job past prefix here held new calls answer s now (EndsObject was object e in_site own) at known answers few = few
+scans_few job past prefix here held new calls answer s now (LeavesDirectory was object e in_site own) at known answers few = few
+scans_few job past prefix here held new calls answer s now (ReadsOn was object bytes byte block short) at known answers few = few
+scans_few job past prefix here held new calls answer s now (IsTooLong was object bytes byte block long) at known answers few = few_none job s.tree was few
+scans_few job past prefix here held new calls answer s now (EndsFile was object bytes) at known answers few = few_with_file job past prefix was object bytes s now at known answers
+
+makes_few : (job : Job) (source : Forest) (here : Phase) (held new : Held) (calls : Calls) (answer : Answer) → Makings job here held new calls answer → IsWithinBound job source held → AreFew job source held new.rows
+makes_few job source here held new calls answer (MakesStaging was object) few = few
+makes_few job source here held new calls answer (MakesDeclaration was object) few = few
+makes_few job source here held new calls answer (MakesVersion was object) few = few
+makes_few job source here held new calls answer (PassesRow was object position row is stored) few = few
+makes_few job source here held new calls answer (MakesFolder was object position row is stored more) few = few
+makes_few job source here held new calls answer (OpensCopy was object position row is stored all) few = few
+makes_few job source here held new calls answer (CopiesOn was object position left byte block enough) few = few
+makes_few job source here held new calls answer (ReadsMore was object position left byte block more) few = few
+makes_few job source here held new calls answer (EndsCopy was object position row left is same) few = few
+makes_few job source here held new calls answer (ReadsOther was object position row left is other) few = few
+makes_few job source here held new calls answer (MakesVersionInventory was object) few = few
+makes_few job source here held new calls answer (MakesVersionSidecar was object) few = few
+makes_few job source here held new calls answer (MakesInventory was object) few = few
+makes_few job source here held new calls answer (MakesSidecar was object) few = few
+
+places_few : (job : Job) (source : Forest) (counts : Counts) (here : Phase) (held new : Held) (calls : Calls) (answer : Answer) → Places job counts here held new calls answer → IsWithinBound job source held → AreFew job source held new.rows
+places_few job source counts here held new calls answer (MakesTuple was object number) few = few
+places_few job source counts here held new calls answer (FindsTuple was object number) few = few
+places_few job source counts here held new calls answer (IsInTheWay was object number kind other) few = few
+places_few job source counts here held new calls answer (RenamesObject was object) few = few
+places_few job source counts here held new calls answer (TellsDone was object) few = few_none job source was few
+places_few job source counts here held new calls answer (TellsEnd was) few = few
+
+-- ---- a turn that halts
+
+follows_few : (job : Job) (past : Past) (counts : Counts) (here : Phase) (prefix : List ℕ) (held : Held) (read : List ℕ) (new : Held) (calls : Calls) (answer : Answer) (s : Reading) (now : Option Reading) → Follows job counts here prefix held read new calls answer
+    → HeldAt job past here held → SourcePart job past here prefix held s → Answers calls.asked (Some s) now → IsWithinBound job s.tree held → AreFew job s.tree held new.rows
+follows_few job past counts here prefix held read new calls answer s now (a_start h p r x c a turn) at known answers few = few
+follows_few job past counts here prefix held read new calls answer s now (Walk h p x n c a turn) at known answers few = walks_few job s.tree prefix here held new calls answer turn few
+follows_few job past counts here prefix held read new calls answer s now (Scan h p x n c a turn) at known answers few = scans_few job past prefix here held new calls answer s now turn at known answers few
+follows_few job past counts here prefix held read new calls answer s now (Make h p x n c a turn) at known answers few = makes_few job s.tree here held new calls answer turn few
+follows_few job past counts here prefix held read new calls answer s now (Place h p x n c a turn) at known answers few = places_few job s.tree counts here held new calls answer turn few
+
+halted_few : (job : Job) (source : Forest) (rows : List Row) (before after : Kept) → IsHalted rows before after → AreFew job source before.held rows → IsWithinBound job source after.held
+halted_few job source rows before after halted few =
+    let trail = ap entries_held halted.trail in
+    let same = ap length halted.rows_are in
+    let contents = ap length halted.contents in
+    omega (arith, few, trail, same, contents)
+
+pub halted_is_within_bound : HaltedIsWithinBound
+unfolding Begun
+halted_is_within_bound job start old new run after why s (past, is) not (IsRefused prefix held calls reason turn did halted) told =
+    halted_few job s.tree run.kept.held.rows (turning run.kept) after halted (within job past run.phase run.kept.prefix run.kept.held s is.held (is.source s told) not)
+halted_is_within_bound job start old new run after why s (past, is) not (FailsAtFirst reason stays halted) told =
+    halted_few job s.tree run.kept.held.rows (turning run.kept) after halted (within job past run.phase run.kept.prefix run.kept.held s is.held (is.source s told) not)
+halted_is_within_bound job start old new run after why s (past, is) not (FailsLater prefix held calls answer rows reason turn leaves which halted) told =
+    halted_few job s.tree rows (turning run.kept) after halted
+    (elim which [
+      | inl same ↦ subst (AreFew job s.tree run.kept.held) (sym same) few
+      | inr more ↦ subst (AreFew job s.tree run.kept.held) (sym more.0)
+          (follows_few job past (turning run.kept).counts run.phase run.kept.prefix run.kept.held prefix held calls answer s new.source turn is.held (is.source s told) (subst (λ o. Answers calls.asked o new.source) told more.1) few)
+    ])
+  where
+    few : IsWithinBound job s.tree run.kept.held
+    few = within job past run.phase run.kept.prefix run.kept.held s is.held (is.source s told) not

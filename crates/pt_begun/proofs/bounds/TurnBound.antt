@@ -1,0 +1,46 @@
+-- After any turn no more is held than the source's bound.
+use Rattle.std.proofs.Common.{◌≡◌, Bool, true, false, refl, sym, subst}
+use Rattle.std.specs.Prelude.{Option, Some, Ok, Err}
+use Rattle.pt_tree.specs.Forest.{Forest}
+use Rattle.pt_tree.specs.Source.{Reading, after_next, after_open}
+use Rattle.pt_plan.specs.Job.{Job}
+use Rattle.pt_plan.specs.Run.{Held, Kept, Run, turning}
+use Rattle.pt_plan.specs.Turn.{Did, GoesOn, Turn}
+use Rattle.pt_plan.specs.World.{Answers, Asked, AsksNothing, Lists, Opens, OpensAndReads, Reads, World}
+use Rattle.pt_plan.specs.declared.phase.Phase.{Phase}
+use Rattle.pt_begun.specs.Begun.{Begun, Start}
+use Rattle.pt_begun.specs.BegunSource.{IsWithinBound}
+use Rattle.pt_begun.specs.BoundLaws.{TurnIsWithinBound}
+use Rattle.pt_begun.specs.EndLaws.{is_ended}
+use Rattle.pt_begun.proofs.ends.Ending.{last_turn}
+use Rattle.pt_begun.proofs.bounds.HaltedBound.{halted_is_within_bound}
+use Rattle.pt_begun.proofs.ends.TurnKeeps.{turn_keeps_begun}
+use Rattle.pt_begun.proofs.bounds.WithinBound.{begun_is_within_bound}
+
+-- a source that told tells after it answered, and the same tree
+answered : (asked : Asked) (s : Reading) (new : Option Reading) → Answers asked (Some s) new → (v : Reading) × (new ≡ Some v) × (v.tree ≡ s.tree)
+unfolding Answers
+answered AsksNothing s new answers = (s, answers, refl)
+answered (Lists path entries) s new answers = (s, answers.2, refl)
+answered (Opens path) s new answers = (after_open path s, answers, refl)
+answered (Reads block) s new answers = (after_next s, answers.1, refl)
+answered (OpensAndReads path block) s new answers = (after_next (after_open path s), answers.1, refl)
+
+-- a source that told tells after a turn that goes on, and the same tree
+tells_on : (old new : World) (run : Run) (after : Kept) (job : Job) (next : Phase) (s : Reading) → Turn job run.phase (turning run.kept) after old new (Ok next) → old.source ≡ Some s → (v : Reading) × (new.source ≡ Some v) × (v.tree ≡ s.tree)
+unfolding Did
+tells_on old new run after job next s (GoesOn calls to turn did counts) told = answered calls.asked s new.source (subst (λ o. Answers calls.asked o new.source) told did.0.source)
+
+goes_within : (job : Job) (start : Start) (old new : World) (run : Run) (after : Kept) (next : Phase) (s : Reading) → Begun job start old run → is_ended run.phase ≡ false → Turn job run.phase (turning run.kept) after old new (Ok next) → old.source ≡ Some s
+    → (last : Bool) → is_ended next ≡ last → IsWithinBound job s.tree after.held
+goes_within job start old new run after next s begun going turn told false more =
+    let v = tells_on old new run after job next s turn told in
+    subst (λ (f : Forest). IsWithinBound job f after.held) v.2
+    (begun_is_within_bound job start new (record { phase = next; kept = after }) v.0 (turn_keeps_begun job start old new run after next begun turn) more v.1)
+goes_within job start old new run after next s begun going (GoesOn calls to turn did counts) told true ended =
+    subst (λ (h : Held). IsWithinBound job s.tree h) (sym (last_turn job (turning run.kept).counts run.phase run.kept.prefix run.kept.held after.prefix after.held calls next turn ended).held_is)
+    (begun_is_within_bound job start old run s begun going told)
+
+pub turn_is_within_bound : TurnIsWithinBound
+turn_is_within_bound job start old new run after (Ok next) s begun going turn told = goes_within job start old new run after next s begun going turn told (is_ended next) refl
+turn_is_within_bound job start old new run after (Err why) s begun going turn told = halted_is_within_bound job start old new run after why s begun going turn told

@@ -1,0 +1,49 @@
+-- Between two turns no more is held than the source's bound.
+use Rattle.std.proofs.Common.{◌≡◌, ℕ, List, false, arith}
+use Rattle.std.proofs.lemmas.Bool.{true≢false}
+use Rattle.pt_tree.specs.Forest.{Forest}
+use Rattle.pt_tree.specs.Source.{Reading}
+use Rattle.pt_plan.specs.Job.{Job}
+use Rattle.pt_plan.specs.Run.{Held}
+use Rattle.pt_plan.specs.TurnScan.{to_site}
+use Rattle.pt_plan.specs.declared.object.Object.{Object}
+use Rattle.pt_plan.specs.declared.phase.Phase.{Phase}
+use Rattle.pt_plan.specs.declared.phase.Phase.TheVariants as phase
+use Rattle.pt_begun.specs.Begun.{Begun}
+use Rattle.pt_begun.specs.BegunHeld.{AreRows, HeldAt}
+use Rattle.pt_begun.specs.BegunSource.{HasRoom, IsScanning, IsWithinBound, SourcePart, left_of, object_at}
+use Rattle.pt_begun.specs.EndLaws.{BegunIsWithinBound, is_ended}
+use Rattle.pt_begun.specs.Past.{Past}
+use Rattle.pt_begun.proofs.bounds.Rooms.{records_held}
+
+-- with room for all the object's files there is room for those held
+in_object : (job : Job) (source : Forest) (prefix : List ℕ) (past : Past) (object : Object) (held : Held) (count : ℕ) → AreRows job past.bytes held → IsScanning job source prefix object held count → HasRoom job source object held → IsWithinBound job source held
+in_object job source prefix past object held count rows it room =
+    let few = records_held job (object_at source object (to_site object held.trail)) held object.empty (left_of source object held.trail) rows.contents it.scanned in
+    omega (arith, few, room)
+
+pub within : (job : Job) (past : Past) (here : Phase) (prefix : List ℕ) (held : Held) (s : Reading) → HeldAt job past here held → SourcePart job past here prefix held s → is_ended here ≡ false → IsWithinBound job s.tree held
+within job past phase.Begin prefix held s has it not = it.few
+within job past (phase.Prefix here) prefix held s has it not = it.few
+within job past phase.Staging prefix held s has it not = it.few
+within job past phase.Root prefix held s has it not = it.few
+within job past (phase.RootMake number) prefix held s has it not = it.few
+within job past phase.RootRename prefix held s has it not = it.few
+within job past (phase.RootCheck number) prefix held s has it not = it.few
+within job past phase.OpenRoot prefix held s has it not = it.few
+within job past phase.Judge prefix held s has it not = it.few
+within job past (phase.OpenObject object) prefix held s has it not = it.few
+within job past (phase.Scan object) prefix held s has it not = in_object job s.tree prefix past object held past.count has.rows it.at.1 it.few
+within job past (phase.Read object bytes) prefix held s has it not = in_object job s.tree prefix past object held past.count has.rows it.at.1 it.few
+within job past (phase.Make object part) prefix held s has it not = it.few
+within job past (phase.Copy object position left) prefix held s has it not = it.few
+within job past (phase.Tuples object number) prefix held s has it not = it.few
+within job past (phase.Rename object) prefix held s has it not = it.few
+within job past (phase.Line object) prefix held s has it not = it.few
+within job past phase.Walk prefix held s has it not = it.few
+within job past phase.End prefix held s has it not = it.few
+within job past phase.Ended prefix held s has it not = absurd (true≢false not)
+
+pub begun_is_within_bound : BegunIsWithinBound
+unfolding Begun
+begun_is_within_bound job start world run s (past, is) not told = within job past run.phase run.kept.prefix run.kept.held s is.held (is.source s told) not

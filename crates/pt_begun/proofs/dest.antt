@@ -1,0 +1,12 @@
+pub mod ContentParts
+pub mod DestKeeps
+pub mod MadeItems
+pub mod MakesDest
+pub mod ObjectParts
+pub mod Ordering
+pub mod PlacesDest
+pub mod PlacesOnWay
+pub mod ScriptParts
+pub mod StartsDest
+pub mod Trees
+pub mod WaysLeft

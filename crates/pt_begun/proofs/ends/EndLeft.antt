@@ -1,0 +1,55 @@
+-- What a run leaves that ends well may be left by a fault.
+use Rattle.std.proofs.Common.{◌≡◌, ◌≤◌, ℕ, suc, List, [], ◌++◌, refl, ap, sym, ◌∙◌, append-nil, arith, length}
+use Rattle.pt_tree.specs.Forest.{Forest}
+use Rattle.pt_tree.specs.Tree.{Tree}
+use Rattle.pt_plan.proofs.Growing.{all_items_are_all}
+use Rattle.pt_plan.specs.Items.{items}
+use Rattle.pt_plan.specs.Job.{Job}
+use Rattle.pt_plan.specs.Lines.{end_line, line_text, lines}
+use Rattle.pt_plan.specs.Roots.{root_in, with_root}
+use Rattle.pt_plan.specs.declared.phase.Phase.{Phase}
+use Rattle.pt_plan.specs.declared.phase.Phase.TheVariants as phase
+use Rattle.pt_begun.specs.Begun.{LeftAt}
+use Rattle.pt_begun.specs.EndLaws.{IsEnd}
+use Rattle.pt_begun.specs.FaultLeft.{IsLeftByFault}
+use Rattle.pt_begun.proofs.faults.LeftNow.{between_left}
+use Rattle.pt_begun.proofs.faults.LogsLeft.{end_in_part, some_items}
+
+pub end_left : (job : Job) (source : Forest) (start now : Tree) (first last told : List ℕ) → last ≡ first ++ told → IsEnd job source start now told → IsLeftByFault job source start now first last
+end_left job source start now first last told log is =
+    let root = root_in start in
+    let some = some_items job source is.begins.store in
+    let n = suc some.0 in
+    let long = some.1 in
+    let all : length (items job source) ≤ n = omega (arith, long) in
+    let whole = line_text (end_line (lines job source root n)) in
+    record {
+      told = told;
+      log = log;
+      left = between_left job source start now n told is.free (omega (arith, long))
+          (end_in_part job source root some.0 n whole [] told long all (sym (append-nil whole)) (is.log ∙ (all_items_are_all job source root n all).3))
+          (is.tree ∙ ap (with_root start) (sym (all_items_are_all job source root n all).1));
+    }
+
+-- of a run that hasn't ended nothing is said
+pub left_unless : (here : Phase) (job : Job) (source : Forest) (start now : Tree) (first last : List ℕ) → (here ≡ phase.Ended → IsLeftByFault job source start now first last) → LeftAt here job source start now first last
+left_unless phase.Begin job source start now first last at_end = tt
+left_unless (phase.Prefix here) job source start now first last at_end = tt
+left_unless phase.Staging job source start now first last at_end = tt
+left_unless phase.Root job source start now first last at_end = tt
+left_unless (phase.RootMake number) job source start now first last at_end = tt
+left_unless phase.RootRename job source start now first last at_end = tt
+left_unless (phase.RootCheck number) job source start now first last at_end = tt
+left_unless phase.OpenRoot job source start now first last at_end = tt
+left_unless phase.Judge job source start now first last at_end = tt
+left_unless (phase.OpenObject object) job source start now first last at_end = tt
+left_unless (phase.Scan object) job source start now first last at_end = tt
+left_unless (phase.Read object bytes) job source start now first last at_end = tt
+left_unless (phase.Make object here) job source start now first last at_end = tt
+left_unless (phase.Copy object position left) job source start now first last at_end = tt
+left_unless (phase.Tuples object number) job source start now first last at_end = tt
+left_unless (phase.Rename object) job source start now first last at_end = tt
+left_unless (phase.Line object) job source start now first last at_end = tt
+left_unless phase.Walk job source start now first last at_end = tt
+left_unless phase.End job source start now first last at_end = tt
+left_unless phase.Ended job source start now first last at_end = at_end refl

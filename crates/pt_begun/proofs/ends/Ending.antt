@@ -1,0 +1,247 @@
+-- What a run leaves that ends well.
+use Rattle.std.proofs.Common.{inl, inr, ◌≡◌, ◌≤◌, ◌==◌, ◌+◌, ℕ, zero, suc, Bool, true, false, List, [], ◌∷◌, ◌++◌, refl, ap, sym, ◌∙◌, subst, append_assoc, arith, cond, drop, length}
+use Rattle.std.specs.List.{list_all}
+use Rattle.std.specs.Prelude.{◌&&◌, ◌⊎◌, Option, Some, Ok, nat_lt}
+use Rattle.std.proofs.lemmas.Bool.{false≢true, true≢false}
+use Rattle.std.proofs.lemmas.List.{length-map}
+use Rattle.pt_object.specs.Holding.{IsFree}
+use Rattle.pt_object.specs.Root.{base}
+use Rattle.pt_tree.specs.Dest.{Writing}
+use Rattle.pt_tree.specs.Forest.{Forest}
+use Rattle.pt_tree.specs.Source.{Reading}
+use Rattle.pt_tree.specs.Tree.{Tree}
+use Rattle.pt_plan.proofs.FreeWays.{way_in_base}
+use Rattle.pt_plan.proofs.Growing.{all_items_are_all}
+use Rattle.pt_plan.proofs.MovedIn.{roots_have_no_gaps}
+use Rattle.pt_plan.specs.PlaceLaws.{IsRooted}
+use Rattle.pt_plan.specs.Carried.{Carried, IsStart, IsUsable, after, after_all, all_carried, carried_among, is_way_free}
+use Rattle.pt_plan.specs.Items.{item_of, items}
+use Rattle.pt_plan.specs.Job.{Job}
+use Rattle.pt_plan.specs.Lines.{End, Line, all_lines, end_line, line_text, lines, log_of, text}
+use Rattle.pt_plan.specs.Roots.{root_in, storage_root, with_root}
+use Rattle.pt_plan.specs.Run.{Counts, Held, Kept, Run, turning}
+use Rattle.pt_plan.specs.Store.{prefix_of, sites_of}
+use Rattle.pt_plan.specs.Turn.{Did, Happens, Follows, GoesOn, Start as a_start, Walk, Scan, Make, Place, counted}
+use Rattle.pt_plan.specs.TurnMake.{Makings, MakesStaging, MakesDeclaration, MakesVersion, PassesRow, MakesFolder, OpensCopy, CopiesOn, EndsCopy, MakesVersionInventory, MakesVersionSidecar, MakesInventory, MakesSidecar}
+use Rattle.pt_plan.specs.TurnPlace.{Places, MakesTuple, FindsTuple, RenamesObject, TellsDone, TellsEnd, last_line}
+use Rattle.pt_plan.specs.TurnScan.{Scans, StartsInSite, EntersObject, IsTooDeep, PassesShorty, EntersDirectory, MeetsDeep, OpensFile, MeetsLimit, MeetsOther, EndsSite, EndsObject, LeavesDirectory, ReadsOn, IsTooLong, EndsFile}
+use Rattle.pt_plan.specs.TurnStart.{Starts, IsStore, HasNoPrefix, HasPrefix, HasNoStaging, HasNoRoot, HasRoot, MakesRoot, RenamesRoot, IsSame}
+use Rattle.pt_plan.specs.TurnWalk.{Walks, OpensRoot, LeadsOn, IsSkipped, IsPresent, IsNew, IsPast as is_past, IsDeep, EntersSite, PassesEntry, LeavesSite, EndsWalk}
+use Rattle.pt_plan.specs.World.{Calls, Changes, ChangesNothing, Puts, World, tells}
+use Rattle.pt_plan.specs.declared.phase.Phase.{Phase}
+use Rattle.pt_plan.specs.declared.phase.Phase.TheVariants as phase
+use Rattle.pt_begun.specs.Begun.{Begun, HasTold, IsPast, ItemsPart, Start}
+use Rattle.pt_begun.specs.BegunDest.{DestPart, HasRootFiles, root_now}
+use Rattle.pt_begun.specs.BegunSource.{SourcePart}
+use Rattle.pt_begun.specs.EndLaws.{EndsWell, IsEnd, is_ended}
+use Rattle.pt_begun.specs.Past.{Past}
+use Rattle.pt_begun.proofs.source.InPairtree.{some_same}
+use Rattle.pt_begun.proofs.items.Telling.{both_tell, log_tells}
+use Rattle.pt_begun.proofs.dest.WaysLeft.{ways_left}
+
+-- ---- the turn that ends the run
+
+either_not : (this : Bool) (p q : Phase) → is_ended p ≡ false → is_ended q ≡ false → is_ended (cond this p q) ≡ false
+either_not true p q one two = one
+either_not false p q one two = two
+
+-- it tells the end, and changes nothing
+pub record IsLastTurn (counts : Counts) (here : Phase) (held after : Held) (calls : Calls) : Type 0 where
+  pub phase_is : here ≡ phase.End
+  pub calls_are : calls ≡ tells (last_line counts)
+  pub held_is : after ≡ held
+
+starts_go : (job : Job) (prefix read : List ℕ) (here next : Phase) (calls : Calls) → Starts job here prefix read calls (Ok next) → is_ended next ≡ false
+starts_go job prefix read here next calls (IsStore was entries is) = refl
+starts_go job prefix read here next calls (HasNoPrefix was) = refl
+starts_go job prefix read here next calls (HasPrefix was block good) = refl
+starts_go job prefix read here next calls (HasNoStaging was) = refl
+starts_go job prefix read here next calls (HasNoRoot was) = refl
+starts_go job prefix read here next calls (HasRoot was) = refl
+starts_go job prefix read here next calls (MakesRoot was number item is) = either_not (number == 5) phase.RootRename (phase.RootMake (number + 1)) refl refl
+starts_go job prefix read here next calls (RenamesRoot was) = refl
+starts_go job prefix read here next calls (IsSame was number path bytes is) = either_not (number == 2) phase.OpenRoot (phase.RootCheck (number + 1)) refl refl
+
+walks_go : (job : Job) (prefix : List ℕ) (here next : Phase) (held after : Held) (calls : Calls) → Walks job prefix here held after calls (Ok next) → is_ended next ≡ false
+walks_go job prefix here next held after calls (OpensRoot was items) = refl
+walks_go job prefix here next held after calls (LeadsOn was is) = refl
+walks_go job prefix here next held after calls (IsSkipped was why is) = refl
+walks_go job prefix here next held after calls (IsPresent was index id kind is) = refl
+walks_go job prefix here next held after calls (IsNew was index id is) = refl
+walks_go job prefix here next held after calls (is_past was name e short last) = refl
+walks_go job prefix here next held after calls (IsDeep was name e short last deep) = refl
+walks_go job prefix here next held after calls (EntersSite was name items e short last deep) = refl
+walks_go job prefix here next held after calls (PassesEntry was item e apart) = refl
+walks_go job prefix here next held after calls (LeavesSite was e long) = refl
+walks_go job prefix here next held after calls (EndsWalk was e short) = refl
+
+scans_go : (job : Job) (here next : Phase) (held after : Held) (calls : Calls) → Scans job here held after calls (Ok next) → is_ended next ≡ false
+scans_go job here next held after calls (StartsInSite was object gathered) = refl
+scans_go job here next held after calls (EntersObject was object items apart shallow) = refl
+scans_go job here next held after calls (IsTooDeep was object apart deep) = refl
+scans_go job here next held after calls (PassesShorty was object item e passed) = refl
+scans_go job here next held after calls (EntersDirectory was object name items e apart shallow) = refl
+scans_go job here next held after calls (MeetsDeep was object name e apart deep) = refl
+scans_go job here next held after calls (OpensFile was object name e room) = refl
+scans_go job here next held after calls (MeetsLimit was object name e room) = refl
+scans_go job here next held after calls (MeetsOther was object name e) = refl
+scans_go job here next held after calls (EndsSite was object e there) = refl
+scans_go job here next held after calls (EndsObject was object e apart own) = refl
+scans_go job here next held after calls (LeavesDirectory was object e apart outside) = refl
+scans_go job here next held after calls (ReadsOn was object bytes byte block short) = refl
+scans_go job here next held after calls (IsTooLong was object bytes byte block long) = refl
+scans_go job here next held after calls (EndsFile was object bytes) = refl
+
+makes_go : (job : Job) (here : Phase) (held after : Held) (calls : Calls) (next : Phase) → Makings job here held after calls (Ok next) → is_ended next ≡ false
+makes_go job here held after calls next (MakesStaging was object) = refl
+makes_go job here held after calls next (MakesDeclaration was object) = refl
+makes_go job here held after calls next (MakesVersion was object) = refl
+makes_go job here held after calls next (PassesRow was object position row is other) = refl
+makes_go job here held after calls next (MakesFolder was object position row is stored more) = refl
+makes_go job here held after calls next (OpensCopy was object position row is stored all) = refl
+makes_go job here held after calls next (CopiesOn was object position left byte block fits) = refl
+makes_go job here held after calls next (EndsCopy was object position row left is same) = refl
+makes_go job here held after calls next (MakesVersionInventory was object) = refl
+makes_go job here held after calls next (MakesVersionSidecar was object) = refl
+makes_go job here held after calls next (MakesInventory was object) = refl
+makes_go job here held after calls next (MakesSidecar was object) = either_not (job.tuples.count == 0) (phase.Rename object) (phase.Tuples object 0) refl refl
+
+places_last : (job : Job) (counts : Counts) (here next : Phase) (held after : Held) (calls : Calls) → Places job counts here held after calls (Ok next) → is_ended next ≡ true → IsLastTurn counts here held after calls
+places_last job counts here next held after calls (MakesTuple was object number) ended = absurd (let no = either_not (nat_lt (number + 1) job.tuples.count) (phase.Tuples object (number + 1)) (phase.Rename object) refl refl in true≢false (sym ended ∙ no))
+places_last job counts here next held after calls (FindsTuple was object number) ended = absurd (let no = either_not (nat_lt (number + 1) job.tuples.count) (phase.Tuples object (number + 1)) (phase.Rename object) refl refl in true≢false (sym ended ∙ no))
+places_last job counts here next held after calls (RenamesObject was object) ended = absurd (false≢true ended)
+places_last job counts here next held after calls (TellsDone was object) ended = absurd (false≢true ended)
+places_last job counts here next held after calls (TellsEnd was) ended = record { phase_is = refl; calls_are = refl; held_is = refl }
+
+pub last_turn : (job : Job) (counts : Counts) (here : Phase) (prefix : List ℕ) (held : Held) (read : List ℕ) (after : Held) (calls : Calls) (next : Phase) → Follows job counts here prefix held read after calls (Ok next) → is_ended next ≡ true → IsLastTurn counts here held after calls
+last_turn job counts here prefix held read after calls next (a_start h p r w c a turn) ended = absurd (true≢false (sym ended ∙ starts_go job prefix read here next calls turn))
+last_turn job counts here prefix held read after calls next (Walk h p w n c a turn) ended = absurd (true≢false (sym ended ∙ walks_go job prefix here next held after calls turn))
+last_turn job counts here prefix held read after calls next (Scan h p w n c a turn) ended = absurd (true≢false (sym ended ∙ scans_go job here next held after calls turn))
+last_turn job counts here prefix held read after calls next (Make h p w n c a turn) ended = absurd (true≢false (sym ended ∙ makes_go job here held after calls next turn))
+last_turn job counts here prefix held read after calls next (Place h p w n c a turn) ended = places_last job counts here next held after calls turn ended
+
+-- ---- all items are done
+
+none_left : {X : Type 0} → (k : ℕ) (xs : List X) → drop k xs ≡ [] → length xs ≤ k
+none_left zero xs none = let nothing = ap length none in omega (arith, nothing)
+none_left (suc k) [] none = omega arith
+none_left (suc k) (x ∷ xs) none = let later = none_left k xs none in omega (arith, later)
+
+pub all_done : (job : Job) (source : Forest) (count : ℕ) → drop count (sites_of job.limits.depth source) ≡ [] → length (items job source) ≤ count
+all_done job source count none =
+    let few = none_left count (sites_of job.limits.depth source) none in
+    let many = length-map (sites_of job.limits.depth source) (item_of job (prefix_of source)) in
+    omega (arith, few, many)
+
+-- ---- what the parts say then
+
+-- the ways to objects are as free in a root as in what objects are put on there
+ways_in_base : (job : Job) (root : Tree) (objects : List Carried) → IsRooted root → list_all (is_way_free job (base job.tuples root)) objects ≡ list_all (is_way_free job root) objects
+ways_in_base job root [] rooted = refl
+ways_in_base job root (object ∷ objects) rooted =
+    ap (λ b. b && list_all (is_way_free job (base job.tuples root)) objects) (way_in_base job root object rooted)
+    ∙ ap (λ b. is_way_free job root object && b) (ways_in_base job root objects rooted)
+
+module _ (job : Job) (past : Past) (held : Held) (prefix : List ℕ) (counts : Counts) (s : Reading) (t : Tree) (now : Writing) (source : SourcePart job past phase.End prefix held s) (dest : DestPart job past phase.End held t now) (items_are : ItemsPart job past phase.End counts s.tree (root_in t)) where
+  all_are : (carried_among job s.tree (root_in t) past.count ≡ all_carried job s.tree (root_in t)) × (after job s.tree (root_in t) past.count ≡ after_all job s.tree (root_in t))
+      × (lines job s.tree (root_in t) past.count ≡ all_lines job s.tree (root_in t)) × (log_of job s.tree (root_in t) ≡ text job s.tree (root_in t) past.count ++ line_text (end_line (lines job s.tree (root_in t) past.count)))
+  all_are = all_items_are_all job s.tree (root_in t) past.count (all_done job s.tree past.count source.at.2)
+
+  placed_all : past.placed ≡ all_carried job s.tree (root_in t)
+  placed_all = items_are.places.placed ∙ (all_are).0
+
+  root_all : root_now job t past.placed ≡ after_all job s.tree (root_in t)
+  root_all = ap (root_now job t) placed_all
+
+  pub tree_all : now.tree ≡ with_root t (after_all job s.tree (root_in t))
+  tree_all = dest.at.tree ∙ ap (with_root t) root_all
+
+  rooted : IsRooted (root_in t)
+  rooted = (roots_have_no_gaps t dest.started).1
+
+  ways : list_all (is_way_free job (root_in t)) (all_carried job s.tree (root_in t)) ≡ true
+  ways =
+      sym (ways_in_base job (root_in t) (all_carried job s.tree (root_in t)) rooted)
+      ∙ ways_left job (base job.tuples (root_in t)) now.tree (all_carried job s.tree (root_in t)) (all_carried job s.tree (root_in t)) dest.tree (ap root_in tree_all) (λ p on. on)
+
+  target : IsFree t storage_root ⊎ HasRootFiles job (root_in t) 3 → IsFree (root_in t) [] ⊎ IsUsable job s.tree (root_in t)
+  target (inl free) = inl free
+  target (inr files) = inr (record { files = files; ways = ways })
+
+  pub is_start : IsStart job s.tree (root_in t)
+  is_start = record { store = source.at.1.store; prefix = source.at.1.good; target = target dest.at.root.root }
+
+  pub log_all : (first last : List ℕ) → last ≡ (first ++ text job s.tree (root_in t) past.count) ++ line_text (last_line counts) → (told : List ℕ) × (last ≡ first ++ told) × (told ≡ log_of job s.tree (root_in t))
+  log_all first last is = (
+    text job s.tree (root_in t) past.count ++ line_text (last_line counts),
+    is ∙ append_assoc first (text job s.tree (root_in t) past.count) (line_text (last_line counts)),
+    ap (λ (l : Line). text job s.tree (root_in t) past.count ++ line_text l) line_is ∙ sym (all_are).3,
+  )
+    where
+      line_is : last_line counts ≡ end_line (lines job s.tree (root_in t) past.count)
+      line_is i = End (items_are.lines_are.done i) (items_are.lines_are.present i) (items_are.lines_are.skipped i)
+
+  pub counts_all : last_line counts ≡ end_line (all_lines job s.tree (root_in t))
+  counts_all = (λ i. End (items_are.lines_are.done i) (items_are.lines_are.present i) (items_are.lines_are.skipped i)) ∙ ap end_line (all_are).2
+
+-- ---- the law
+
+-- a turn that tells a line puts it behind the log
+put_behind : (line : Line) (old new : List ℕ) → Puts (Some line) (Some old) (Some new) → new ≡ old ++ line_text line
+unfolding Puts
+put_behind line old new puts = puts
+
+dest_same : (old new : Option Writing) → Changes ChangesNothing old new → new ≡ old
+unfolding Changes
+dest_same old new change = change
+
+module _ (job : Job) (past : Past) (start : Start) (old new : World) (run : Run) (after : Kept) (s : Reading) (t : Tree) (now : Writing) (first last : List ℕ) (calls : Calls) where
+  pub ended : IsPast job start old run past → Follows job (turning run.kept).counts run.phase run.kept.prefix run.kept.held after.prefix after.held calls (Ok phase.Ended) → Happens calls old new
+      → after.counts ≡ counted calls.line (turning run.kept).counts
+      → old.source ≡ Some s → start.dest ≡ Some t → new.dest ≡ Some now → start.log ≡ Some first → new.log ≡ Some last
+      → ((told : List ℕ) × (last ≡ first ++ told) × IsEnd job s.tree t now.tree told) × (last_line after.counts ≡ end_line (all_lines job s.tree (root_in t)))
+  ended is turn did counted_is source_is start_is dest_is first_is last_is = (
+    ((told).0, (told).1, record { begins = is_start job past held run.kept.prefix counts s t now source dest items_are; free = dest.at.root.free; tree = tree_all job past held run.kept.prefix counts s t now source dest items_are; log = (told).2 }),
+    ap last_line (counted_is ∙ ap (λ (c : Calls). counted c.line (turning run.kept).counts) at.calls_are) ∙ counts_all job past held run.kept.prefix counts s t now source dest items_are,
+  )
+    where
+      held : Held
+      held = run.kept.held
+
+      counts : Counts
+      counts = run.kept.counts
+
+      at : IsLastTurn (turning run.kept).counts run.phase held after.held calls
+      at = last_turn job (turning run.kept).counts run.phase run.kept.prefix held after.prefix after.held calls phase.Ended turn refl
+
+      source : SourcePart job past phase.End run.kept.prefix held s
+      source = subst (λ here. SourcePart job past here run.kept.prefix held s) at.phase_is (is.source s source_is)
+
+      had : (w : Writing) × (old.dest ≡ Some w) × DestPart job past run.phase held t w
+      had = both_tell (DestPart job past run.phase held) start.dest old.dest t start_is is.dest
+
+      same : (had).0 ≡ now
+      same = some_same (had).0 now (sym (had).1 ∙ sym (dest_same old.dest new.dest (subst (λ (c : Calls). Changes c.change old.dest new.dest) at.calls_are did.dest)) ∙ dest_is)
+
+      dest : DestPart job past phase.End held t now
+      dest = subst (λ w. DestPart job past phase.End held t w) same (subst (λ here. DestPart job past here held t (had).0) at.phase_is (had).2)
+
+      items_are : ItemsPart job past phase.End counts s.tree (root_in t)
+      items_are = subst (λ here. ItemsPart job past here counts s.tree (root_in t)) at.phase_is (is.items s source_is t start_is)
+
+      logged : (b : List ℕ) × (old.log ≡ Some b) × HasTold job s.tree (root_in t) past run.phase first b
+      logged = log_tells (HasTold job s.tree (root_in t) past run.phase) start.log old.log first first_is (is.log s source_is t start_is)
+
+      has_told : (logged).0 ≡ first ++ text job s.tree (root_in t) past.count
+      has_told = subst (λ here. HasTold job s.tree (root_in t) past here first (logged).0) at.phase_is (logged).2
+
+      put : last ≡ (logged).0 ++ line_text (last_line counts)
+      put = put_behind (last_line counts) (logged).0 last (subst (λ (c : Calls). Puts c.line (Some (logged).0) (Some last)) at.calls_are (subst (λ o. Puts calls.line o (Some last)) (logged).1 (subst (Puts calls.line old.log) last_is did.log)))
+
+      told : (told : List ℕ) × (last ≡ first ++ told) × (told ≡ log_of job s.tree (root_in t))
+      told = log_all job past held run.kept.prefix counts s t now source dest items_are first last (put ∙ ap (λ (front : List ℕ). front ++ line_text (last_line counts)) has_told)
+
+pub ends_well : EndsWell
+unfolding Begun Did
+ends_well job start old new run after s t now first last (past, is) (GoesOn calls to turn did counts) source_is start_is dest_is first_is last_is =
+    ended job past start old new run after s t now first last calls is turn did.0 counts source_is start_is dest_is first_is last_is

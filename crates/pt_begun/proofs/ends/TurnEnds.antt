@@ -1,0 +1,291 @@
+-- A turn that halts the run leaves it ended.
+use Rattle.std.proofs.Common.{◌≡◌, ℕ, Bool, true, false, List, refl, ap, sym, ◌∙◌, subst}
+use Rattle.std.specs.Prelude.{Option, None, Some, Ok, Err}
+use Rattle.pt_tree.specs.Dest.{Writing}
+use Rattle.pt_tree.specs.Forest.{Forest, is_proper}
+use Rattle.pt_tree.specs.Source.{Reading}
+use Rattle.pt_tree.specs.Tree.{Tree}
+use Rattle.pt_walk.specs.Trail.{is_trail}
+use Rattle.pt_plan.specs.Answer.{Answer}
+use Rattle.pt_plan.specs.Job.{Job}
+use Rattle.pt_plan.specs.Lines.{Line}
+use Rattle.pt_plan.specs.Roots.{root_in}
+use Rattle.pt_plan.specs.Run.{Counts, Held, Kept, Run, turning}
+use Rattle.pt_plan.specs.Turn.{Did, FailsAtFirst, FailsLater, Follows, IsRefused, LeavesSome, Start as a_start, Stays, Turn, Walk, Scan, Make, Place}
+use Rattle.pt_plan.specs.TurnMake.{Makings, MakesStaging, MakesDeclaration, MakesVersion, PassesRow, MakesFolder, OpensCopy, CopiesOn, ReadsMore, EndsCopy, ReadsOther, MakesVersionInventory, MakesVersionSidecar, MakesInventory, MakesSidecar}
+use Rattle.pt_plan.specs.TurnPlace.{Places, MakesTuple, FindsTuple, IsInTheWay, RenamesObject, TellsDone, TellsEnd}
+use Rattle.pt_plan.specs.TurnScan.{Scans, StartsInSite, EntersObject, IsTooDeep, PassesShorty, EntersDirectory, MeetsDeep, OpensFile, MeetsLimit, MeetsOther, EndsSite, EndsObject, LeavesDirectory, ReadsOn, IsTooLong, EndsFile}
+use Rattle.pt_plan.specs.TurnStart.{Starts, IsStore, IsNoStore, HasNoPrefix, IsNoPrefixFile, HasPrefix, IsNoPrefix, HasNoStaging, HasStaging, HasNoRoot, HasRoot, IsNoRoot, MakesRoot, RenamesRoot, IsSame, IsNoFile, Differs}
+use Rattle.pt_plan.specs.TurnWalk.{Walks, OpensRoot, LeadsOn, IsSkipped, IsPresent, IsNew, IsPast, IsDeep, EntersSite, PassesEntry, LeavesSite, EndsWalk}
+use Rattle.pt_plan.specs.World.{Answers, Asked, AsksNothing, Calls, Change, Changes, LeavesFront, LeavesPart, Lists, NewFile, OfFile, OfPiece, Opens, OpensAndReads, Puts, Reads, Untouched, World, source_tree}
+use Rattle.pt_plan.specs.declared.halt.Halt.{Halt}
+use Rattle.pt_plan.specs.declared.phase.Phase.{Phase}
+use Rattle.pt_plan.specs.declared.phase.Phase.TheVariants as phase
+use Rattle.pt_begun.specs.Begun.{Begun, HasTold, IsPast as a_past, IsQuiet, ItemsPart, LeftAt, Start, TellsAsBefore, TellsStill}
+use Rattle.pt_begun.specs.BegunDest.{DestPart}
+use Rattle.pt_begun.specs.BegunLaws.{TurnEndsBegun}
+use Rattle.pt_begun.specs.EndLaws.{is_ended}
+use Rattle.pt_begun.specs.FaultLeft.{IsLeftByFault}
+use Rattle.pt_begun.specs.HaltLaws.{HaltsLeave, StopsLeave}
+use Rattle.pt_begun.specs.Past.{Past}
+use Rattle.pt_begun.proofs.faults.Halting.{broken_leaves, same_leaves, tells_all}
+use Rattle.pt_begun.proofs.source.InPairtree.{some_same}
+use Rattle.pt_begun.proofs.faults.LeavesBehind.{IsLeftTree, follows_left, same_left}
+use Rattle.pt_begun.proofs.items.QuietTurns.{follows_runs, refused_quiet}
+use Rattle.pt_begun.proofs.items.Telling.{log_tells, none_put}
+use Rattle.pt_begun.proofs.ends.TurnKeeps.{told_log}
+
+-- ---- what the answers that halt a run change
+
+abbrev is_halt : Answer → Bool
+is_halt (Ok next) = false
+is_halt (Err why) = true
+
+starts_same : (job : Job) (prefix read : List ℕ) (here : Phase) (calls : Calls) (answer : Answer) (old new : Option Writing) → Starts job here prefix read calls answer → is_halt answer ≡ true → Changes calls.change old new → new ≡ old
+unfolding Changes
+starts_same job prefix read here calls answer old new (IsStore was entries is) halts change = absurd (cc)
+starts_same job prefix read here calls answer old new (HasNoPrefix was) halts change = absurd (cc)
+starts_same job prefix read here calls answer old new (HasPrefix was block good) halts change = absurd (cc)
+starts_same job prefix read here calls answer old new (HasNoStaging was) halts change = absurd (cc)
+starts_same job prefix read here calls answer old new (HasNoRoot was) halts change = absurd (cc)
+starts_same job prefix read here calls answer old new (HasRoot was) halts change = absurd (cc)
+starts_same job prefix read here calls answer old new (MakesRoot was number item is) halts change = absurd (cc)
+starts_same job prefix read here calls answer old new (RenamesRoot was) halts change = absurd (cc)
+starts_same job prefix read here calls answer old new (IsSame was number path bytes is) halts change = absurd (cc)
+starts_same job prefix read here calls answer old new (IsNoStore was entries e) halts change = change
+starts_same job prefix read here calls answer old new (IsNoPrefixFile was kind some e) halts change = change
+starts_same job prefix read here calls answer old new (IsNoPrefix was block why e) halts change = change
+starts_same job prefix read here calls answer old new (HasStaging was kind) halts change = change.1
+starts_same job prefix read here calls answer old new (IsNoRoot was kind e) halts change = change.1
+starts_same job prefix read here calls answer old new (IsNoFile was number path bytes kind is e) halts change = change.1
+starts_same job prefix read here calls answer old new (Differs was number path bytes block is e) halts change = change.2
+
+walks_same : (job : Job) (prefix : List ℕ) (here : Phase) (held after : Held) (calls : Calls) (answer : Answer) (old new : Option Writing) → Walks job prefix here held after calls answer → is_halt answer ≡ true → Changes calls.change old new → new ≡ old
+unfolding Changes
+walks_same job prefix here held after calls answer old new (OpensRoot was items) halts change = absurd (cc)
+walks_same job prefix here held after calls answer old new (LeadsOn was is) halts change = absurd (cc)
+walks_same job prefix here held after calls answer old new (IsSkipped was why is) halts change = absurd (cc)
+walks_same job prefix here held after calls answer old new (IsPresent was index id kind is) halts change = absurd (cc)
+walks_same job prefix here held after calls answer old new (IsNew was index id is) halts change = absurd (cc)
+walks_same job prefix here held after calls answer old new (IsPast was name e short last) halts change = absurd (cc)
+walks_same job prefix here held after calls answer old new (IsDeep was name e short last deep) halts change = absurd (cc)
+walks_same job prefix here held after calls answer old new (EntersSite was name items e short last deep) halts change = absurd (cc)
+walks_same job prefix here held after calls answer old new (PassesEntry was item e apart) halts change = absurd (cc)
+walks_same job prefix here held after calls answer old new (LeavesSite was e long) halts change = absurd (cc)
+walks_same job prefix here held after calls answer old new (EndsWalk was e short) halts change = absurd (cc)
+
+scans_same : (job : Job) (here : Phase) (held after : Held) (calls : Calls) (answer : Answer) (old new : Option Writing) → Scans job here held after calls answer → is_halt answer ≡ true → Changes calls.change old new → new ≡ old
+unfolding Changes
+scans_same job here held after calls answer old new (StartsInSite was object gathered) halts change = absurd (cc)
+scans_same job here held after calls answer old new (EntersObject was object items apart shallow) halts change = absurd (cc)
+scans_same job here held after calls answer old new (IsTooDeep was object apart deep) halts change = absurd (cc)
+scans_same job here held after calls answer old new (PassesShorty was object item e passed) halts change = absurd (cc)
+scans_same job here held after calls answer old new (EntersDirectory was object name items e apart shallow) halts change = absurd (cc)
+scans_same job here held after calls answer old new (MeetsDeep was object name e apart deep) halts change = absurd (cc)
+scans_same job here held after calls answer old new (OpensFile was object name e room) halts change = absurd (cc)
+scans_same job here held after calls answer old new (MeetsLimit was object name e room) halts change = absurd (cc)
+scans_same job here held after calls answer old new (MeetsOther was object name e) halts change = absurd (cc)
+scans_same job here held after calls answer old new (EndsSite was object e there) halts change = absurd (cc)
+scans_same job here held after calls answer old new (EndsObject was object e apart own) halts change = absurd (cc)
+scans_same job here held after calls answer old new (LeavesDirectory was object e apart outside) halts change = absurd (cc)
+scans_same job here held after calls answer old new (ReadsOn was object bytes byte block short) halts change = absurd (cc)
+scans_same job here held after calls answer old new (IsTooLong was object bytes byte block long) halts change = absurd (cc)
+scans_same job here held after calls answer old new (EndsFile was object bytes) halts change = absurd (cc)
+
+makes_same : (job : Job) (here : Phase) (held after : Held) (calls : Calls) (answer : Answer) (old new : Option Writing) → Makings job here held after calls answer → is_halt answer ≡ true → Changes calls.change old new → new ≡ old
+unfolding Changes
+makes_same job here held after calls answer old new (MakesStaging was object) halts change = absurd (cc)
+makes_same job here held after calls answer old new (MakesDeclaration was object) halts change = absurd (cc)
+makes_same job here held after calls answer old new (MakesVersion was object) halts change = absurd (cc)
+makes_same job here held after calls answer old new (PassesRow was object position row is other) halts change = absurd (cc)
+makes_same job here held after calls answer old new (MakesFolder was object position row is stored more) halts change = absurd (cc)
+makes_same job here held after calls answer old new (OpensCopy was object position row is stored all) halts change = absurd (cc)
+makes_same job here held after calls answer old new (CopiesOn was object position left byte block fits) halts change = absurd (cc)
+makes_same job here held after calls answer old new (EndsCopy was object position row left is same) halts change = absurd (cc)
+makes_same job here held after calls answer old new (MakesVersionInventory was object) halts change = absurd (cc)
+makes_same job here held after calls answer old new (MakesVersionSidecar was object) halts change = absurd (cc)
+makes_same job here held after calls answer old new (MakesInventory was object) halts change = absurd (cc)
+makes_same job here held after calls answer old new (MakesSidecar was object) halts change = absurd (cc)
+makes_same job here held after calls answer old new (ReadsMore was object position left byte block e) halts change = change
+makes_same job here held after calls answer old new (ReadsOther was object position row left is e) halts change = change
+
+places_same : (job : Job) (counts : Counts) (here : Phase) (held after : Held) (calls : Calls) (answer : Answer) (old new : Option Writing) → Places job counts here held after calls answer → is_halt answer ≡ true → Changes calls.change old new → new ≡ old
+unfolding Changes
+places_same job counts here held after calls answer old new (MakesTuple was object number) halts change = absurd (cc)
+places_same job counts here held after calls answer old new (FindsTuple was object number) halts change = absurd (cc)
+places_same job counts here held after calls answer old new (RenamesObject was object) halts change = absurd (cc)
+places_same job counts here held after calls answer old new (TellsDone was object) halts change = absurd (cc)
+places_same job counts here held after calls answer old new (TellsEnd was) halts change = absurd (cc)
+places_same job counts here held after calls answer old new (IsInTheWay was object number kind e) halts change = change.1
+
+pub refused_same : (job : Job) (counts : Counts) (here : Phase) (prefix : List ℕ) (held : Held) (read : List ℕ) (after : Held) (calls : Calls) (why : Halt) (old new : Option Writing) → Follows job counts here prefix held read after calls (Err why) → Changes calls.change old new → new ≡ old
+refused_same job counts here prefix held read after calls why old new (a_start h p r w c a turn) change = starts_same job prefix read here calls (Err why) old new turn refl change
+refused_same job counts here prefix held read after calls why old new (Walk h p w n c a turn) change = walks_same job prefix here held after calls (Err why) old new turn refl change
+refused_same job counts here prefix held read after calls why old new (Scan h p w n c a turn) change = scans_same job here held after calls (Err why) old new turn refl change
+refused_same job counts here prefix held read after calls why old new (Make h p w n c a turn) change = makes_same job here held after calls (Err why) old new turn refl change
+refused_same job counts here prefix held read after calls why old new (Place h p w n c a turn) change = places_same job counts here held after calls (Err why) old new turn refl change
+
+-- ---- which devices tell
+
+pub answers_tree : (asked : Asked) (old new : Option Reading) → Answers asked old new → source_tree new ≡ source_tree old
+unfolding Answers
+answers_tree AsksNothing old new answers = ap source_tree answers
+answers_tree (Lists path entries) old new answers = ap source_tree answers.2
+answers_tree (Opens path) None new answers = ap source_tree answers
+answers_tree (Opens path) (Some s) new answers = ap source_tree answers
+answers_tree (Reads block) None new answers = ap source_tree answers.1
+answers_tree (Reads block) (Some s) new answers = ap source_tree answers.1
+answers_tree (OpensAndReads path block) None new answers = ap source_tree answers.1
+answers_tree (OpensAndReads path block) (Some s) new answers = ap source_tree answers.1
+
+-- the source that told tells the same tree
+pub same_tree : (old new : Option Reading) (v : Reading) → source_tree new ≡ source_tree old → new ≡ Some v → (s : Reading) × (old ≡ Some s) × (v.tree ≡ s.tree)
+same_tree None new v same is = absurd (let no : Some v.tree ≡ None = sym (ap source_tree is) ∙ same in cc)
+same_tree (Some s) new v same is = (s, refl, some_same v.tree s.tree (sym (ap source_tree is) ∙ same))
+
+-- a destination of which a part of a change is left tells where it told
+part_told : (change : Change) (w : Writing) (new : Option Writing) → LeavesPart (Some w) new change → (v : Writing) × (new ≡ Some v)
+part_told _ w None (Untouched change same) = absurd (cc)
+part_told _ w None (OfFile path bytes count same) = absurd (cc)
+part_told _ w None (NewFile path same) = absurd (cc)
+part_told _ w None (OfPiece piece count same) = absurd (cc)
+part_told change w (Some v) left = (v, refl)
+
+part_untold : (change : Change) (new : Option Writing) → LeavesPart None new change → new ≡ None
+part_untold _ None left = refl
+part_untold _ (Some v) (Untouched change same) = absurd (cc)
+part_untold _ (Some v) (OfFile path bytes count same) = absurd (cc)
+part_untold _ (Some v) (NewFile path same) = absurd (cc)
+part_untold _ (Some v) (OfPiece piece count same) = absurd (cc)
+
+front_told : (line : Option Line) (old : List ℕ) (new : Option (List ℕ)) → LeavesFront line (Some old) new → (now : List ℕ) × (new ≡ Some now)
+front_told None old new left = (old, left)
+front_told (Some line) old None left = absurd (left.1)
+front_told (Some line) old (Some now) left = (now, refl)
+
+-- ---- the run has ended
+
+module _ (job : Job) (past : Past) (start : Start) (old new : World) (run : Run) (after : Kept) where
+  abbrev Ended : Type 0
+  Ended = TellsAsBefore start.dest new.dest (DestPart job past phase.Ended after.held)
+
+  -- where all three tell, this is left
+  abbrev pub Leaves : Type 0
+  Leaves = (s : Reading) (t : Tree) (now : Writing) (first last : List ℕ) → old.source ≡ Some s → start.dest ≡ Some t → new.dest ≡ Some now → start.log ≡ Some first → new.log ≡ Some last → IsLeftByFault job s.tree t now.tree first last
+
+  -- whatever of the destination is left
+  dest_ends : a_past job start old run past → ((w : Writing) (t : Tree) → start.dest ≡ Some t → old.dest ≡ Some w → DestPart job past run.phase run.kept.held t w → (v : Writing) × (new.dest ≡ Some v) × IsLeftTree job t v) → (old.dest ≡ None → new.dest ≡ None) → Ended
+  dest_ends is some none = by start.dest old.dest refl refl is.dest
+    where
+      by : (o : Option Tree) (w : Option Writing) → start.dest ≡ o → old.dest ≡ w → TellsAsBefore start.dest old.dest (DestPart job past run.phase run.kept.held) → Ended
+      by None None a b tells = subst (λ o. TellsAsBefore o new.dest (DestPart job past phase.Ended after.held)) (sym a) (subst (λ o. TellsAsBefore None o (DestPart job past phase.Ended after.held)) (sym (none b)) tt)
+      by None (Some w) a b tells = absurd (subst (λ o. TellsAsBefore None o (DestPart job past run.phase run.kept.held)) b (subst (λ o. TellsAsBefore o old.dest (DestPart job past run.phase run.kept.held)) a tells))
+      by (Some t) None a b tells = absurd (subst (λ o. TellsAsBefore (Some t) o (DestPart job past run.phase run.kept.held)) b (subst (λ o. TellsAsBefore o old.dest (DestPart job past run.phase run.kept.held)) a tells))
+      by (Some t) (Some w) a b tells =
+          let known = subst (λ o. TellsAsBefore (Some t) o (DestPart job past run.phase run.kept.held)) b (subst (λ o. TellsAsBefore o old.dest (DestPart job past run.phase run.kept.held)) a tells) in
+          let it = some w t a b known in
+          subst (λ o. TellsAsBefore o new.dest (DestPart job past phase.Ended after.held)) (sym a)
+          (subst (λ o. TellsAsBefore (Some t) o (DestPart job past phase.Ended after.held)) (sym it.1) (record { started = known.started; tree = it.2.tree; at = it.2.left }))
+
+  ends : a_past job start old run past → after.held.trail ≡ run.kept.held.trail → after.counts ≡ (turning run.kept).counts → source_tree new.source ≡ source_tree old.source → Ended → ((l : List ℕ) → old.log ≡ Some l → (now : List ℕ) × (new.log ≡ Some now)) → Leaves
+      → a_past job start new (record { phase = phase.Ended; kept = after }) past
+  ends is trail counts source dest log leaves = record {
+    layout = is.layout;
+    held = record { trail = record { is_one = ap is_trail trail ∙ is.held.trail.is_one; none = tt; entry = tt }; ends = tt; rows = tt; behind = tt; numbers = tt; fed = tt };
+    source = λ v same.
+        let s = same_tree old.source new.source v source same in
+        record { proper = ap is_proper s.2 ∙ (is.source s.0 s.1).proper; at = tt; bytes = tt; few = tt };
+    dest = dest;
+    items = λ v same t some.
+        let s = same_tree old.source new.source v source same in
+        let it = is.items s.0 s.1 t some in
+        subst (λ (f : Forest). ItemsPart job past phase.Ended after.counts f (root_in t)) (sym s.2)
+        (subst (λ c. ItemsPart job past phase.Ended c s.0.tree (root_in t)) (sym counts)
+        (record { places = record { placed = tt; next = tt }; lines_are = record { done = it.lines_are.done; present = it.lines_are.present; skipped = it.lines_are.skipped } }));
+    log = λ v same t some. log_at v same t some start.log refl;
+    quiet = quiet_at start.log refl;
+    left = λ v same t some now told first is_first last is_last.
+        let s = same_tree old.source new.source v source same in
+        subst (λ (f : Forest). IsLeftByFault job f t now.tree first last) (sym s.2) (leaves s.0 t now first last s.1 some told is_first is_last);
+  }
+    where
+      quiet_at : (o : Option (List ℕ)) → start.log ≡ o → TellsStill o new.log (IsQuiet phase.Ended)
+      quiet_at None none = tt
+      quiet_at (Some first) is_first =
+          let had = log_tells (IsQuiet run.phase) start.log old.log first is_first is.quiet in
+          let now = log had.0 had.1 in
+          subst (λ o. TellsStill (Some first) o (IsQuiet phase.Ended)) (sym now.1) tt
+
+      log_at : (v : Reading) → new.source ≡ Some v → (t : Tree) → start.dest ≡ Some t → (o : Option (List ℕ)) → start.log ≡ o → TellsStill o new.log (HasTold job v.tree (root_in t) past phase.Ended)
+      log_at v same t some None none = tt
+      log_at v same t some (Some first) is_first =
+          let s = same_tree old.source new.source v source same in
+          let had = log_tells (HasTold job s.0.tree (root_in t) past run.phase) start.log old.log first is_first (is.log s.0 s.1 t some) in
+          let now = log had.0 had.1 in
+          subst (λ o. TellsStill (Some first) o (HasTold job v.tree (root_in t) past phase.Ended)) (sym now.1) tt
+
+  -- nothing of the destination was changed
+  same_ends : a_past job start old run past → new.dest ≡ old.dest → Ended
+  same_ends is same =
+      dest_ends is
+      (λ w t a b known. (w, same ∙ b, same_left job past t run.phase run.kept.held w w is.held known refl))
+      (λ none. same ∙ none)
+
+-- ---- what is left where all three tell
+
+module _ (job : Job) (past : Past) (start : Start) (old new : World) (run : Run) (s : Reading) (t : Tree) (now : Writing) (first last : List ℕ) where
+  -- nothing was changed
+  left_same : a_past job start old run past → old.source ≡ Some s → start.dest ≡ Some t → Some now ≡ old.dest → start.log ≡ Some first → Some last ≡ old.log → (here : Phase) → run.phase ≡ here → IsLeftByFault job s.tree t now.tree first last
+  left_same is source_is start_is dest_is first_is last_is here at = by (is_ended here) refl
+    where
+      at_end : (p : Phase) → is_ended p ≡ true → LeftAt p job s.tree t now.tree first last → IsLeftByFault job s.tree t now.tree first last
+      at_end phase.Ended over left = left
+      at_end _ over left = absurd (cc)
+
+      by : (b : Bool) → is_ended here ≡ b → IsLeftByFault job s.tree t now.tree first last
+      by false runs = same_leaves job past start old run s t first now last (tells_all job past start old run s t first is (ap is_ended at ∙ runs) source_is start_is first_is) dest_is last_is
+      by true over = at_end here over (subst (λ (p : Phase). LeftAt p job s.tree t now.tree first last) at (is.left s source_is t start_is now (sym dest_is) first first_is last (sym last_is)))
+
+  pub halted_left : (after : Kept) (why : Halt) → a_past job start old run past → Turn job run.phase (turning run.kept) after old new (Err why) → old.source ≡ Some s → start.dest ≡ Some t → new.dest ≡ Some now → start.log ≡ Some first → new.log ≡ Some last → IsLeftByFault job s.tree t now.tree first last
+  unfolding Did Stays LeavesSome
+  halted_left after why is (IsRefused prefix held calls reason turn did halted) source_is start_is dest_is first_is last_is =
+      left_same is source_is start_is (sym dest_is ∙ refused_same job (turning run.kept).counts run.phase run.kept.prefix run.kept.held prefix held calls why old.dest new.dest turn did.0.dest) first_is
+      (sym last_is ∙ none_put calls.line old.log new.log (refused_quiet job (turning run.kept).counts run.phase run.kept.prefix run.kept.held prefix held calls why turn) did.0.log) run.phase refl
+  halted_left after why is (FailsAtFirst reason stays halted) source_is start_is dest_is first_is last_is = left_same is source_is start_is (sym dest_is ∙ stays.1) first_is (sym last_is ∙ stays.2) run.phase refl
+  halted_left after why is (FailsLater prefix held calls answer rows reason turn leaves which halted) source_is start_is dest_is first_is last_is =
+      broken_leaves job past start old run s t first new prefix held calls answer now last
+      (tells_all job past start old run s t first is (follows_runs job (turning run.kept).counts run.phase run.kept.prefix run.kept.held prefix held calls answer turn) source_is start_is first_is) turn leaves.0 source_is dest_is last_is
+
+pub stops_leave : StopsLeave
+unfolding Begun
+stops_leave job start world run s t now first last (past, is) source_is start_is dest_is first_is last_is = left_same job past start world world run s t now first last is source_is start_is (sym dest_is) first_is (sym last_is) run.phase refl
+
+pub halts_leave : HaltsLeave
+unfolding Begun
+halts_leave job start old new run after why s t now first last (past, is) turn source_is start_is dest_is first_is last_is = halted_left job past start old new run s t now first last after why is turn source_is start_is dest_is first_is last_is
+
+-- ---- the law
+
+pub turn_ends_begun : TurnEndsBegun
+unfolding Begun Did Stays LeavesSome
+turn_ends_begun job start old new run after why (past, is) (IsRefused prefix held calls reason turn did halted) = (
+  past,
+  ends job past start old new run after is halted.trail halted.counts (answers_tree calls.asked old.source new.source did.0.source)
+      (same_ends job past start old new run after is (refused_same job (turning run.kept).counts run.phase run.kept.prefix run.kept.held prefix held calls why old.dest new.dest turn did.0.dest))
+      (λ l some. told_log calls.line l new.log (subst (λ o. Puts calls.line o new.log) some did.0.log))
+      (λ s t now first last source_is start_is dest_is first_is last_is. halted_left job past start old new run s t now first last after why is (IsRefused prefix held calls reason turn did halted) source_is start_is dest_is first_is last_is),
+)
+turn_ends_begun job start old new run after why (past, is) (FailsAtFirst reason stays halted) =
+    (past, ends job past start old new run after is halted.trail halted.counts stays.0 (same_ends job past start old new run after is stays.1) (λ l some. (l, stays.2 ∙ some)) (λ s t now first last source_is start_is dest_is first_is last_is. halted_left job past start old new run s t now first last after why is (FailsAtFirst reason stays halted) source_is start_is dest_is first_is last_is))
+turn_ends_begun job start old new run after why (past, is) (FailsLater prefix held calls answer rows reason turn leaves which halted) = (
+  past,
+  ends job past start old new run after is halted.trail halted.counts leaves.0.source
+      (dest_ends job past start old new run after is
+      (λ w t a b known.
+      let left = subst (λ o. LeavesPart o new.dest calls.change) b leaves.0.dest in
+      let v = part_told calls.change w new.dest left in
+      (v.0, v.1, follows_left job past t (turning run.kept).counts run.phase run.kept.prefix run.kept.held prefix held calls answer w v.0 turn is.held known (subst (λ o. LeavesPart (Some w) o calls.change) v.1 left)))
+      (λ none. part_untold calls.change new.dest (subst (λ o. LeavesPart o new.dest calls.change) none leaves.0.dest)))
+      (λ l some. front_told calls.line l new.log (subst (λ o. LeavesFront calls.line o new.log) some leaves.0.log))
+      (λ s t now first last source_is start_is dest_is first_is last_is. halted_left job past start old new run s t now first last after why is (FailsLater prefix held calls answer rows reason turn leaves which halted) source_is start_is dest_is first_is last_is),
+)

@@ -1,0 +1,231 @@
+-- A turn that goes on leaves the run in progress.
+use Rattle.std.proofs.Common.{◌≡◌, ℕ, List, refl, sym, ◌∙◌, subst}
+use Rattle.std.specs.Prelude.{Option, None, Some, Ok}
+use Rattle.std.specs.Option.{ForSome}
+use Rattle.pt_name.specs.Tuples.{IsLayout}
+use Rattle.pt_tree.specs.Dest.{Writing, after_append, after_create, after_finish, after_mkdir, after_rename}
+use Rattle.pt_tree.specs.Forest.{Forest}
+use Rattle.pt_tree.specs.Source.{Reading}
+use Rattle.pt_tree.specs.Tree.{Tree}
+use Rattle.pt_plan.specs.Job.{Job}
+use Rattle.pt_plan.specs.Lines.{Line}
+use Rattle.pt_plan.specs.Roots.{root_in}
+use Rattle.pt_plan.specs.Run.{Counts, Held, Kept, Run, turning}
+use Rattle.pt_plan.specs.Turn.{Did, Follows, Happens, Start as a_start, Walk, Scan, Make, Place, GoesOn, counted}
+use Rattle.pt_plan.specs.World.{Adds, Answers, Asked, AsksNothing, Calls, Change, Changes, ChangesNothing, Creates, Finds, FindsNoneAndMakes, Finishes, Lists, Makes, Opens, OpensAndReads, Peeks, Puts, Reads, Renames, World, after_make}
+use Rattle.pt_plan.specs.declared.phase.Phase.{Phase}
+use Rattle.pt_begun.specs.Begun.{Begun, HasTold, IsPast, IsQuiet, ItemsPart, LeftAt, Start, TellsAsBefore, TellsStill}
+use Rattle.pt_begun.specs.BegunDest.{DestPart}
+use Rattle.pt_begun.specs.BegunHeld.{HeldAt}
+use Rattle.pt_begun.specs.BegunLaws.{TurnKeepsBegun}
+use Rattle.pt_begun.specs.BegunSource.{SourcePart}
+use Rattle.pt_begun.specs.FaultLeft.{IsLeftByFault}
+use Rattle.pt_begun.specs.ItemLaws.{KeepsItems, KeepsLog, KnowsItems}
+use Rattle.pt_begun.specs.Past.{Past, past_after}
+use Rattle.pt_begun.proofs.dest.DestKeeps.{scans_dest, walks_dest}
+use Rattle.pt_begun.proofs.ends.EndLeft.{end_left, left_unless}
+use Rattle.pt_begun.proofs.ends.Ending.{ended}
+use Rattle.pt_begun.proofs.held.HeldKeeps.{places_hold, starts_hold, walks_hold}
+use Rattle.pt_begun.proofs.source.InPairtree.{some_same}
+use Rattle.pt_begun.proofs.items.ItemsKeep.{makes_items, places_items, scans_items, starts_items, walks_items}
+use Rattle.pt_begun.proofs.dest.MakesDest.{makes_dest}
+use Rattle.pt_begun.proofs.held.MakesHold.{makes_hold}
+use Rattle.pt_begun.proofs.dest.PlacesDest.{places_dest}
+use Rattle.pt_begun.proofs.items.QuietStart.{follows_quietly, quiet_if, quiet_is}
+use Rattle.pt_begun.proofs.held.ScansHold.{scans_hold}
+use Rattle.pt_begun.proofs.source.ScansSource.{scans_source}
+use Rattle.pt_begun.proofs.source.SourceKeeps.{makes_source, places_source, starts_source, tree_kept, walks_source}
+use Rattle.pt_begun.proofs.dest.StartsDest.{starts_dest}
+use Rattle.pt_begun.proofs.items.Telling.{both_tell, log_tells, none_put}
+
+-- ---- which devices tell
+
+-- a source that tells told before
+pub told_source : (asked : Asked) (old : Option Reading) (new : Reading) → Answers asked old (Some new) → (s : Reading) × (old ≡ Some s)
+unfolding Answers
+told_source AsksNothing None new answers = absurd (cc)
+told_source (Lists path entries) None new answers = absurd (let none = answers.2 in cc)
+told_source (Opens path) None new answers = absurd (cc)
+told_source (Reads block) None new answers = absurd (let none = answers.1 in cc)
+told_source (OpensAndReads path block) None new answers = absurd (let none = answers.1 in cc)
+told_source asked (Some s) new answers = (s, refl)
+
+-- a destination tells exactly where it told before
+data SameTold (old new : Option Writing) : Type 0 where
+  Neither : old ≡ None → new ≡ None → SameTold old new
+  Both : (w v : Writing) → old ≡ Some w → new ≡ Some v → SameTold old new
+
+told_dest : (change : Change) (old new : Option Writing) → Changes change old new → SameTold old new
+unfolding Changes
+told_dest ChangesNothing None new change = Neither refl change
+told_dest (Finds path here) None new change = Neither refl change.1
+told_dest (Peeks path block) None new change = Neither refl change.2
+told_dest (FindsNoneAndMakes path) None new change = Neither refl change.1
+told_dest (Makes item) None new change = Neither refl change
+told_dest (Creates path) None new change = Neither refl change
+told_dest (Adds piece) None new change = Neither refl change
+told_dest Finishes None new change = Neither refl change
+told_dest (Renames from to) None new change = Neither refl change
+told_dest ChangesNothing (Some w) new change = Both w w refl change
+told_dest (Finds path here) (Some w) new change = Both w w refl change.1
+told_dest (Peeks path block) (Some w) new change = Both w w refl change.2
+told_dest (FindsNoneAndMakes path) (Some w) new change = Both w (after_mkdir path w) refl change.1
+told_dest (Makes item) (Some w) new change = Both w (after_make item w) refl change
+told_dest (Creates path) (Some w) new change = Both w (after_create path w) refl change
+told_dest (Adds piece) (Some w) new change = Both w (after_append piece w) refl change
+told_dest Finishes (Some w) new change = Both w (after_finish w) refl change
+told_dest (Renames from to) (Some w) new change = Both w (after_rename from to w) refl change
+
+-- a log that tells goes on telling
+pub told_log : (line : Option Line) (old : List ℕ) (new : Option (List ℕ)) → Puts line (Some old) new → (now : List ℕ) × (new ≡ Some now)
+unfolding Puts
+told_log None old new puts = (old, puts)
+told_log (Some line) old None puts = absurd (puts)
+told_log (Some line) old (Some now) puts = (now, refl)
+
+-- ---- the laws of the groups, together
+
+module _ (job : Job) (past : Past) where
+  follows_held : (counts : Counts) (here : Phase) (prefix : List ℕ) (held : Held) (read : List ℕ) (after : Held) (calls : Calls) (next : Phase) (old new : Option Reading) → Follows job counts here prefix held read after calls (Ok next)
+      → Answers calls.asked old new → HeldAt job past here held → HeldAt job (past_after here next held past) next after
+  follows_held counts here prefix held read after calls next old new (a_start h p r w c a turn) answers at = starts_hold job past prefix read here next held calls turn at
+  follows_held counts here prefix held read after calls next old new (Walk h p w n c a turn) answers at = walks_hold job past old new prefix here next held after calls turn answers at
+  follows_held counts here prefix held read after calls next old new (Scan h p w n c a turn) answers at = scans_hold job past old new here next held after calls turn answers at
+  follows_held counts here prefix held read after calls next old new (Make h p w n c a turn) answers at = makes_hold job past here held after calls next turn at
+  follows_held counts here prefix held read after calls next old new (Place h p w n c a turn) answers at = places_hold job counts past here next held after calls turn at
+
+  follows_source : (counts : Counts) (here : Phase) (prefix : List ℕ) (held : Held) (read : List ℕ) (after : Held) (calls : Calls) (next : Phase) (s new : Reading) → Follows job counts here prefix held read after calls (Ok next)
+      → Answers calls.asked (Some s) (Some new) → HeldAt job past here held → SourcePart job past here prefix held s → SourcePart job (past_after here next held past) next read after new
+  follows_source counts here prefix held read after calls next s new (a_start h p r w c a turn) answers at known = starts_source job past s new prefix read here next held calls turn answers at known
+  follows_source counts here prefix held read after calls next s new (Walk h p w n c a turn) answers at known = walks_source job past s new prefix here next held after calls turn answers at known
+  follows_source counts here prefix held read after calls next s new (Scan h p w n c a turn) answers at known = scans_source job past s new prefix here next held after calls turn answers at known
+  follows_source counts here prefix held read after calls next s new (Make h p w n c a turn) answers at known = makes_source job past s new prefix here held after calls next turn answers at known
+  follows_source counts here prefix held read after calls next s new (Place h p w n c a turn) answers at known = places_source job counts past s new prefix here next held after calls turn answers at known
+
+  follows_dest : (counts : Counts) (here : Phase) (prefix : List ℕ) (held : Held) (read : List ℕ) (after : Held) (calls : Calls) (next : Phase) (start : Tree) (w v : Writing) → IsLayout job.tuples → Follows job counts here prefix held read after calls (Ok next)
+      → Changes calls.change (Some w) (Some v) → HeldAt job past here held → DestPart job past here held start w → DestPart job (past_after here next held past) next after start v
+  follows_dest counts here prefix held read after calls next start w v layout (a_start h p r x c a turn) change at known = starts_dest job past start w v prefix read here next held calls layout turn change at known
+  follows_dest counts here prefix held read after calls next start w v layout (Walk h p x n c a turn) change at known = walks_dest job past start w v prefix here next held after calls turn change at known
+  follows_dest counts here prefix held read after calls next start w v layout (Scan h p x n c a turn) change at known = scans_dest job past start w v here next held after calls turn change at known
+  follows_dest counts here prefix held read after calls next start w v layout (Make h p x n c a turn) change at known = makes_dest job past start w v here held after calls next turn change at known
+  follows_dest counts here prefix held read after calls next start w v layout (Place h p x n c a turn) change at known = places_dest job counts past start w v here next held after calls turn change at known
+
+  follows_items : (counts : Counts) (here : Phase) (prefix : List ℕ) (held : Held) (read : List ℕ) (after : Held) (calls : Calls) (next : Phase) (start : Tree) (s new : Reading) (w v : Writing) → Follows job counts here prefix held read after calls (Ok next)
+      → Answers calls.asked (Some s) (Some new) → Changes calls.change (Some w) (Some v) → KnowsItems job past here prefix held counts s start w → KeepsItems job past here held counts s start calls next × KeepsLog job past here held s start calls next
+  follows_items counts here prefix held read after calls next start s new w v (a_start h p r x c a turn) answers change known = starts_items job past s prefix read start w here next held counts calls turn known
+  follows_items counts here prefix held read after calls next start s new w v (Walk h p x n c a turn) answers change known = walks_items job past s prefix start w v here next held after counts calls turn change known
+  follows_items counts here prefix held read after calls next start s new w v (Scan h p x n c a turn) answers change known = scans_items job past s new prefix start w here next held after counts calls turn answers known
+  follows_items counts here prefix held read after calls next start s new w v (Make h p x n c a turn) answers change known = makes_items job past s prefix start w here held after counts calls next turn known
+  follows_items counts here prefix held read after calls next start s new w v (Place h p x n c a turn) answers change known = places_items job past s prefix start w here next held after counts calls turn known
+
+-- ---- all parts
+
+-- the turn is counted, which no part speaks of
+pub still_counts : (job : Job) (past : Past) (here : Phase) (kept : Kept) (source : Forest) (root : Tree) → ItemsPart job past here kept.counts source root → ItemsPart job past here (turning kept).counts source root
+still_counts job past here kept source root it = record { places = it.places; lines_are = record { done = it.lines_are.done; present = it.lines_are.present; skipped = it.lines_are.skipped } }
+
+module _ (job : Job) (past : Past) (start : Start) (old new : World) (run : Run) (after : Kept) (next : Phase) (calls : Calls) where
+  abbrev before : Kept
+  before = turning run.kept
+
+  abbrev later : Past
+  later = past_after run.phase next run.kept.held past
+
+  abbrev Turned : Type 0
+  Turned = Follows job before.counts run.phase run.kept.prefix run.kept.held after.prefix after.held calls (Ok next)
+
+  keeps_source : Turned → Happens calls old new → IsPast job start old run past → ForSome new.source (SourcePart job later next after.prefix after.held)
+  keeps_source turn did is v same =
+      let told = told_source calls.asked old.source v (subst (Answers calls.asked old.source) same did.source) in
+      let answers = subst (λ o. Answers calls.asked o (Some v)) told.1 (subst (Answers calls.asked old.source) same did.source) in
+      follows_source job past before.counts run.phase run.kept.prefix run.kept.held after.prefix after.held calls next told.0 v turn answers is.held (is.source told.0 told.1)
+
+  keeps_dest : Turned → Happens calls old new → IsPast job start old run past → TellsAsBefore start.dest new.dest (DestPart job later next after.held)
+  keeps_dest turn did is = by start.dest refl (told_dest calls.change old.dest new.dest did.dest)
+    where
+      by : (o : Option Tree) → start.dest ≡ o → SameTold old.dest new.dest → TellsAsBefore o new.dest (DestPart job later next after.held)
+      by None none (Neither a b) = subst (λ o. TellsAsBefore None o (DestPart job later next after.held)) (sym b) tt
+      by None none (Both w v a b) = absurd (subst (λ o. TellsAsBefore None o (DestPart job past run.phase run.kept.held)) a (subst (λ o. TellsAsBefore o old.dest (DestPart job past run.phase run.kept.held)) none is.dest))
+      by (Some t) some (Neither a b) = absurd (subst (λ o. TellsAsBefore (Some t) o (DestPart job past run.phase run.kept.held)) a (subst (λ o. TellsAsBefore o old.dest (DestPart job past run.phase run.kept.held)) some is.dest))
+      by (Some t) some (Both w v a b) =
+          let known = subst (λ o. TellsAsBefore (Some t) o (DestPart job past run.phase run.kept.held)) a (subst (λ o. TellsAsBefore o old.dest (DestPart job past run.phase run.kept.held)) some is.dest) in
+          let change = subst (λ o. Changes calls.change o (Some v)) a (subst (Changes calls.change old.dest) b did.dest) in
+          subst (λ o. TellsAsBefore (Some t) o (DestPart job later next after.held)) (sym b)
+          (follows_dest job past before.counts run.phase run.kept.prefix run.kept.held after.prefix after.held calls next t w v is.layout turn change is.held known)
+
+  keeps_items : Turned → Happens calls old new → IsPast job start old run past → (v : Reading) → new.source ≡ Some v → (t : Tree) → start.dest ≡ Some t
+      → (s : Reading) × (v.tree ≡ s.tree) × (old.source ≡ Some s) × KeepsItems job past run.phase run.kept.held before.counts s t calls next × KeepsLog job past run.phase run.kept.held s t calls next
+  keeps_items turn did is v same t some =
+      let told = told_source calls.asked old.source v (subst (Answers calls.asked old.source) same did.source) in
+      let s = told.0 in
+      let answers = subst (λ o. Answers calls.asked o (Some v)) told.1 (subst (Answers calls.asked old.source) same did.source) in
+      let dest = both_tell (DestPart job past run.phase run.kept.held) start.dest old.dest t some is.dest in
+      let after_it = told_again dest.0 dest.1 (told_dest calls.change old.dest new.dest did.dest) in
+      let change = subst (λ o. Changes calls.change o (Some after_it.0)) dest.1 (subst (Changes calls.change old.dest) after_it.1 did.dest) in
+      let known : KnowsItems job past run.phase run.kept.prefix run.kept.held before.counts s t dest.0 = record {
+        held_at = is.held;
+        source = is.source s told.1;
+        dest = dest.2;
+        items = still_counts job past run.phase run.kept s.tree (root_in t) (is.items s told.1 t some);
+      } in
+      let kept = follows_items job past before.counts run.phase run.kept.prefix run.kept.held after.prefix after.held calls next t s v dest.0 after_it.0 turn answers change known in
+      (s, tree_kept calls.asked s v answers, told.1, kept.0, kept.1)
+    where
+      told_again : (w : Writing) → old.dest ≡ Some w → SameTold old.dest new.dest → (v : Writing) × (new.dest ≡ Some v)
+      told_again w is_some (Neither a b) = absurd (let no : None ≡ Some w = sym a ∙ is_some in cc)
+      told_again w is_some (Both x v a b) = (v, b)
+
+  -- the turn that ends it leaves what is left then
+  keeps_left : Turned → Happens calls old new → after.counts ≡ counted calls.line before.counts → IsPast job start old run past → (v : Reading) → new.source ≡ Some v → (t : Tree) → start.dest ≡ Some t → (now : Writing) → new.dest ≡ Some now → (first : List ℕ) → start.log ≡ Some first
+      → (last : List ℕ) → new.log ≡ Some last → LeftAt next job v.tree t now.tree first last
+  keeps_left turn did counts is v same t some now dest first is_first last is_last =
+      left_unless next job v.tree t now.tree first last
+      (λ at_end.
+      let told = told_source calls.asked old.source v (subst (Answers calls.asked old.source) same did.source) in
+      let s = told.0 in
+      let kept = tree_kept calls.asked s v (subst (λ o. Answers calls.asked o (Some v)) told.1 (subst (Answers calls.asked old.source) same did.source)) in
+      let turn_is = subst (λ (p : Phase). Follows job before.counts run.phase run.kept.prefix run.kept.held after.prefix after.held calls (Ok p)) at_end turn in
+      let all = ended job past start old new run after s t now first last calls is turn_is did counts told.1 some dest is_first is_last in
+      subst (λ (f : Forest). IsLeftByFault job f t now.tree first last) (sym kept) (end_left job s.tree t now.tree first last all.0.0 all.0.1 all.0.2))
+
+  pub turned : Turned → Happens calls old new → after.counts ≡ counted calls.line before.counts → IsPast job start old run past → IsPast job start new (record { phase = next; kept = after }) later
+  turned turn did counts is = record {
+    layout = is.layout;
+    held = follows_held job past before.counts run.phase run.kept.prefix run.kept.held after.prefix after.held calls next old.source new.source turn did.source is.held;
+    source = keeps_source turn did is;
+    dest = keeps_dest turn did is;
+    items = λ v same t some.
+        let kept = keeps_items turn did is v same t some in
+        subst (λ c. ItemsPart job later next c v.tree (root_in t)) (sym counts) (subst (λ (f : Forest). ItemsPart job later next (counted calls.line before.counts) f (root_in t)) (sym kept.1) kept.3);
+    log = λ v same t some. log_at v same t some start.log refl;
+    quiet = quiet_at start.log refl;
+    left = keeps_left turn did counts is;
+  }
+    where
+      quiet_at : (o : Option (List ℕ)) → start.log ≡ o → TellsStill o new.log (IsQuiet next)
+      quiet_at None none = tt
+      quiet_at (Some first) is_first =
+          let had = log_tells (IsQuiet run.phase) start.log old.log first is_first is.quiet in
+          let puts = subst (λ o. Puts calls.line o new.log) had.1 did.log in
+          let now = told_log calls.line had.0 new.log puts in
+          subst (λ o. TellsStill (Some first) o (IsQuiet next)) (sym now.1)
+          (quiet_if next first now.0
+          (λ starts.
+          let quietly = follows_quietly job before.counts run.phase run.kept.prefix run.kept.held after.prefix after.held calls next turn starts in
+          some_same now.0 had.0 (sym now.1 ∙ none_put calls.line (Some had.0) new.log quietly.line puts) ∙ quiet_is run.phase first had.0 quietly.start had.2))
+
+      log_at : (v : Reading) → new.source ≡ Some v → (t : Tree) → start.dest ≡ Some t → (o : Option (List ℕ)) → start.log ≡ o → TellsStill o new.log (HasTold job v.tree (root_in t) later next)
+      log_at v same t some None none = tt
+      log_at v same t some (Some first) is_first =
+          let kept = keeps_items turn did is v same t some in
+          let s = kept.0 in
+          let had = log_tells (HasTold job s.tree (root_in t) past run.phase) start.log old.log first is_first (is.log s kept.2 t some) in
+          let puts = subst (λ o. Puts calls.line o new.log) had.1 did.log in
+          let now = told_log calls.line had.0 new.log puts in
+          subst (λ o. TellsStill (Some first) o (HasTold job v.tree (root_in t) later next)) (sym now.1)
+          (subst (λ (f : Forest). HasTold job f (root_in t) later next first now.0) (sym kept.1) (kept.4 first had.0 now.0 had.2 (subst (Puts calls.line (Some had.0)) now.1 puts)))
+
+pub turn_keeps_begun : TurnKeepsBegun
+unfolding Begun Did
+turn_keeps_begun job start old new run after next (past, is) (GoesOn calls to turn did counts) =
+    (past_after run.phase next run.kept.held past, turned job past start old new run after next calls turn did.0 counts is)

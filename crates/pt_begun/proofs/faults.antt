@@ -1,0 +1,11 @@
+pub mod BrokenMakes
+pub mod BrokenPlaces
+pub mod BrokenTurns
+pub mod BrokenWalks
+pub mod Halting
+pub mod KeptNow
+pub mod LeavesBehind
+pub mod LeftNow
+pub mod LogHalts
+pub mod LogsLeft
+pub mod StandingStill

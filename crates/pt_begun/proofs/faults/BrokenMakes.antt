@@ -1,0 +1,161 @@
+-- What a turn leaves that makes a root or an object and breaks off may be left by a fault; so may what a turn leaves that places an object or tells of it.
+use Rattle.std.proofs.Common.{◌≡◌, ◌-◌, ◌+◌, ℕ, suc, List, [], ◌∷◌, ◌++◌, refl, ap, sym, ◌∙◌, arith, drop, length, take}
+use Rattle.std.specs.Prelude.{None, Some, slice_get}
+use Rattle.std.proofs.lemmas.Bool.{ltb-false}
+use Rattle.pt_object.specs.Files.{object_declaration_bytes, sidecar_text}
+use Rattle.pt_object.specs.Object.{inventory_name, object_declaration_name, sidecar_name}
+use Rattle.pt_object.specs.Script.{Item, MakeFile, MakeFolder, done}
+use Rattle.pt_object.specs.Scripts.{root_script, staging}
+use Rattle.pt_object.specs.declared.rows.Row.{Row}
+use Rattle.pt_tree.specs.Dest.{Writing, after_append}
+use Rattle.pt_tree.specs.Path.{Path}
+use Rattle.pt_tree.specs.Source.{Reading, IsRead}
+use Rattle.pt_tree.specs.Tree.{Tree}
+use Rattle.pt_plan.specs.Answer.{Answer}
+use Rattle.pt_plan.specs.Faults.{BeginsWith, MayBeLeft}
+use Rattle.pt_plan.specs.Job.{Job}
+use Rattle.pt_plan.specs.Lines.{text}
+use Rattle.pt_plan.specs.Roots.{root_in, with_root}
+use Rattle.pt_plan.specs.Run.{Counts, Held}
+use Rattle.pt_plan.specs.TurnMake.{Makings, MakesStaging, MakesDeclaration, MakesVersion, PassesRow, MakesFolder, OpensCopy, CopiesOn, EndsCopy, ReadsMore, ReadsOther, MakesVersionInventory, MakesVersionSidecar, MakesInventory, MakesSidecar, in_content, in_version, text_of_inventory}
+use Rattle.pt_plan.specs.TurnStart.{Starts, IsStore, IsNoStore, HasNoPrefix, IsNoPrefixFile, HasPrefix, IsNoPrefix, HasNoStaging, HasStaging, HasNoRoot, HasRoot, IsNoRoot, MakesRoot, RenamesRoot, IsSame, IsNoFile, Differs}
+use Rattle.pt_plan.specs.World.{Adds, Calls, Creates, LeavesFront, LeavesPart, Makes, NewFile, OfFile, OfPiece, Untouched}
+use Rattle.pt_plan.specs.declared.object.Object.{Object}
+use Rattle.pt_plan.specs.declared.phase.Part.{Part}
+use Rattle.pt_plan.specs.declared.phase.Part.TheVariants as a_part
+use Rattle.pt_plan.specs.declared.phase.Phase.{Phase}
+use Rattle.pt_plan.specs.declared.phase.Phase.TheVariants as phase
+use Rattle.pt_plan.specs.declared.phase.Position.{Position}
+use Rattle.pt_begun.specs.BegunDest.{root_on_way}
+use Rattle.pt_begun.specs.FaultLeft.{IsLeftByFault}
+use Rattle.pt_begun.specs.PartsMade.{made_before, script_of_object}
+use Rattle.pt_begun.specs.Past.{Past}
+use Rattle.pt_begun.proofs.faults.BrokenTurns.{WereAnswered, IsBefore, left_quiet, left_untold}
+use Rattle.pt_begun.proofs.items.CarriedNext.{begins_cut, begins_taken, carried_next, carrying_left, content_stands, row_bytes}
+use Rattle.pt_begun.proofs.dest.ContentParts.{file_next}
+use Rattle.pt_begun.proofs.source.InPairtree.{some_same}
+use Rattle.pt_begun.proofs.faults.KeptNow.{stands_cut}
+use Rattle.pt_begun.proofs.faults.LeavesBehind.{plain_same}
+use Rattle.pt_begun.proofs.faults.LeftNow.{root_left}
+use Rattle.pt_begun.proofs.dest.MadeItems.{made_in_turn}
+use Rattle.pt_begun.proofs.dest.MakesDest.{copied, copy_here, copy_stands, is_here}
+use Rattle.pt_begun.proofs.dest.ObjectParts.{next_declaration, next_first, next_fourth, next_second, next_third}
+use Rattle.pt_begun.proofs.source.ReadsOn.{reads_block}
+use Rattle.pt_begun.proofs.dest.ScriptParts.{IsNext}
+use Rattle.pt_begun.proofs.Tests.{split_at}
+
+module _ (job : Job) (past : Past) (s : Reading) (start : Tree) (prefix : List ℕ) (counts : Counts) (old new : Writing) (first log last : List ℕ) where
+  abbrev Before : Held → Phase → Type 0
+  Before held here = IsBefore job past s start prefix held counts old first log here
+
+  abbrev Left : Type 0
+  Left = IsLeftByFault job s.tree start new.tree first last
+
+  abbrev Quiet : Type 0
+  Quiet = Some last ≡ Some log
+
+  abbrev May : Type 0
+  May = MayBeLeft job s.tree start new.tree (text job s.tree (root_in start) past.count)
+
+  -- ---- a new root
+
+  root_broken : (number : ℕ) (item : Item) (held : Held) → Before held (phase.RootMake number) → slice_get (root_script job.tuples) number ≡ Some item → LeavesPart (Some old) (Some new) (Makes item) → Quiet → Left
+  root_broken number (MakeFolder path) held before is left put = left_quiet job past s start prefix counts old new first log last held (phase.RootMake number) before (plain_same (Makes (MakeFolder path)) old new refl left) put
+  root_broken number (MakeFile path bytes) held before is (Untouched change same) put = left_quiet job past s start prefix counts old new first log last held (phase.RootMake number) before (some_same new.tree old.tree same) put
+  root_broken number (MakeFile path bytes) held before is (OfFile p b count same) put =
+      let script = root_script job.tuples in
+      let at = before.known.dest.at in
+      let tree_is = some_same new.tree (done (MakeFile path (take count bytes)) old.tree) same in
+      let next : IsNext script (take number script) (MakeFile path bytes) = record { rest = drop (suc number) script; is = split_at number script (MakeFile path bytes) is } in
+      left_untold job past s start prefix counts old new first log last held (phase.RootMake number) before put
+      (root_left job s.tree start new.tree past.count (take number script) old before.known.source.at.1 at
+      (stands_cut script (take number script) path bytes count start new.tree next (tree_is ∙ ap (done (MakeFile path (take count bytes))) at.tree)))
+
+  pub starts_broken : (read : List ℕ) (here : Phase) (held : Held) (calls : Calls) (answer : Answer) → Starts job here prefix read calls answer → Before held here → LeavesPart (Some old) (Some new) calls.change → LeavesFront calls.line (Some log) (Some last) → Left
+  starts_broken read here held calls answer (IsStore was entries is) before left put = left_quiet job past s start prefix counts old new first log last held here before (plain_same calls.change old new refl left) put
+  starts_broken read here held calls answer (HasNoPrefix was) before left put = left_quiet job past s start prefix counts old new first log last held here before (plain_same calls.change old new refl left) put
+  starts_broken read here held calls answer (HasPrefix was block good) before left put = left_quiet job past s start prefix counts old new first log last held here before (plain_same calls.change old new refl left) put
+  starts_broken read here held calls answer (HasNoStaging was) before left put = left_quiet job past s start prefix counts old new first log last held here before (plain_same calls.change old new refl left) put
+  starts_broken read here held calls answer (HasNoRoot was) before left put = left_quiet job past s start prefix counts old new first log last held here before (plain_same calls.change old new refl left) put
+  starts_broken read here held calls answer (HasRoot was) before left put = left_quiet job past s start prefix counts old new first log last held here before (plain_same calls.change old new refl left) put
+  starts_broken read here held calls answer (MakesRoot was number item is) before left put = root_broken number item held before is left put
+  starts_broken read here held calls answer (RenamesRoot was) before left put = left_quiet job past s start prefix counts old new first log last held here before (plain_same calls.change old new refl left) put
+  starts_broken read here held calls answer (IsSame was number path bytes is) before left put = left_quiet job past s start prefix counts old new first log last held here before (plain_same calls.change old new refl left) put
+  starts_broken read here held calls answer (IsNoStore was entries is) before left put = left_quiet job past s start prefix counts old new first log last held here before (plain_same calls.change old new refl left) put
+  starts_broken read here held calls answer (IsNoPrefixFile was kind some is) before left put = left_quiet job past s start prefix counts old new first log last held here before (plain_same calls.change old new refl left) put
+  starts_broken read here held calls answer (IsNoPrefix was block why is) before left put = left_quiet job past s start prefix counts old new first log last held here before (plain_same calls.change old new refl left) put
+  starts_broken read here held calls answer (HasStaging was kind) before left put = left_quiet job past s start prefix counts old new first log last held here before (plain_same calls.change old new refl left) put
+  starts_broken read here held calls answer (IsNoRoot was kind is) before left put = left_quiet job past s start prefix counts old new first log last held here before (plain_same calls.change old new refl left) put
+  starts_broken read here held calls answer (IsNoFile was number path bytes kind is e) before left put = left_quiet job past s start prefix counts old new first log last held here before (plain_same calls.change old new refl left) put
+  starts_broken read here held calls answer (Differs was number path bytes block is e) before left put = left_quiet job past s start prefix counts old new first log last held here before (plain_same calls.change old new refl left) put
+
+  -- ---- a part of an object
+
+  part_broken : (object : Object) (here : Part) (path : Path) (bytes : List ℕ) (held : Held) → Before held (phase.Make object here) → IsNext (script_of_object job object held.rows past.bytes) (made_before job object held.rows past.bytes here) (MakeFile path bytes)
+      → LeavesPart (Some old) (Some new) (Makes (MakeFile path bytes)) → Quiet → Left
+  part_broken object here path bytes held before next (Untouched change same) put = left_quiet job past s start prefix counts old new first log last held (phase.Make object here) before (some_same new.tree old.tree same) put
+  part_broken object here path bytes held before next (OfFile p b count same) put =
+      let known = before.known in
+      let source = known.source in
+      let front = made_before job object held.rows past.bytes here in
+      let tree_is = some_same new.tree (done (MakeFile path (take count bytes)) old.tree) same in
+      left_untold job past s start prefix counts old new first log last held (phase.Make object here) before put
+      (carrying_left job past s start object held 0 new.tree known.dest.started known.dest.at.root known.held_at.ends.0 known.held_at.rows (omega arith) known.items.places.placed
+      (carried_next job past s (root_in start) prefix object held past.count source.proper source.at.0 source.at.1 source.bytes known.items.places.next)
+      (stands_cut (script_of_object job object held.rows past.bytes) front path bytes count (with_root start (root_on_way job start past.placed object.place 0)) new.tree next (tree_is ∙ ap (done (MakeFile path (take count bytes))) known.dest.at.tree)))
+
+  opened_broken : (object : Object) (position : Position) (held : Held) (row : Row) → Before held (phase.Make object (a_part.Content position))
+      → IsNext (script_of_object job object held.rows past.bytes) (made_before job object held.rows past.bytes (a_part.Content position)) (MakeFile (in_content row.path) (past.bytes row.path)) → LeavesPart (Some old) (Some new) (Creates (in_content row.path)) → Quiet → Left
+  opened_broken object position held row before next (Untouched change same) put = left_quiet job past s start prefix counts old new first log last held (phase.Make object (a_part.Content position)) before (some_same new.tree old.tree same) put
+  opened_broken object position held row before next (NewFile p same) put =
+      let known = before.known in
+      let source = known.source in
+      let front = made_before job object held.rows past.bytes (a_part.Content position) in
+      let item = MakeFile (in_content row.path) [] in
+      let tree_is = some_same new.tree (done item old.tree) same in
+      left_untold job past s start prefix counts old new first log last held (phase.Make object (a_part.Content position)) before put
+      (carrying_left job past s start object held 0 new.tree known.dest.started known.dest.at.root known.held_at.ends.0 known.held_at.rows (omega arith) known.items.places.placed
+      (carried_next job past s (root_in start) prefix object held past.count source.proper source.at.0 source.at.1 source.bytes known.items.places.next)
+      (content_stands (script_of_object job object held.rows past.bytes) front (in_content row.path) (past.bytes row.path) [] (with_root start (root_on_way job start past.placed object.place 0)) new.tree next (past.bytes row.path, refl) (tree_is ∙ ap (done item) known.dest.at.tree)))
+
+  copied_broken : (object : Object) (position : Position) (left : ℕ) (piece : List ℕ) (held : Held) → Before held (phase.Copy object position left) → IsRead (Some s) piece → LeavesPart (Some old) (Some new) (Adds piece) → Quiet → Left
+  unfolding IsRead
+  copied_broken object position left piece held before read (Untouched change same) put = left_quiet job past s start prefix counts old new first log last held (phase.Copy object position left) before (some_same new.tree old.tree same) put
+  copied_broken object position left piece held before read (OfPiece p count same) put =
+      let known = before.known in
+      let source = known.source in
+      let at = known.held_at in
+      let more = take count piece in
+      let it = copied job past start object position left left held old new None more (some_same new (after_append more old) same) known.dest in
+      let row = it.at.writes.row in
+      let is = it.at.writes.is_row in
+      let reads = source.at.2 in
+      let whole = reads_block 8192 _ (reads.row.length - left) held.fed piece s.unread reads.read (read s refl) in
+      let front = made_before job object held.rows past.bytes (a_part.Content position) in
+      let root = with_root start (root_on_way job start past.placed object.place 0) in
+      let same_row = some_same reads.row row (sym reads.is_row ∙ is) in
+      let bytes = row_bytes s.tree object held.trail past.bytes held.rows position.row reads.row at.ends.1 source.bytes reads.is_row in
+      let begins : BeginsWith (held.fed ++ piece) (past.bytes row.path) =
+      begins_taken (reads.row.length - left + length piece) (past.bytes row.path) (held.fed ++ piece) (whole.fed_is ∙ ap (take (reads.row.length - left + length piece)) (sym bytes ∙ ap (λ (r : Row). past.bytes r.path) same_row)) in
+      left_untold job past s start prefix counts old new first log last held (phase.Copy object position left) before put
+      (carrying_left job past s start object held 0 new.tree known.dest.started known.dest.at.making.root at.ends.0 at.rows (omega arith) known.items.places.placed
+      (carried_next job past s (root_in start) prefix object held past.count source.proper source.at.0 source.at.1 source.bytes known.items.places.next)
+      (content_stands (script_of_object job object held.rows past.bytes) front (in_content row.path) (past.bytes row.path) (held.fed ++ more) root new.tree
+      (file_next job object held.rows held.contents past.bytes position row (copy_here job past object position left held row at is) (copy_stands held position row is at.numbers)) (begins_cut count held.fed piece (past.bytes row.path) begins)
+      (it.at.making.tree ∙ made_in_turn front (MakeFile (in_content row.path) (held.fed ++ more) ∷ []) root)))
+
+  pub makes_broken : (here : Phase) (held after : Held) (calls : Calls) (answer : Answer) → Makings job here held after calls answer → Before held here → WereAnswered calls s old → LeavesPart (Some old) (Some new) calls.change → LeavesFront calls.line (Some log) (Some last) → Left
+  makes_broken here held after calls answer (MakesStaging was object) before answered left put = left_quiet job past s start prefix counts old new first log last held here before (plain_same calls.change old new refl left) put
+  makes_broken here held after calls answer (MakesDeclaration was object) before answered left put = part_broken object a_part.Declaration (staging ++ object_declaration_name ∷ []) object_declaration_bytes was before (next_declaration job object was.rows past.bytes) left put
+  makes_broken here held after calls answer (MakesVersion was object) before answered left put = left_quiet job past s start prefix counts old new first log last held here before (plain_same calls.change old new refl left) put
+  makes_broken here held after calls answer (PassesRow was object position row is other) before answered left put = left_quiet job past s start prefix counts old new first log last held here before (plain_same calls.change old new refl left) put
+  makes_broken here held after calls answer (MakesFolder was object position row is stored more) before answered left put = left_quiet job past s start prefix counts old new first log last held here before (plain_same calls.change old new refl left) put
+  makes_broken here held after calls answer (OpensCopy was object position row is stored all) before answered left put = opened_broken object position was row before (file_next job object was.rows was.contents past.bytes position row (is_here job past object position was row before.known.held_at is stored) (ltb-false position.directories (length row.path) all)) left put
+  makes_broken here held after calls answer (CopiesOn was object position n byte block fits) before answered left put = copied_broken object position n (byte ∷ block) was before answered.read left put
+  makes_broken here held after calls answer (EndsCopy was object position row n is same) before answered left put = left_quiet job past s start prefix counts old new first log last held here before (plain_same calls.change old new refl left) put
+  makes_broken here held after calls answer (MakesVersionInventory was object) before answered left put = part_broken object a_part.VersionInventory (in_version [] ++ inventory_name ∷ []) (text_of_inventory job object was.rows) was before (next_first job object was.rows past.bytes) left put
+  makes_broken here held after calls answer (MakesVersionSidecar was object) before answered left put = part_broken object a_part.VersionSidecar (in_version [] ++ sidecar_name job.algorithm ∷ []) (sidecar_text job.algorithm (text_of_inventory job object was.rows)) was before (next_second job object was.rows past.bytes) left put
+  makes_broken here held after calls answer (MakesInventory was object) before answered left put = part_broken object a_part.Inventory (staging ++ inventory_name ∷ []) (text_of_inventory job object was.rows) was before (next_third job object was.rows past.bytes) left put
+  makes_broken here held after calls answer (MakesSidecar was object) before answered left put = part_broken object a_part.Sidecar (staging ++ sidecar_name job.algorithm ∷ []) (sidecar_text job.algorithm (text_of_inventory job object was.rows)) was before (next_fourth job object was.rows past.bytes) left put
+  makes_broken here held after calls answer (ReadsMore was object position n byte block e) before answered left put = left_quiet job past s start prefix counts old new first log last held here before (plain_same calls.change old new refl left) put
+  makes_broken here held after calls answer (ReadsOther was object position row n is e) before answered left put = left_quiet job past s start prefix counts old new first log last held here before (plain_same calls.change old new refl left) put

@@ -1,0 +1,86 @@
+-- What a turn leaves that places an object, or tells of it or of the end, and breaks off may be left by a fault; so for any turn.
+use Rattle.std.proofs.Common.{◌≡◌, ◌≤◌, ℕ, suc, List, ◌++◌, refl, ap, sym, ◌∙◌, append_assoc, arith, drop, length, take}
+use Rattle.std.specs.Prelude.{Some}
+use Rattle.std.proofs.lemmas.List.{take-append-drop}
+use Rattle.pt_tree.specs.Dest.{Writing}
+use Rattle.pt_tree.specs.Source.{Reading}
+use Rattle.pt_tree.specs.Tree.{Tree}
+use Rattle.pt_plan.proofs.Growing.{all_items_are_all}
+use Rattle.pt_plan.specs.Answer.{Answer}
+use Rattle.pt_plan.specs.Carried.{after}
+use Rattle.pt_plan.specs.Items.{items}
+use Rattle.pt_plan.specs.Job.{Job}
+use Rattle.pt_plan.specs.Lines.{End, end_line, line_text, lines, text}
+use Rattle.pt_plan.specs.Roots.{root_in, with_root}
+use Rattle.pt_plan.specs.Run.{Counts, Held}
+use Rattle.pt_plan.specs.Turn.{Follows, Start as a_start, Walk, Scan, Make, Place}
+use Rattle.pt_plan.specs.TurnPlace.{Places, MakesTuple, FindsTuple, IsInTheWay, RenamesObject, TellsDone, TellsEnd, done_line, last_line}
+use Rattle.pt_plan.specs.World.{Calls, LeavesFront, LeavesPart}
+use Rattle.pt_plan.specs.declared.object.Object.{Object}
+use Rattle.pt_plan.specs.declared.phase.Phase.{Phase}
+use Rattle.pt_plan.specs.declared.phase.Phase.TheVariants as phase
+use Rattle.pt_begun.specs.FaultLeft.{IsLeftByFault}
+use Rattle.pt_begun.specs.Past.{Past}
+use Rattle.pt_begun.proofs.faults.BrokenMakes.{makes_broken, starts_broken}
+use Rattle.pt_begun.proofs.faults.BrokenTurns.{WereAnswered, IsBefore, ends_item, left_quiet, left_told}
+use Rattle.pt_begun.proofs.faults.BrokenWalks.{scans_broken, walks_broken}
+use Rattle.pt_begun.proofs.ends.Ending.{all_done}
+use Rattle.pt_begun.proofs.faults.LeavesBehind.{plain_same}
+use Rattle.pt_begun.proofs.faults.LeftNow.{between_left, tree_between}
+use Rattle.pt_begun.proofs.faults.LogsLeft.{end_in_part, some_items}
+use Rattle.pt_begun.proofs.items.PlacesTell.{places_tell}
+
+module _ (job : Job) (past : Past) (s : Reading) (start : Tree) (prefix : List ℕ) (counts : Counts) (old new : Writing) (first log last : List ℕ) where
+  abbrev Before : Held → Phase → Type 0
+  Before held here = IsBefore job past s start prefix held counts old first log here
+
+  abbrev Left : Type 0
+  Left = IsLeftByFault job s.tree start new.tree first last
+
+  -- of the end line a front was put
+  end_told : (held : Held) → Before held phase.End → new.tree ≡ old.tree → LeavesFront (Some (last_line counts)) (Some log) (Some last) → Left
+  end_told held before same (n, put) =
+      let known = before.known in
+      let root = root_in start in
+      let so_far = text job s.tree root past.count in
+      let whole = line_text (last_line counts) in
+      let front = take n whole in
+      let many = some_items job s.tree known.source.at.1.store in
+      let all = all_done job s.tree past.count known.source.at.2 in
+      let lines_are = known.items.lines_are in
+      let line_is : last_line counts ≡ end_line (lines job s.tree root past.count) = (λ i. End (lines_are.done i) (lines_are.present i) (lines_are.skipped i)) in
+      let at_end : length (items job s.tree) ≤ suc many.0 = (let is = many.1 in omega (arith, is)) in
+      let roots : after job s.tree root past.count ≡ after job s.tree root (suc many.0) =
+      (all_items_are_all job s.tree root past.count all).1 ∙ sym (all_items_are_all job s.tree root (suc many.0) at_end).1 in
+      record {
+        told = so_far ++ front;
+        log = put ∙ ap (λ l. l ++ front) before.log_is ∙ append_assoc first so_far front;
+        left = between_left job s.tree start new.tree (suc many.0) (so_far ++ front) known.dest.at.root.free (let is = many.1 in omega (arith, is))
+            (end_in_part job s.tree root many.0 past.count front (drop n whole) (so_far ++ front) many.1 all (ap line_text (sym line_is) ∙ sym (take-append-drop n whole)) refl)
+            (same ∙ tree_between job s.tree start past.placed past.count old known.items.places.placed known.dest.at ∙ ap (with_root start) roots);
+      }
+
+  -- of an object's line
+  done_told : (object : Object) (held : Held) → Before held (phase.Line object) → new.tree ≡ old.tree → LeavesFront (Some (done_line object held)) (Some log) (Some last) → Left
+  done_told object held before same put =
+      let known = before.known in
+      let tells = places_tell job counts past s prefix (root_in start) (phase.Line object) phase.Walk held _ _ (TellsDone held object) known.held_at known.source known.items.places.next in
+      left_told job past s start prefix counts old new first log last held (phase.Line object) (done_line object held) tells.0 before
+      (ends_item job s.tree (root_in start) past.count phase.Walk (Some (done_line object held)) (suc past.count) tells.0 tells.1 (done_line object held) refl refl)
+      known.dest.at.root.free (same ∙ tree_between job s.tree start past.placed (suc past.count) old known.items.places.placed known.dest.at) put
+
+  places_broken : (here : Phase) (held later : Held) (calls : Calls) (answer : Answer) → Places job counts here held later calls answer → Before held here → LeavesPart (Some old) (Some new) calls.change → LeavesFront calls.line (Some log) (Some last) → Left
+  places_broken here held later calls answer (MakesTuple was object number) before left put = left_quiet job past s start prefix counts old new first log last held here before (plain_same calls.change old new refl left) put
+  places_broken here held later calls answer (FindsTuple was object number) before left put = left_quiet job past s start prefix counts old new first log last held here before (plain_same calls.change old new refl left) put
+  places_broken here held later calls answer (RenamesObject was object) before left put = left_quiet job past s start prefix counts old new first log last held here before (plain_same calls.change old new refl left) put
+  places_broken here held later calls answer (TellsDone was object) before left put = done_told object was before (plain_same calls.change old new refl left) put
+  places_broken here held later calls answer (TellsEnd was) before left put = end_told was before (plain_same calls.change old new refl left) put
+  places_broken here held later calls answer (IsInTheWay was object number kind e) before left put = left_quiet job past s start prefix counts old new first log last held here before (plain_same calls.change old new refl left) put
+
+  pub follows_broken : (here : Phase) (held : Held) (read : List ℕ) (later : Held) (calls : Calls) (answer : Answer) → Follows job counts here prefix held read later calls answer → Before held here → WereAnswered calls s old
+      → LeavesPart (Some old) (Some new) calls.change → LeavesFront calls.line (Some log) (Some last) → Left
+  follows_broken here held read later calls answer (a_start h p r w c a turn) before answered left put = starts_broken job past s start prefix counts old new first log last read here held calls answer turn before left put
+  follows_broken here held read later calls answer (Walk h p w n c a turn) before answered left put = walks_broken job past s start prefix counts old new first log last here held later calls answer turn before answered left put
+  follows_broken here held read later calls answer (Scan h p w n c a turn) before answered left put = scans_broken job past s start prefix counts old new first log last here held later calls answer turn before answered left put
+  follows_broken here held read later calls answer (Make h p w n c a turn) before answered left put = makes_broken job past s start prefix counts old new first log last here held later calls answer turn before answered left put
+  follows_broken here held read later calls answer (Place h p w n c a turn) before answered left put = places_broken here held later calls answer turn before left put

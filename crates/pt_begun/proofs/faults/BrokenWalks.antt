@@ -1,0 +1,109 @@
+-- What a turn of the walk or of the scan leaves that breaks off may be left by a fault.
+use Rattle.std.proofs.Common.{◌≡◌, ℕ, Bool, true, false, List, [], cond, refl, subst}
+use Rattle.std.specs.Prelude.{Option, None, Some, Ok}
+use Rattle.pt_name.specs.Share.{is_first}
+use Rattle.pt_object.specs.Holding.{IsFree}
+use Rattle.pt_object.specs.Scripts.{staging}
+use Rattle.pt_tree.specs.Dest.{Writing}
+use Rattle.pt_tree.specs.Source.{Reading, after_next}
+use Rattle.pt_tree.specs.Tree.{Tree}
+use Rattle.pt_plan.proofs.MovedIn.{roots_have_no_gaps}
+use Rattle.pt_plan.specs.Answer.{Answer}
+use Rattle.pt_plan.specs.Carried.{after, carried_among}
+use Rattle.pt_plan.specs.Job.{Job}
+use Rattle.pt_plan.specs.Lines.{Line}
+use Rattle.pt_plan.specs.Roots.{root_in, with_root}
+use Rattle.pt_plan.specs.Run.{Counts, Held}
+use Rattle.pt_plan.specs.TurnScan.{Scans, StartsInSite, EntersObject, IsTooDeep, PassesShorty, EntersDirectory, MeetsDeep, OpensFile, MeetsLimit, MeetsOther, EndsSite, EndsObject, LeavesDirectory, ReadsOn, IsTooLong, EndsFile}
+use Rattle.pt_plan.specs.TurnWalk.{Walks, OpensRoot, LeadsOn, IsSkipped, IsPresent, IsNew, IsPast, IsDeep, EntersSite, PassesEntry, LeavesSite, EndsWalk}
+use Rattle.pt_plan.specs.World.{Answers, Calls, Changes, LeavesFront, LeavesPart}
+use Rattle.pt_plan.specs.declared.object.Object.{Object}
+use Rattle.pt_plan.specs.declared.phase.Phase.{Phase}
+use Rattle.pt_plan.specs.declared.phase.Phase.TheVariants as phase
+use Rattle.pt_begun.specs.Begun.{items_placed}
+use Rattle.pt_begun.specs.BegunDest.{IsMakingObject}
+use Rattle.pt_begun.specs.FaultLeft.{IsLeftByFault}
+use Rattle.pt_begun.specs.Past.{Past, done_after}
+use Rattle.pt_begun.proofs.faults.BrokenTurns.{WereAnswered, IsBefore, left_quiet, left_skipped}
+use Rattle.pt_begun.proofs.faults.LeavesBehind.{plain_same}
+use Rattle.pt_begun.proofs.faults.LeftNow.{tree_between, tree_entered}
+use Rattle.pt_begun.proofs.items.ScansTell.{scans_tell}
+use Rattle.pt_begun.proofs.items.WalksTell.{walks_tell}
+
+module _ (job : Job) (past : Past) (s : Reading) (start : Tree) (prefix : List ℕ) (counts : Counts) (old new : Writing) (first log last : List ℕ) where
+  abbrev Before : Held → Phase → Type 0
+  Before held here = IsBefore job past s start prefix held counts old first log here
+
+  abbrev Left : Type 0
+  Left = IsLeftByFault job s.tree start new.tree first last
+
+  -- ---- the walk
+
+  -- it tells the line of an item of which nothing is carried
+  walk_told : (held later : Held) (here : Phase) (calls : Calls) (line : Line) → Walks job prefix here held later calls (Ok phase.Walk) → Before held here → calls.line ≡ Some line → past.placed ≡ carried_among job s.tree (root_in start) (items_placed here past.count)
+      → Changes calls.change (Some old) (Some old) → IsFree start staging → old.tree ≡ with_root start (after job s.tree (root_in start) past.count) → new.tree ≡ old.tree → LeavesFront (Some line) (Some log) (Some last) → Left
+  walk_told held later here calls line turn before is placed found free tree same put =
+      let known = before.known in
+      left_skipped job past s start prefix counts old new first log last held here phase.Walk calls.line line (done_after here held.trail phase.Walk past.count) before refl
+      (walks_tell job past s prefix start old old here phase.Walk held later calls turn known.held_at.trail.is_one known.source (roots_have_no_gaps start known.dest.started).1 placed known.dest.at found)
+      is free tree same put
+
+  -- or none
+  walk_passed : (told : Bool) (held later : Held) (here : Phase) (calls : Calls) (line : Line) → Walks job prefix here held later calls (Ok phase.Walk) → Before held here → calls.line ≡ cond told (Some line) None → past.placed ≡ carried_among job s.tree (root_in start) (items_placed here past.count)
+      → Changes calls.change (Some old) (Some old) → IsFree start staging → old.tree ≡ with_root start (after job s.tree (root_in start) past.count) → new.tree ≡ old.tree → LeavesFront calls.line (Some log) (Some last) → (LeavesFront None (Some log) (Some last) → Left) → Left
+  walk_passed true held later here calls line turn before is placed found free tree same put quiet =
+      walk_told held later here calls line turn before is placed found free tree same (subst (λ (l : Option Line). LeavesFront l (Some log) (Some last)) is put)
+  walk_passed false held later here calls line turn before is placed found free tree same put quiet = quiet (subst (λ (l : Option Line). LeavesFront l (Some log) (Some last)) is put)
+
+  pub walks_broken : (here : Phase) (held later : Held) (calls : Calls) (answer : Answer) → Walks job prefix here held later calls answer → Before held here → WereAnswered calls s old → LeavesPart (Some old) (Some new) calls.change → LeavesFront calls.line (Some log) (Some last) → Left
+  unfolding Changes
+  walks_broken here held later calls answer (OpensRoot was items) before answered left put = left_quiet job past s start prefix counts old new first log last held here before (plain_same calls.change old new refl left) put
+  walks_broken here held later calls answer (LeadsOn was is) before answered left put = left_quiet job past s start prefix counts old new first log last held here before (plain_same calls.change old new refl left) put
+  walks_broken here held later calls answer (IsSkipped was why is) before answered left put =
+      walk_told held later here calls _ (IsSkipped was why is) before refl before.known.items.places.placed refl before.known.dest.at.root.free (tree_between job s.tree start past.placed past.count old before.known.items.places.placed before.known.dest.at) (plain_same calls.change old new refl left) put
+  walks_broken here held later calls answer (IsPresent was index id kind is) before answered left put =
+      walk_told held later here calls _ (IsPresent was index id kind is) before refl before.known.items.places.placed (answered.found, refl) before.known.dest.at.root.free (tree_between job s.tree start past.placed past.count old before.known.items.places.placed before.known.dest.at) (plain_same calls.change old new refl left) put
+  walks_broken here held later calls answer (IsNew was index id is) before answered left put = left_quiet job past s start prefix counts old new first log last held here before (plain_same calls.change old new refl left) put
+  walks_broken here held later calls answer (IsPast was name e short outermost) before answered left put =
+      walk_passed (is_first job.share) held later here calls _ (IsPast was name e short outermost) before refl before.known.items.places.placed refl before.known.dest.at.root.free (tree_between job s.tree start past.placed past.count old before.known.items.places.placed before.known.dest.at) (plain_same calls.change old new refl left) put
+      (left_quiet job past s start prefix counts old new first log last held here before (plain_same calls.change old new refl left))
+  walks_broken here held later calls answer (IsDeep was name e short inner deep) before answered left put =
+      walk_passed (is_first job.share) held later here calls _ (IsDeep was name e short inner deep) before refl before.known.items.places.placed refl before.known.dest.at.root.free (tree_between job s.tree start past.placed past.count old before.known.items.places.placed before.known.dest.at) (plain_same calls.change old new refl left) put
+      (left_quiet job past s start prefix counts old new first log last held here before (plain_same calls.change old new refl left))
+  walks_broken here held later calls answer (EntersSite was name items e short inner deep) before answered left put = left_quiet job past s start prefix counts old new first log last held here before (plain_same calls.change old new refl left) put
+  walks_broken here held later calls answer (PassesEntry was item e apart) before answered left put = left_quiet job past s start prefix counts old new first log last held here before (plain_same calls.change old new refl left) put
+  walks_broken here held later calls answer (LeavesSite was e long) before answered left put = left_quiet job past s start prefix counts old new first log last held here before (plain_same calls.change old new refl left) put
+  walks_broken here held later calls answer (EndsWalk was e short) before answered left put = left_quiet job past s start prefix counts old new first log last held here before (plain_same calls.change old new refl left) put
+
+  -- ---- the scan of an object
+
+  scan_told : (held later : Held) (here : Phase) (object : Object) (calls : Calls) (line : Line) (read : Reading) → Scans job here held later calls (Ok phase.Walk) → Before held here → calls.line ≡ Some line → Answers calls.asked (Some s) (Some read)
+      → past.placed ≡ carried_among job s.tree (root_in start) past.count → IsMakingObject job start past.placed object [] 0 old → new.tree ≡ old.tree → LeavesFront (Some line) (Some log) (Some last) → Left
+  scan_told held later here object calls line read turn before is answers placed making same put =
+      let known = before.known in
+      left_skipped job past s start prefix counts old new first log last held here phase.Walk calls.line line (done_after here held.trail phase.Walk past.count) before refl
+      (scans_tell job past s prefix (root_in start) here phase.Walk held later calls turn known.held_at.trail.is_one known.source known.items.places.next read answers)
+      is making.root.free (tree_entered job s.tree start past.placed past.count object old placed making) same put
+
+  pub scans_broken : (here : Phase) (held later : Held) (calls : Calls) (answer : Answer) → Scans job here held later calls answer → Before held here → WereAnswered calls s old → LeavesPart (Some old) (Some new) calls.change → LeavesFront calls.line (Some log) (Some last) → Left
+  unfolding Answers
+  scans_broken here held later calls answer (StartsInSite was object gathered) before answered left put = left_quiet job past s start prefix counts old new first log last held here before (plain_same calls.change old new refl left) put
+  scans_broken here held later calls answer (EntersObject was object items apart shallow) before answered left put = left_quiet job past s start prefix counts old new first log last held here before (plain_same calls.change old new refl left) put
+  scans_broken here held later calls answer (IsTooDeep was object apart deep) before answered left put =
+      scan_told held later here object calls _ s (IsTooDeep was object apart deep) before refl refl before.known.items.places.placed before.known.dest.at (plain_same calls.change old new refl left) put
+  scans_broken here held later calls answer (PassesShorty was object item e passed) before answered left put = left_quiet job past s start prefix counts old new first log last held here before (plain_same calls.change old new refl left) put
+  scans_broken here held later calls answer (EntersDirectory was object name items e apart shallow) before answered left put = left_quiet job past s start prefix counts old new first log last held here before (plain_same calls.change old new refl left) put
+  scans_broken here held later calls answer (MeetsDeep was object name e apart deep) before answered left put =
+      scan_told held later here object calls _ s (MeetsDeep was object name e apart deep) before refl refl before.known.items.places.placed before.known.dest.at (plain_same calls.change old new refl left) put
+  scans_broken here held later calls answer (OpensFile was object name e room) before answered left put = left_quiet job past s start prefix counts old new first log last held here before (plain_same calls.change old new refl left) put
+  scans_broken here held later calls answer (MeetsLimit was object name e room) before answered left put =
+      scan_told held later here object calls _ s (MeetsLimit was object name e room) before refl refl before.known.items.places.placed before.known.dest.at (plain_same calls.change old new refl left) put
+  scans_broken here held later calls answer (MeetsOther was object name e) before answered left put =
+      scan_told held later here object calls _ s (MeetsOther was object name e) before refl refl before.known.items.places.placed before.known.dest.at (plain_same calls.change old new refl left) put
+  scans_broken here held later calls answer (EndsSite was object e there) before answered left put = left_quiet job past s start prefix counts old new first log last held here before (plain_same calls.change old new refl left) put
+  scans_broken here held later calls answer (EndsObject was object e apart own) before answered left put = left_quiet job past s start prefix counts old new first log last held here before (plain_same calls.change old new refl left) put
+  scans_broken here held later calls answer (LeavesDirectory was object e apart outside) before answered left put = left_quiet job past s start prefix counts old new first log last held here before (plain_same calls.change old new refl left) put
+  scans_broken here held later calls answer (ReadsOn was object bytes byte block short) before answered left put = left_quiet job past s start prefix counts old new first log last held here before (plain_same calls.change old new refl left) put
+  scans_broken here held later calls answer (IsTooLong was object bytes byte block long) before answered left put =
+      scan_told held later here object calls _ (after_next s) (IsTooLong was object bytes byte block long) before refl (answered.read, refl) before.known.items.places.placed before.known.dest.at (plain_same calls.change old new refl left) put
+  scans_broken here held later calls answer (EndsFile was object bytes) before answered left put = left_quiet job past s start prefix counts old new first log last held here before (plain_same calls.change old new refl left) put

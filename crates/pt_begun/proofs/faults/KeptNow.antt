@@ -1,0 +1,202 @@
+-- Whatever stands in the destination between two turns may be kept.
+use Rattle.std.proofs.Common.{inl, inr, ◌≡◌, ◌≤◌, ℕ, suc, true, List, [], ◌∷◌, ◌++◌, refl, ap, sym, ◌∙◌, subst, append-nil, arith, length, take}
+use Rattle.std.specs.Prelude.{None, is_none, is_some, slice_get}
+use Rattle.std.proofs.lemmas.List.{take_all}
+use Rattle.pt_object.proofs.ObjectScripts.{in_order_apart}
+use Rattle.pt_object.specs.FilePaths.{are_apart, row_paths}
+use Rattle.pt_object.specs.Holding.{IsFree}
+use Rattle.pt_object.specs.Root.{base}
+use Rattle.pt_object.specs.Script.{Item, MakeFile, MakeFolder, StandsAtPrefix, cut_item, cut_last, done, folders_above, made}
+use Rattle.pt_object.specs.Scripts.{root_script, script_of}
+use Rattle.pt_tree.specs.Dest.{Writing}
+use Rattle.pt_tree.specs.Path.{Path}
+use Rattle.pt_tree.specs.Tree.{IsTree, Tree}
+use Rattle.pt_plan.proofs.Kept.{one_comes}
+use Rattle.pt_plan.specs.Carried.{Carried, with_objects}
+use Rattle.pt_plan.specs.Fixity.{Holding, IsKept, Making, StandsAtContent, come_to_free_places}
+use Rattle.pt_plan.specs.Fixity as kept
+use Rattle.pt_plan.specs.Job.{Job}
+use Rattle.pt_plan.specs.Roots.{root_in, storage_root, tuple_folders, with_folders, with_root}
+use Rattle.pt_plan.specs.Run.{Held}
+use Rattle.pt_plan.specs.TurnMake.{in_content}
+use Rattle.pt_plan.specs.declared.object.Object.{Object}
+use Rattle.pt_plan.specs.declared.phase.Part.{Part}
+use Rattle.pt_plan.specs.declared.phase.Part.TheVariants as a_part
+use Rattle.pt_plan.specs.declared.phase.Phase.{Phase}
+use Rattle.pt_plan.specs.declared.phase.Phase.TheVariants as phase
+use Rattle.pt_plan.specs.declared.phase.Position.{Position}
+use Rattle.pt_begun.specs.BegunDest.{CameToFreePlaces, DestPart, IsLeftBehind, IsMakingObject, IsMakingRoot, IsRootOfStart, root_now, root_on_way}
+use Rattle.pt_begun.specs.BegunHeld.{AreRows, HeldAt, IsObject}
+use Rattle.pt_begun.specs.PartsMade.{made_before, script_of_object}
+use Rattle.pt_begun.specs.Past.{Past, object_held}
+use Rattle.pt_begun.proofs.dest.ContentParts.{file_next}
+use Rattle.pt_begun.proofs.dest.DestKeeps.{no_folders}
+use Rattle.pt_begun.proofs.held.DistinctRows.{get_behind}
+use Rattle.pt_begun.proofs.dest.MadeItems.{made_in_turn}
+use Rattle.pt_begun.proofs.dest.MakesDest.{copy_here, copy_stands, top_folder}
+use Rattle.pt_begun.proofs.dest.ObjectParts.{front_made}
+use Rattle.pt_begun.proofs.held.OwnFiles.{own_files, paths_held}
+use Rattle.pt_begun.proofs.dest.PlacesDest.{held_so, place_long}
+use Rattle.pt_begun.proofs.dest.PlacesOnWay.{part_way}
+use Rattle.pt_begun.proofs.dest.ScriptParts.{IsFront, IsNext, taken_front}
+
+-- ---- a script so far
+
+-- a number of bytes that cuts nothing off
+pub uncut : (items : List Item) → (count : ℕ) × (cut_last count items ≡ items)
+uncut [] = (0, refl)
+uncut (MakeFolder path ∷ []) = (0, refl)
+uncut (MakeFile path bytes ∷ []) = (length bytes, ap (λ b. MakeFile path b ∷ []) (take_all (length bytes) bytes (omega arith)))
+uncut (item ∷ next ∷ items) = let later = uncut (next ∷ items) in (later.0, ap (λ l. item ∷ l) later.1)
+
+-- the first items of a script stand
+pub stands_whole : (script : List Item) (n : ℕ) (start now : Tree) → now ≡ made (take n script) start → StandsAtPrefix script start now
+stands_whole script n start now is = let cut = uncut (take n script) in record { items = n; bytes = cut.0; stands = is ∙ ap (λ l. made l start) (sym cut.1) }
+
+-- and of the next one, a file, the first bytes
+cut_push : (count : ℕ) (front : List Item) (item : Item) → cut_last count (front ++ item ∷ []) ≡ front ++ cut_item count item ∷ []
+cut_push count [] item = refl
+cut_push count (x ∷ []) item = refl
+cut_push count (x ∷ y ∷ front) item = ap (λ l. x ∷ l) (cut_push count (y ∷ front) item)
+
+take_next : (front : List Item) (item : Item) (rest : List Item) → take (suc (length front)) (front ++ item ∷ rest) ≡ front ++ item ∷ []
+take_next [] item rest = refl
+take_next (x ∷ front) item rest = ap (λ l. x ∷ l) (take_next front item rest)
+
+pub stands_cut : (script front : List Item) (path : Path) (bytes : List ℕ) (count : ℕ) (start now : Tree) → IsNext script front (MakeFile path bytes) → now ≡ done (MakeFile path (take count bytes)) (made front start) → StandsAtPrefix script start now
+stands_cut script front path bytes count start now next is = record {
+  items = suc (length front);
+  bytes = count;
+  stands = is
+      ∙ sym (made_in_turn front (MakeFile path (take count bytes) ∷ []) start)
+      ∙ ap (λ l. made l start) (sym (cut_push count front (MakeFile path bytes)))
+      ∙ ap (λ l. made (cut_last count l) start) (sym (ap (take (suc (length front))) next.is ∙ take_next front (MakeFile path bytes) next.rest));
+}
+
+-- ---- an object that is made
+
+module _ (job : Job) (past : Past) (start : Tree) (object : Object) (held : Held) where
+  abbrev carried : Carried
+  carried = object_held object held.rows past.bytes
+
+  abbrev script : List Item
+  script = script_of_object job object held.rows past.bytes
+
+  -- it comes to a free place
+  comes : (place : IsObject job object) → AreRows job past.bytes held → CameToFreePlaces job start past.placed → root_now job start past.placed object.place ≡ None → come_to_free_places job (base job.tuples (root_in start)) (past.placed ++ carried ∷ []) ≡ true
+  comes place rows came free =
+      one_comes job past.placed carried (base job.tuples (root_in start)) came
+      (ap are_apart (paths_held held.rows past.bytes) ∙ in_order_apart (row_paths held.rows) rows.order)
+      (ap is_none (ap (root_now job start past.placed) (sym place.place) ∙ free))
+
+  -- its script is that of the object that is carried
+  pub own_script : AreRows job past.bytes held → script ≡ script_of carried.id carried.files job.meta job.algorithm
+  own_script rows = (own_files object.id held.rows past.bytes job.meta job.algorithm (in_order_apart (row_paths held.rows) rows.order) rows.digests).1
+
+  -- the root with some folders on the way
+  pub on_way : (n : ℕ) → IsTree start → IsRootOfStart job start → IsObject job object → n ≤ job.tuples.count
+      → with_root start (root_on_way job start past.placed object.place n) ≡ with_root start (with_folders (take n (tuple_folders job carried)) (with_objects job past.placed (base job.tuples (root_in start))))
+  on_way n tree root it few =
+      let long = place_long job object it in
+      ap (with_root start)
+      (part_way job start past.placed object.place n (omega (arith, few, long)) (ap is_some (top_folder job start past.placed tree root))
+      ∙ ap (λ (p : Path). with_folders (take n (folders_above p)) (root_now job start past.placed)) it.place)
+
+  -- so what is made of it is kept
+  pub made_kept : (n : ℕ) (items : List Item) (now : Tree) → IsTree start → IsObject job object → AreRows job past.bytes held → n ≤ job.tuples.count → (w : Writing) → IsMakingObject job start past.placed object items n w
+      → StandsAtPrefix script (with_root start (root_on_way job start past.placed object.place n)) now → IsKept job start now
+  made_kept n items now tree it rows few w making at =
+      Making past.placed carried n now (comes it rows making.came making.free)
+      (inl (subst (λ (t : Tree). StandsAtPrefix (script_of carried.id carried.files job.meta job.algorithm) t now) (on_way n tree making.root it few)
+      (subst (λ (l : List Item). StandsAtPrefix l (with_root start (root_on_way job start past.placed object.place n)) now) (own_script rows) at)))
+
+  -- and with a content that holds other bytes
+  pub copy_kept : (front : List Item) (path : Path) (bytes read : List ℕ) (now : Tree) → IsTree start → IsObject job object → AreRows job past.bytes held → (w : Writing) → IsMakingObject job start past.placed object (front ++ MakeFile (in_content path) read ∷ []) 0 w
+      → IsNext script front (MakeFile (in_content path) bytes) → (other : List ℕ) → now ≡ done (MakeFile (in_content path) other) (made front (with_root start (root_on_way job start past.placed object.place 0))) → IsKept job start now
+  copy_kept front path bytes read now tree it rows w making next other is =
+      let root = with_root start (root_on_way job start past.placed object.place 0) in
+      let at : StandsAtContent script root now = record {
+        items = length front;
+        path = in_content path;
+        bytes = bytes;
+        held = other;
+        next = ap (λ (l : List Item). slice_get l (length front)) next.is ∙ get_behind front (MakeFile (in_content path) bytes ∷ next.rest);
+        content = refl;
+        stands = is ∙ ap (λ (l : List Item). done (MakeFile (in_content path) other) (made l root)) (sym (ap (take (length front)) next.is ∙ taken_front front (MakeFile (in_content path) bytes ∷ next.rest)));
+      } in
+      Making past.placed carried 0 now (comes it rows making.came making.free)
+      (inr (subst (λ (t : Tree). StandsAtContent (script_of carried.id carried.files job.meta job.algorithm) t now) (on_way 0 tree making.root it (omega arith))
+      (subst (λ (l : List Item). StandsAtContent l root now) (own_script rows) at)))
+
+  -- before its script it is not there
+  pub not_begun : (w : Writing) → IsMakingObject job start past.placed object [] 0 w → IsKept job start w.tree
+  not_begun w making = subst (IsKept job start) (sym (making.tree ∙ ap (with_root start) (no_folders job start past.placed object.place))) (Holding past.placed making.came)
+
+-- a front of the script
+pub front_stands : (script front : List Item) (start now : Tree) → IsFront script front → now ≡ made front start → StandsAtPrefix script start now
+front_stands script front start now it is =
+    stands_whole script (length front) start now (is ∙ ap (λ l. made l start) (sym (ap (take (length front)) it.is ∙ taken_front front it.rest)))
+
+-- ---- a new root
+
+pub root_free : (start : Tree) → IsFree start storage_root → IsFree (root_in start) []
+root_free start free path = free path
+
+pub root_kept : (job : Job) (start now : Tree) (items : List Item) (w : Writing) → IsMakingRoot start items w → StandsAtPrefix (root_script job.tuples) start now → IsKept job start now
+root_kept job start now items w making at = kept.MakingRoot now (root_free start making.root) at
+
+-- ---- by the phase
+
+-- a part of an object is made
+part_kept : (job : Job) (past : Past) (start : Tree) (object : Object) (here : Part) (held : Held) (now : Writing) → HeldAt job past (phase.Make object here) held → DestPart job past (phase.Make object here) held start now → IsKept job start now.tree
+part_kept job past start object here held now at dest =
+    made_kept job past start object held 0 (made_before job object held.rows past.bytes here) now.tree dest.started at.ends.0 at.rows (omega arith) now dest.at
+    (front_stands (script_of_object job object held.rows past.bytes) (made_before job object held.rows past.bytes here) (with_root start (root_on_way job start past.placed object.place 0)) now.tree (front_made job object held.rows past.bytes here) dest.at.tree)
+
+-- or is whole
+whole_kept : (job : Job) (past : Past) (start : Tree) (object : Object) (held : Held) (n : ℕ) (now : Writing) → IsTree start → IsObject job object → AreRows job past.bytes held → n ≤ job.tuples.count
+    → IsMakingObject job start past.placed object (script_of_object job object held.rows past.bytes) n now → IsKept job start now.tree
+whole_kept job past start object held n now tree it rows few making =
+    made_kept job past start object held n (script_of_object job object held.rows past.bytes) now.tree tree it rows few now making
+    (front_stands (script_of_object job object held.rows past.bytes) (script_of_object job object held.rows past.bytes) (with_root start (root_on_way job start past.placed object.place n)) now.tree (record { rest = []; is = sym (append-nil (script_of_object job object held.rows past.bytes)) }) making.tree)
+
+-- a file is copied
+copying_kept : (job : Job) (past : Past) (start : Tree) (object : Object) (position : Position) (left : ℕ) (held : Held) (now : Writing) → HeldAt job past (phase.Copy object position left) held → DestPart job past (phase.Copy object position left) held start now → IsKept job start now.tree
+copying_kept job past start object position left held now at dest =
+    let row = dest.at.writes.row in
+    let is = dest.at.writes.is_row in
+    let front = made_before job object held.rows past.bytes (a_part.Content position) in
+    let root = with_root start (root_on_way job start past.placed object.place 0) in
+    copy_kept job past start object held front row.path (past.bytes row.path) held.fed now.tree dest.started at.ends.0 at.rows now dest.at.making
+    (file_next job object held.rows held.contents past.bytes position row (copy_here job past object position left held row at is) (copy_stands held position row is at.numbers)) held.fed
+    (dest.at.making.tree ∙ made_in_turn front (MakeFile (in_content row.path) held.fed ∷ []) root)
+
+as_it_was : (job : Job) (start : Tree) (now : Writing) → now.tree ≡ start → IsKept job start now.tree
+as_it_was job start now same = subst (IsKept job start) (sym same) kept.AsItWas
+
+pub kept_now : (job : Job) (past : Past) (start : Tree) (here : Phase) (held : Held) (now : Writing) → HeldAt job past here held → DestPart job past here held start now → IsLeftBehind job start now
+kept_now job past start phase.Begin held now at dest = record { kept = as_it_was job start now dest.at.tree; stood = inr dest.at.tree }
+kept_now job past start (phase.Prefix here) held now at dest = record { kept = as_it_was job start now dest.at.tree; stood = inr dest.at.tree }
+kept_now job past start phase.Staging held now at dest = record { kept = as_it_was job start now dest.at.tree; stood = inr dest.at.tree }
+kept_now job past start phase.Root held now at dest = record { kept = as_it_was job start now dest.at.0.tree; stood = inr dest.at.0.tree }
+kept_now job past start (phase.RootMake number) held now at dest = record {
+  kept = root_kept job start now.tree (take number (root_script job.tuples)) now dest.at (stands_whole (root_script job.tuples) number start now.tree dest.at.tree);
+  stood = inl (record { free = dest.at.free; root = inl dest.at.root });
+}
+kept_now job past start phase.RootRename held now at dest = record { kept = root_kept job start now.tree (root_script job.tuples) now dest.at (stands_whole (root_script job.tuples) 6 start now.tree dest.at.tree); stood = inl (record { free = dest.at.free; root = inl dest.at.root }) }
+kept_now job past start (phase.RootCheck number) held now at dest = record { kept = as_it_was job start now dest.at.tree; stood = inr dest.at.tree }
+kept_now job past start phase.OpenRoot held now at dest = record { kept = held_so job start past.placed now dest.at; stood = inl dest.at.root }
+kept_now job past start phase.Judge held now at dest = record { kept = held_so job start past.placed now dest.at; stood = inl dest.at.root }
+kept_now job past start (phase.OpenObject object) held now at dest = record { kept = not_begun job past start object held now dest.at; stood = inl dest.at.root }
+kept_now job past start (phase.Scan object) held now at dest = record { kept = not_begun job past start object held now dest.at; stood = inl dest.at.root }
+kept_now job past start (phase.Read object count) held now at dest = record { kept = not_begun job past start object held now dest.at; stood = inl dest.at.root }
+kept_now job past start (phase.Make object here) held now at dest = record { kept = part_kept job past start object here held now at dest; stood = inl dest.at.root }
+kept_now job past start (phase.Copy object position left) held now at dest = record { kept = copying_kept job past start object position left held now at dest; stood = inl dest.at.making.root }
+kept_now job past start (phase.Tuples object number) held now at dest =
+    let few = at.numbers in
+    record { kept = whole_kept job past start object held number now dest.started at.ends.0 at.rows (omega (arith, few)) dest.at.0; stood = inl dest.at.0.root }
+kept_now job past start (phase.Rename object) held now at dest = record { kept = whole_kept job past start object held job.tuples.count now dest.started at.ends.0 at.rows (omega arith) dest.at.0; stood = inl dest.at.0.root }
+kept_now job past start (phase.Line object) held now at dest = record { kept = held_so job start past.placed now dest.at; stood = inl dest.at.root }
+kept_now job past start phase.Walk held now at dest = record { kept = held_so job start past.placed now dest.at; stood = inl dest.at.root }
+kept_now job past start phase.End held now at dest = record { kept = held_so job start past.placed now dest.at; stood = inl dest.at.root }
+kept_now job past start phase.Ended held now at dest = dest.at

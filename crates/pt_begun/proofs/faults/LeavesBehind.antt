@@ -1,0 +1,234 @@
+-- What a turn that breaks off leaves in the destination may be kept.
+use Rattle.std.proofs.Common.{inl, inr, ◌≡◌, ℕ, suc, Bool, true, false, List, [], ◌∷◌, ◌++◌, refl, ap, sym, ◌∙◌, subst, arith, drop, length, take}
+use Rattle.std.specs.Prelude.{◌⊎◌, None, Some, slice_get}
+use Rattle.std.proofs.lemmas.Bool.{ltb-false}
+use Rattle.pt_object.specs.Files.{object_declaration_bytes, sidecar_text}
+use Rattle.pt_object.specs.Holding.{IsFree}
+use Rattle.pt_object.specs.Object.{inventory_name, object_declaration_name, sidecar_name}
+use Rattle.pt_object.specs.Script.{Item, MakeFile, MakeFolder, done}
+use Rattle.pt_object.specs.Scripts.{root_script, staging}
+use Rattle.pt_object.specs.declared.rows.Row.{Row}
+use Rattle.pt_tree.specs.Dest.{Writing, after_append}
+use Rattle.pt_tree.specs.Path.{Path}
+use Rattle.pt_tree.specs.Tree.{Bytes, IsTree, Tree}
+use Rattle.pt_plan.specs.Answer.{Answer}
+use Rattle.pt_plan.specs.Fixity.{IsKept}
+use Rattle.pt_plan.specs.Job.{Job}
+use Rattle.pt_plan.specs.Roots.{with_root}
+use Rattle.pt_plan.specs.Run.{Counts, Held, with_fed}
+use Rattle.pt_plan.specs.Turn.{Follows, Start as a_start, Walk, Scan, Make, Place}
+use Rattle.pt_plan.specs.TurnMake.{Makings, MakesStaging, MakesDeclaration, MakesVersion, PassesRow, MakesFolder, OpensCopy, CopiesOn, ReadsMore, EndsCopy, ReadsOther, MakesVersionInventory, MakesVersionSidecar, MakesInventory, MakesSidecar, in_content, in_version, text_of_inventory}
+use Rattle.pt_plan.specs.TurnPlace.{Places, MakesTuple, FindsTuple, IsInTheWay, RenamesObject, TellsDone, TellsEnd}
+use Rattle.pt_plan.specs.TurnScan.{Scans, StartsInSite, EntersObject, IsTooDeep, PassesShorty, EntersDirectory, MeetsDeep, OpensFile, MeetsLimit, MeetsOther, EndsSite, EndsObject, LeavesDirectory, ReadsOn, IsTooLong, EndsFile}
+use Rattle.pt_plan.specs.TurnStart.{Starts, IsStore, IsNoStore, HasNoPrefix, IsNoPrefixFile, HasPrefix, IsNoPrefix, HasNoStaging, HasStaging, HasNoRoot, HasRoot, IsNoRoot, MakesRoot, RenamesRoot, IsSame, IsNoFile, Differs}
+use Rattle.pt_plan.specs.TurnWalk.{Walks, OpensRoot, LeadsOn, IsSkipped, IsPresent, IsNew, IsPast, IsDeep, EntersSite, PassesEntry, LeavesSite, EndsWalk}
+use Rattle.pt_plan.specs.World.{Adds, Calls, Change, ChangesNothing, Creates, Finds, FindsNoneAndMakes, Finishes, LeavesPart, Makes, NewFile, OfFile, OfPiece, Peeks, Renames, Untouched}
+use Rattle.pt_plan.specs.declared.object.Object.{Object}
+use Rattle.pt_plan.specs.declared.phase.Part.{Part}
+use Rattle.pt_plan.specs.declared.phase.Part.TheVariants as a_part
+use Rattle.pt_plan.specs.declared.phase.Phase.{Phase}
+use Rattle.pt_plan.specs.declared.phase.Phase.TheVariants as phase
+use Rattle.pt_plan.specs.declared.phase.Position.{Position}
+use Rattle.pt_begun.specs.BegunDest.{DestPart, IsLeftBehind, IsRootOfStart, root_on_way}
+use Rattle.pt_begun.specs.BegunHeld.{HeldAt}
+use Rattle.pt_begun.specs.PartsMade.{made_before, script_of_object}
+use Rattle.pt_begun.specs.Past.{Past}
+use Rattle.pt_begun.proofs.dest.ContentParts.{file_next}
+use Rattle.pt_begun.proofs.source.InPairtree.{some_same}
+use Rattle.pt_begun.proofs.faults.KeptNow.{copy_kept, kept_now, made_kept, root_kept, stands_cut}
+use Rattle.pt_begun.proofs.dest.MakesDest.{copied, is_here, item_may, with_item}
+use Rattle.pt_begun.proofs.dest.ObjectParts.{next_declaration, next_first, next_fourth, next_second, next_third}
+use Rattle.pt_begun.proofs.held.ScansHold.{fed_rows}
+use Rattle.pt_begun.proofs.dest.ScriptParts.{IsNext}
+use Rattle.pt_begun.proofs.dest.StartsDest.{root_item_made}
+use Rattle.pt_begun.proofs.Tests.{split_at}
+use Rattle.pt_begun.proofs.dest.Trees.{tree_put}
+
+-- what is left is a tree, and may be kept
+pub record IsLeftTree (job : Job) (start : Tree) (now : Writing) : Type 0 where
+  pub tree : IsTree now.tree
+  pub left : IsLeftBehind job start now
+
+-- ---- nothing is left of the change
+
+pub same_left : (job : Job) (past : Past) (start : Tree) (here : Phase) (held : Held) (old new : Writing) → HeldAt job past here held → DestPart job past here held start old → new.tree ≡ old.tree → IsLeftTree job start new
+same_left job past start here held old new at dest same =
+    let left = kept_now job past start here held old at dest in
+    record { tree = subst IsTree (sym same) dest.tree; left = record { kept = subst (IsKept job start) (sym same) left.kept; stood = either left.stood } }
+  where
+    either : IsRootOfStart job start ⊎ (old.tree ≡ start) → IsRootOfStart job start ⊎ (new.tree ≡ start)
+    either (inl root) = inl root
+    either (inr untouched) = inr (same ∙ untouched)
+
+-- of these changes nothing can be left
+abbrev pub is_plain : Change → Bool
+is_plain ChangesNothing = true
+is_plain (Finds path here) = true
+is_plain (Peeks path block) = true
+is_plain (FindsNoneAndMakes path) = true
+is_plain (Makes (MakeFolder path)) = true
+is_plain (Makes (MakeFile path bytes)) = false
+is_plain (Creates path) = false
+is_plain (Adds piece) = false
+is_plain Finishes = true
+is_plain (Renames from to) = true
+
+pub plain_same : (change : Change) (old new : Writing) → is_plain change ≡ true → LeavesPart (Some old) (Some new) change → new.tree ≡ old.tree
+plain_same _ old new plain (Untouched change same) = some_same new.tree old.tree same
+plain_same _ old new plain (OfFile path bytes count same) = absurd (cc)
+plain_same _ old new plain (NewFile path same) = absurd (cc)
+plain_same _ old new plain (OfPiece piece count same) = absurd (cc)
+
+-- ---- a new root
+
+root_left : (job : Job) (past : Past) (start : Tree) (number : ℕ) (item : Item) (held : Held) (old new : Writing) → HeldAt job past (phase.RootMake number) held → DestPart job past (phase.RootMake number) held start old → slice_get (root_script job.tuples) number ≡ Some item
+    → LeavesPart (Some old) (Some new) (Makes item) → IsLeftTree job start new
+root_left job past start number (MakeFolder path) held old new at dest is left = same_left job past start (phase.RootMake number) held old new at dest (plain_same (Makes (MakeFolder path)) old new refl left)
+root_left job past start number (MakeFile path bytes) held old new at dest is (Untouched change same) = same_left job past start (phase.RootMake number) held old new at dest (some_same new.tree old.tree same)
+root_left job past start number (MakeFile path bytes) held old new at dest is (OfFile p b count same) =
+    let tree_is = some_same new.tree (done (MakeFile path (take count bytes)) old.tree) same in
+    let next : IsNext (root_script job.tuples) (take number (root_script job.tuples)) (MakeFile path bytes) = record { rest = drop (suc number) (root_script job.tuples); is = split_at number (root_script job.tuples) (MakeFile path bytes) is } in
+    record {
+      tree = subst IsTree (sym tree_is) (tree_put old.tree path (Bytes (take count bytes)) dest.tree (root_item_made job start number (MakeFile path bytes) old dest.started is dest.at));
+      left = record {
+        kept = root_kept job start new.tree (take number (root_script job.tuples)) old dest.at
+            (stands_cut (root_script job.tuples) (take number (root_script job.tuples)) path bytes count start new.tree next (tree_is ∙ ap (done (MakeFile path (take count bytes))) dest.at.tree));
+        stood = inl (record { free = dest.at.free; root = inl dest.at.root });
+      };
+    }
+
+-- ---- a part of an object
+
+part_left : (job : Job) (past : Past) (start : Tree) (object : Object) (here : Part) (path : Path) (bytes : List ℕ) (held : Held) (old new : Writing) → HeldAt job past (phase.Make object here) held → DestPart job past (phase.Make object here) held start old
+    → IsNext (script_of_object job object held.rows past.bytes) (made_before job object held.rows past.bytes here) (MakeFile path bytes) → LeavesPart (Some old) (Some new) (Makes (MakeFile path bytes)) → IsLeftTree job start new
+part_left job past start object here path bytes held old new at dest next (Untouched change same) = same_left job past start (phase.Make object here) held old new at dest (some_same new.tree old.tree same)
+part_left job past start object here path bytes held old new at dest next (OfFile p b count same) =
+    let front = made_before job object held.rows past.bytes here in
+    let tree_is = some_same new.tree (done (MakeFile path (take count bytes)) old.tree) same in
+    let may = item_may job start past.placed object held.rows past.bytes front (MakeFile path bytes) old dest.started at.rows.order next dest.at in
+    record {
+      tree = subst IsTree (sym tree_is) (tree_put old.tree path (Bytes (take count bytes)) dest.tree may);
+      left = record {
+        kept = made_kept job past start object held 0 front new.tree dest.started at.ends.0 at.rows (omega arith) old dest.at
+            (stands_cut (script_of_object job object held.rows past.bytes) front path bytes count (with_root start (root_on_way job start past.placed object.place 0)) new.tree next (tree_is ∙ ap (done (MakeFile path (take count bytes))) dest.at.tree));
+        stood = inl dest.at.root;
+      };
+    }
+
+opened_left : (job : Job) (past : Past) (start : Tree) (object : Object) (position : Position) (held : Held) (row : Row) (old new : Writing) → HeldAt job past (phase.Make object (a_part.Content position)) held → DestPart job past (phase.Make object (a_part.Content position)) held start old
+    → IsNext (script_of_object job object held.rows past.bytes) (made_before job object held.rows past.bytes (a_part.Content position)) (MakeFile (in_content row.path) (past.bytes row.path)) → LeavesPart (Some old) (Some new) (Creates (in_content row.path)) → IsLeftTree job start new
+opened_left job past start object position held row old new at dest next (Untouched change same) = same_left job past start (phase.Make object (a_part.Content position)) held old new at dest (some_same new.tree old.tree same)
+opened_left job past start object position held row old new at dest next (NewFile p same) =
+    let front = made_before job object held.rows past.bytes (a_part.Content position) in
+    let item = MakeFile (in_content row.path) [] in
+    let tree_is = some_same new.tree (done (MakeFile (in_content row.path) []) old.tree) same in
+    let may = item_may job start past.placed object held.rows past.bytes front (MakeFile (in_content row.path) (past.bytes row.path)) old dest.started at.rows.order next dest.at in
+    record {
+      tree = subst IsTree (sym tree_is) (tree_put old.tree (in_content row.path) (Bytes []) dest.tree may);
+      left = record {
+        kept = copy_kept job past start object held front row.path (past.bytes row.path) [] new.tree dest.started at.ends.0 at.rows new (with_item job start past.placed object front item old new tree_is dest.at) next [] (tree_is ∙ ap (done item) dest.at.tree);
+        stood = inl dest.at.root;
+      };
+    }
+
+fed_held : (job : Job) (past : Past) (object : Object) (position : Position) (left : ℕ) (held : Held) (fed : List ℕ) → HeldAt job past (phase.Copy object position left) held → HeldAt job past (phase.Copy object position left) (with_fed held fed)
+fed_held job past object position left held fed at = record {
+  trail = record { is_one = at.trail.is_one; none = tt; entry = tt };
+  ends = at.ends;
+  rows = fed_rows job past.bytes held fed at.rows;
+  behind = tt;
+  numbers = record { at = at.numbers.at; row = at.numbers.row; is_row = at.numbers.is_row; next = at.numbers.next; stand = at.numbers.stand };
+  fed = tt;
+}
+
+copied_left : (job : Job) (past : Past) (start : Tree) (object : Object) (position : Position) (left : ℕ) (piece : List ℕ) (held : Held) (old new : Writing) → HeldAt job past (phase.Copy object position left) held → DestPart job past (phase.Copy object position left) held start old
+    → LeavesPart (Some old) (Some new) (Adds piece) → IsLeftTree job start new
+copied_left job past start object position left piece held old new at dest (Untouched change same) = same_left job past start (phase.Copy object position left) held old new at dest (some_same new.tree old.tree same)
+copied_left job past start object position left piece held old new at dest (OfPiece p count same) =
+    let part = take count piece in
+    let it = copied job past start object position left left held old new None part (some_same new (after_append part old) same) dest in
+    record { tree = it.tree; left = kept_now job past start (phase.Copy object position left) (with_fed held (held.fed ++ part)) new (fed_held job past object position left held (held.fed ++ part) at) it }
+
+-- ---- each turn
+
+starts_left : (job : Job) (past : Past) (start : Tree) (prefix read : List ℕ) (here : Phase) (held : Held) (calls : Calls) (answer : Answer) (old new : Writing) → Starts job here prefix read calls answer → HeldAt job past here held → DestPart job past here held start old
+    → LeavesPart (Some old) (Some new) calls.change → IsLeftTree job start new
+starts_left job past start prefix read here held calls answer old new (IsStore was entries is) at dest left = same_left job past start here held old new at dest (plain_same calls.change old new refl left)
+starts_left job past start prefix read here held calls answer old new (HasNoPrefix was) at dest left = same_left job past start here held old new at dest (plain_same calls.change old new refl left)
+starts_left job past start prefix read here held calls answer old new (HasPrefix was block good) at dest left = same_left job past start here held old new at dest (plain_same calls.change old new refl left)
+starts_left job past start prefix read here held calls answer old new (HasNoStaging was) at dest left = same_left job past start here held old new at dest (plain_same calls.change old new refl left)
+starts_left job past start prefix read here held calls answer old new (HasNoRoot was) at dest left = same_left job past start here held old new at dest (plain_same calls.change old new refl left)
+starts_left job past start prefix read here held calls answer old new (HasRoot was) at dest left = same_left job past start here held old new at dest (plain_same calls.change old new refl left)
+starts_left job past start prefix read here held calls answer old new (MakesRoot was number item is) at dest left = root_left job past start number item held old new at dest is left
+starts_left job past start prefix read here held calls answer old new (RenamesRoot was) at dest left = same_left job past start here held old new at dest (plain_same calls.change old new refl left)
+starts_left job past start prefix read here held calls answer old new (IsSame was number path bytes is) at dest left = same_left job past start here held old new at dest (plain_same calls.change old new refl left)
+starts_left job past start prefix read here held calls answer old new (IsNoStore was entries e) at dest left = same_left job past start here held old new at dest (plain_same calls.change old new refl left)
+starts_left job past start prefix read here held calls answer old new (IsNoPrefixFile was kind some e) at dest left = same_left job past start here held old new at dest (plain_same calls.change old new refl left)
+starts_left job past start prefix read here held calls answer old new (IsNoPrefix was block why e) at dest left = same_left job past start here held old new at dest (plain_same calls.change old new refl left)
+starts_left job past start prefix read here held calls answer old new (HasStaging was kind) at dest left = same_left job past start here held old new at dest (plain_same calls.change old new refl left)
+starts_left job past start prefix read here held calls answer old new (IsNoRoot was kind e) at dest left = same_left job past start here held old new at dest (plain_same calls.change old new refl left)
+starts_left job past start prefix read here held calls answer old new (IsNoFile was number path bytes kind is e) at dest left = same_left job past start here held old new at dest (plain_same calls.change old new refl left)
+starts_left job past start prefix read here held calls answer old new (Differs was number path bytes block is e) at dest left = same_left job past start here held old new at dest (plain_same calls.change old new refl left)
+
+walks_left : (job : Job) (past : Past) (start : Tree) (prefix : List ℕ) (here : Phase) (held after : Held) (calls : Calls) (answer : Answer) (old new : Writing) → Walks job prefix here held after calls answer → HeldAt job past here held → DestPart job past here held start old → LeavesPart (Some old) (Some new) calls.change → IsLeftTree job start new
+walks_left job past start prefix here held after calls answer old new (OpensRoot was items) at dest left = same_left job past start here held old new at dest (plain_same calls.change old new refl left)
+walks_left job past start prefix here held after calls answer old new (LeadsOn was is) at dest left = same_left job past start here held old new at dest (plain_same calls.change old new refl left)
+walks_left job past start prefix here held after calls answer old new (IsSkipped was why is) at dest left = same_left job past start here held old new at dest (plain_same calls.change old new refl left)
+walks_left job past start prefix here held after calls answer old new (IsPresent was index id kind is) at dest left = same_left job past start here held old new at dest (plain_same calls.change old new refl left)
+walks_left job past start prefix here held after calls answer old new (IsNew was index id is) at dest left = same_left job past start here held old new at dest (plain_same calls.change old new refl left)
+walks_left job past start prefix here held after calls answer old new (IsPast was name e short last) at dest left = same_left job past start here held old new at dest (plain_same calls.change old new refl left)
+walks_left job past start prefix here held after calls answer old new (IsDeep was name e short last deep) at dest left = same_left job past start here held old new at dest (plain_same calls.change old new refl left)
+walks_left job past start prefix here held after calls answer old new (EntersSite was name items e short last deep) at dest left = same_left job past start here held old new at dest (plain_same calls.change old new refl left)
+walks_left job past start prefix here held after calls answer old new (PassesEntry was item e apart) at dest left = same_left job past start here held old new at dest (plain_same calls.change old new refl left)
+walks_left job past start prefix here held after calls answer old new (LeavesSite was e long) at dest left = same_left job past start here held old new at dest (plain_same calls.change old new refl left)
+walks_left job past start prefix here held after calls answer old new (EndsWalk was e short) at dest left = same_left job past start here held old new at dest (plain_same calls.change old new refl left)
+
+scans_left : (job : Job) (past : Past) (start : Tree) (here : Phase) (held after : Held) (calls : Calls) (answer : Answer) (old new : Writing) → Scans job here held after calls answer → HeldAt job past here held → DestPart job past here held start old → LeavesPart (Some old) (Some new) calls.change → IsLeftTree job start new
+scans_left job past start here held after calls answer old new (StartsInSite was object gathered) at dest left = same_left job past start here held old new at dest (plain_same calls.change old new refl left)
+scans_left job past start here held after calls answer old new (EntersObject was object items apart shallow) at dest left = same_left job past start here held old new at dest (plain_same calls.change old new refl left)
+scans_left job past start here held after calls answer old new (IsTooDeep was object apart deep) at dest left = same_left job past start here held old new at dest (plain_same calls.change old new refl left)
+scans_left job past start here held after calls answer old new (PassesShorty was object item e passed) at dest left = same_left job past start here held old new at dest (plain_same calls.change old new refl left)
+scans_left job past start here held after calls answer old new (EntersDirectory was object name items e apart shallow) at dest left = same_left job past start here held old new at dest (plain_same calls.change old new refl left)
+scans_left job past start here held after calls answer old new (MeetsDeep was object name e apart deep) at dest left = same_left job past start here held old new at dest (plain_same calls.change old new refl left)
+scans_left job past start here held after calls answer old new (OpensFile was object name e room) at dest left = same_left job past start here held old new at dest (plain_same calls.change old new refl left)
+scans_left job past start here held after calls answer old new (MeetsLimit was object name e room) at dest left = same_left job past start here held old new at dest (plain_same calls.change old new refl left)
+scans_left job past start here held after calls answer old new (MeetsOther was object name e) at dest left = same_left job past start here held old new at dest (plain_same calls.change old new refl left)
+scans_left job past start here held after calls answer old new (EndsSite was object e there) at dest left = same_left job past start here held old new at dest (plain_same calls.change old new refl left)
+scans_left job past start here held after calls answer old new (EndsObject was object e apart own) at dest left = same_left job past start here held old new at dest (plain_same calls.change old new refl left)
+scans_left job past start here held after calls answer old new (LeavesDirectory was object e apart outside) at dest left = same_left job past start here held old new at dest (plain_same calls.change old new refl left)
+scans_left job past start here held after calls answer old new (ReadsOn was object bytes byte block short) at dest left = same_left job past start here held old new at dest (plain_same calls.change old new refl left)
+scans_left job past start here held after calls answer old new (IsTooLong was object bytes byte block long) at dest left = same_left job past start here held old new at dest (plain_same calls.change old new refl left)
+scans_left job past start here held after calls answer old new (EndsFile was object bytes) at dest left = same_left job past start here held old new at dest (plain_same calls.change old new refl left)
+
+places_left : (job : Job) (counts : Counts) (past : Past) (start : Tree) (here : Phase) (held after : Held) (calls : Calls) (answer : Answer) (old new : Writing) → Places job counts here held after calls answer → HeldAt job past here held → DestPart job past here held start old → LeavesPart (Some old) (Some new) calls.change → IsLeftTree job start new
+places_left job counts past start here held after calls answer old new (MakesTuple was object number) at dest left = same_left job past start here held old new at dest (plain_same calls.change old new refl left)
+places_left job counts past start here held after calls answer old new (FindsTuple was object number) at dest left = same_left job past start here held old new at dest (plain_same calls.change old new refl left)
+places_left job counts past start here held after calls answer old new (RenamesObject was object) at dest left = same_left job past start here held old new at dest (plain_same calls.change old new refl left)
+places_left job counts past start here held after calls answer old new (TellsDone was object) at dest left = same_left job past start here held old new at dest (plain_same calls.change old new refl left)
+places_left job counts past start here held after calls answer old new (TellsEnd was) at dest left = same_left job past start here held old new at dest (plain_same calls.change old new refl left)
+places_left job counts past start here held after calls answer old new (IsInTheWay was object number kind e) at dest left = same_left job past start here held old new at dest (plain_same calls.change old new refl left)
+
+makes_left : (job : Job) (past : Past) (start : Tree) (here : Phase) (held after : Held) (calls : Calls) (answer : Answer) (old new : Writing) → Makings job here held after calls answer → HeldAt job past here held → DestPart job past here held start old
+    → LeavesPart (Some old) (Some new) calls.change → IsLeftTree job start new
+makes_left job past start here held after calls answer old new (MakesStaging was object) at dest broken = same_left job past start here held old new at dest (plain_same calls.change old new refl broken)
+makes_left job past start here held after calls answer old new (MakesDeclaration was object) at dest left = part_left job past start object a_part.Declaration (staging ++ object_declaration_name ∷ []) object_declaration_bytes was old new at dest (next_declaration job object was.rows past.bytes) left
+makes_left job past start here held after calls answer old new (MakesVersion was object) at dest broken = same_left job past start here held old new at dest (plain_same calls.change old new refl broken)
+makes_left job past start here held after calls answer old new (PassesRow was object position row is other) at dest broken = same_left job past start here held old new at dest (plain_same calls.change old new refl broken)
+makes_left job past start here held after calls answer old new (MakesFolder was object position row is stored more) at dest broken = same_left job past start here held old new at dest (plain_same calls.change old new refl broken)
+makes_left job past start here held after calls answer old new (OpensCopy was object position row is stored all) at dest broken = opened_left job past start object position was row old new at dest (file_next job object was.rows was.contents past.bytes position row (is_here job past object position was row at is stored) (ltb-false position.directories (length row.path) all)) broken
+makes_left job past start here held after calls answer old new (CopiesOn was object position left byte block fits) at dest broken = copied_left job past start object position left (byte ∷ block) was old new at dest broken
+makes_left job past start here held after calls answer old new (EndsCopy was object position row left is same) at dest broken = same_left job past start here held old new at dest (plain_same calls.change old new refl broken)
+makes_left job past start here held after calls answer old new (MakesVersionInventory was object) at dest left = part_left job past start object a_part.VersionInventory (in_version [] ++ inventory_name ∷ []) (text_of_inventory job object was.rows) was old new at dest (next_first job object was.rows past.bytes) left
+makes_left job past start here held after calls answer old new (MakesVersionSidecar was object) at dest left = part_left job past start object a_part.VersionSidecar (in_version [] ++ sidecar_name job.algorithm ∷ []) (sidecar_text job.algorithm (text_of_inventory job object was.rows)) was old new at dest (next_second job object was.rows past.bytes) left
+makes_left job past start here held after calls answer old new (MakesInventory was object) at dest left = part_left job past start object a_part.Inventory (staging ++ inventory_name ∷ []) (text_of_inventory job object was.rows) was old new at dest (next_third job object was.rows past.bytes) left
+makes_left job past start here held after calls answer old new (MakesSidecar was object) at dest left = part_left job past start object a_part.Sidecar (staging ++ sidecar_name job.algorithm ∷ []) (sidecar_text job.algorithm (text_of_inventory job object was.rows)) was old new at dest (next_fourth job object was.rows past.bytes) left
+makes_left job past start here held after calls answer old new (ReadsMore was object position left byte block e) at dest broken = same_left job past start here held old new at dest (plain_same calls.change old new refl broken)
+makes_left job past start here held after calls answer old new (ReadsOther was object position row left is e) at dest broken = same_left job past start here held old new at dest (plain_same calls.change old new refl broken)
+
+pub follows_left : (job : Job) (past : Past) (start : Tree) (counts : Counts) (here : Phase) (prefix : List ℕ) (held : Held) (read : List ℕ) (after : Held) (calls : Calls) (answer : Answer) (old new : Writing) → Follows job counts here prefix held read after calls answer
+    → HeldAt job past here held → DestPart job past here held start old → LeavesPart (Some old) (Some new) calls.change → IsLeftTree job start new
+follows_left job past start counts here prefix held read after calls answer old new (a_start h p r w c a turn) at dest left = starts_left job past start prefix read here held calls answer old new turn at dest left
+follows_left job past start counts here prefix held read after calls answer old new (Walk h p w n c a turn) at dest left = walks_left job past start prefix here held after calls answer old new turn at dest left
+follows_left job past start counts here prefix held read after calls answer old new (Scan h p w n c a turn) at dest left = scans_left job past start here held after calls answer old new turn at dest left
+follows_left job past start counts here prefix held read after calls answer old new (Make h p w n c a turn) at dest left = makes_left job past start here held after calls answer old new turn at dest left
+follows_left job past start counts here prefix held read after calls answer old new (Place h p w n c a turn) at dest left = places_left job counts past start here held after calls answer old new turn at dest left

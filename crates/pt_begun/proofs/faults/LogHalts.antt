@@ -1,0 +1,184 @@
+-- Where the log fails nothing stands at `staging`.
+use Rattle.std.proofs.Common.{◌≡◌, ℕ, Bool, true, false, List, [], ◌++◌, refl, ap, sym, ◌∙◌, subst}
+use Rattle.std.specs.Prelude.{Option, None, Some, Err}
+use Rattle.pt_object.specs.Holding.{IsFree}
+use Rattle.pt_object.specs.Scripts.{staging}
+use Rattle.pt_tree.specs.Dest.{Writing}
+use Rattle.pt_tree.specs.Tree.{Tree}
+use Rattle.pt_plan.specs.Answer.{Answer}
+use Rattle.pt_plan.specs.Carried.{Carried}
+use Rattle.pt_plan.specs.Job.{Job}
+use Rattle.pt_plan.specs.Run.{Counts, Held, turning}
+use Rattle.pt_plan.specs.Turn.{Did, FailsAtFirst, FailsLater, Follows, IsRefused, LeavesSome, Stays, Start as a_start, Walk, Scan, Make, Place}
+use Rattle.pt_plan.specs.TurnMake.{Makings}
+use Rattle.pt_plan.specs.TurnMake as make
+use Rattle.pt_plan.specs.TurnPlace.{Places}
+use Rattle.pt_plan.specs.TurnPlace as place
+use Rattle.pt_plan.specs.TurnScan.{Scans}
+use Rattle.pt_plan.specs.TurnScan as scan
+use Rattle.pt_plan.specs.TurnStart.{Starts}
+use Rattle.pt_plan.specs.TurnStart as start
+use Rattle.pt_plan.specs.TurnWalk.{Walks}
+use Rattle.pt_plan.specs.TurnWalk as walk
+use Rattle.pt_plan.specs.World.{Calls, Change, ChangesNothing, Finds, LeavesPart, NewFile, OfFile, OfPiece, Untouched, dest_tree}
+use Rattle.pt_plan.specs.declared.object.Object.{Object}
+use Rattle.pt_plan.specs.declared.phase.Phase.{Phase}
+use Rattle.pt_plan.specs.declared.phase.Phase.TheVariants as phase
+use Rattle.pt_begun.specs.Begun.{Begun, TellsAsBefore}
+use Rattle.pt_begun.specs.BegunDest.{DestPart, IsBetweenObjects, IsMakingObject}
+use Rattle.pt_begun.specs.LogLaws.{FailedLogLeavesNoStaging, may_tell}
+use Rattle.pt_begun.specs.Past.{Past}
+use Rattle.pt_begun.proofs.source.InPairtree.{some_same}
+use Rattle.pt_begun.proofs.ends.TurnEnds.{refused_same}
+
+-- ---- what stands at such a phase
+
+between : (job : Job) (t : Tree) (placed : List Carried) (now : Writing) → IsBetweenObjects job t placed now → IsFree now.tree staging
+between job t placed now at = λ q. ap (λ (x : Tree). x (staging ++ q)) at.tree ∙ at.root.free q
+
+before_making : (job : Job) (t : Tree) (placed : List Carried) (object : Object) (now : Writing) → IsMakingObject job t placed object [] 0 now → IsFree now.tree staging
+before_making job t placed object now at = λ q. ap (λ (x : Tree). x (staging ++ q)) at.tree ∙ at.root.free q
+
+free_there : (job : Job) (past : Past) (here : Phase) (held : Held) (t : Tree) (now : Writing) → may_tell here ≡ true → DestPart job past here held t now → IsFree now.tree staging
+free_there job past phase.Begin held t now tells dest = absurd (cc)
+free_there job past (phase.Prefix here) held t now tells dest = absurd (cc)
+free_there job past phase.Staging held t now tells dest = absurd (cc)
+free_there job past phase.Root held t now tells dest = absurd (cc)
+free_there job past (phase.RootMake number) held t now tells dest = absurd (cc)
+free_there job past phase.RootRename held t now tells dest = absurd (cc)
+free_there job past (phase.RootCheck number) held t now tells dest = absurd (cc)
+free_there job past phase.OpenRoot held t now tells dest = between job t past.placed now dest.at
+free_there job past phase.Judge held t now tells dest = between job t past.placed now dest.at
+free_there job past (phase.OpenObject object) held t now tells dest = before_making job t past.placed object now dest.at
+free_there job past (phase.Scan object) held t now tells dest = before_making job t past.placed object now dest.at
+free_there job past (phase.Read object bytes) held t now tells dest = before_making job t past.placed object now dest.at
+free_there job past (phase.Make object here) held t now tells dest = absurd (cc)
+free_there job past (phase.Copy object position left) held t now tells dest = absurd (cc)
+free_there job past (phase.Tuples object number) held t now tells dest = absurd (cc)
+free_there job past (phase.Rename object) held t now tells dest = absurd (cc)
+free_there job past (phase.Line object) held t now tells dest = between job t past.placed now dest.at
+free_there job past phase.Walk held t now tells dest = between job t past.placed now dest.at
+free_there job past phase.End held t now tells dest = between job t past.placed now dest.at
+free_there job past phase.Ended held t now tells dest = absurd (cc)
+
+-- ---- what its turn does
+
+-- nothing is changed in the destination
+abbrev is_quiet : Change → Bool
+is_quiet ChangesNothing = true
+is_quiet (Finds path here) = true
+is_quiet _ = false
+
+quiet_leaves : (old new : Option Writing) (change : Change) → LeavesPart old new change → is_quiet change ≡ true → dest_tree new ≡ dest_tree old
+quiet_leaves old new _ (Untouched change same) quiet = same
+quiet_leaves old new _ (OfFile path bytes count made) quiet = absurd (cc)
+quiet_leaves old new _ (NewFile path made) quiet = absurd (cc)
+quiet_leaves old new _ (OfPiece piece count added) quiet = absurd (cc)
+
+starts_late : (job : Job) (here : Phase) (prefix read : List ℕ) (calls : Calls) (answer : Answer) → Starts job here prefix read calls answer → may_tell here ≡ false
+starts_late job _ _ _ _ _ (start.IsStore _ entries is) = refl
+starts_late job _ _ _ _ _ (start.IsNoStore _ entries is) = refl
+starts_late job _ _ _ _ _ (start.HasNoPrefix _) = refl
+starts_late job _ _ _ _ _ (start.IsNoPrefixFile _ kind some is) = refl
+starts_late job _ _ _ _ _ (start.HasPrefix _ block is) = refl
+starts_late job _ _ _ _ _ (start.IsNoPrefix _ block why is) = refl
+starts_late job _ _ _ _ _ (start.HasNoStaging _) = refl
+starts_late job _ _ _ _ _ (start.HasStaging _ kind) = refl
+starts_late job _ _ _ _ _ (start.HasNoRoot _) = refl
+starts_late job _ _ _ _ _ (start.HasRoot _) = refl
+starts_late job _ _ _ _ _ (start.IsNoRoot _ kind is) = refl
+starts_late job _ _ _ _ _ (start.MakesRoot _ number item is) = refl
+starts_late job _ _ _ _ _ (start.RenamesRoot _) = refl
+starts_late job _ _ _ _ _ (start.IsNoFile _ number path bytes kind is other) = refl
+starts_late job _ _ _ _ _ (start.IsSame _ number path bytes is) = refl
+starts_late job _ _ _ _ _ (start.Differs _ number path bytes block is other) = refl
+
+walks_quiet : (job : Job) (prefix : List ℕ) (here : Phase) (held new : Held) (calls : Calls) (answer : Answer) → Walks job prefix here held new calls answer → is_quiet calls.change ≡ true
+walks_quiet job prefix _ held _ _ _ (walk.OpensRoot _ items) = refl
+walks_quiet job prefix _ held _ _ _ (walk.LeadsOn _ found) = refl
+walks_quiet job prefix _ held _ _ _ (walk.IsSkipped _ why found) = refl
+walks_quiet job prefix _ held _ _ _ (walk.IsPresent _ index id here found) = refl
+walks_quiet job prefix _ held _ _ _ (walk.IsNew _ index id found) = refl
+walks_quiet job prefix _ held _ _ _ (walk.IsPast _ name at short last) = refl
+walks_quiet job prefix _ held _ _ _ (walk.IsDeep _ name at short last deep) = refl
+walks_quiet job prefix _ held _ _ _ (walk.EntersSite _ name items at short last shallow) = refl
+walks_quiet job prefix _ held _ _ _ (walk.PassesEntry _ item at other) = refl
+walks_quiet job prefix _ held _ _ _ (walk.LeavesSite _ at more) = refl
+walks_quiet job prefix _ held _ _ _ (walk.EndsWalk _ at last) = refl
+
+scans_quiet : (job : Job) (here : Phase) (held new : Held) (calls : Calls) (answer : Answer) → Scans job here held new calls answer → is_quiet calls.change ≡ true
+scans_quiet job _ held _ _ _ (scan.StartsInSite _ object gathered) = refl
+scans_quiet job _ held _ _ _ (scan.EntersObject _ object items apart shallow) = refl
+scans_quiet job _ held _ _ _ (scan.IsTooDeep _ object apart deep) = refl
+scans_quiet job _ held _ _ _ (scan.PassesShorty _ object item at passed) = refl
+scans_quiet job _ held _ _ _ (scan.EntersDirectory _ object name items at own shallow) = refl
+scans_quiet job _ held _ _ _ (scan.MeetsDeep _ object name at own deep) = refl
+scans_quiet job _ held _ _ _ (scan.OpensFile _ object name at room) = refl
+scans_quiet job _ held _ _ _ (scan.MeetsLimit _ object name at beyond) = refl
+scans_quiet job _ held _ _ _ (scan.MeetsOther _ object name at) = refl
+scans_quiet job _ held _ _ _ (scan.EndsSite _ object at site) = refl
+scans_quiet job _ held _ _ _ (scan.EndsObject _ object at site own) = refl
+scans_quiet job _ held _ _ _ (scan.LeavesDirectory _ object at site own) = refl
+scans_quiet job _ held _ _ _ (scan.ReadsOn _ object bytes byte block short) = refl
+scans_quiet job _ held _ _ _ (scan.IsTooLong _ object bytes byte block long) = refl
+scans_quiet job _ held _ _ _ (scan.EndsFile _ object bytes) = refl
+
+makes_late : (job : Job) (here : Phase) (held new : Held) (calls : Calls) (answer : Answer) → Makings job here held new calls answer → may_tell here ≡ false
+makes_late job _ held _ _ _ (make.MakesStaging _ object) = refl
+makes_late job _ held _ _ _ (make.MakesDeclaration _ object) = refl
+makes_late job _ held _ _ _ (make.MakesVersion _ object) = refl
+makes_late job _ held _ _ _ (make.PassesRow _ object position row at stored) = refl
+makes_late job _ held _ _ _ (make.MakesFolder _ object position row at stored next) = refl
+makes_late job _ held _ _ _ (make.OpensCopy _ object position row at stored next) = refl
+makes_late job _ held _ _ _ (make.CopiesOn _ object position left byte block short) = refl
+makes_late job _ held _ _ _ (make.ReadsMore _ object position left byte block long) = refl
+makes_late job _ held _ _ _ (make.EndsCopy _ object position row left at same) = refl
+makes_late job _ held _ _ _ (make.ReadsOther _ object position row left at other) = refl
+makes_late job _ held _ _ _ (make.MakesVersionInventory _ object) = refl
+makes_late job _ held _ _ _ (make.MakesVersionSidecar _ object) = refl
+makes_late job _ held _ _ _ (make.MakesInventory _ object) = refl
+makes_late job _ held _ _ _ (make.MakesSidecar _ object) = refl
+
+places_quiet : (job : Job) (counts : Counts) (here : Phase) (held new : Held) (calls : Calls) (answer : Answer) → Places job counts here held new calls answer → may_tell here ≡ true → is_quiet calls.change ≡ true
+places_quiet job counts _ held _ _ _ (place.MakesTuple _ object number) tells = absurd (cc)
+places_quiet job counts _ held _ _ _ (place.FindsTuple _ object number) tells = absurd (cc)
+places_quiet job counts _ held _ _ _ (place.IsInTheWay _ object number here other) tells = absurd (cc)
+places_quiet job counts _ held _ _ _ (place.RenamesObject _ object) tells = absurd (cc)
+places_quiet job counts _ held _ _ _ (place.TellsDone _ object) tells = refl
+places_quiet job counts _ held _ _ _ (place.TellsEnd _) tells = refl
+
+follows_quiet : (job : Job) (counts : Counts) (here : Phase) (prefix : List ℕ) (held : Held) (read : List ℕ) (after : Held) (calls : Calls) (answer : Answer) → Follows job counts here prefix held read after calls answer → may_tell here ≡ true → is_quiet calls.change ≡ true
+follows_quiet job counts here prefix held read after calls answer (a_start h p r w c a turn) tells = let late = starts_late job here prefix read calls answer turn in absurd (let no : true ≡ false = sym tells ∙ late in cc)
+follows_quiet job counts here prefix held read after calls answer (Walk h p w n c a turn) tells = walks_quiet job prefix here held after calls answer turn
+follows_quiet job counts here prefix held read after calls answer (Scan h p w n c a turn) tells = scans_quiet job here held after calls answer turn
+follows_quiet job counts here prefix held read after calls answer (Make h p w n c a turn) tells = let late = makes_late job here held after calls answer turn in absurd (let no : true ≡ false = sym tells ∙ late in cc)
+follows_quiet job counts here prefix held read after calls answer (Place h p w n c a turn) tells = places_quiet job counts here held after calls answer turn tells
+
+-- ---- the law
+
+-- the start told too
+now_tells : {A B : Type 0} (P : A → B → Type 0) (start : Option A) (now : Option B) (b : B) → now ≡ Some b → TellsAsBefore start now P → (a : A) × P a b
+now_tells P None None b is tells = absurd (cc)
+now_tells P None (Some x) b is tells = absurd (tells)
+now_tells P (Some a) None b is tells = absurd (tells)
+now_tells P (Some a) (Some x) b is tells = (a, subst (λ y. P a y) (some_same x b is) tells)
+
+same_tree : (old : Option Writing) (t : Tree) → Some t ≡ dest_tree old → (w : Writing) × ((old ≡ Some w) × (t ≡ w.tree))
+same_tree None t is = absurd (cc)
+same_tree (Some w) t is = (w, (refl, some_same t w.tree is))
+
+pub failed_log_leaves_no_staging : FailedLogLeavesNoStaging
+unfolding Begun Did Stays LeavesSome
+failed_log_leaves_no_staging job start old new run after now (past, is) (IsRefused prefix held calls why turn did halted) tells dest_is =
+    let same = refused_same job (turning run.kept).counts run.phase run.kept.prefix run.kept.held prefix held calls why old.dest new.dest turn did.0.dest in
+    let had = now_tells (DestPart job past run.phase run.kept.held) start.dest old.dest now (sym same ∙ dest_is) is.dest in
+    free_there job past run.phase run.kept.held had.0 now tells had.1
+failed_log_leaves_no_staging job start old new run after now (past, is) (FailsAtFirst why stays halted) tells dest_is =
+    let had = now_tells (DestPart job past run.phase run.kept.held) start.dest old.dest now (sym stays.1 ∙ dest_is) is.dest in
+    free_there job past run.phase run.kept.held had.0 now tells had.1
+failed_log_leaves_no_staging job start old new run after now (past, is) (FailsLater prefix held calls answer rows why turn leaves which halted) tells dest_is =
+    let quiet = follows_quiet job (turning run.kept).counts run.phase run.kept.prefix run.kept.held prefix held calls answer turn tells in
+    let same = quiet_leaves old.dest new.dest calls.change leaves.0.dest quiet in
+    let was = same_tree old.dest now.tree (sym (ap dest_tree dest_is) ∙ same) in
+    let had = now_tells (DestPart job past run.phase run.kept.held) start.dest old.dest was.0 was.1.0 is.dest in
+    subst (λ (t : Tree). IsFree t staging) (sym was.1.1) (free_there job past run.phase run.kept.held had.0 was.0 tells had.1)

@@ -1,0 +1,10 @@
+pub mod BehindRows
+pub mod DistinctRows
+pub mod Feeding
+pub mod HeldKeeps
+pub mod MakesHold
+pub mod OwnFiles
+pub mod Positions
+pub mod ScansHold
+pub mod TrailKeeps
+pub mod WithBytes

@@ -1,0 +1,218 @@
+-- Each turn that goes on keeps the trail one.
+use Rattle.std.proofs.Common.{◌≡◌, ◌≤◌, ℕ, zero, suc, ◌+◌, ◌-◌, ◌==◌, ◌&&◌, Bool, true, false, List, [], ◌∷◌, refl, ap, sym, ◌∙◌, subst, cond, length, arith, drop}
+use Rattle.std.specs.Prelude.{Option, None, Some, Ok, is_none, nat_le, nat_lt}
+use Rattle.std.proofs.lemmas.Bool.{and_from, and_parts, le-leb}
+use Rattle.std.proofs.lemmas.Option.{slice_get_within}
+use Rattle.pt_tree.specs.Listing.{Item, names_rise}
+use Rattle.pt_tree.specs.Source.{Reading}
+use Rattle.pt_tree.specs.declared.kind.Kind.TheVariants as kind
+use Rattle.pt_walk.proofs.Findings.{candidate}
+use Rattle.pt_walk.specs.Sites.{at_of}
+use Rattle.pt_walk.specs.Trail.{advanced, are_outer, current_entry, entered, entry_at, is_dir_entry, is_frame, is_trail, names_to, parent, sought}
+use Rattle.pt_walk.specs.declared.frame.Frame.{Frame}
+use Rattle.pt_begun.proofs.source.NewObject.{named_found}
+use Rattle.pt_begun.specs.BegunHeld.{TrailAt}
+use Rattle.pt_plan.specs.Job.{Job, form_of}
+use Rattle.pt_plan.specs.Run.{Counts, Held, with_fed}
+use Rattle.pt_plan.specs.TurnMake.{Makings, MakesStaging, MakesDeclaration, MakesVersion, PassesRow, MakesFolder, OpensCopy, CopiesOn, EndsCopy, MakesVersionInventory, MakesVersionSidecar, MakesInventory, MakesSidecar}
+use Rattle.pt_plan.specs.TurnPlace.{Places, MakesTuple, FindsTuple, RenamesObject, TellsDone, TellsEnd}
+use Rattle.pt_plan.specs.TurnScan.{Scans, StartsInSite, EntersObject, IsTooDeep, PassesShorty, EntersDirectory, MeetsDeep, OpensFile, MeetsLimit, MeetsOther, EndsSite, EndsObject, LeavesDirectory, ReadsOn, IsTooLong, EndsFile, to_site}
+use Rattle.pt_plan.specs.TurnStart.{Starts, IsStore, HasNoPrefix, HasPrefix, HasNoStaging, HasNoRoot, HasRoot, MakesRoot, RenamesRoot, IsSame}
+use Rattle.pt_plan.specs.TurnWalk.{Walks, OpensRoot, LeadsOn, IsSkipped, IsPresent, IsNew, IsPast, IsDeep, EntersSite, PassesEntry, LeavesSite, EndsWalk, at_object, found_at, has_object, new_object as new_object_of}
+use Rattle.pt_plan.specs.World.{Answers, Calls}
+use Rattle.pt_plan.specs.declared.object.Object.{Object}
+use Rattle.pt_plan.specs.declared.phase.Phase.{Phase}
+use Rattle.pt_plan.specs.declared.phase.Phase.TheVariants as phase
+
+-- ---- trails
+
+outer_is_trail : (trail : List Frame) → are_outer trail ≡ true → is_trail trail ≡ true
+outer_is_trail [] outer = refl
+outer_is_trail (frame ∷ frames) outer =
+    let parts = and_parts (is_frame frame) (is_dir_entry (entry_at frame) && are_outer frames) outer in
+    and_from (is_frame frame) (are_outer frames) parts.0 (and_parts (is_dir_entry (entry_at frame)) (are_outer frames) parts.1).1
+
+first_frame : (items : List Item) → names_rise items ≡ true → is_frame (record { listing = items; place = 0 }) ≡ true
+first_frame items rise = and_from (names_rise items) (nat_le 0 (length items)) rise (le-leb 0 (length items) (omega arith))
+
+-- a listing is entered
+trail_entered : (items : List Item) (trail : List Frame) → names_rise items ≡ true → are_outer trail ≡ true → is_trail (entered items trail) ≡ true
+trail_entered items trail rise outer = and_from (is_frame (record { listing = items; place = 0 })) (are_outer trail) (first_frame items rise) outer
+
+-- from a directory
+outer_at : (trail : List Frame) → is_trail trail ≡ true → is_dir_entry (current_entry trail) ≡ true → are_outer trail ≡ true
+outer_at [] is_one there = refl
+outer_at (frame ∷ frames) is_one there =
+    let parts = and_parts (is_frame frame) (are_outer frames) is_one in
+    and_from (is_frame frame) (is_dir_entry (entry_at frame) && are_outer frames) parts.0 (and_from (is_dir_entry (entry_at frame)) (are_outer frames) there parts.1)
+
+-- the place moves to the next entry
+trail_advanced : (trail : List Frame) (item : Item) → is_trail trail ≡ true → current_entry trail ≡ Some item → is_trail (advanced trail) ≡ true
+trail_advanced [] item is_one e = absurd (cc)
+trail_advanced (frame ∷ frames) item is_one e =
+    let parts = and_parts (is_frame frame) (are_outer frames) is_one in
+    let rise = (and_parts (names_rise frame.listing) (nat_le frame.place (length frame.listing)) parts.0).0 in
+    let within = slice_get_within frame.listing frame.place item e in
+    and_from (is_frame (record { listing = frame.listing; place = frame.place + 1 })) (are_outer frames)
+    (and_from (names_rise frame.listing) (nat_le (frame.place + 1) (length frame.listing)) rise (le-leb (frame.place + 1) (length frame.listing) (omega (arith, within)))) parts.1
+
+-- or to any other
+trail_sought : (place : ℕ) (trail : List Frame) → is_trail trail ≡ true → ((frame : Frame) (frames : List Frame) → trail ≡ frame ∷ frames → place ≤ length frame.listing) → is_trail (sought place trail) ≡ true
+trail_sought place [] is_one within = refl
+trail_sought place (frame ∷ frames) is_one within =
+    let parts = and_parts (is_frame frame) (are_outer frames) is_one in
+    let rise = (and_parts (names_rise frame.listing) (nat_le frame.place (length frame.listing)) parts.0).0 in
+    and_from (is_frame (record { listing = frame.listing; place = place })) (are_outer frames)
+    (and_from (names_rise frame.listing) (nat_le place (length frame.listing)) rise (le-leb place (length frame.listing) (within frame frames refl))) parts.1
+
+trail_first : (trail : List Frame) → is_trail trail ≡ true → is_trail (sought 0 trail) ≡ true
+trail_first trail is_one = trail_sought 0 trail is_one (λ frame frames e. omega arith)
+
+-- the innermost listing is left
+trail_parent : (trail : List Frame) → is_trail trail ≡ true → is_trail (parent trail) ≡ true
+trail_parent [] is_one = refl
+trail_parent (frame ∷ frames) is_one = outer_is_trail frames (and_parts (is_frame frame) (are_outer frames) is_one).1
+
+-- and the place behind it is moved to
+trail_behind : (trail : List Frame) → is_trail trail ≡ true → is_trail (advanced (parent trail)) ≡ true
+trail_behind [] is_one = refl
+trail_behind (frame ∷ []) is_one = refl
+trail_behind (frame ∷ outer ∷ frames) is_one =
+    let rest = (and_parts (is_frame frame) (are_outer (outer ∷ frames)) is_one).1 in
+    let parts = and_parts (is_frame outer) (is_dir_entry (entry_at outer) && are_outer frames) rest in
+    let entry = some_entry (entry_at outer) (and_parts (is_dir_entry (entry_at outer)) (are_outer frames) parts.1).0 in
+    trail_advanced (outer ∷ frames) entry.0 (outer_is_trail (outer ∷ frames) rest) entry.1
+  where
+    some_entry : (o : Option Item) → is_dir_entry o ≡ true → (item : Item) × (o ≡ Some item)
+    some_entry None there = absurd (cc)
+    some_entry (Some item) there = (item, refl)
+
+trail_dropped : (n : ℕ) (trail : List Frame) → is_trail trail ≡ true → is_trail (drop n trail) ≡ true
+trail_dropped zero trail is_one = is_one
+trail_dropped (suc n) [] is_one = refl
+trail_dropped (suc n) (frame ∷ frames) is_one = trail_dropped n frames (trail_parent (frame ∷ frames) is_one)
+
+back : (object : Object) (trail : List Frame) → is_trail trail ≡ true → is_trail (sought 0 (to_site object trail)) ≡ true
+back object trail is_one = trail_first (to_site object trail) (trail_dropped (length trail - object.site) trail is_one)
+
+-- ---- the start
+
+after_makes : (held : Held) (number : ℕ) (last : Bool) → TrailAt (phase.RootMake number) held → TrailAt (cond last phase.RootRename (phase.RootMake (number + 1))) held
+after_makes held number true at = record { is_one = at.is_one; none = at.none; entry = tt }
+after_makes held number false at = record { is_one = at.is_one; none = at.none; entry = tt }
+
+after_checks : (held : Held) (number : ℕ) (last : Bool) → TrailAt (phase.RootCheck number) held → TrailAt (cond last phase.OpenRoot (phase.RootCheck (number + 1))) held
+after_checks held number true at = record { is_one = at.is_one; none = at.none; entry = tt }
+after_checks held number false at = record { is_one = at.is_one; none = at.none; entry = tt }
+
+pub starts_keep : (job : Job) (prefix read : List ℕ) (here next : Phase) (held : Held) (calls : Calls) → Starts job here prefix read calls (Ok next) → TrailAt here held → TrailAt next held
+starts_keep job prefix read here next held calls (IsStore was entries is) at = record { is_one = at.is_one; none = at.none; entry = tt }
+starts_keep job prefix read here next held calls (HasNoPrefix was) at = record { is_one = at.is_one; none = at.none; entry = tt }
+starts_keep job prefix read here next held calls (HasPrefix was block good) at = record { is_one = at.is_one; none = at.none; entry = tt }
+starts_keep job prefix read here next held calls (HasNoStaging was) at = record { is_one = at.is_one; none = at.none; entry = tt }
+starts_keep job prefix read here next held calls (HasNoRoot was) at = record { is_one = at.is_one; none = at.none; entry = tt }
+starts_keep job prefix read here next held calls (HasRoot was) at = record { is_one = at.is_one; none = at.none; entry = tt }
+starts_keep job prefix read here next held calls (MakesRoot was number item is) at = after_makes held number (number == 5) at
+starts_keep job prefix read here next held calls (RenamesRoot was) at = record { is_one = at.is_one; none = at.none; entry = tt }
+starts_keep job prefix read here next held calls (IsSame was number path bytes is) at = after_checks held number (number == 2) at
+
+-- ---- the walk
+
+-- the entry that encapsulates an object is a directory
+candidate_there : (job : Job) (trail : List Frame) (i : ℕ) → found_at (form_of job) trail ≡ has_object (Some i) → is_dir_entry (current_entry (sought i trail)) ≡ true
+candidate_there job [] i is = absurd (cc)
+candidate_there job (frame ∷ frames) i is = ap is_dir_entry (candidate frame.listing (at_of (names_to frames)) (form_of job) i is).1
+
+candidate_place : (job : Job) (frame : Frame) (frames : List Frame) (i : ℕ) → found_at (form_of job) (frame ∷ frames) ≡ has_object (Some i) → i ≤ length frame.listing
+candidate_place job frame frames i is =
+    let entry = candidate frame.listing (at_of (names_to frames)) (form_of job) i is in
+    let within = slice_get_within frame.listing i (entry.0, kind.Dir) entry.1 in
+    omega (arith, within)
+
+at_candidate : (job : Job) (trail : List Frame) (i : ℕ) → is_trail trail ≡ true → found_at (form_of job) trail ≡ has_object (Some i) → is_trail (sought i trail) ≡ true
+at_candidate job [] i is_one is = refl
+at_candidate job (frame ∷ frames) i is_one is =
+    trail_sought i (frame ∷ frames) is_one (λ f fs e. subst (λ (t : List Frame). i ≤ length (top_of t)) e (candidate_place job frame frames i is))
+  where
+    top_of : List Frame → List Item
+    top_of [] = []
+    top_of (f ∷ fs) = f.listing
+
+new_object : (job : Job) (held : Held) (object : Object) (index : Option ℕ) → object.gathered ≡ is_none index → is_trail held.trail ≡ true → found_at (form_of job) held.trail ≡ has_object index
+    → TrailAt (phase.OpenObject object) (record held { trail = at_object index held.trail })
+new_object job held object None gathered is_one is = record { is_one = is_one; none = tt; entry = λ apart. absurd (let no : true ≡ false = sym gathered ∙ apart in cc) }
+new_object job held object (Some i) gathered is_one is = record { is_one = at_candidate job held.trail i is_one is; none = tt; entry = λ apart. candidate_there job held.trail i is }
+
+pub walks_keep : (job : Job) (old new : Option Reading) (prefix : List ℕ) (here next : Phase) (held after : Held) (calls : Calls) → Walks job prefix here held after calls (Ok next)
+    → Answers calls.asked old new → TrailAt here held → TrailAt next after
+unfolding Answers
+walks_keep job old new prefix here next held after calls (OpensRoot was items) answers at =
+    record { is_one = trail_entered items was.trail answers.1 (subst (λ (t : List Frame). are_outer t ≡ true) (sym at.none) refl); none = tt; entry = tt }
+walks_keep job old new prefix here next held after calls (LeadsOn was is) answers at = record { is_one = at.is_one; none = tt; entry = tt }
+walks_keep job old new prefix here next held after calls (IsSkipped was why is) answers at = record { is_one = at.is_one; none = tt; entry = tt }
+walks_keep job old new prefix here next held after calls (IsPresent was index id kind is) answers at = record { is_one = at.is_one; none = tt; entry = tt }
+walks_keep job old new prefix here next held after calls (IsNew was index id is) answers at = new_object job was (new_object_of job id index was.trail) index refl at.is_one (named_found job prefix was.trail index id is)
+walks_keep job old new prefix here next held after calls (IsPast was name e short last) answers at = record { is_one = trail_advanced was.trail (name, kind.Dir) at.is_one e; none = tt; entry = tt }
+walks_keep job old new prefix here next held after calls (IsDeep was name e short last deep) answers at = record { is_one = trail_advanced was.trail (name, kind.Dir) at.is_one e; none = tt; entry = tt }
+walks_keep job old new prefix here next held after calls (EntersSite was name items e short last deep) answers at =
+    record { is_one = trail_entered items was.trail answers.1 (outer_at was.trail at.is_one (ap is_dir_entry e)); none = tt; entry = tt }
+walks_keep job old new prefix here next held after calls (PassesEntry was item e apart) answers at = record { is_one = trail_advanced was.trail item at.is_one e; none = tt; entry = tt }
+walks_keep job old new prefix here next held after calls (LeavesSite was e long) answers at = record { is_one = trail_behind was.trail at.is_one; none = tt; entry = tt }
+walks_keep job old new prefix here next held after calls (EndsWalk was e short) answers at = record { is_one = at.is_one; none = tt; entry = tt }
+
+-- ---- the scan
+
+dir_is : (trail : List Frame) (item : Item) → current_entry trail ≡ Some item → is_dir_entry (Some item) ≡ true → is_dir_entry (current_entry trail) ≡ true
+dir_is trail item e is = ap is_dir_entry e ∙ is
+
+pub scans_keep : (job : Job) (old new : Option Reading) (here next : Phase) (held after : Held) (calls : Calls) → Scans job here held after calls (Ok next)
+    → Answers calls.asked old new → TrailAt here held → TrailAt next after
+unfolding Answers
+scans_keep job old new here next held after calls (StartsInSite was object gathered) answers at = record { is_one = trail_first was.trail at.is_one; none = tt; entry = tt }
+scans_keep job old new here next held after calls (EntersObject was object items apart shallow) answers at =
+    record { is_one = trail_entered items was.trail answers.1 (outer_at was.trail at.is_one (at.entry apart)); none = tt; entry = tt }
+scans_keep job old new here next held after calls (IsTooDeep was object apart deep) answers at = record { is_one = back object was.trail at.is_one; none = tt; entry = tt }
+scans_keep job old new here next held after calls (PassesShorty was object item e passed) answers at = record { is_one = trail_advanced was.trail item at.is_one e; none = tt; entry = tt }
+scans_keep job old new here next held after calls (EntersDirectory was object name items e apart shallow) answers at =
+    record { is_one = trail_entered items was.trail answers.1 (outer_at was.trail at.is_one (dir_is was.trail (name, kind.Dir) e refl)); none = tt; entry = tt }
+scans_keep job old new here next held after calls (MeetsDeep was object name e apart deep) answers at = record { is_one = back object was.trail at.is_one; none = tt; entry = tt }
+scans_keep job old new here next held after calls (OpensFile was object name e room) answers at = record { is_one = at.is_one; none = tt; entry = ((name, kind.File), e) }
+scans_keep job old new here next held after calls (MeetsLimit was object name e room) answers at = record { is_one = back object was.trail at.is_one; none = tt; entry = tt }
+scans_keep job old new here next held after calls (MeetsOther was object name e) answers at = record { is_one = back object was.trail at.is_one; none = tt; entry = tt }
+scans_keep job old new here next held after calls (EndsSite was object e there) answers at = record { is_one = at.is_one; none = tt; entry = tt }
+scans_keep job old new here next held after calls (EndsObject was object e apart own) answers at = record { is_one = trail_parent was.trail at.is_one; none = tt; entry = tt }
+scans_keep job old new here next held after calls (LeavesDirectory was object e apart outside) answers at = record { is_one = trail_behind was.trail at.is_one; none = tt; entry = tt }
+scans_keep job old new here next held after calls (ReadsOn was object bytes byte block short) answers at = record { is_one = at.is_one; none = tt; entry = at.entry }
+scans_keep job old new here next held after calls (IsTooLong was object bytes byte block long) answers at = record { is_one = back object was.trail at.is_one; none = tt; entry = tt }
+scans_keep job old new here next held after calls (EndsFile was object bytes) answers at = record { is_one = trail_advanced was.trail at.entry.0 at.is_one at.entry.1; none = tt; entry = tt }
+
+-- ---- making and placing
+
+after_sidecar : (held : Held) (object : Object) (flat : Bool) → is_trail held.trail ≡ true → TrailAt (cond flat (phase.Rename object) (phase.Tuples object 0)) held
+after_sidecar held object true is_one = record { is_one = is_one; none = tt; entry = tt }
+after_sidecar held object false is_one = record { is_one = is_one; none = tt; entry = tt }
+
+pub makes_keep : (job : Job) (here : Phase) (held after : Held) (calls : Calls) (next : Phase) → Makings job here held after calls (Ok next) → TrailAt here held → TrailAt next after
+makes_keep job here held after calls next (MakesStaging was object) at = record { is_one = at.is_one; none = tt; entry = tt }
+makes_keep job here held after calls next (MakesDeclaration was object) at = record { is_one = at.is_one; none = tt; entry = tt }
+makes_keep job here held after calls next (MakesVersion was object) at = record { is_one = at.is_one; none = tt; entry = tt }
+makes_keep job here held after calls next (PassesRow was object position row is other) at = record { is_one = at.is_one; none = tt; entry = tt }
+makes_keep job here held after calls next (MakesFolder was object position row is stored more) at = record { is_one = at.is_one; none = tt; entry = tt }
+makes_keep job here held after calls next (OpensCopy was object position row is stored all) at = record { is_one = at.is_one; none = tt; entry = tt }
+makes_keep job here held after calls next (CopiesOn was object position left byte block fits) at = record { is_one = at.is_one; none = tt; entry = tt }
+makes_keep job here held after calls next (EndsCopy was object position row left is same) at = record { is_one = at.is_one; none = tt; entry = tt }
+makes_keep job here held after calls next (MakesVersionInventory was object) at = record { is_one = at.is_one; none = tt; entry = tt }
+makes_keep job here held after calls next (MakesVersionSidecar was object) at = record { is_one = at.is_one; none = tt; entry = tt }
+makes_keep job here held after calls next (MakesInventory was object) at = record { is_one = at.is_one; none = tt; entry = tt }
+makes_keep job here held after calls next (MakesSidecar was object) at = after_sidecar (with_fed was []) object (job.tuples.count == 0) at.is_one
+
+after_a_tuple : (held : Held) (object : Object) (number : ℕ) (more : Bool) → is_trail held.trail ≡ true → TrailAt (cond more (phase.Tuples object (number + 1)) (phase.Rename object)) held
+after_a_tuple held object number true is_one = record { is_one = is_one; none = tt; entry = tt }
+after_a_tuple held object number false is_one = record { is_one = is_one; none = tt; entry = tt }
+
+pub places_keep : (job : Job) (counts : Counts) (here next : Phase) (held after : Held) (calls : Calls) → Places job counts here held after calls (Ok next) → TrailAt here held → TrailAt next after
+places_keep job counts here next held after calls (MakesTuple was object number) at = after_a_tuple was object number (nat_lt (number + 1) job.tuples.count) at.is_one
+places_keep job counts here next held after calls (FindsTuple was object number) at = after_a_tuple was object number (nat_lt (number + 1) job.tuples.count) at.is_one
+places_keep job counts here next held after calls (RenamesObject was object) at = record { is_one = at.is_one; none = tt; entry = tt }
+places_keep job counts here next held after calls (TellsDone was object) at = record { is_one = trail_first was.trail at.is_one; none = tt; entry = tt }
+places_keep job counts here next held after calls (TellsEnd was) at = record { is_one = at.is_one; none = tt; entry = tt }

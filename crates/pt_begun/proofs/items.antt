@@ -1,0 +1,9 @@
+pub mod CarriedNext
+pub mod ItemLines
+pub mod ItemsKeep
+pub mod PlacesTell
+pub mod QuietStart
+pub mod QuietTurns
+pub mod ScansTell
+pub mod Telling
+pub mod WalksTell

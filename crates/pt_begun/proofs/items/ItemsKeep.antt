@@ -1,0 +1,328 @@
+-- Each turn that goes on keeps what holds of the items that are done.
+use Rattle.std.proofs.Common.{◌≡◌, ◌==◌, ◌-◌, ℕ, ◌+◌, Bool, true, false, List, [], ◌∷◌, ◌++◌, refl, ap, sym, ◌∙◌, cond, length}
+use Rattle.std.specs.Prelude.{Some, Ok, nat_lt}
+use Rattle.pt_object.specs.Scripts.{staging}
+use Rattle.pt_tree.specs.Dest.{IsKindAt}
+use Rattle.pt_tree.specs.Forest.{Forest}
+use Rattle.pt_tree.specs.Source.{Reading}
+use Rattle.pt_tree.specs.Tree.{Tree}
+use Rattle.pt_tree.specs.declared.kind.Kind.TheVariants as kind
+use Rattle.pt_plan.proofs.MovedIn.{roots_have_no_gaps}
+use Rattle.pt_plan.specs.Carried.{Carried, carried_among}
+use Rattle.pt_plan.specs.Job.{Job}
+use Rattle.pt_plan.specs.Lines.{text}
+use Rattle.pt_plan.specs.Roots.{root_in, storage_root}
+use Rattle.pt_plan.specs.Run.{Counts, Held}
+use Rattle.pt_plan.specs.Store.{prefix_file}
+use Rattle.pt_plan.specs.TurnMake.{Makings, MakesStaging, MakesDeclaration, MakesVersion, PassesRow, MakesFolder, OpensCopy, CopiesOn, EndsCopy, MakesVersionInventory, MakesVersionSidecar, MakesInventory, MakesSidecar, behind, behind_stored, content_at, sidecar_file, with_folder}
+use Rattle.pt_plan.specs.TurnPlace.{Places, MakesTuple, FindsTuple, RenamesObject, TellsDone, TellsEnd, tuple_folder}
+use Rattle.pt_plan.specs.TurnScan.{Scans, StartsInSite, EntersObject, IsTooDeep, PassesShorty, EntersDirectory, MeetsDeep, OpensFile, MeetsLimit, MeetsOther, EndsSite, EndsObject, LeavesDirectory, ReadsOn, IsTooLong, EndsFile}
+use Rattle.pt_plan.specs.TurnStart.{Starts, IsStore, HasNoPrefix, HasPrefix, HasNoStaging, HasNoRoot, HasRoot, MakesRoot, RenamesRoot, IsSame, kind_in}
+use Rattle.pt_plan.specs.TurnWalk.{Walks, OpensRoot, LeadsOn, IsSkipped, IsPresent, IsNew, IsPast, IsDeep, EntersSite, PassesEntry, LeavesSite, EndsWalk}
+use Rattle.pt_plan.specs.World.{Calls, Change, Changes, Finds, FindsNoneAndMakes, Makes, Peeks, does}
+use Rattle.pt_plan.specs.declared.object.Object.{Object}
+use Rattle.pt_plan.specs.declared.phase.Part.TheVariants as part
+use Rattle.pt_plan.specs.declared.phase.Phase.{Phase}
+use Rattle.pt_plan.specs.declared.phase.Phase.TheVariants as phase
+use Rattle.pt_begun.specs.Begun.{HasTold, ItemsPart, PlacesItems}
+use Rattle.pt_begun.specs.ItemLaws.{KeepsItems, KeepsLog, MakingKeepsItems, PlacingKeepsItems, ScanningKeepsItems, StartingKeepsItems, WalkingKeepsItems}
+use Rattle.pt_begun.specs.Past.{Past, done_after, object_held, past_after}
+use Rattle.pt_begun.proofs.items.ItemLines.{Last, Nothing, Tells, counts_kept, log_kept, placed_kept}
+use Rattle.pt_begun.proofs.items.PlacesTell.{held_is_carried, places_tell}
+use Rattle.pt_begun.proofs.items.ScansTell.{scans_tell}
+use Rattle.pt_begun.proofs.items.WalksTell.{new_is_free, walks_tell}
+
+-- a run that hasn't ended has told the lines of the items done
+abbrev ToldBefore : Job → Forest → Tree → Past → Phase → Type 0
+ToldBefore job source root past here = (log old : List ℕ) → HasTold job source root past here log old → old ≡ log ++ text job source root past.count
+
+-- what a turn tells keeps the counts and the log
+kept : (job : Job) (past : Past) (s : Reading) (start : Tree) (here next : Phase) (held : Held) (counts : Counts) (calls : Calls) (gained : List Carried) → Tells job s.tree (root_in start) past.count next calls.line (done_after here held.trail next past.count) gained
+    → ToldBefore job s.tree (root_in start) past here → ItemsPart job past here counts s.tree (root_in start) → PlacesItems job s.tree (root_in start) (past_after here next held past) next
+    → KeepsItems job past here held counts s start calls next × KeepsLog job past here held s start calls next
+kept job past s start here next held counts calls gained tells told items places = (
+  record { places = places; lines_are = counts_kept job s.tree (root_in start) past.count (done_after here held.trail next past.count) next calls.line counts gained tells items.lines_are },
+  λ log old new had puts. log_kept job s.tree (root_in start) past (past_after here next held past) next calls.line (done_after here held.trail next past.count) log old new gained refl tells (told log old had) puts,
+)
+
+-- ---- the turns begin where the run hasn't ended
+
+starts_told : (job : Job) (source : Forest) (root : Tree) (past : Past) (prefix read : List ℕ) (here next : Phase) (calls : Calls) → Starts job here prefix read calls (Ok next) → ToldBefore job source root past here
+starts_told job source root past prefix read here next calls (IsStore was entries is) = λ log old had. had
+starts_told job source root past prefix read here next calls (HasNoPrefix was) = λ log old had. had
+starts_told job source root past prefix read here next calls (HasPrefix was block good) = λ log old had. had
+starts_told job source root past prefix read here next calls (HasNoStaging was) = λ log old had. had
+starts_told job source root past prefix read here next calls (HasNoRoot was) = λ log old had. had
+starts_told job source root past prefix read here next calls (HasRoot was) = λ log old had. had
+starts_told job source root past prefix read here next calls (MakesRoot was number item is) = λ log old had. had
+starts_told job source root past prefix read here next calls (RenamesRoot was) = λ log old had. had
+starts_told job source root past prefix read here next calls (IsSame was number path bytes is) = λ log old had. had
+
+walks_told : (job : Job) (source : Forest) (root : Tree) (past : Past) (prefix : List ℕ) (here next : Phase) (held after : Held) (calls : Calls) → Walks job prefix here held after calls (Ok next) → ToldBefore job source root past here
+walks_told job source root past prefix here next held after calls (OpensRoot was items) = λ log old had. had
+walks_told job source root past prefix here next held after calls (LeadsOn was is) = λ log old had. had
+walks_told job source root past prefix here next held after calls (IsSkipped was why is) = λ log old had. had
+walks_told job source root past prefix here next held after calls (IsPresent was index id kind is) = λ log old had. had
+walks_told job source root past prefix here next held after calls (IsNew was index id is) = λ log old had. had
+walks_told job source root past prefix here next held after calls (IsPast was name e short last) = λ log old had. had
+walks_told job source root past prefix here next held after calls (IsDeep was name e short last deep) = λ log old had. had
+walks_told job source root past prefix here next held after calls (EntersSite was name items e short last deep) = λ log old had. had
+walks_told job source root past prefix here next held after calls (PassesEntry was item e apart) = λ log old had. had
+walks_told job source root past prefix here next held after calls (LeavesSite was e long) = λ log old had. had
+walks_told job source root past prefix here next held after calls (EndsWalk was e short) = λ log old had. had
+
+scans_told : (job : Job) (source : Forest) (root : Tree) (past : Past) (here next : Phase) (held after : Held) (calls : Calls) → Scans job here held after calls (Ok next) → ToldBefore job source root past here
+scans_told job source root past here next held after calls (StartsInSite was object gathered) = λ log old had. had
+scans_told job source root past here next held after calls (EntersObject was object items apart shallow) = λ log old had. had
+scans_told job source root past here next held after calls (IsTooDeep was object apart deep) = λ log old had. had
+scans_told job source root past here next held after calls (PassesShorty was object item e passed) = λ log old had. had
+scans_told job source root past here next held after calls (EntersDirectory was object name items e apart shallow) = λ log old had. had
+scans_told job source root past here next held after calls (MeetsDeep was object name e apart deep) = λ log old had. had
+scans_told job source root past here next held after calls (OpensFile was object name e room) = λ log old had. had
+scans_told job source root past here next held after calls (MeetsLimit was object name e room) = λ log old had. had
+scans_told job source root past here next held after calls (MeetsOther was object name e) = λ log old had. had
+scans_told job source root past here next held after calls (EndsSite was object e there) = λ log old had. had
+scans_told job source root past here next held after calls (EndsObject was object e apart own) = λ log old had. had
+scans_told job source root past here next held after calls (LeavesDirectory was object e apart outside) = λ log old had. had
+scans_told job source root past here next held after calls (ReadsOn was object bytes byte block short) = λ log old had. had
+scans_told job source root past here next held after calls (IsTooLong was object bytes byte block long) = λ log old had. had
+scans_told job source root past here next held after calls (EndsFile was object bytes) = λ log old had. had
+
+makes_told : (job : Job) (source : Forest) (root : Tree) (past : Past) (here : Phase) (held after : Held) (calls : Calls) (next : Phase) → Makings job here held after calls (Ok next) → ToldBefore job source root past here
+makes_told job source root past here held after calls next (MakesStaging was object) = λ log old had. had
+makes_told job source root past here held after calls next (MakesDeclaration was object) = λ log old had. had
+makes_told job source root past here held after calls next (MakesVersion was object) = λ log old had. had
+makes_told job source root past here held after calls next (PassesRow was object position row is other) = λ log old had. had
+makes_told job source root past here held after calls next (MakesFolder was object position row is stored more) = λ log old had. had
+makes_told job source root past here held after calls next (OpensCopy was object position row is stored all) = λ log old had. had
+makes_told job source root past here held after calls next (CopiesOn was object position left byte block fits) = λ log old had. had
+makes_told job source root past here held after calls next (EndsCopy was object position row left is same) = λ log old had. had
+makes_told job source root past here held after calls next (MakesVersionInventory was object) = λ log old had. had
+makes_told job source root past here held after calls next (MakesVersionSidecar was object) = λ log old had. had
+makes_told job source root past here held after calls next (MakesInventory was object) = λ log old had. had
+makes_told job source root past here held after calls next (MakesSidecar was object) = λ log old had. had
+
+places_told : (job : Job) (counts : Counts) (source : Forest) (root : Tree) (past : Past) (here next : Phase) (held after : Held) (calls : Calls) → Places job counts here held after calls (Ok next) → ToldBefore job source root past here
+places_told job counts source root past here next held after calls (MakesTuple was object number) = λ log old had. had
+places_told job counts source root past here next held after calls (FindsTuple was object number) = λ log old had. had
+places_told job counts source root past here next held after calls (RenamesObject was object) = λ log old had. had
+places_told job counts source root past here next held after calls (TellsDone was object) = λ log old had. had
+places_told job counts source root past here next held after calls (TellsEnd was) = λ log old had. had
+
+-- ---- the start
+
+both_phases : (job : Job) (source : Forest) (root : Tree) (past : Past) (p q : Phase) (this : Bool) → PlacesItems job source root past p → PlacesItems job source root past q → PlacesItems job source root past (cond this p q)
+both_phases job source root past p q true one two = one
+both_phases job source root past p q false one two = two
+
+makes_root : (job : Job) (past : Past) (s : Reading) (start : Tree) (held : Held) (counts : Counts) (number : ℕ) (change : Change) (last : Bool) → ItemsPart job past (phase.RootMake number) counts s.tree (root_in start)
+    → KeepsItems job past (phase.RootMake number) held counts s start (does change) (cond last phase.RootRename (phase.RootMake (number + 1))) × KeepsLog job past (phase.RootMake number) held s start (does change) (cond last phase.RootRename (phase.RootMake (number + 1)))
+makes_root job past s start held counts number change true items =
+    kept job past s start (phase.RootMake number) phase.RootRename held counts (does change) [] (Nothing phase.RootRename) (λ log old had. had) items (record { placed = items.places.placed; next = tt })
+makes_root job past s start held counts number change false items =
+    kept job past s start (phase.RootMake number) (phase.RootMake (number + 1)) held counts (does change) [] (Nothing (phase.RootMake (number + 1))) (λ log old had. had) items (record { placed = items.places.placed; next = tt })
+
+-- none is placed before the pairtree is opened
+none_placed : (job : Job) (source : Forest) (root : Tree) (count : ℕ) → count ≡ 0 → [] ≡ carried_among job source root count
+none_placed job source root count first = sym (ap (carried_among job source root) first)
+
+checks_root : (job : Job) (past : Past) (s : Reading) (start : Tree) (held : Held) (counts : Counts) (number : ℕ) (change : Change) (last : Bool) → past.count ≡ 0 → ItemsPart job past (phase.RootCheck number) counts s.tree (root_in start)
+    → KeepsItems job past (phase.RootCheck number) held counts s start (does change) (cond last phase.OpenRoot (phase.RootCheck (number + 1))) × KeepsLog job past (phase.RootCheck number) held s start (does change) (cond last phase.OpenRoot (phase.RootCheck (number + 1)))
+checks_root job past s start held counts number change true first items =
+    kept job past s start (phase.RootCheck number) phase.OpenRoot held counts (does change) [] (Nothing phase.OpenRoot) (λ log old had. had) items (record { placed = none_placed job s.tree (root_in start) past.count first; next = tt })
+checks_root job past s start held counts number change false first items =
+    kept job past s start (phase.RootCheck number) (phase.RootCheck (number + 1)) held counts (does change) [] (Nothing (phase.RootCheck (number + 1))) (λ log old had. had) items (record { placed = items.places.placed; next = tt })
+
+pub starts_items : StartingKeepsItems
+starts_items job past s prefix read start now here next held counts calls (IsStore was entries is) known =
+    kept job past s start here next held counts calls [] (Nothing (phase.Prefix (kind_in entries prefix_file))) (starts_told job s.tree (root_in start) past prefix read here next calls (IsStore was entries is)) known.items (record { placed = known.items.places.placed; next = tt })
+starts_items job past s prefix read start now here next held counts calls (HasNoPrefix was) known =
+    kept job past s start here next held counts calls [] (Nothing phase.Staging) (starts_told job s.tree (root_in start) past prefix read here next calls (HasNoPrefix was)) known.items (record { placed = known.items.places.placed; next = tt })
+starts_items job past s prefix read start now here next held counts calls (HasPrefix was block good) known =
+    kept job past s start here next held counts calls [] (Nothing phase.Staging) (starts_told job s.tree (root_in start) past prefix read here next calls (HasPrefix was block good)) known.items (record { placed = known.items.places.placed; next = tt })
+starts_items job past s prefix read start now here next held counts calls (HasNoStaging was) known =
+    kept job past s start here next held counts calls [] (Nothing phase.Root) (starts_told job s.tree (root_in start) past prefix read here next calls (HasNoStaging was)) known.items (record { placed = known.items.places.placed; next = tt })
+starts_items job past s prefix read start now here next held counts calls (HasNoRoot was) known =
+    kept job past s start here next held counts calls [] (Nothing (phase.RootMake 0)) (starts_told job s.tree (root_in start) past prefix read here next calls (HasNoRoot was)) known.items (record { placed = known.items.places.placed; next = tt })
+starts_items job past s prefix read start now here next held counts calls (HasRoot was) known =
+    kept job past s start here next held counts calls [] (Nothing (phase.RootCheck 0)) (starts_told job s.tree (root_in start) past prefix read here next calls (HasRoot was)) known.items (record { placed = known.items.places.placed; next = tt })
+starts_items job past s prefix read start now here next held counts calls (MakesRoot was number item is) known =
+    makes_root job past s start held counts number (Makes item) (number == 5) known.items
+starts_items job past s prefix read start now here next held counts calls (RenamesRoot was) known =
+    kept job past s start here next held counts calls [] (Nothing phase.OpenRoot) (starts_told job s.tree (root_in start) past prefix read here next calls (RenamesRoot was)) known.items (record { placed = none_placed job s.tree (root_in start) past.count known.source.at.1; next = tt })
+starts_items job past s prefix read start now here next held counts calls (IsSame was number path bytes is) known =
+    checks_root job past s start held counts number (Peeks (storage_root ++ path) bytes) (number == 2) known.source.at.1 known.items
+
+-- ---- the walk
+
+pub walks_items : WalkingKeepsItems
+unfolding Changes IsKindAt
+walks_items job past s prefix start now new here next held after counts calls (OpensRoot was items) change known =
+    let tells = walks_tell job past s prefix start now new here next held after calls (OpensRoot was items) known.held_at.trail.is_one known.source (roots_have_no_gaps start known.dest.started).1 known.items.places.placed known.dest.at change in
+    kept job past s start here next held counts calls [] tells (walks_told job s.tree (root_in start) past prefix here next held after calls (OpensRoot was items)) known.items
+    (record { placed = placed_kept job s.tree (root_in start) past.count (done_after here held.trail next past.count) next calls.line [] past.placed refl tells known.items.places.placed; next = tt })
+walks_items job past s prefix start now new here next held after counts calls (LeadsOn was is) change known =
+    let tells = walks_tell job past s prefix start now new here next held after calls (LeadsOn was is) known.held_at.trail.is_one known.source (roots_have_no_gaps start known.dest.started).1 known.items.places.placed known.dest.at change in
+    kept job past s start here next held counts calls [] tells (walks_told job s.tree (root_in start) past prefix here next held after calls (LeadsOn was is)) known.items
+    (record { placed = placed_kept job s.tree (root_in start) past.count (done_after here held.trail next past.count) next calls.line [] past.placed refl tells known.items.places.placed; next = tt })
+walks_items job past s prefix start now new here next held after counts calls (IsSkipped was why is) change known =
+    let tells = walks_tell job past s prefix start now new here next held after calls (IsSkipped was why is) known.held_at.trail.is_one known.source (roots_have_no_gaps start known.dest.started).1 known.items.places.placed known.dest.at change in
+    kept job past s start here next held counts calls [] tells (walks_told job s.tree (root_in start) past prefix here next held after calls (IsSkipped was why is)) known.items
+    (record { placed = placed_kept job s.tree (root_in start) past.count (done_after here held.trail next past.count) next calls.line [] past.placed refl tells known.items.places.placed; next = tt })
+walks_items job past s prefix start now new here next held after counts calls (IsPresent was index id kind is) change known =
+    let tells = walks_tell job past s prefix start now new here next held after calls (IsPresent was index id kind is) known.held_at.trail.is_one known.source (roots_have_no_gaps start known.dest.started).1 known.items.places.placed known.dest.at change in
+    kept job past s start here next held counts calls [] tells (walks_told job s.tree (root_in start) past prefix here next held after calls (IsPresent was index id kind is)) known.items
+    (record { placed = placed_kept job s.tree (root_in start) past.count (done_after here held.trail next past.count) next calls.line [] past.placed refl tells known.items.places.placed; next = tt })
+walks_items job past s prefix start now new here next held after counts calls (IsNew was index id is) change known =
+    let tells = walks_tell job past s prefix start now new here next held after calls (IsNew was index id is) known.held_at.trail.is_one known.source (roots_have_no_gaps start known.dest.started).1 known.items.places.placed known.dest.at change in
+    kept job past s start here next held counts calls [] tells (walks_told job s.tree (root_in start) past prefix here next held after calls (IsNew was index id is)) known.items
+    (record { placed = placed_kept job s.tree (root_in start) past.count (done_after here held.trail next past.count) next calls.line [] past.placed refl tells known.items.places.placed; next = new_is_free job past s prefix start now was index id known.source is (roots_have_no_gaps start known.dest.started).1 known.items.places.placed known.dest.at (change.0 now refl) })
+walks_items job past s prefix start now new here next held after counts calls (IsPast was name e short last) change known =
+    let tells = walks_tell job past s prefix start now new here next held after calls (IsPast was name e short last) known.held_at.trail.is_one known.source (roots_have_no_gaps start known.dest.started).1 known.items.places.placed known.dest.at change in
+    kept job past s start here next held counts calls [] tells (walks_told job s.tree (root_in start) past prefix here next held after calls (IsPast was name e short last)) known.items
+    (record { placed = placed_kept job s.tree (root_in start) past.count (done_after here held.trail next past.count) next calls.line [] past.placed refl tells known.items.places.placed; next = tt })
+walks_items job past s prefix start now new here next held after counts calls (IsDeep was name e short last deep) change known =
+    let tells = walks_tell job past s prefix start now new here next held after calls (IsDeep was name e short last deep) known.held_at.trail.is_one known.source (roots_have_no_gaps start known.dest.started).1 known.items.places.placed known.dest.at change in
+    kept job past s start here next held counts calls [] tells (walks_told job s.tree (root_in start) past prefix here next held after calls (IsDeep was name e short last deep)) known.items
+    (record { placed = placed_kept job s.tree (root_in start) past.count (done_after here held.trail next past.count) next calls.line [] past.placed refl tells known.items.places.placed; next = tt })
+walks_items job past s prefix start now new here next held after counts calls (EntersSite was name items e short last deep) change known =
+    let tells = walks_tell job past s prefix start now new here next held after calls (EntersSite was name items e short last deep) known.held_at.trail.is_one known.source (roots_have_no_gaps start known.dest.started).1 known.items.places.placed known.dest.at change in
+    kept job past s start here next held counts calls [] tells (walks_told job s.tree (root_in start) past prefix here next held after calls (EntersSite was name items e short last deep)) known.items
+    (record { placed = placed_kept job s.tree (root_in start) past.count (done_after here held.trail next past.count) next calls.line [] past.placed refl tells known.items.places.placed; next = tt })
+walks_items job past s prefix start now new here next held after counts calls (PassesEntry was item e apart) change known =
+    let tells = walks_tell job past s prefix start now new here next held after calls (PassesEntry was item e apart) known.held_at.trail.is_one known.source (roots_have_no_gaps start known.dest.started).1 known.items.places.placed known.dest.at change in
+    kept job past s start here next held counts calls [] tells (walks_told job s.tree (root_in start) past prefix here next held after calls (PassesEntry was item e apart)) known.items
+    (record { placed = placed_kept job s.tree (root_in start) past.count (done_after here held.trail next past.count) next calls.line [] past.placed refl tells known.items.places.placed; next = tt })
+walks_items job past s prefix start now new here next held after counts calls (LeavesSite was e long) change known =
+    let tells = walks_tell job past s prefix start now new here next held after calls (LeavesSite was e long) known.held_at.trail.is_one known.source (roots_have_no_gaps start known.dest.started).1 known.items.places.placed known.dest.at change in
+    kept job past s start here next held counts calls [] tells (walks_told job s.tree (root_in start) past prefix here next held after calls (LeavesSite was e long)) known.items
+    (record { placed = placed_kept job s.tree (root_in start) past.count (done_after here held.trail next past.count) next calls.line [] past.placed refl tells known.items.places.placed; next = tt })
+walks_items job past s prefix start now new here next held after counts calls (EndsWalk was e short) change known =
+    let tells = walks_tell job past s prefix start now new here next held after calls (EndsWalk was e short) known.held_at.trail.is_one known.source (roots_have_no_gaps start known.dest.started).1 known.items.places.placed known.dest.at change in
+    kept job past s start here next held counts calls [] tells (walks_told job s.tree (root_in start) past prefix here next held after calls (EndsWalk was e short)) known.items
+    (record { placed = placed_kept job s.tree (root_in start) past.count (done_after here held.trail next past.count) next calls.line [] past.placed refl tells known.items.places.placed; next = tt })
+
+-- ---- the scan
+
+pub scans_items : ScanningKeepsItems
+scans_items job past s new prefix start now here next held after counts calls (StartsInSite was object gathered) answers known =
+    let tells = scans_tell job past s prefix (root_in start) here next held after calls (StartsInSite was object gathered) known.held_at.trail.is_one known.source known.items.places.next new answers in
+    kept job past s start here next held counts calls [] tells (scans_told job s.tree (root_in start) past here next held after calls (StartsInSite was object gathered)) known.items
+    (record { placed = placed_kept job s.tree (root_in start) past.count (done_after here held.trail next past.count) next calls.line [] past.placed refl tells known.items.places.placed; next = known.items.places.next })
+scans_items job past s new prefix start now here next held after counts calls (EntersObject was object items apart shallow) answers known =
+    let tells = scans_tell job past s prefix (root_in start) here next held after calls (EntersObject was object items apart shallow) known.held_at.trail.is_one known.source known.items.places.next new answers in
+    kept job past s start here next held counts calls [] tells (scans_told job s.tree (root_in start) past here next held after calls (EntersObject was object items apart shallow)) known.items
+    (record { placed = placed_kept job s.tree (root_in start) past.count (done_after here held.trail next past.count) next calls.line [] past.placed refl tells known.items.places.placed; next = known.items.places.next })
+scans_items job past s new prefix start now here next held after counts calls (IsTooDeep was object apart deep) answers known =
+    let tells = scans_tell job past s prefix (root_in start) here next held after calls (IsTooDeep was object apart deep) known.held_at.trail.is_one known.source known.items.places.next new answers in
+    kept job past s start here next held counts calls [] tells (scans_told job s.tree (root_in start) past here next held after calls (IsTooDeep was object apart deep)) known.items
+    (record { placed = placed_kept job s.tree (root_in start) past.count (done_after here held.trail next past.count) next calls.line [] past.placed refl tells known.items.places.placed; next = tt })
+scans_items job past s new prefix start now here next held after counts calls (PassesShorty was object item e passed) answers known =
+    let tells = scans_tell job past s prefix (root_in start) here next held after calls (PassesShorty was object item e passed) known.held_at.trail.is_one known.source known.items.places.next new answers in
+    kept job past s start here next held counts calls [] tells (scans_told job s.tree (root_in start) past here next held after calls (PassesShorty was object item e passed)) known.items
+    (record { placed = placed_kept job s.tree (root_in start) past.count (done_after here held.trail next past.count) next calls.line [] past.placed refl tells known.items.places.placed; next = known.items.places.next })
+scans_items job past s new prefix start now here next held after counts calls (EntersDirectory was object name items e apart shallow) answers known =
+    let tells = scans_tell job past s prefix (root_in start) here next held after calls (EntersDirectory was object name items e apart shallow) known.held_at.trail.is_one known.source known.items.places.next new answers in
+    kept job past s start here next held counts calls [] tells (scans_told job s.tree (root_in start) past here next held after calls (EntersDirectory was object name items e apart shallow)) known.items
+    (record { placed = placed_kept job s.tree (root_in start) past.count (done_after here held.trail next past.count) next calls.line [] past.placed refl tells known.items.places.placed; next = known.items.places.next })
+scans_items job past s new prefix start now here next held after counts calls (MeetsDeep was object name e apart deep) answers known =
+    let tells = scans_tell job past s prefix (root_in start) here next held after calls (MeetsDeep was object name e apart deep) known.held_at.trail.is_one known.source known.items.places.next new answers in
+    kept job past s start here next held counts calls [] tells (scans_told job s.tree (root_in start) past here next held after calls (MeetsDeep was object name e apart deep)) known.items
+    (record { placed = placed_kept job s.tree (root_in start) past.count (done_after here held.trail next past.count) next calls.line [] past.placed refl tells known.items.places.placed; next = tt })
+scans_items job past s new prefix start now here next held after counts calls (OpensFile was object name e room) answers known =
+    let tells = scans_tell job past s prefix (root_in start) here next held after calls (OpensFile was object name e room) known.held_at.trail.is_one known.source known.items.places.next new answers in
+    kept job past s start here next held counts calls [] tells (scans_told job s.tree (root_in start) past here next held after calls (OpensFile was object name e room)) known.items
+    (record { placed = placed_kept job s.tree (root_in start) past.count (done_after here held.trail next past.count) next calls.line [] past.placed refl tells known.items.places.placed; next = known.items.places.next })
+scans_items job past s new prefix start now here next held after counts calls (MeetsLimit was object name e room) answers known =
+    let tells = scans_tell job past s prefix (root_in start) here next held after calls (MeetsLimit was object name e room) known.held_at.trail.is_one known.source known.items.places.next new answers in
+    kept job past s start here next held counts calls [] tells (scans_told job s.tree (root_in start) past here next held after calls (MeetsLimit was object name e room)) known.items
+    (record { placed = placed_kept job s.tree (root_in start) past.count (done_after here held.trail next past.count) next calls.line [] past.placed refl tells known.items.places.placed; next = tt })
+scans_items job past s new prefix start now here next held after counts calls (MeetsOther was object name e) answers known =
+    let tells = scans_tell job past s prefix (root_in start) here next held after calls (MeetsOther was object name e) known.held_at.trail.is_one known.source known.items.places.next new answers in
+    kept job past s start here next held counts calls [] tells (scans_told job s.tree (root_in start) past here next held after calls (MeetsOther was object name e)) known.items
+    (record { placed = placed_kept job s.tree (root_in start) past.count (done_after here held.trail next past.count) next calls.line [] past.placed refl tells known.items.places.placed; next = tt })
+scans_items job past s new prefix start now here next held after counts calls (EndsSite was object e there) answers known =
+    let tells = scans_tell job past s prefix (root_in start) here next held after calls (EndsSite was object e there) known.held_at.trail.is_one known.source known.items.places.next new answers in
+    kept job past s start here next held counts calls [] tells (scans_told job s.tree (root_in start) past here next held after calls (EndsSite was object e there)) known.items
+    (record { placed = placed_kept job s.tree (root_in start) past.count (done_after here held.trail next past.count) next calls.line [] past.placed refl tells known.items.places.placed; next = known.items.places.next })
+scans_items job past s new prefix start now here next held after counts calls (EndsObject was object e apart own) answers known =
+    let tells = scans_tell job past s prefix (root_in start) here next held after calls (EndsObject was object e apart own) known.held_at.trail.is_one known.source known.items.places.next new answers in
+    kept job past s start here next held counts calls [] tells (scans_told job s.tree (root_in start) past here next held after calls (EndsObject was object e apart own)) known.items
+    (record { placed = placed_kept job s.tree (root_in start) past.count (done_after here held.trail next past.count) next calls.line [] past.placed refl tells known.items.places.placed; next = known.items.places.next })
+scans_items job past s new prefix start now here next held after counts calls (LeavesDirectory was object e apart outside) answers known =
+    let tells = scans_tell job past s prefix (root_in start) here next held after calls (LeavesDirectory was object e apart outside) known.held_at.trail.is_one known.source known.items.places.next new answers in
+    kept job past s start here next held counts calls [] tells (scans_told job s.tree (root_in start) past here next held after calls (LeavesDirectory was object e apart outside)) known.items
+    (record { placed = placed_kept job s.tree (root_in start) past.count (done_after here held.trail next past.count) next calls.line [] past.placed refl tells known.items.places.placed; next = known.items.places.next })
+scans_items job past s new prefix start now here next held after counts calls (ReadsOn was object bytes byte block short) answers known =
+    let tells = scans_tell job past s prefix (root_in start) here next held after calls (ReadsOn was object bytes byte block short) known.held_at.trail.is_one known.source known.items.places.next new answers in
+    kept job past s start here next held counts calls [] tells (scans_told job s.tree (root_in start) past here next held after calls (ReadsOn was object bytes byte block short)) known.items
+    (record { placed = placed_kept job s.tree (root_in start) past.count (done_after here held.trail next past.count) next calls.line [] past.placed refl tells known.items.places.placed; next = known.items.places.next })
+scans_items job past s new prefix start now here next held after counts calls (IsTooLong was object bytes byte block long) answers known =
+    let tells = scans_tell job past s prefix (root_in start) here next held after calls (IsTooLong was object bytes byte block long) known.held_at.trail.is_one known.source known.items.places.next new answers in
+    kept job past s start here next held counts calls [] tells (scans_told job s.tree (root_in start) past here next held after calls (IsTooLong was object bytes byte block long)) known.items
+    (record { placed = placed_kept job s.tree (root_in start) past.count (done_after here held.trail next past.count) next calls.line [] past.placed refl tells known.items.places.placed; next = tt })
+scans_items job past s new prefix start now here next held after counts calls (EndsFile was object bytes) answers known =
+    let tells = scans_tell job past s prefix (root_in start) here next held after calls (EndsFile was object bytes) known.held_at.trail.is_one known.source known.items.places.next new answers in
+    kept job past s start here next held counts calls [] tells (scans_told job s.tree (root_in start) past here next held after calls (EndsFile was object bytes)) known.items
+    (record { placed = placed_kept job s.tree (root_in start) past.count (done_after here held.trail next past.count) next calls.line [] past.placed refl tells known.items.places.placed; next = known.items.places.next })
+
+-- ---- an object is made
+
+after_sidecar : (job : Job) (past : Past) (s : Reading) (start : Tree) (object : Object) (held : Held) (counts : Counts) (change : Change) (flat : Bool) → ItemsPart job past (phase.Make object part.Sidecar) counts s.tree (root_in start)
+    → KeepsItems job past (phase.Make object part.Sidecar) held counts s start (does change) (cond flat (phase.Rename object) (phase.Tuples object 0)) × KeepsLog job past (phase.Make object part.Sidecar) held s start (does change) (cond flat (phase.Rename object) (phase.Tuples object 0))
+after_sidecar job past s start object held counts change true items =
+    kept job past s start (phase.Make object part.Sidecar) (phase.Rename object) held counts (does change) [] (Nothing (phase.Rename object)) (λ log old had. had) items (record { placed = items.places.placed; next = items.places.next })
+after_sidecar job past s start object held counts change false items =
+    kept job past s start (phase.Make object part.Sidecar) (phase.Tuples object 0) held counts (does change) [] (Nothing (phase.Tuples object 0)) (λ log old had. had) items (record { placed = items.places.placed; next = items.places.next })
+
+pub makes_items : MakingKeepsItems
+makes_items job past s prefix start now here held after counts calls next (MakesStaging was object) known =
+    kept job past s start here next held counts calls [] (Nothing (phase.Make object part.Declaration)) (makes_told job s.tree (root_in start) past here held after calls next (MakesStaging was object)) known.items (record { placed = known.items.places.placed; next = known.items.places.next })
+makes_items job past s prefix start now here held after counts calls next (MakesDeclaration was object) known =
+    kept job past s start here next held counts calls [] (Nothing (phase.Make object part.Version)) (makes_told job s.tree (root_in start) past here held after calls next (MakesDeclaration was object)) known.items (record { placed = known.items.places.placed; next = known.items.places.next })
+makes_items job past s prefix start now here held after counts calls next (MakesVersion was object) known =
+    kept job past s start here next held counts calls [] (Nothing (phase.Make object (content_at was.rows (record { row = 0; stored = 0; directories = 0 })))) (makes_told job s.tree (root_in start) past here held after calls next (MakesVersion was object)) known.items (record { placed = known.items.places.placed; next = known.items.places.next })
+makes_items job past s prefix start now here held after counts calls next (PassesRow was object position row is other) known =
+    kept job past s start here next held counts calls [] (Nothing (phase.Make object (content_at was.rows (behind position)))) (makes_told job s.tree (root_in start) past here held after calls next (PassesRow was object position row is other)) known.items (record { placed = known.items.places.placed; next = known.items.places.next })
+makes_items job past s prefix start now here held after counts calls next (MakesFolder was object position row is stored more) known =
+    kept job past s start here next held counts calls [] (Nothing (phase.Make object (part.Content (with_folder position)))) (makes_told job s.tree (root_in start) past here held after calls next (MakesFolder was object position row is stored more)) known.items (record { placed = known.items.places.placed; next = known.items.places.next })
+makes_items job past s prefix start now here held after counts calls next (OpensCopy was object position row is stored all) known =
+    kept job past s start here next held counts calls [] (Nothing (phase.Copy object position row.length)) (makes_told job s.tree (root_in start) past here held after calls next (OpensCopy was object position row is stored all)) known.items (record { placed = known.items.places.placed; next = known.items.places.next })
+makes_items job past s prefix start now here held after counts calls next (CopiesOn was object position left byte block fits) known =
+    kept job past s start here next held counts calls [] (Nothing (phase.Copy object position (left - length (byte ∷ block)))) (makes_told job s.tree (root_in start) past here held after calls next (CopiesOn was object position left byte block fits)) known.items (record { placed = known.items.places.placed; next = known.items.places.next })
+makes_items job past s prefix start now here held after counts calls next (EndsCopy was object position row left is same) known =
+    kept job past s start here next held counts calls [] (Nothing (phase.Make object (content_at was.rows (behind_stored was.contents position row.path)))) (makes_told job s.tree (root_in start) past here held after calls next (EndsCopy was object position row left is same)) known.items (record { placed = known.items.places.placed; next = known.items.places.next })
+makes_items job past s prefix start now here held after counts calls next (MakesVersionInventory was object) known =
+    kept job past s start here next held counts calls [] (Nothing (phase.Make object part.VersionSidecar)) (makes_told job s.tree (root_in start) past here held after calls next (MakesVersionInventory was object)) known.items (record { placed = known.items.places.placed; next = known.items.places.next })
+makes_items job past s prefix start now here held after counts calls next (MakesVersionSidecar was object) known =
+    kept job past s start here next held counts calls [] (Nothing (phase.Make object part.Inventory)) (makes_told job s.tree (root_in start) past here held after calls next (MakesVersionSidecar was object)) known.items (record { placed = known.items.places.placed; next = known.items.places.next })
+makes_items job past s prefix start now here held after counts calls next (MakesInventory was object) known =
+    kept job past s start here next held counts calls [] (Nothing (phase.Make object part.Sidecar)) (makes_told job s.tree (root_in start) past here held after calls next (MakesInventory was object)) known.items (record { placed = known.items.places.placed; next = known.items.places.next })
+makes_items job past s prefix start now here held after counts calls next (MakesSidecar was object) known =
+    after_sidecar job past s start object was counts (Makes (sidecar_file job object was.rows staging)) (job.tuples.count == 0) known.items
+
+-- ---- an object at its place
+
+after_a_tuple : (job : Job) (past : Past) (s : Reading) (start : Tree) (object : Object) (held : Held) (counts : Counts) (number : ℕ) (change : Change) (more : Bool) → ItemsPart job past (phase.Tuples object number) counts s.tree (root_in start)
+    → KeepsItems job past (phase.Tuples object number) held counts s start (does change) (cond more (phase.Tuples object (number + 1)) (phase.Rename object)) × KeepsLog job past (phase.Tuples object number) held s start (does change) (cond more (phase.Tuples object (number + 1)) (phase.Rename object))
+after_a_tuple job past s start object held counts number change true items =
+    kept job past s start (phase.Tuples object number) (phase.Tuples object (number + 1)) held counts (does change) [] (Nothing (phase.Tuples object (number + 1))) (λ log old had. had) items (record { placed = items.places.placed; next = items.places.next })
+after_a_tuple job past s start object held counts number change false items =
+    kept job past s start (phase.Tuples object number) (phase.Rename object) held counts (does change) [] (Nothing (phase.Rename object)) (λ log old had. had) items (record { placed = items.places.placed; next = items.places.next })
+
+pub places_items : PlacingKeepsItems
+places_items job past s prefix start now here next held after counts calls (MakesTuple was object number) known = after_a_tuple job past s start object was counts number (FindsNoneAndMakes (tuple_folder object number)) (nat_lt (number + 1) job.tuples.count) known.items
+places_items job past s prefix start now here next held after counts calls (FindsTuple was object number) known = after_a_tuple job past s start object was counts number (Finds (tuple_folder object number) (Some kind.Dir)) (nat_lt (number + 1) job.tuples.count) known.items
+places_items job past s prefix start now here next held after counts calls (RenamesObject was object) known =
+    kept job past s start here next held counts calls [] (Nothing (phase.Line object)) (places_told job counts s.tree (root_in start) past here next held after calls (RenamesObject was object)) known.items
+    (record {
+      placed =
+          ap (λ (l : List Carried). l ++ object_held object was.rows past.bytes ∷ []) known.items.places.placed
+          ∙ sym (held_is_carried job past s (root_in start) prefix object was past.count known.source.proper known.source.at.0 known.source.at.1 known.source.bytes known.items.places.next);
+      next = known.items.places.next;
+    })
+places_items job past s prefix start now here next held after counts calls (TellsDone was object) known =
+    let tells = places_tell job counts past s prefix (root_in start) here next held after calls (TellsDone was object) known.held_at known.source known.items.places.next in
+    kept job past s start here next held counts calls tells.0 tells.1 (places_told job counts s.tree (root_in start) past here next held after calls (TellsDone was object)) known.items (record { placed = known.items.places.placed; next = tt })
+places_items job past s prefix start now here next held after counts calls (TellsEnd was) known =
+    kept job past s start here next held counts calls [] (Last counts.done counts.present counts.skipped) (places_told job counts s.tree (root_in start) past here next held after calls (TellsEnd was)) known.items (record { placed = tt; next = tt })

@@ -1,0 +1,6 @@
+pub mod BadTargets
+pub mod EarlyHalts
+pub mod GoodStarts
+pub mod Refusing
+pub mod StagingFound
+pub mod TargetFound

@@ -1,0 +1,139 @@
+-- A halt for what the source is, or for what stands at `staging`, leaves all as it was.
+use Rattle.std.proofs.Common.{◌≡◌, ℕ, Bool, true, false, List, refl, ap, sym, ◌∙◌}
+use Rattle.std.specs.Prelude.{Err}
+use Rattle.std.proofs.lemmas.Bool.{true≢false}
+use Rattle.pt_tree.specs.Dest.{Writing}
+use Rattle.pt_tree.specs.Tree.{Tree}
+use Rattle.pt_plan.specs.Job.{Job}
+use Rattle.pt_plan.specs.Run.{Counts, Held, turning}
+use Rattle.pt_plan.specs.Turn.{Did, FailsAtFirst, FailsLater, Follows, HasFailed, IsRefused, LeavesSome, Start as a_start, Stays, Walk, Scan, Make, Place}
+use Rattle.pt_plan.specs.TurnMake.{Makings, ReadsMore, ReadsOther}
+use Rattle.pt_plan.specs.TurnPlace.{Places, IsInTheWay}
+use Rattle.pt_plan.specs.TurnStart.{Starts, IsNoStore, IsNoPrefixFile, IsNoPrefix, HasStaging, IsNoRoot, IsNoFile, Differs}
+use Rattle.pt_plan.specs.World.{Calls, Failures}
+use Rattle.pt_plan.specs.declared.halt.Halt.{Halt}
+use Rattle.pt_plan.specs.declared.halt.Halt.TheVariants as halt
+use Rattle.pt_plan.specs.declared.phase.Phase.{Phase}
+use Rattle.pt_plan.specs.declared.phase.Phase.TheVariants as phase
+use Rattle.pt_begun.specs.Begun.{Begun, IsQuiet}
+use Rattle.pt_begun.specs.BegunDest.{DestPart}
+use Rattle.pt_begun.specs.Past.{Past}
+use Rattle.pt_begun.specs.RefusalLaws.{EarlyLeavesDest, EarlyLeavesLog, is_early}
+use Rattle.pt_begun.proofs.source.InPairtree.{some_same}
+use Rattle.pt_begun.proofs.items.QuietStart.{is_start, quiet_is}
+use Rattle.pt_begun.proofs.items.QuietTurns.{refused_quiet}
+use Rattle.pt_begun.proofs.ends.TurnEnds.{refused_same}
+use Rattle.pt_begun.proofs.items.Telling.{both_tell, log_tells, none_put}
+
+-- ---- where such a halt comes
+
+-- before anything is changed or done
+abbrev is_first : Phase → Bool
+is_first phase.Begin = true
+is_first (phase.Prefix here) = true
+is_first phase.Staging = true
+is_first _ = false
+
+starts_first : (job : Job) (prefix read : List ℕ) (here : Phase) (calls : Calls) (why : Halt) → Starts job here prefix read calls (Err why) → is_early why ≡ true → is_first here ≡ true
+starts_first job prefix read here calls why (IsNoStore was entries e) early = refl
+starts_first job prefix read here calls why (IsNoPrefixFile was kind some e) early = refl
+starts_first job prefix read here calls why (IsNoPrefix was block reason e) early = refl
+starts_first job prefix read here calls why (HasStaging was kind) early = refl
+starts_first job prefix read here calls why (IsNoRoot was kind e) early = absurd (cc)
+starts_first job prefix read here calls why (IsNoFile was number path bytes kind is e) early = absurd (cc)
+starts_first job prefix read here calls why (Differs was number path bytes block is e) early = absurd (cc)
+
+makes_late : (job : Job) (here : Phase) (held after : Held) (calls : Calls) (why : Halt) → Makings job here held after calls (Err why) → is_early why ≡ false
+makes_late job here held after calls why (ReadsMore was object position left byte block more) = refl
+makes_late job here held after calls why (ReadsOther was object position row left is other) = refl
+
+places_late : (job : Job) (counts : Counts) (here : Phase) (held after : Held) (calls : Calls) (why : Halt) → Places job counts here held after calls (Err why) → is_early why ≡ false
+places_late job counts here held after calls why (IsInTheWay was object number kind is) = refl
+
+follows_first : (job : Job) (counts : Counts) (here : Phase) (prefix : List ℕ) (held : Held) (read : List ℕ) (after : Held) (calls : Calls) (why : Halt) → Follows job counts here prefix held read after calls (Err why) → is_early why ≡ true → is_first here ≡ true
+follows_first job counts here prefix held read after calls why (a_start h p r w c a turn) early = starts_first job prefix read here calls why turn early
+follows_first job counts here prefix held read after calls why (Walk h p w n c a turn) early = elim turn [ ]
+follows_first job counts here prefix held read after calls why (Scan h p w n c a turn) early = elim turn [ ]
+follows_first job counts here prefix held read after calls why (Make h p w n c a turn) early = absurd (true≢false (sym early ∙ makes_late job here held after calls why turn))
+follows_first job counts here prefix held read after calls why (Place h p w n c a turn) early = absurd (true≢false (sym early ∙ places_late job counts here held after calls why turn))
+
+-- a fault is no such halt
+failed_late : (why : Halt) (old new : Failures) → HasFailed why old new → is_early why ≡ false
+failed_late halt.Source old new it = refl
+failed_late halt.Dest old new it = refl
+failed_late halt.Log old new it = refl
+failed_late halt.Memory old new it = refl
+failed_late halt.NotPairtree old new it = absurd (it)
+failed_late halt.Prefix old new it = absurd (it)
+failed_late halt.StagingLeft old new it = absurd (it)
+failed_late halt.Target old new it = refl
+failed_late halt.Changed old new it = refl
+
+-- ---- what holds there
+
+first_tree : (job : Job) (past : Past) (here : Phase) (held : Held) (t : Tree) (now : Writing) → is_first here ≡ true → DestPart job past here held t now → now.tree ≡ t
+first_tree job past phase.Begin held t now first dest = dest.at.tree
+first_tree job past (phase.Prefix here) held t now first dest = dest.at.tree
+first_tree job past phase.Staging held t now first dest = dest.at.tree
+first_tree job past phase.Root held t now first dest = absurd (cc)
+first_tree job past (phase.RootMake number) held t now first dest = absurd (cc)
+first_tree job past phase.RootRename held t now first dest = absurd (cc)
+first_tree job past (phase.RootCheck number) held t now first dest = absurd (cc)
+first_tree job past phase.OpenRoot held t now first dest = absurd (cc)
+first_tree job past phase.Judge held t now first dest = absurd (cc)
+first_tree job past (phase.OpenObject object) held t now first dest = absurd (cc)
+first_tree job past (phase.Scan object) held t now first dest = absurd (cc)
+first_tree job past (phase.Read object bytes) held t now first dest = absurd (cc)
+first_tree job past (phase.Make object here) held t now first dest = absurd (cc)
+first_tree job past (phase.Copy object position left) held t now first dest = absurd (cc)
+first_tree job past (phase.Tuples object number) held t now first dest = absurd (cc)
+first_tree job past (phase.Rename object) held t now first dest = absurd (cc)
+first_tree job past (phase.Line object) held t now first dest = absurd (cc)
+first_tree job past phase.Walk held t now first dest = absurd (cc)
+first_tree job past phase.End held t now first dest = absurd (cc)
+first_tree job past phase.Ended held t now first dest = absurd (cc)
+
+first_starts : (here : Phase) → is_first here ≡ true → is_start here ≡ true
+first_starts phase.Begin first = refl
+first_starts (phase.Prefix here) first = refl
+first_starts phase.Staging first = refl
+first_starts phase.Root first = absurd (cc)
+first_starts (phase.RootMake number) first = absurd (cc)
+first_starts phase.RootRename first = absurd (cc)
+first_starts (phase.RootCheck number) first = absurd (cc)
+first_starts phase.OpenRoot first = absurd (cc)
+first_starts phase.Judge first = absurd (cc)
+first_starts (phase.OpenObject object) first = absurd (cc)
+first_starts (phase.Scan object) first = absurd (cc)
+first_starts (phase.Read object bytes) first = absurd (cc)
+first_starts (phase.Make object part) first = absurd (cc)
+first_starts (phase.Copy object position left) first = absurd (cc)
+first_starts (phase.Tuples object number) first = absurd (cc)
+first_starts (phase.Rename object) first = absurd (cc)
+first_starts (phase.Line object) first = absurd (cc)
+first_starts phase.Walk first = absurd (cc)
+first_starts phase.End first = absurd (cc)
+first_starts phase.Ended first = absurd (cc)
+
+-- ---- the laws
+
+pub early_leaves_dest : EarlyLeavesDest
+unfolding Begun Did Stays LeavesSome
+early_leaves_dest job start old new run after why t now (past, is) (IsRefused prefix held calls reason turn did halted) early start_is dest_is =
+    let had = both_tell (DestPart job past run.phase run.kept.held) start.dest old.dest t start_is is.dest in
+    let same = refused_same job (turning run.kept).counts run.phase run.kept.prefix run.kept.held prefix held calls why old.dest new.dest turn did.0.dest in
+    ap (λ (w : Writing). w.tree) (some_same now had.0 (sym dest_is ∙ same ∙ had.1))
+    ∙ first_tree job past run.phase run.kept.held t had.0 (follows_first job (turning run.kept).counts run.phase run.kept.prefix run.kept.held prefix held calls why turn early) had.2
+early_leaves_dest job start old new run after why t now (past, is) (FailsAtFirst reason stays halted) early start_is dest_is = absurd (true≢false (sym early ∙ failed_late why old.failures new.failures stays.3))
+early_leaves_dest job start old new run after why t now (past, is) (FailsLater prefix held calls answer rows reason turn leaves which halted) early start_is dest_is = absurd (true≢false (sym early ∙ failed_late why old.failures new.failures leaves.1))
+
+pub early_leaves_log : EarlyLeavesLog
+unfolding Begun Did Stays LeavesSome
+early_leaves_log job start old new run after why first last (past, is) (IsRefused prefix held calls reason turn did halted) early first_is last_is =
+    let counts = (turning run.kept).counts in
+    let had = log_tells (IsQuiet run.phase) start.log old.log first first_is is.quiet in
+    let same = none_put calls.line old.log new.log (refused_quiet job counts run.phase run.kept.prefix run.kept.held prefix held calls why turn) did.0.log in
+    some_same last had.0 (sym last_is ∙ same ∙ had.1)
+    ∙ quiet_is run.phase first had.0 (first_starts run.phase (follows_first job counts run.phase run.kept.prefix run.kept.held prefix held calls why turn early)) had.2
+early_leaves_log job start old new run after why first last (past, is) (FailsAtFirst reason stays halted) early first_is last_is = absurd (true≢false (sym early ∙ failed_late why old.failures new.failures stays.3))
+early_leaves_log job start old new run after why first last (past, is) (FailsLater prefix held calls answer rows reason turn leaves which halted) early first_is last_is = absurd (true≢false (sym early ∙ failed_late why old.failures new.failures leaves.1))

@@ -1,0 +1,163 @@
+-- What a run says of a source that it refuses.
+use Rattle.std.proofs.Common.{◌≡◌, ◌<◌, ◌-◌, ◌==◌, ℕ, true, false, List, [], ◌∷◌, ◌++◌, refl, ap, sym, ◌∙◌, subst, arith, cond, inl, inr, length, take}
+use Rattle.std.specs.Prelude.{◌&&◌, ◌≢◌, None, Some, Err, Option, is_none, nat_lt}
+use Rattle.std.specs.Option.{option_and_then, option_map}
+use Rattle.std.specs.Str.{bytes_eq}
+use Rattle.std.proofs.lemmas.Bool.{cases_lt, true≢false, ltb-true, lt-ltb}
+use Rattle.std.proofs.lemmas.List.{take_all}
+use Rattle.std.specs.Str.{bytes_eq, is_utf8}
+use Rattle.pt_name.specs.Prefix.{prefix_refusal, without_line_ends}
+use Rattle.pt_name.specs.declared.prefix.PrefixFault.{PrefixFault}
+use Rattle.pt_name.specs.declared.prefix.PrefixFault.TheVariants as fault
+use Rattle.pt_object.proofs.Ways.{name_itself}
+use Rattle.pt_object.specs.Algorithm.{digest_of}
+use Rattle.pt_object.specs.declared.rows.Row.{Row}
+use Rattle.pt_tree.specs.Forest.{Forest, Node, File, Dir, Other, as_file, find, is_proper, kind_of, listing_of, node_at}
+use Rattle.pt_tree.specs.Source.{Reading, IsListed, IsRead, after_open}
+use Rattle.pt_tree.specs.declared.kind.Kind.{Kind}
+use Rattle.pt_tree.specs.declared.kind.Kind.TheVariants as kind
+use Rattle.pt_walk.specs.Left.{bytes_at}
+use Rattle.pt_plan.specs.Job.{Job}
+use Rattle.pt_plan.specs.Run.{Counts, Held, Kept, Run, turning}
+use Rattle.pt_plan.specs.Store.{is_prefix, pairtree_of, prefix_file}
+use Rattle.pt_plan.specs.Turn.{Did, Follows, Turn, IsRefused, FailsAtFirst, FailsLater, HasFailed, LeavesSome, Stays, Start as a_start, Walk, Scan, Make, Place}
+use Rattle.pt_plan.specs.TurnMake.{Makings, ReadsMore, ReadsOther, is_as_read, path_of_source}
+use Rattle.pt_plan.specs.TurnPlace.{Places, IsInTheWay}
+use Rattle.pt_plan.specs.TurnStart.{Starts, IsNoStore, IsNoPrefixFile, IsNoPrefix, HasStaging, IsNoRoot, IsNoFile, Differs, is_file_kind, lists_store}
+use Rattle.pt_plan.specs.World.{Answers, Calls, Failures, World}
+use Rattle.pt_plan.specs.declared.halt.Halt.{Halt}
+use Rattle.pt_plan.specs.declared.halt.Halt.TheVariants as halt
+use Rattle.pt_plan.specs.declared.object.Object.{Object}
+use Rattle.pt_plan.specs.declared.phase.Phase.{Phase}
+use Rattle.pt_plan.specs.declared.phase.Phase.TheVariants as phase
+use Rattle.pt_plan.specs.declared.phase.Position.{Position}
+use Rattle.pt_begun.specs.Begun.{Begun, IsPast, Start}
+use Rattle.pt_begun.specs.BegunSource.{IsCopyingFile, SourceAt}
+use Rattle.pt_begun.specs.RefusalLaws.{RefusesRightly, SaysOfSource}
+use Rattle.pt_begun.proofs.source.InPairtree.{some_same}
+use Rattle.pt_begun.proofs.source.MakesKeep.{file_of_row}
+use Rattle.pt_begun.proofs.source.ReadsOn.{IsWhole, reads_block, reads_end}
+use Rattle.pt_begun.proofs.source.ScannedFiles.{RowFile}
+use Rattle.pt_begun.specs.Past.{Past}
+use Rattle.pt_begun.proofs.source.StartsKeep.{store_listed}
+
+-- ---- the prefix
+
+no_file : (o : Option Node) (here : Option Kind) → here ≢ None → is_file_kind here ≡ false → here ≡ option_map kind_of o → is_prefix o ≡ false
+no_file None here some other is = absurd (some is)
+no_file (Some (File bytes)) here some other is = absurd (true≢false (sym (ap is_file_kind is) ∙ other))
+no_file (Some (Dir inside)) here some other is = refl
+no_file (Some Other) here some other is = refl
+
+long_refused : (bytes : List ℕ) → 1024 < length bytes → is_none (prefix_refusal bytes) ≡ false
+long_refused bytes long = ap (λ b. is_none (cond b (Some fault.TooLong) (cond (is_utf8 (without_line_ends bytes)) None (Some fault.NotUtf8)))) (lt-ltb 1024 (length bytes) long)
+
+block_refused : (bytes block : List ℕ) (why : PrefixFault) → take 8192 bytes ≡ block → prefix_refusal block ≡ Some why → is_none (prefix_refusal bytes) ≡ false
+block_refused bytes block why read bad = elim (cases_lt 1024 (length bytes)) [
+  | inl long ↦ long_refused bytes long
+  | inr short ↦ (let few = short in ap (λ (l : List ℕ). is_none (prefix_refusal l)) (sym (take_all 8192 bytes (omega (arith, few))) ∙ read) ∙ ap is_none bad)
+]
+
+bad_prefix : (o : Option Node) (block : List ℕ) (why : PrefixFault) → Some kind.File ≡ option_map kind_of o → option_map (take 8192) (option_and_then as_file (option_and_then (λ node. node_at node []) o)) ≡ Some block → prefix_refusal block ≡ Some why → is_prefix o ≡ false
+bad_prefix None block why is read bad = absurd (cc)
+bad_prefix (Some (Dir inside)) block why is read bad = absurd (cc)
+bad_prefix (Some Other) block why is read bad = absurd (cc)
+bad_prefix (Some (File bytes)) block why is read bad = block_refused bytes block why (some_same (take 8192 bytes) block read) bad
+
+-- ---- the copy
+
+module _ (job : Job) (s : Reading) (prefix : List ℕ) (count : ℕ) (object : Object) (held : Held) (position : Position) (left : ℕ) (proper : is_proper s.tree ≡ true) (at : SourceAt job s prefix count (phase.Copy object position left) held) where
+  abbrev copying : IsCopyingFile s.tree object held position s.unread left
+  copying = at.2
+
+  abbrev stored_bytes : List ℕ
+  stored_bytes = bytes_at (pairtree_of s.tree) (path_of_source object held.trail ++ (copying).row.path)
+
+  stored : RowFile job (pairtree_of s.tree) (path_of_source object held.trail) (copying).row
+  stored = file_of_row job s prefix object held count position.row (copying).row proper (copying).is_row (at.0, at.1)
+
+  long : (copying).row.length ≡ length stored_bytes
+  long = (stored).long ∙ ap length (sym (stored).here)
+
+  pub never_more : (block : List ℕ) → nat_lt left (length block) ≡ true → option_map (take 8192) s.unread ≡ Some block → ⊥
+  never_more block more read =
+      let reads = reads_block 8192 stored_bytes ((copying).row.length - left) held.fed block s.unread (copying).read read in
+      let within = reads.within in
+      let over = ltb-true left (length block) more in
+      let size = long in
+      let few = (copying).within in
+      omega (arith, within, over, size, few)
+
+  whole : option_map (take 8192) s.unread ≡ Some [] → IsWhole stored_bytes ((copying).row.length - left) held.fed
+  whole read = reads_end 8192 stored_bytes ((copying).row.length - left) held.fed s.unread (omega arith) (copying).read read
+
+  pub as_read : option_map (take 8192) s.unread ≡ Some [] → is_as_read job (copying).row left held.fed ≡ true
+  as_read read =
+      let all = whole read in
+      let size = long in
+      let few = (copying).within in
+      let same = all.length_is in
+      let none : left ≡ 0 = omega (arith, size, few, same) in
+      let digest : digest_of job.algorithm held.fed ≡ (copying).row.digest = ap (digest_of job.algorithm) (all.all ∙ (stored).here) ∙ sym (stored).digest in
+      ap (λ (n : ℕ). (n == 0) && bytes_eq (digest_of job.algorithm held.fed) (copying).row.digest) none
+      ∙ ap (λ (d : List ℕ). bytes_eq d (copying).row.digest) digest ∙ name_itself (copying).row.digest
+
+-- ---- the turns
+
+starts_refuse : (job : Job) (s : Reading) (new : Option Reading) (prefix read : List ℕ) (count : ℕ) (here : Phase) (held : Held) (calls : Calls) (why : Halt)
+    → Starts job here prefix read calls (Err why) → SourceAt job s prefix count here held → Answers calls.asked (Some s) new → SaysOfSource why s.tree
+unfolding Answers IsListed IsRead
+starts_refuse job s new prefix read count here held calls why (IsNoStore was entries is) at answers =
+    let listed : entries ≡ listing_of s.tree = sym (some_same (listing_of s.tree) entries (answers.0 s refl)) in
+    sym (store_listed s.tree) ∙ ap lists_store (sym listed) ∙ is
+starts_refuse job s new prefix read count here held calls why (IsNoPrefixFile was kind some is) at answers = (at.2, no_file (find s.tree prefix_file) kind some is at.3)
+starts_refuse job s new prefix read count here held calls why (IsNoPrefix was block reason is) at answers =
+    (at.2, bad_prefix (find s.tree prefix_file) block reason at.3 (answers.0 (after_open (prefix_file ∷ []) s) refl) is)
+starts_refuse job s new prefix read count here held calls why (HasStaging was kind) at answers = (at.2.store, at.2.good)
+starts_refuse job s new prefix read count here held calls why (IsNoRoot was kind is) at answers = (at.2.store, at.2.good)
+starts_refuse job s new prefix read count here held calls why (IsNoFile was number path bytes kind is other) at answers = (at.2.store, at.2.good)
+starts_refuse job s new prefix read count here held calls why (Differs was number path bytes block is other) at answers = (at.2.store, at.2.good)
+
+makes_refuse : (job : Job) (s : Reading) (new : Option Reading) (prefix : List ℕ) (count : ℕ) (here : Phase) (held after : Held) (calls : Calls) (why : Halt)
+    → is_proper s.tree ≡ true → Makings job here held after calls (Err why) → SourceAt job s prefix count here held → Answers calls.asked (Some s) new → SaysOfSource why s.tree
+unfolding Answers IsListed IsRead
+makes_refuse job s new prefix count here held after calls why proper (ReadsMore was object position left byte block more) at answers =
+    absurd (never_more job s prefix count object was position left proper at (byte ∷ block) more (answers.0 s refl))
+makes_refuse job s new prefix count here held after calls why proper (ReadsOther was object position row left is other) at answers =
+    absurd (let same = some_same row at.2.row (sym is ∙ at.2.is_row) in
+    true≢false (sym (ap (λ (r : Row). is_as_read job r left was.fed) same ∙ as_read job s prefix count object was position left proper at (answers.0 s refl)) ∙ other))
+
+places_refuse : (job : Job) (s : Reading) (counts : Counts) (prefix : List ℕ) (count : ℕ) (here : Phase) (held after : Held) (calls : Calls) (why : Halt) → Places job counts here held after calls (Err why) → SourceAt job s prefix count here held → SaysOfSource why s.tree
+places_refuse job s counts prefix count here held after calls why (IsInTheWay was object number kind is) at = (at.0.store, at.0.good)
+
+follows_refuse : (job : Job) (s : Reading) (new : Option Reading) (counts : Counts) (count : ℕ) (here : Phase) (prefix : List ℕ) (held : Held) (read : List ℕ) (after : Held) (calls : Calls) (why : Halt)
+    → is_proper s.tree ≡ true → Follows job counts here prefix held read after calls (Err why) → SourceAt job s prefix count here held → Answers calls.asked (Some s) new → SaysOfSource why s.tree
+follows_refuse job s new counts count here prefix held read after calls why proper (a_start h p r w c a turn) at answers = starts_refuse job s new prefix read count here held calls why turn at answers
+follows_refuse job s new counts count here prefix held read after calls why proper (Walk h p w n c a turn) at answers = elim turn [ ]
+follows_refuse job s new counts count here prefix held read after calls why proper (Scan h p w n c a turn) at answers = elim turn [ ]
+follows_refuse job s new counts count here prefix held read after calls why proper (Make h p w n c a turn) at answers = makes_refuse job s new prefix count here held after calls why proper turn at answers
+follows_refuse job s new counts count here prefix held read after calls why proper (Place h p w n c a turn) at answers = places_refuse job s counts prefix count here held after calls why turn at
+
+-- a fault says nothing of the source
+failed : (why : Halt) (old new : Failures) (source : Forest) → HasFailed why old new → SaysOfSource why source
+failed halt.Source old new source it = tt
+failed halt.Dest old new source it = tt
+failed halt.Log old new source it = tt
+failed halt.Memory old new source it = tt
+failed halt.NotPairtree old new source it = absurd (it)
+failed halt.Prefix old new source it = absurd (it)
+failed halt.StagingLeft old new source it = absurd (it)
+failed halt.Target old new source it = absurd (it)
+failed halt.Changed old new source it = absurd (it)
+
+refused : (job : Job) (past : Past) (start : Start) (old new : World) (run : Run) (after : Kept) (why : Halt) (s : Reading) → IsPast job start old run past → Turn job run.phase (turning run.kept) after old new (Err why) → old.source ≡ Some s → SaysOfSource why s.tree
+unfolding Did Stays LeavesSome
+refused job past start old new run after why s is (IsRefused prefix held calls reason turn did halted) told =
+    let part = is.source s told in
+    follows_refuse job s new.source (turning run.kept).counts past.count run.phase run.kept.prefix run.kept.held prefix held calls why part.proper turn part.at (subst (λ o. Answers calls.asked o new.source) told did.0.source)
+refused job past start old new run after why s is (FailsAtFirst reason stays halted) told = failed why old.failures new.failures s.tree stays.3
+refused job past start old new run after why s is (FailsLater prefix held calls answer rows reason turn leaves which halted) told = failed why old.failures new.failures s.tree leaves.1
+
+pub refuses_rightly : RefusesRightly
+unfolding Begun
+refuses_rightly job start old new run after why s (past, is) turn told = refused job past start old new run after why s is turn told

@@ -1,0 +1,50 @@
+-- A run halts for what stands at `staging` only where something stood there.
+use Rattle.std.proofs.Common.{◌≡◌, ℕ, List, true, refl, ap, sym, ◌∙◌, subst}
+use Rattle.std.specs.Prelude.{None, Some, Err, Option, is_some}
+use Rattle.std.specs.Option.{option_map}
+use Rattle.pt_object.specs.Scripts.{staging}
+use Rattle.pt_tree.specs.Dest.{IsKindAt, Writing}
+use Rattle.pt_tree.specs.Tree.{Entry, Tree, kind_of_entry}
+use Rattle.pt_tree.specs.declared.kind.Kind.{Kind}
+use Rattle.pt_plan.specs.Job.{Job}
+use Rattle.pt_plan.specs.Run.{Counts, Held, Kept, Run, turning}
+use Rattle.pt_plan.specs.Turn.{Did, Follows, Turn, IsRefused, FailsAtFirst, FailsLater, LeavesSome, Stays, Start as a_start, Walk, Scan, Make, Place}
+use Rattle.pt_plan.specs.TurnStart.{Starts, HasStaging}
+use Rattle.pt_plan.specs.World.{Calls, Changes, World}
+use Rattle.pt_plan.specs.declared.halt.Halt.TheVariants as halt
+use Rattle.pt_plan.specs.declared.phase.Phase.{Phase}
+use Rattle.pt_begun.specs.Begun.{Begun, IsPast, Start}
+use Rattle.pt_begun.specs.BegunDest.{DestPart}
+use Rattle.pt_begun.specs.Past.{Past}
+use Rattle.pt_begun.specs.RefusalLaws.{FindsStaging}
+use Rattle.pt_begun.proofs.items.Telling.{both_tell}
+
+some_kind : (o : Option Entry) (here : Kind) → option_map kind_of_entry o ≡ Some here → is_some o ≡ true
+some_kind None here is = absurd (cc)
+some_kind (Some entry) here is = refl
+
+starts_find : (job : Job) (past : Past) (t : Tree) (w : Writing) (new : Option Writing) (prefix read : List ℕ) (here : Phase) (held : Held) (calls : Calls)
+    → Starts job here prefix read calls (Err halt.StagingLeft) → DestPart job past here held t w → Changes calls.change (Some w) new → is_some (t staging) ≡ true
+unfolding Changes IsKindAt
+starts_find job past t w new prefix read here held calls (HasStaging was kind) dest change =
+    ap (λ (tree : Tree). is_some (tree staging)) (sym dest.at.tree) ∙ some_kind (w.tree staging) kind (change.0 w refl)
+
+follows_find : (job : Job) (past : Past) (t : Tree) (w : Writing) (new : Option Writing) (counts : Counts) (here : Phase) (prefix : List ℕ) (held : Held) (read : List ℕ) (after : Held) (calls : Calls)
+    → Follows job counts here prefix held read after calls (Err halt.StagingLeft) → DestPart job past here held t w → Changes calls.change (Some w) new → is_some (t staging) ≡ true
+follows_find job past t w new counts here prefix held read after calls (a_start h p r w' c a turn) dest change = starts_find job past t w new prefix read here held calls turn dest change
+follows_find job past t w new counts here prefix held read after calls (Walk h p w' n c a turn) dest change = elim turn [ ]
+follows_find job past t w new counts here prefix held read after calls (Scan h p w' n c a turn) dest change = elim turn [ ]
+follows_find job past t w new counts here prefix held read after calls (Make h p w' n c a turn) dest change = elim turn [ ]
+follows_find job past t w new counts here prefix held read after calls (Place h p w' n c a turn) dest change = elim turn [ ]
+
+found : (job : Job) (past : Past) (start : Start) (old new : World) (run : Run) (after : Kept) (t : Tree) → IsPast job start old run past → Turn job run.phase (turning run.kept) after old new (Err halt.StagingLeft) → start.dest ≡ Some t → is_some (t staging) ≡ true
+unfolding Did Stays LeavesSome
+found job past start old new run after t is (IsRefused prefix held calls reason turn did halted) told =
+    let had = both_tell (DestPart job past run.phase run.kept.held) start.dest old.dest t told is.dest in
+    follows_find job past t had.0 new.dest (turning run.kept).counts run.phase run.kept.prefix run.kept.held prefix held calls turn had.2 (subst (λ o. Changes calls.change o new.dest) had.1 did.0.dest)
+found job past start old new run after t is (FailsAtFirst reason stays halted) told = absurd (stays.3)
+found job past start old new run after t is (FailsLater prefix held calls answer rows reason turn leaves which halted) told = absurd (leaves.1)
+
+pub finds_staging : FindsStaging
+unfolding Begun
+finds_staging job start old new run after t (past, is) turn told = found job past start old new run after t is turn told

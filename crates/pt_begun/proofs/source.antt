@@ -1,0 +1,15 @@
+pub mod EntriesThere
+pub mod InObject
+pub mod InPairtree
+pub mod MakesKeep
+pub mod NewObject
+pub mod PlacesKeep
+pub mod ReadsOn
+pub mod RootChecks
+pub mod ScanSteps
+pub mod ScannedFiles
+pub mod ScansKeep
+pub mod ScansSource
+pub mod SourceKeeps
+pub mod StartsKeep
+pub mod WalksKeep

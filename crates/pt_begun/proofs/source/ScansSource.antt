@@ -1,0 +1,193 @@
+-- Each turn of the scan that goes on keeps what holds where the source tells.
+use Rattle.std.proofs.Common.{◌≡◌, ◌≤◌, ℕ, ◌+◌, ◌-◌, true, false, List, [], ◌∷◌, ◌++◌, refl, ap, sym, ◌∙◌, subst, append-nil, arith, cond, length}
+use Rattle.std.specs.Prelude.{All, Some, Ok, nat_lt}
+use Rattle.pt_object.specs.Algorithm.{digest_of}
+use Rattle.pt_object.specs.FilePaths.{row_paths}
+use Rattle.pt_object.specs.Rows.{row_of}
+use Rattle.pt_object.specs.declared.rows.Row.{Row}
+use Rattle.pt_tree.specs.Forest.{Forest, is_proper, listing_at}
+use Rattle.pt_tree.specs.Listing.{Item}
+use Rattle.pt_tree.specs.Path.{Path}
+use Rattle.pt_tree.specs.Source.{Reading, IsListed, IsRead}
+use Rattle.pt_tree.specs.declared.kind.Kind.TheVariants as kind
+use Rattle.pt_walk.specs.Left.{bytes_at}
+use Rattle.pt_walk.specs.Object.{files}
+use Rattle.pt_walk.specs.Trail.{advanced, current_entry, entered, entries_held, is_trail, names_to, parent, sought, trail_path}
+use Rattle.pt_walk.specs.declared.frame.Frame.{Frame}
+use Rattle.pt_plan.specs.Bound.{bound, dirs, records_of, scanned}
+use Rattle.pt_plan.specs.Items.{PairtreeObject}
+use Rattle.pt_plan.specs.Job.{Job}
+use Rattle.pt_plan.specs.Run.{Held, with_trail}
+use Rattle.pt_plan.specs.Store.{pairtree_of}
+use Rattle.pt_plan.specs.TurnMake.{path_of_source}
+use Rattle.pt_plan.specs.TurnScan.{Scans, StartsInSite, EntersObject, IsTooDeep, PassesShorty, EntersDirectory, MeetsDeep, OpensFile, MeetsLimit, MeetsOther, EndsSite, EndsObject, LeavesDirectory, ReadsOn, IsTooLong, EndsFile, back_at_site, is_passed, logical_path, to_site, with_directory, with_file}
+use Rattle.pt_plan.specs.World.{Answers, Calls}
+use Rattle.pt_plan.specs.declared.object.Object.{Object}
+use Rattle.pt_plan.specs.declared.phase.Phase.{Phase}
+use Rattle.pt_plan.specs.declared.phase.Phase.TheVariants as phase
+use Rattle.pt_begun.specs.BegunHeld.{HeldAt}
+use Rattle.pt_begun.specs.BegunSource.{AreHeldThere, HasRoom, HasStarted, IsScanning, IsWithinBound, SourcePart, left_of, object_at}
+use Rattle.pt_begun.specs.Past.{Past, past_after, with_bytes}
+use Rattle.pt_begun.specs.SourceLaws.{ScanningKeepsSource}
+use Rattle.pt_begun.proofs.bounds.Bounds.{IsOne}
+use Rattle.pt_begun.proofs.source.InObject.{path_in_object, site_entered, site_itself}
+use Rattle.pt_begun.proofs.source.InPairtree.{listing_in, pairtree_proper}
+use Rattle.pt_begun.proofs.source.ReadsOn.{reads_end}
+use Rattle.pt_begun.proofs.bounds.Rooms.{directory_scanned, entries_advanced, entries_dropped, entries_parent, entries_sought, records_held, room_at, room_moved}
+use Rattle.pt_begun.proofs.source.ScanSteps.{moved_behind, moved_on, moved_out}
+use Rattle.pt_begun.proofs.held.ScansHold.{here_behind, scans_hold}
+use Rattle.pt_begun.proofs.source.ScansKeep.{below_site_of, scans_keep, some_around}
+use Rattle.pt_begun.proofs.source.SourceKeeps.{BesideAt, with_beside}
+use Rattle.pt_begun.proofs.held.WithBytes.{rows_push}
+
+-- ---- the bytes of the rows
+
+-- of no rows
+none_there : (source : Forest) (object : Object) (site : List Frame) (bytes : Path → List ℕ) (rows : List Row) → rows ≡ [] → AreHeldThere source object site bytes rows
+none_there source object site bytes rows none = subst (AreHeldThere source object site bytes) (sym none) (λ k d h. absurd (omega (arith, h)))
+
+-- the same object's
+still_there : (source : Forest) (object : Object) (old new : List Frame) (bytes : Path → List ℕ) (rows : List Row) → object_at source object old ≡ object_at source object new → AreHeldThere source object old bytes rows → AreHeldThere source object new bytes rows
+still_there source object old new bytes rows same there =
+    subst (λ (o : PairtreeObject). All (λ row. bytes row.path ≡ bytes_at (pairtree_of source) (o.at ++ row.path)) rows) same there
+
+-- with the file that was read
+one_more_there : (job : Job) (source : Forest) (object : Object) (held : Held) (item : Item) (read : ℕ) (bytes : Path → List ℕ) (past : Past) (count : ℕ) → current_entry held.trail ≡ Some item → HeldAt job past (phase.Read object count) held
+    → held.fed ≡ bytes_at (pairtree_of source) (names_to held.trail) → AreHeldThere source object (to_site object held.trail) bytes held.rows
+    → AreHeldThere source object (to_site object held.trail) (with_bytes (logical_path object held.trail) held.fed bytes) (held.rows ++ row_of (logical_path object held.trail) (digest_of job.algorithm held.fed) read ∷ [])
+one_more_there job source object held item read bytes past count e at whole there =
+    let path = logical_path object held.trail in
+    rows_push (λ b r. b ≡ bytes_at (pairtree_of source) (path_of_source object (to_site object held.trail) ++ r.path)) bytes path held.fed
+    (row_of path (digest_of job.algorithm held.fed) read) refl (whole ∙ ap (bytes_at (pairtree_of source)) (path_in_object object held.trail))
+    held.rows (here_behind (row_paths held.rows) object held.trail item e at.ends.1 at.behind) there
+
+-- ---- how much is held
+
+-- the object is given up
+back_room : (job : Job) (source : Forest) (object : Object) (held : Held) (others : ℕ) → entries_held held.trail + others ≤ bound job source → IsWithinBound job source (back_at_site object held)
+back_room job source object held others few =
+    let one = entries_sought 0 (to_site object held.trail) in
+    let two = entries_dropped (length held.trail - object.site) held.trail in
+    omega (arith, one, two, few)
+
+given_room : (job : Job) (source : Forest) (object : Object) (held : Held) → HasRoom job source object held → IsWithinBound job source (back_at_site object held)
+given_room job source object held room = back_room job source object held (records_of job (files (scanned job.limits (object_at source object (to_site object held.trail))))) room
+
+early_room : (job : Job) (source : Forest) (object : Object) (held : Held) → IsWithinBound job source held → IsWithinBound job source (back_at_site object held)
+early_room job source object held few = back_room job source object held (length held.rows + length held.contents) (omega (arith, few))
+
+-- all of it was scanned
+made_room : (job : Job) (source : Forest) (prefix : List ℕ) (past : Past) (object : Object) (held : Held) (t : List Frame) (count : ℕ) → HeldAt job past (phase.Scan object) held → IsScanning job source prefix object held count → entries_held t ≤ entries_held held.trail
+    → HasRoom job source object held → IsWithinBound job source (with_trail held t)
+made_room job source prefix past object held t count at it less room =
+    let records = records_held job (object_at source object (to_site object held.trail)) held object.empty (left_of source object held.trail) at.rows.contents it.scanned in
+    omega (arith, less, records, room)
+
+-- at the object's own directory, or in its site
+room_in_site : (job : Job) (source : Forest) (prefix : List ℕ) (object : Object) (held : Held) (t : List Frame) (count : ℕ) → object.gathered ≡ true → length t ≡ object.site → HasStarted source prefix → is_trail (sought 0 t) ≡ true
+    → IsScanning job source prefix object (with_trail held (sought 0 t)) count → HasRoom job source object (with_trail held (sought 0 t))
+room_in_site job source prefix object held [] count gathered same started is_one it = absurd (let some = it.stands.some in omega (arith, some, same))
+room_in_site job source prefix object held (frame ∷ frames) count gathered same started is_one it =
+    let t = sought 0 (frame ∷ frames) in
+    room_at job source prefix object (with_trail held t) count [] started it is_one
+    (sym (append-nil (names_to frames))
+    ∙ ap (λ (p : Path). p ++ []) (sym (ap (path_of_source object) (site_itself object t same) ∙ ap (λ b. cond b (names_to frames) (names_to t)) gathered)))
+    (record { index = 0; is = refl })
+
+room_in_directory : (job : Job) (source : Forest) (prefix : List ℕ) (object : Object) (held : Held) (items : List Item) (t : List Frame) (count : ℕ) → object.gathered ≡ false → length t ≡ object.site → HasStarted source prefix → is_trail (entered items t) ≡ true
+    → IsScanning job source prefix (with_directory object items) (with_trail held (entered items t)) count → HasRoom job source (with_directory object items) (with_trail held (entered items t))
+room_in_directory job source prefix object held items t count apart same started is_one it =
+    let within : object.site ≤ length t = omega (arith, same) in
+    room_at job source prefix (with_directory object items) (with_trail held (entered items t)) count [] started it is_one
+    (sym (append-nil (names_to t))
+    ∙ ap (λ (p : Path). p ++ []) (sym (ap (path_of_source object) (site_entered object items t within ∙ site_itself object t same) ∙ ap (λ b. cond b (trail_path t) (names_to t)) apart)))
+    (record { index = 0; is = refl })
+
+-- in a directory of it
+room_below : (job : Job) (source : Forest) (prefix : List ℕ) (object : Object) (held : Held) (items : List Item) (name : List ℕ) (count : ℕ) → is_proper (pairtree_of source) ≡ true → is_trail held.trail ≡ true
+    → current_entry held.trail ≡ Some (name, kind.Dir) → is_passed object held.trail (name, kind.Dir) ≡ false → nat_lt job.limits.depth (length held.trail) ≡ false → listing_at (pairtree_of source) (names_to held.trail) ≡ Some items
+    → HasStarted source prefix → is_trail (entered items held.trail) ≡ true → IsScanning job source prefix object held count
+    → IsScanning job source prefix (with_directory object items) (with_trail held (entered items held.trail)) count → HasRoom job source (with_directory object items) (with_trail held (entered items held.trail))
+room_below job source prefix object held items name count proper is_one e apart shallow listing started one_later before it =
+    let t = held.trail in
+    let same : to_site object (entered items t) ≡ to_site object t = site_entered object items t before.stands.within in
+    room_at job source prefix (with_directory object items) (with_trail held (entered items t)) count (logical_path object t) started it one_later
+    (path_in_object object t ∙ ap (λ (s : List Frame). path_of_source object s ++ logical_path object t) (sym same))
+    (subst (λ (s : List Frame). IsOne (logical_path object t) ([] ∷ dirs (scanned job.limits (object_at source object s)))) (sym same)
+    (directory_scanned job source object held.rows object.empty t name items proper is_one e apart shallow listing before.stands.fits before.stands.within before.inside before.scanned))
+
+-- ---- each turn
+
+behind_parent : (t : List Frame) → entries_held (advanced (parent t)) ≤ entries_held t
+behind_parent t = let one = entries_advanced (parent t) in let two = entries_parent t in omega (arith, one, two)
+
+same_entries : (t : List Frame) → entries_held (advanced t) ≤ entries_held t
+same_entries t = let one = entries_advanced t in omega (arith, one)
+
+-- the trail moved in the object
+moved_beside : (job : Job) (source : Forest) (bytes : Path → List ℕ) (object : Object) (held : Held) (t : List Frame) → object_at source object (to_site object held.trail) ≡ object_at source object (to_site object t) → entries_held t ≤ entries_held held.trail
+    → AreHeldThere source object (to_site object held.trail) bytes held.rows → HasRoom job source object held → BesideAt job source bytes (phase.Scan object) (with_trail held t)
+moved_beside job source bytes object held t same less there room = record {
+  bytes_are = still_there source object (to_site object held.trail) (to_site object t) bytes held.rows same there;
+  few = room_moved job source object held (with_trail held t) same less room;
+}
+
+scans_beside : (job : Job) (past : Past) (s : Reading) (prefix : List ℕ) (here next : Phase) (held after : Held) (calls : Calls) → Scans job here held after calls (Ok next) → (new : Reading) → Answers calls.asked (Some s) (Some new) → HeldAt job past here held
+    → SourcePart job past here prefix held s → BesideAt job s.tree (past_after here next held past).bytes next after
+unfolding Answers IsListed IsRead
+scans_beside job past s prefix here next held after calls (StartsInSite was object gathered) new answers at part =
+    record {
+      bytes_are = none_there s.tree object (to_site object (sought 0 was.trail)) past.bytes was.rows at.rows.rows;
+      few = room_in_site job s.tree prefix object was was.trail past.count gathered at.ends.1 part.at.1 (scans_hold job past (Some s) (Some s) here next held after calls (StartsInSite was object gathered) refl at).trail.is_one (scans_keep job s s prefix past.count here next held after calls part.proper at.trail.is_one (StartsInSite was object gathered) part.at refl).1;
+    }
+scans_beside job past s prefix here next held after calls (EntersObject was object items apart shallow) new answers at part =
+    record {
+      bytes_are = none_there s.tree (with_directory object items) (to_site object (entered items was.trail)) past.bytes was.rows at.rows.rows;
+      few = room_in_directory job s.tree prefix object was items was.trail past.count apart at.ends.1 part.at.1 (scans_hold job past (Some s) (Some s) here next held after calls (EntersObject was object items apart shallow) (answers.0, answers.1, refl) at).trail.is_one
+          (scans_keep job s s prefix past.count here next held after calls part.proper at.trail.is_one (EntersObject was object items apart shallow) part.at (answers.0, answers.1, refl)).1;
+    }
+scans_beside job past s prefix here next held after calls (IsTooDeep was object apart deep) new answers at part =
+    record { bytes_are = tt; few = early_room job s.tree object was part.few }
+scans_beside job past s prefix here next held after calls (PassesShorty was object item e passed) new answers at part =
+    moved_beside job s.tree past.bytes object was (advanced was.trail) (moved_on job s.tree prefix object was.trail past.count part.at.1.inside part.at.1.stands).same (same_entries was.trail) part.bytes part.few
+scans_beside job past s prefix here next held after calls (EntersDirectory was object name items e apart shallow) new answers at part =
+    record {
+      bytes_are = still_there s.tree object (to_site object was.trail) (to_site object (entered items was.trail)) past.bytes was.rows (ap (object_at s.tree object) (sym (site_entered object items was.trail part.at.1.stands.within))) part.bytes;
+      few = room_below job s.tree prefix object was items name past.count (pairtree_proper s.tree part.at.0.store part.proper) at.trail.is_one e apart shallow (sym (listing_in s.tree (names_to was.trail) part.at.0.store) ∙ answers.0 s refl) part.at.0
+          (scans_hold job past (Some s) (Some s) here next held after calls (EntersDirectory was object name items e apart shallow) (answers.0, answers.1, refl) at).trail.is_one part.at.1 (scans_keep job s s prefix past.count here next held after calls part.proper at.trail.is_one (EntersDirectory was object name items e apart shallow) part.at (answers.0, answers.1, refl)).1;
+    }
+scans_beside job past s prefix here next held after calls (MeetsDeep was object name e apart deep) new answers at part =
+    record { bytes_are = tt; few = given_room job s.tree object was part.few }
+scans_beside job past s prefix here next held after calls (OpensFile was object name e room) new answers at part =
+    record { bytes_are = part.bytes; few = part.few }
+scans_beside job past s prefix here next held after calls (MeetsLimit was object name e room) new answers at part =
+    record { bytes_are = tt; few = given_room job s.tree object was part.few }
+scans_beside job past s prefix here next held after calls (MeetsOther was object name e) new answers at part =
+    record { bytes_are = tt; few = given_room job s.tree object was part.few }
+scans_beside job past s prefix here next held after calls (EndsSite was object e there) new answers at part =
+    record { bytes_are = part.bytes; few = made_room job s.tree prefix past object was was.trail past.count at part.at.1 (omega arith) part.few }
+scans_beside job past s prefix here next held after calls (EndsObject was object e apart own) new answers at part =
+    record {
+      bytes_are = still_there s.tree object (to_site object was.trail) (to_site object (parent was.trail)) past.bytes was.rows (moved_out job s.tree prefix object was.trail past.count (below_site_of object was.trail apart part.at.1.stands.within) part.at.1.stands).same part.bytes;
+      few = made_room job s.tree prefix past object was (parent was.trail) past.count at part.at.1 (entries_parent was.trail) part.few;
+    }
+scans_beside job past s prefix here next held after calls (LeavesDirectory was object e apart outside) new answers at part =
+    let below = below_site_of object was.trail apart part.at.1.stands.within in
+    moved_beside job s.tree past.bytes object was (advanced (parent was.trail)) (moved_behind job s.tree prefix object was.trail past.count below (some_around object was.trail outside below) part.at.1.stands).same (behind_parent was.trail) part.bytes part.few
+scans_beside job past s prefix here next held after calls (ReadsOn was object bytes byte block short) new answers at part =
+    record { bytes_are = part.bytes; few = part.few }
+scans_beside job past s prefix here next held after calls (IsTooLong was object bytes byte block long) new answers at part =
+    record { bytes_are = tt; few = given_room job s.tree object was part.few }
+scans_beside job past s prefix here next held after calls (EndsFile was object bytes) new answers at part =
+    let whole = (reads_end 8192 (bytes_at (pairtree_of s.tree) (names_to was.trail)) bytes was.fed s.unread (omega arith) part.at.2.read (answers.0 s refl)).all in
+    let same = (moved_on job s.tree prefix object was.trail past.count part.at.1.inside part.at.1.stands).same in
+    record {
+      bytes_are = still_there s.tree object (to_site object was.trail) (to_site object (advanced was.trail)) (with_bytes (logical_path object was.trail) was.fed past.bytes) (with_file job object was bytes).rows same
+          (one_more_there job s.tree object was at.trail.entry.0 bytes past.bytes past bytes at.trail.entry.1 at whole part.bytes);
+      few = room_moved job s.tree object was (with_file job object was bytes) same (same_entries was.trail) part.few;
+    }
+
+pub scans_source : ScanningKeepsSource
+scans_source job past s new prefix here next held after calls turn answers at part =
+    with_beside job (past_after here next held past) next prefix after calls.asked s new answers part.proper (scans_keep job s new prefix past.count here next held after calls part.proper at.trail.is_one turn part.at answers)
+    (scans_beside job past s prefix here next held after calls turn new answers at part)

@@ -1,0 +1,61 @@
+-- A run that has ended made no more turns than its work.
+use Rattle.std.proofs.Common.{◌≡◌, ◌≤◌, ℕ, refl, sym, subst, arith}
+use Rattle.std.specs.Prelude.{Err}
+use Rattle.pt_tree.specs.Forest.{Forest}
+use Rattle.pt_tree.specs.Tree.{Tree}
+use Rattle.pt_plan.specs.Answer.{Answer}
+use Rattle.pt_plan.specs.Job.{Job}
+use Rattle.pt_plan.specs.Roots.{root_in}
+use Rattle.pt_plan.specs.Run.{Kept, Run, turning}
+use Rattle.pt_plan.specs.Turn.{Did, FailsAtFirst, FailsLater, GoesOn, IsRefused, LeavesSome, Stays, Turn}
+use Rattle.pt_plan.specs.Work.{work}
+use Rattle.pt_plan.specs.World.{World, source_tree}
+use Rattle.pt_plan.specs.declared.halt.Halt.TheVariants as halt
+use Rattle.pt_plan.specs.declared.phase.Phase.{Phase}
+use Rattle.pt_plan.specs.declared.phase.Phase.TheVariants as phase
+use Rattle.pt_begun.specs.Begun.{Begun, Start}
+use Rattle.pt_begun.proofs.ends.TurnEnds.{answers_tree, same_tree, turn_ends_begun}
+use Rattle.pt_begun.specs.WorkLaws.{BegunWithinWork, IsWithinWork, StopsWithinWork, TurnEndsWithinWork}
+use Rattle.pt_begun.proofs.turns_left.Within.{turns_are_within_work}
+
+-- a turn leaves the source's tree
+pub turn_tree : (job : Job) (here : Phase) (before after : Kept) (old new : World) (answer : Answer) → Turn job here before after old new answer → source_tree new.source ≡ source_tree old.source
+unfolding Did LeavesSome Stays
+turn_tree job here before after old new _ (GoesOn calls next turn did counts) = answers_tree calls.asked old.source new.source did.0.source
+turn_tree job here before after old new _ (IsRefused prefix held calls why turn did halted) = answers_tree calls.asked old.source new.source did.0.source
+turn_tree job here before after old new _ (FailsAtFirst why stays halted) = stays.0
+turn_tree job here before after old new _ (FailsLater prefix held calls answer rows why turn leaves which halted) = leaves.0.source
+
+-- of a run that has ended no turn is left
+no_more : (job : Job) (source : Forest) (root : Tree) (count : ℕ) (kept : Kept) → kept.counts.turns ≤ work job source root → IsWithinWork job source root count (record { phase = phase.Ended; kept = kept })
+no_more job source root count kept few = record { within = omega (arith, few) }
+
+pub turn_ends_within_work : TurnEndsWithinWork
+unfolding BegunWithinWork Begun
+turn_ends_within_work job start old new run after why (past, is, within) going turn =
+    let ends = turn_ends_begun job start old new run after why (past, is) turn in (
+      ends.0,
+      ends.1,
+      λ v same t some.
+          let s = same_tree old.source new.source v (turn_tree job run.phase (turning run.kept) after old new (Err why) turn) same in
+          subst (λ (f : Forest). IsWithinWork job f (root_in t) ends.0.count (record { phase = phase.Ended; kept = after })) (sym s.2)
+          (no_more job s.0.tree (root_in t) ends.0.count after (turns_are_within_work job start old new run after (Err why) s.0 t (past, is, within) going turn s.1 some)),
+    )
+
+-- its own count has no part in what a run that ended is
+without_turn : (job : Job) (start : Start) (world : World) (kept : Kept) → Begun job start world (record { phase = phase.Ended; kept = turning kept }) → Begun job start world (record { phase = phase.Ended; kept = kept })
+unfolding Begun
+without_turn job start world kept (past, is) = (past, record { layout = is.layout; held = is.held; source = is.source; dest = is.dest; items = λ s e old f. record { places = (is.items s e old f).places; lines_are = record { done = (is.items s e old f).lines_are.done; present = (is.items s e old f).lines_are.present; skipped = (is.items s e old f).lines_are.skipped } }; log = is.log; quiet = is.quiet; left = is.left })
+
+no_turn : (job : Job) (here : Phase) (kept : Kept) (world : World) → Turn job here (turning kept) (turning kept) world world (Err halt.Memory)
+unfolding Stays
+no_turn job here kept world = FailsAtFirst halt.Memory (refl, refl, refl, refl) (record { prefix = refl; trail = refl; rows_are = refl; contents = refl; counts = refl })
+
+stops_begun : (job : Job) (start : Start) (world : World) (run : Run) → Begun job start world run → Begun job start world (record { phase = phase.Ended; kept = run.kept })
+stops_begun job start world run begun = without_turn job start world run.kept (turn_ends_begun job start world world run (turning run.kept) halt.Memory begun (no_turn job run.phase run.kept world))
+
+pub stops_within_work : StopsWithinWork
+unfolding BegunWithinWork Begun
+stops_within_work job start world run (past, is, within) =
+    let ends = stops_begun job start world run (past, is) in
+    (ends.0, ends.1, λ v same t some. no_more job v.tree (root_in t) ends.0.count run.kept (let was = (within v same t some).within in omega (arith, was)))

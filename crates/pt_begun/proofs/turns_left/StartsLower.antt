@@ -1,0 +1,30 @@
+-- The turns of the start lower what is left.
+use Rattle.std.proofs.Common.{◌≡◌, ◌<◌, ℕ, ◌+◌, ◌==◌, Bool, true, false, refl, arith, cond}
+use Rattle.std.specs.Prelude.{None}
+use Rattle.std.proofs.lemmas.Bool.{eqb-true}
+use Rattle.pt_tree.specs.Forest.{Forest}
+use Rattle.pt_tree.specs.Tree.{Tree}
+use Rattle.pt_plan.specs.Job.{Job}
+use Rattle.pt_plan.specs.Run.{Held}
+use Rattle.pt_plan.specs.TurnStart.{HasNoPrefix, HasNoRoot, HasNoStaging, HasPrefix, HasRoot, IsSame, IsStore, MakesRoot, RenamesRoot}
+use Rattle.pt_plan.specs.declared.phase.Phase.TheVariants as phase
+use Rattle.pt_begun.specs.WorkLaws.{Lowers, StartingLowers}
+
+makes_item : (job : Job) (source : Forest) (root : Tree) (count number : ℕ) (held : Held) (last : Bool) → (number == 5) ≡ last → number < 6 → Lowers job source root count (phase.RootMake number) held (cond last phase.RootRename (phase.RootMake (number + 1))) held
+makes_item job source root count number held true is within = let five = eqb-true number 5 is in omega (arith, five)
+makes_item job source root count number held false is within = omega (arith, within)
+
+compares_file : (job : Job) (source : Forest) (root : Tree) (count number : ℕ) (held : Held) (last : Bool) → (number == 2) ≡ last → number < 3 → Lowers job source root count (phase.RootCheck number) held (cond last phase.OpenRoot (phase.RootCheck (number + 1))) held
+compares_file job source root count number held true is within = let two = eqb-true number 2 is in omega (arith, two)
+compares_file job source root count number held false is within = omega (arith, within)
+
+pub starts_lower : StartingLowers
+starts_lower job past source root prefix read here next held calls (IsStore was entries is) at = omega arith
+starts_lower job past source root prefix read here next held calls (HasNoPrefix was) at = omega arith
+starts_lower job past source root prefix read here next held calls (HasPrefix was block good) at = omega arith
+starts_lower job past source root prefix read here next held calls (HasNoStaging was) at = omega arith
+starts_lower job past source root prefix read here next held calls (HasNoRoot was) at = omega arith
+starts_lower job past source root prefix read here next held calls (HasRoot was) at = omega arith
+starts_lower job past source root prefix read here next held calls (MakesRoot was number item is) at = makes_item job source root past.count number held (number == 5) refl at.numbers
+starts_lower job past source root prefix read here next held calls (RenamesRoot was) at = omega arith
+starts_lower job past source root prefix read here next held calls (IsSame was number path bytes is) at = compares_file job source root past.count number held (number == 2) refl at.numbers

@@ -1,0 +1,140 @@
+-- A run makes no more turns than its work.
+use Rattle.std.proofs.Common.{◌≡◌, ◌<◌, ℕ, List, false, refl, ap, sym, ◌∙◌, subst, arith}
+use Rattle.std.specs.Prelude.{Option, None, Some, Ok}
+use Rattle.std.proofs.lemmas.Bool.{true≢false}
+use Rattle.pt_tree.specs.Forest.{Forest}
+use Rattle.pt_tree.specs.Source.{Reading}
+use Rattle.pt_tree.specs.Tree.{Tree}
+use Rattle.pt_plan.specs.Job.{Job}
+use Rattle.pt_plan.specs.Lines.{Done, End, Line, Present, Skipped}
+use Rattle.pt_plan.specs.Roots.{root_in}
+use Rattle.pt_plan.specs.Run.{Counts, Held, Run, turning}
+use Rattle.pt_plan.specs.Turn.{Did, FailsAtFirst, FailsLater, Follows, GoesOn, IsRefused, Make, Place, Scan, Start as a_start, Walk, counted}
+use Rattle.pt_plan.specs.World.{Answers, Calls}
+use Rattle.pt_plan.specs.declared.phase.Phase.{Phase}
+use Rattle.pt_plan.specs.declared.phase.Phase.TheVariants as phase
+use Rattle.pt_begun.specs.Begun.{Begun, IsFreeAt, IsPast}
+use Rattle.pt_begun.specs.BegunHeld.{HeldAt}
+use Rattle.pt_begun.specs.BegunSource.{SourcePart}
+use Rattle.pt_begun.specs.EndLaws.{is_ended}
+use Rattle.pt_begun.specs.Past.{Past, done_after, no_past, past_after}
+use Rattle.pt_begun.proofs.ends.NewRun.{new_past}
+use Rattle.pt_begun.proofs.source.SourceKeeps.{tree_kept}
+use Rattle.pt_begun.proofs.ends.TurnKeeps.{told_source, turned}
+use Rattle.pt_begun.specs.WorkLaws.{BegunWithinWork, IsWithinWork, Lowers, NewRunIsWithinWork, TurnIsLeft, TurnKeepsWithinWork, TurnsAreWithinWork, WithinWorkIsBegun}
+use Rattle.pt_begun.specs.WorkLeft.{left}
+use Rattle.pt_begun.proofs.turns_left.MakesLower.{makes_lower}
+use Rattle.pt_begun.proofs.turns_left.PlacesLower.{places_lower}
+use Rattle.pt_begun.proofs.turns_left.ScansLower.{scans_lower}
+use Rattle.pt_begun.proofs.turns_left.StartsLower.{starts_lower}
+use Rattle.pt_begun.proofs.turns_left.WalksLower.{walks_lower}
+
+-- ---- a turn lowers what is left
+
+-- the groups together
+follows_lower : (job : Job) (past : Past) (s new : Reading) (root : Tree) (counts : Counts) (here : Phase) (prefix : List ℕ) (held : Held) (read : List ℕ) (after : Held) (calls : Calls) (next : Phase) → Follows job counts here prefix held read after calls (Ok next)
+    → Answers calls.asked (Some s) (Some new) → HeldAt job past here held → SourcePart job past here prefix held s → IsFreeAt next job s.tree root (done_after here held.trail next past.count) → Lowers job s.tree root past.count here held next after
+follows_lower job past s new root counts here prefix held read after calls next (a_start h p r x c a turn) answers at known free = starts_lower job past s.tree root prefix read here next held calls turn at
+follows_lower job past s new root counts here prefix held read after calls next (Walk h p x n c a turn) answers at known free = walks_lower job past s new root prefix here next held after calls turn answers at known free
+follows_lower job past s new root counts here prefix held read after calls next (Scan h p x n c a turn) answers at known free = scans_lower job past s new root prefix here next held after calls turn answers at known
+follows_lower job past s new root counts here prefix held read after calls next (Make h p x n c a turn) answers at known free = makes_lower job past s new root prefix here held after calls next turn answers at known
+follows_lower job past s new root counts here prefix held read after calls next (Place h p x n c a turn) answers at known free = places_lower job counts past s.tree root here next held after calls turn at
+
+-- before the end one turn is left at least
+some_left : (job : Job) (source : Forest) (root : Tree) (count : ℕ) (here : Phase) (held : Held) → is_ended here ≡ false → 0 < left job source root count here held
+some_left job source root count phase.Begin held not = omega arith
+some_left job source root count (phase.Prefix here) held not = omega arith
+some_left job source root count phase.Staging held not = omega arith
+some_left job source root count phase.Root held not = omega arith
+some_left job source root count (phase.RootMake number) held not = omega arith
+some_left job source root count phase.RootRename held not = omega arith
+some_left job source root count (phase.RootCheck number) held not = omega arith
+some_left job source root count phase.OpenRoot held not = omega arith
+some_left job source root count phase.Judge held not = omega arith
+some_left job source root count (phase.OpenObject object) held not = omega arith
+some_left job source root count (phase.Scan object) held not = omega arith
+some_left job source root count (phase.Read object bytes) held not = omega arith
+some_left job source root count (phase.Make object here) held not = omega arith
+some_left job source root count (phase.Copy object position bytes) held not = omega arith
+some_left job source root count (phase.Tuples object number) held not = omega arith
+some_left job source root count (phase.Rename object) held not = omega arith
+some_left job source root count (phase.Line object) held not = omega arith
+some_left job source root count phase.Walk held not = omega arith
+some_left job source root count phase.End held not = omega arith
+some_left job source root count phase.Ended held not = absurd (true≢false not)
+
+-- ---- the turns
+
+-- no line changes how many turns were made
+same_turns : (line : Option Line) (counts : Counts) → (counted line counts).turns ≡ counts.turns
+same_turns None counts = refl
+same_turns (Some (Done at bytes empty files id to)) counts = refl
+same_turns (Some (Present at id to)) counts = refl
+same_turns (Some (Skipped at why)) counts = refl
+same_turns (Some (End done present skipped)) counts = refl
+
+-- ---- the laws
+
+pub new_run_is_within_work : NewRunIsWithinWork
+unfolding BegunWithinWork
+new_run_is_within_work job world layout is = (no_past, new_past job world layout is, λ s e old f. record { within = omega arith })
+
+pub within_work_is_begun : WithinWorkIsBegun
+unfolding BegunWithinWork Begun
+within_work_is_begun job start world run (past, is, within) = (past, is)
+
+pub turn_keeps_within_work : TurnKeepsWithinWork
+unfolding BegunWithinWork Did
+turn_keeps_within_work job start old new run after next (past, is, within) (GoesOn calls to turn did counts) = (later, is_later, stays)
+  where
+    later : Past
+    later = past_after run.phase next run.kept.held past
+
+    goes_on : Run
+    goes_on = record { phase = next; kept = after }
+
+    is_later : IsPast job start new goes_on later
+    is_later = turned job past start old new run after next calls turn did.0 counts is
+
+    stays : (v : Reading) → new.source ≡ Some v → (t : Tree) → start.dest ≡ Some t → IsWithinWork job v.tree (root_in t) later.count goes_on
+    stays v same t some =
+        let asked = subst (Answers calls.asked old.source) same did.0.source in
+        let told = told_source calls.asked old.source v asked in
+        let s = told.0 in
+        let answers = subst (λ o. Answers calls.asked o (Some v)) told.1 asked in
+        let tree = tree_kept calls.asked s v answers in
+        let free = subst (λ (f : Forest). IsFreeAt next job f (root_in t) later.count) tree (is_later.items v same t some).places.next in
+        let lowers = follows_lower job past s v (root_in t) (turning run.kept).counts run.phase run.kept.prefix run.kept.held after.prefix after.held calls next turn answers is.held (is.source s told.1) free in
+        let was = (within s told.1 t some).within in
+        let one = ap (λ (c : Counts). c.turns) counts ∙ same_turns calls.line (turning run.kept).counts in
+        subst (λ (f : Forest). IsWithinWork job f (root_in t) later.count goes_on) (sym tree) (record { within = omega (arith, lowers, was, one) })
+
+pub turn_is_left : TurnIsLeft
+unfolding BegunWithinWork
+turn_is_left job start world run s t (past, is, within) not told some =
+    let was = (within s told t some).within in
+    let more = some_left job s.tree (root_in t) past.count run.phase run.kept.held not in
+    omega (arith, was, more)
+
+pub turns_are_within_work : TurnsAreWithinWork
+unfolding BegunWithinWork
+turns_are_within_work job start old new run after _ s t (past, is, within) not (GoesOn calls next turn did counts) told some =
+    let was = (within s told t some).within in
+    let one = ap (λ (c : Counts). c.turns) counts ∙ same_turns calls.line (turning run.kept).counts in
+    let more = some_left job s.tree (root_in t) past.count run.phase run.kept.held not in
+    omega (arith, was, one, more)
+turns_are_within_work job start old new run after _ s t (past, is, within) not (IsRefused prefix held calls why turn did halted) told some =
+    let was = (within s told t some).within in
+    let one = ap (λ (c : Counts). c.turns) halted.counts in
+    let more = some_left job s.tree (root_in t) past.count run.phase run.kept.held not in
+    omega (arith, was, one, more)
+turns_are_within_work job start old new run after _ s t (past, is, within) not (FailsAtFirst why stays halted) told some =
+    let was = (within s told t some).within in
+    let one = ap (λ (c : Counts). c.turns) halted.counts in
+    let more = some_left job s.tree (root_in t) past.count run.phase run.kept.held not in
+    omega (arith, was, one, more)
+turns_are_within_work job start old new run after _ s t (past, is, within) not (FailsLater prefix held calls answer rows why turn leaves which halted) told some =
+    let was = (within s told t some).within in
+    let one = ap (λ (c : Counts). c.turns) halted.counts in
+    let more = some_left job s.tree (root_in t) past.count run.phase run.kept.held not in
+    omega (arith, was, one, more)

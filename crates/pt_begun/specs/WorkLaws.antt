@@ -1,0 +1,142 @@
+-- A run makes no more turns than its work, where its source and its destination tell.
+use Rattle.std.specs.Prelude.{◌≡◌, ◌<◌, ◌≤◌, ℕ, ◌+◌, false, List, Option, Some, Ok, Err}
+use Rattle.std.specs.Option.{ForSome}
+use Rattle.pt_name.specs.Tuples.{IsLayout}
+use Rattle.pt_tree.specs.Forest.{Forest}
+use Rattle.pt_tree.specs.Source.{Reading}
+use Rattle.pt_tree.specs.Tree.{Tree}
+use Rattle.pt_plan.specs.Answer.{Answer}
+use Rattle.pt_plan.specs.Job.{Job}
+use Rattle.pt_plan.specs.Lines.{Line}
+use Rattle.pt_plan.specs.Roots.{root_in}
+use Rattle.pt_plan.specs.Run.{Counts, Held, Kept, Run, new_run, turning}
+use Rattle.pt_plan.specs.Turn.{Turn}
+use Rattle.pt_plan.specs.TurnMake.{Makings}
+use Rattle.pt_plan.specs.TurnPlace.{Places}
+use Rattle.pt_plan.specs.TurnScan.{Scans}
+use Rattle.pt_plan.specs.TurnStart.{Starts}
+use Rattle.pt_plan.specs.TurnWalk.{Walks}
+use Rattle.pt_plan.specs.Work.{work}
+use Rattle.pt_plan.specs.World.{Answers, Calls, World}
+use Rattle.pt_plan.specs.declared.halt.Halt.{Halt}
+use Rattle.pt_plan.specs.declared.phase.Phase.{Phase}
+use Rattle.pt_plan.specs.declared.phase.Phase.TheVariants as phase
+use Rattle.pt_begun.specs.Begun.{Begun, IsFreeAt, IsPast, IsWorld, Start, start_of}
+use Rattle.pt_begun.specs.BegunHeld.{HeldAt}
+use Rattle.pt_begun.specs.BegunSource.{SourcePart}
+use Rattle.pt_begun.specs.EndLaws.{is_ended}
+use Rattle.pt_begun.specs.Past.{Past, done_after}
+use Rattle.pt_begun.specs.WorkLeft.{left}
+
+-- ---- a run within its work
+
+-- the turns made and the most that are left are together no more than the work
+pub record IsWithinWork (job : Job) (source : Forest) (root : Tree) (count : ℕ) (run : Run) : Type 0 where
+  pub within : run.kept.counts.turns + left job source root count run.phase run.kept.held
+      ≤ work job source root
+
+-- a run of this job that began at this start is in progress, and, where source and destination tell, within its work
+unfoldable pub BegunWithinWork : Job → Start → World → Run → Type 0
+BegunWithinWork job start world run =
+    (past : Past) × IsPast job start world run past
+    × ForSome world.source
+    (λ s. ForSome start.dest (λ old. IsWithinWork job s.tree (root_in old) past.count run))
+
+-- a new run is
+abbrev pub NewRunIsWithinWork : Type 0
+NewRunIsWithinWork = (job : Job) (world : World) → IsLayout job.tuples → IsWorld world
+    → BegunWithinWork job (start_of world) world new_run
+
+-- it is in progress
+abbrev pub WithinWorkIsBegun : Type 0
+WithinWorkIsBegun = (job : Job) (start : Start) (world : World) (run : Run)
+    → BegunWithinWork job start world run → Begun job start world run
+
+-- a turn that goes on leaves it so, at its next phase
+abbrev pub TurnKeepsWithinWork : Type 0
+TurnKeepsWithinWork =
+    (job : Job) (start : Start) (old new : World) (run : Run) (after : Kept) (next : Phase)
+    → BegunWithinWork job start old run
+    → Turn job run.phase (turning run.kept) after old new (Ok next)
+    → BegunWithinWork job start new (record { phase = next; kept = after })
+
+-- before its end a turn is left of the work, so that a limit of at least the work isn't reached
+abbrev pub TurnIsLeft : Type 0
+TurnIsLeft =
+    (job : Job) (start : Start) (world : World) (run : Run) (s : Reading) (t : Tree)
+    → BegunWithinWork job start world run → is_ended run.phase ≡ false → world.source ≡ Some s
+    → start.dest ≡ Some t → run.kept.counts.turns < work job s.tree (root_in t)
+
+-- after any turn, whatever it answers, no more turns were made than the work
+abbrev pub TurnsAreWithinWork : Type 0
+TurnsAreWithinWork =
+    (job : Job) (start : Start) (old new : World) (run : Run) (after : Kept) (answer : Answer)
+    (s : Reading) (t : Tree) → BegunWithinWork job start old run → is_ended run.phase ≡ false
+    → Turn job run.phase (turning run.kept) after old new answer
+    → old.source ≡ Some s → start.dest ≡ Some t → after.counts.turns ≤ work job s.tree (root_in t)
+
+-- a turn that halts the run leaves it so, ended
+abbrev pub TurnEndsWithinWork : Type 0
+TurnEndsWithinWork =
+    (job : Job) (start : Start) (old new : World) (run : Run) (after : Kept) (why : Halt)
+    → BegunWithinWork job start old run → is_ended run.phase ≡ false
+    → Turn job run.phase (turning run.kept) after old new (Err why)
+    → BegunWithinWork job start new (record { phase = phase.Ended; kept = after })
+
+-- and so is a run that is ended without a turn
+abbrev pub StopsWithinWork : Type 0
+StopsWithinWork = (job : Job) (start : Start) (world : World) (run : Run)
+    → BegunWithinWork job start world run
+    → BegunWithinWork job start world (record { phase = phase.Ended; kept = run.kept })
+
+-- ---- the turns of each group
+
+-- a turn from this phase to that one lowers what is left
+abbrev pub Lowers : Job → Forest → Tree → ℕ → Phase → Held → Phase → Held → Type 0
+Lowers job source root count here held next after =
+    left job source root (done_after here held.trail next count) next after + 1
+    ≤ left job source root count here held
+
+-- the turns of the start
+abbrev pub StartingLowers : Type 0
+StartingLowers =
+    (job : Job) (past : Past) (source : Forest) (root : Tree) (prefix read : List ℕ)
+    (here next : Phase) (held : Held) (calls : Calls) → Starts job here prefix read calls (Ok next)
+    → HeldAt job past here held
+    → Lowers job source root past.count here held next held
+
+-- the turns of the walk; the place of an object that is entered next isn't taken
+abbrev pub WalkingLowers : Type 0
+WalkingLowers =
+    (job : Job) (past : Past) (s new : Reading) (root : Tree) (prefix : List ℕ) (here next : Phase)
+    (held after : Held) (calls : Calls) → Walks job prefix here held after calls (Ok next)
+    → Answers calls.asked (Some s) (Some new)
+    → HeldAt job past here held → SourcePart job past here prefix held s
+    → IsFreeAt next job s.tree root (done_after here held.trail next past.count)
+    → Lowers job s.tree root past.count here held next after
+
+-- the turns of the scan of an object
+abbrev pub ScanningLowers : Type 0
+ScanningLowers =
+    (job : Job) (past : Past) (s new : Reading) (root : Tree) (prefix : List ℕ) (here next : Phase)
+    (held after : Held) (calls : Calls) → Scans job here held after calls (Ok next)
+    → Answers calls.asked (Some s) (Some new)
+    → HeldAt job past here held → SourcePart job past here prefix held s
+    → Lowers job s.tree root past.count here held next after
+
+-- the turns that make an object
+abbrev pub MakingLowers : Type 0
+MakingLowers =
+    (job : Job) (past : Past) (s new : Reading) (root : Tree) (prefix : List ℕ) (here : Phase)
+    (held after : Held) (calls : Calls) (next : Phase) → Makings job here held after calls (Ok next)
+    → Answers calls.asked (Some s) (Some new)
+    → HeldAt job past here held → SourcePart job past here prefix held s
+    → Lowers job s.tree root past.count here held next after
+
+-- the turns that bring an object to its place, and that tell of it and of the end
+abbrev pub PlacingLowers : Type 0
+PlacingLowers =
+    (job : Job) (counts : Counts) (past : Past) (source : Forest) (root : Tree) (here next : Phase)
+    (held after : Held) (calls : Calls) → Places job counts here held after calls (Ok next)
+    → HeldAt job past here held
+    → Lowers job source root past.count here held next after

@@ -1,0 +1,165 @@
+-- The most turns that a run has still to make, where its source and its destination tell.
+use Rattle.std.specs.Prelude.{ℕ, suc, ◌+◌, ◌-◌, cond, drop, is_none, length, sum_by, take, List, [], ◌∷◌, ◌++◌}
+use Rattle.std.specs.List.{list_any}
+use Rattle.pt_object.specs.Distinct.{row_has_digest}
+use Rattle.pt_object.specs.declared.rows.Row.{Row}
+use Rattle.pt_tree.specs.Forest.{Forest}
+use Rattle.pt_tree.specs.Path.{Path}
+use Rattle.pt_tree.specs.Tree.{Tree}
+use Rattle.pt_walk.specs.Left.{bytes_at, inside_at}
+use Rattle.pt_walk.specs.Limits.{Bounds}
+use Rattle.pt_walk.specs.Object.{Entry, entry_cause, files_with}
+use Rattle.pt_walk.specs.Sites.{Listed}
+use Rattle.pt_walk.specs.Trail.{names_to, parent, sought, trail_path}
+use Rattle.pt_walk.specs.declared.frame.Frame.{Frame}
+use Rattle.pt_plan.specs.Carried.{marked}
+use Rattle.pt_plan.specs.Items.{outcome}
+use Rattle.pt_plan.specs.Job.{Job}
+use Rattle.pt_plan.specs.Run.{Held}
+use Rattle.pt_plan.specs.Store.{pairtree_of}
+use Rattle.pt_plan.specs.TurnMake.{path_of_source}
+use Rattle.pt_plan.specs.TurnScan.{own_listings, to_site}
+use Rattle.pt_plan.specs.Work.{reads, work_at, work_by_outcome, work_on_item, work_to_scan}
+use Rattle.pt_plan.specs.declared.object.Object.{Object}
+use Rattle.pt_plan.specs.declared.phase.Part.{Part}
+use Rattle.pt_plan.specs.declared.phase.Part.TheVariants as part
+use Rattle.pt_plan.specs.declared.phase.Phase.{Phase}
+use Rattle.pt_plan.specs.declared.phase.Phase.TheVariants as phase
+use Rattle.pt_begun.specs.BegunSource.{left_of, object_at}
+use Rattle.pt_begun.specs.PartsMade.{made_before, script_of_object}
+
+-- ---- the walk
+
+-- the entries of these listings from their places on
+abbrev pub still_listed : List Frame → ℕ
+still_listed [] = 0
+still_listed (frame ∷ frames) = (length frame.listing - frame.place) + still_listed frames
+
+-- on the items from this one on
+abbrev pub items_left : Job → Forest → Tree → ℕ → ℕ
+items_left job source root count = sum_by (work_on_item job) (drop count (marked job source root))
+
+-- to walk on behind an object that is done, at the start of its site, and to tell the end
+abbrev pub after_object : Job → Forest → Tree → ℕ → List Frame → ℕ
+after_object job source root count site =
+    still_listed (sought 0 site) + items_left job source root (suc count) + 2
+
+-- ---- the scan
+
+-- to meet these entries of an object up to the first bad one, if its directory has this depth and so many files came before them
+abbrev pub to_meet : Bounds → ℕ → ℕ → List Entry → ℕ
+to_meet limits depth held [] = 0
+to_meet limits depth held (entry ∷ others) =
+    work_at entry.1
+    + cond (is_none (entry_cause limits depth held entry))
+    (to_meet limits depth (files_with held entry) others) 0
+
+-- to meet those behind the first, unless that is the bad one
+abbrev pub to_meet_behind : Bounds → ℕ → ℕ → List Entry → ℕ
+to_meet_behind limits depth held [] = 0
+to_meet_behind limits depth held (entry ∷ others) =
+    cond (is_none (entry_cause limits depth held entry))
+    (to_meet limits depth (files_with held entry) others) 0
+
+-- the entries of the innermost listing from its place on
+abbrev pub still_here : List Frame → ℕ
+still_here [] = 0
+still_here (frame ∷ frames) = length frame.listing - frame.place
+
+-- to leave the object's own listings, and to pass what of its site isn't of it
+abbrev pub to_leave : Object → List Frame → ℕ
+to_leave object trail = own_listings object trail + cond object.gathered (still_here (to_site object trail)) 0
+
+-- after its last entry: to make the object, if there is no cause against it, and what comes behind it
+abbrev pub after_scan : Job → Forest → Tree → ℕ → Object → List Frame → ℕ
+after_scan job source root count object site =
+    work_by_outcome job object.id (outcome job.limits (object_at source object site))
+    + after_object job source root count site
+
+-- before it is entered
+abbrev pub before_scan : Job → Forest → Tree → ℕ → Object → List Frame → ℕ
+before_scan job source root count object site =
+    work_to_scan job (Listed (inside_at (pairtree_of source) (trail_path site)))
+    (object_at source object site) + after_scan job source root count object site
+
+-- to meet what is left of it, and after it
+abbrev pub in_scan : Job → Forest → Tree → ℕ → Object → Held → ℕ
+in_scan job source root count object held =
+    to_meet job.limits (length (object_at source object (to_site object held.trail)).at)
+    (length held.rows) (left_of source object held.trail) + to_leave object held.trail
+    + after_scan job source root count object (to_site object held.trail)
+
+-- to read on in the file at the innermost place, of which so many bytes were read, and to meet what is behind it
+abbrev pub in_file : Job → Forest → Tree → ℕ → Object → Held → ℕ → ℕ
+in_file job source root count object held bytes =
+    reads (length (bytes_at (pairtree_of source) (names_to held.trail)) - bytes)
+    + to_meet_behind job.limits (length (object_at source object (to_site object held.trail)).at)
+    (length held.rows) (left_of source object held.trail) + to_leave object held.trail
+    + after_scan job source root count object (to_site object held.trail)
+
+-- ---- making
+
+-- what the source holds at the logical paths of an object
+abbrev pub bytes_there : Forest → Object → List Frame → Path → List ℕ
+bytes_there source object site path = bytes_at (pairtree_of source) (path_of_source object site ++ path)
+
+-- the items of the object's script from this part on
+abbrev pub items_to_make : Job → Forest → Object → List Frame → List Row → Part → ℕ
+items_to_make job source object site rows here =
+    length (script_of_object job object rows (bytes_there source object site))
+    - length (made_before job object rows (bytes_there source object site) here)
+
+-- to copy these rows where they are the first of their digests, and to pass the others, if those came before them
+abbrev pub to_copy : List Row → List Row → ℕ
+to_copy earlier [] = 0
+to_copy earlier (row ∷ rows) =
+    cond (list_any (row_has_digest row.digest) earlier) 1 (reads row.length)
+    + to_copy (earlier ++ row ∷ []) rows
+
+-- the rows from this one on
+abbrev pub to_copy_from : List Row → ℕ → ℕ
+to_copy_from rows number = to_copy (take number rows) (drop number rows)
+
+-- those that aren't passed or copied before a part
+abbrev pub to_copy_at : List Row → Part → ℕ
+to_copy_at rows part.Staging = to_copy_from rows 0
+to_copy_at rows part.Declaration = to_copy_from rows 0
+to_copy_at rows part.Version = to_copy_from rows 0
+to_copy_at rows (part.Content position) = to_copy_from rows position.row
+to_copy_at rows _ = 0
+
+-- ---- by the phase
+
+-- so many turns are left at a phase, where so many items are done and this is held
+abbrev pub left : Job → Forest → Tree → ℕ → Phase → Held → ℕ
+left job source root count phase.Begin held = 13 + items_left job source root count
+left job source root count (phase.Prefix here) held = 12 + items_left job source root count
+left job source root count phase.Staging held = 11 + items_left job source root count
+left job source root count phase.Root held = 10 + items_left job source root count
+left job source root count (phase.RootMake number) held = (6 - number) + 3 + items_left job source root count
+left job source root count phase.RootRename held = 3 + items_left job source root count
+left job source root count (phase.RootCheck number) held = (3 - number) + 2 + items_left job source root count
+left job source root count phase.OpenRoot held = 2 + items_left job source root count
+left job source root count phase.Judge held =
+    still_listed (parent held.trail) + items_left job source root count + 1
+left job source root count (phase.OpenObject object) held =
+    before_scan job source root count object (to_site object held.trail)
+left job source root count (phase.Scan object) held = in_scan job source root count object held
+left job source root count (phase.Read object bytes) held = in_file job source root count object held bytes
+left job source root count (phase.Make object here) held =
+    items_to_make job source object (to_site object held.trail) held.rows here
+    + to_copy_at held.rows here + job.tuples.count + 2
+    + after_object job source root count (to_site object held.trail)
+left job source root count (phase.Copy object position bytes) held =
+    (items_to_make job source object (to_site object held.trail) held.rows (part.Content position)
+    - 1) + reads bytes + to_copy_from held.rows (position.row + 1) + job.tuples.count + 2
+    + after_object job source root count (to_site object held.trail)
+left job source root count (phase.Tuples object number) held = (job.tuples.count - number) + 2
+    + after_object job source root count (to_site object held.trail)
+left job source root count (phase.Rename object) held =
+    2 + after_object job source root count (to_site object held.trail)
+left job source root count (phase.Line object) held =
+    1 + after_object job source root count (to_site object held.trail)
+left job source root count phase.Walk held = still_listed held.trail + items_left job source root count + 2
+left job source root count phase.End held = 1
+left job source root count phase.Ended held = 0

@@ -1,2 +1,0 @@
-pub mod WorkLaws
-pub mod WorkLeft
