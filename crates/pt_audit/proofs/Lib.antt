@@ -3,6 +3,7 @@ pub mod Kept
 pub mod LineTexts
 pub mod Listed
 pub mod Noted
+pub mod Opened
 pub mod Passed
 pub mod Reading
 pub mod Roots

@@ -8,7 +8,7 @@ use Rattle.pt_tree.specs.Source.{CanList, CanOpen, CanRead, Reading, after_next,
 use Rattle.pt_tree.specs.declared.faults.TreeFault.{TreeFault}
 use Rattle.pt_tree.specs.declared.kind.Kind.TheVariants as kind
 use Rattle.pt_audit.specs.Root.{Reads, Stands, is_reading, tree_in}
-use Rattle.pt_audit.proofs.Roots.{stands_dir, stands_file, top_stands}
+use Rattle.pt_audit.proofs.Roots.{seen_kind, stands_dir, stands_file, top_stands}
 
 -- what is open may be read
 pub can_read : (told : Option Reading) → Reads told → CanRead told
@@ -71,4 +71,4 @@ opens_tree (Some r) new p is = ap tree_in is
 
 pub ruleset reading = (can_read, still_reads, still_tree)
 
-pub ruleset calls = (can_read, can_open, can_list, can_list_top, opens_reads, opens_tree)
+pub ruleset calls = (can_read, can_open, can_list, can_list_top, opens_reads, opens_tree, seen_kind)

@@ -13,5 +13,7 @@ world_of source s d l = world source None None s d l
 
 -- where there is more to do, fewer turns are left
 abbrev pub IsSmaller : Turn → Running → Running → Type 0
-IsSmaller turn.More old new = new.state.job.limits.turns - new.state.counts.turns < old.state.job.limits.turns - old.state.counts.turns
+IsSmaller turn.More old new =
+    new.state.job.limits.turns - new.state.counts.turns
+    < old.state.job.limits.turns - old.state.counts.turns
 IsSmaller turn.Finished old new = ⊤

@@ -11,7 +11,9 @@ left_in told = option_and_then (λ s. s.unread) told
 
 -- these bytes came next, and the rest is left
 unfoldable pub CameNext : List ℕ → Option Reading → Option Reading → Type 0
-CameNext bytes old new = ForSome (left_in old) (λ left. (rest : List ℕ) × (left_in new ≡ Some rest) × (left ≡ bytes ++ rest))
+CameNext bytes old new =
+    ForSome (left_in old) (λ left. (rest : List ℕ) × (left_in new ≡ Some rest)
+    × (left ≡ bytes ++ rest))
 
 -- they end the file, or fill whole blocks
 abbrev pub EndsBlock : List ℕ → List ℕ → Type 0
@@ -19,7 +21,8 @@ EndsBlock bytes rest = (rest ≡ []) ⊎ ((blocks : ℕ) × (length bytes ≡ bl
 
 -- other bytes came next
 unfoldable pub IsNotNext : List ℕ → Option Reading → Type 0
-IsNotNext bytes old = ForSome (left_in old) (λ left. (rest : List ℕ) → EndsBlock bytes rest → left ≢ bytes ++ rest)
+IsNotNext bytes old =
+    ForSome (left_in old) (λ left. (rest : List ℕ) → EndsBlock bytes rest → left ≢ bytes ++ rest)
 
 -- whether nothing is left
 unfoldable pub TellsEnd : Option Reading → Bool → Type 0
@@ -31,4 +34,6 @@ TellsRest bytes old same = ForSome (left_in old) (λ left. same ≡ bytes_eq lef
 
 -- all that is left; none where that is more than is taken
 unfoldable pub IsAllLeft : Option Reading → Option (Vec ℕ) → Type 0
-IsAllLeft old rest = ForSome (left_in old) (λ left. MatchOption rest (2 ^ 40 - 8192 < length left) (λ bytes. bytes.items ≡ left))
+IsAllLeft old rest =
+    ForSome (left_in old)
+    (λ left. MatchOption rest (2 ^ 40 - 8192 < length left) (λ bytes. bytes.items ≡ left))

@@ -1,17 +1,20 @@
 -- What a comparing destination keeps.
 use Rattle.pt_audit.specs.Difference.{is_same}
 use Rattle.pt_tree.specs.declared.kind.Kind.{Kind}
-use Rattle.std.specs.Prelude.{[], ◌∷◌, cond, not, length, drop, ◌==◌, ◌&&◌, ◌≡◌, ◌⊎◌, ℕ, List, Bool, true, false, Option, None, Some}
+use Rattle.std.specs.Prelude.{[], ◌∷◌, ◌++◌, cond, not, length, drop, ◌==◌, ◌&&◌, ◌≡◌, ◌⊎◌, ℕ, List, Bool, true, false, Option, None, Some}
+use Rattle.std.specs.Option.{option_map_or}
 use Rattle.pt_tree.specs.Dest.{Writing}
 use Rattle.pt_tree.specs.Source.{Reading}
 use Rattle.pt_tree.specs.Tree.{IsTree}
 use Rattle.pt_tree.specs.Path.{Path}
 use Rattle.pt_audit.specs.Bytes.{CameNext, IsNotNext, TellsEnd, TellsRest}
-use Rattle.pt_audit.specs.Root.{is_reading}
+use Rattle.pt_audit.specs.Entries.{Noted, kind_noted}
+use Rattle.pt_audit.specs.Root.{is_reading, same_kind}
 use Rattle.pt_audit.specs.declared.comparing.Open.{Open}
 use Rattle.pt_audit.specs.declared.comparing.Open.TheVariants as state
 use Rattle.pt_audit.specs.declared.difference.Finding.{Finding}
 use Rattle.pt_audit.specs.declared.difference.Finding.TheVariants as finding
+use Rattle.pt_audit.specs.declared.difference.Why.{Why}
 use Rattle.pt_audit.specs.declared.difference.Why.TheVariants as why
 
 -- it tells nothing
@@ -28,6 +31,29 @@ is_reading_if state.Content told = is_reading told
 is_reading_if (state.Version text) told = is_reading told
 is_reading_if state.Inventory told = is_reading told
 is_reading_if state.Sidecar told = is_reading told
+
+-- what is found at a place before anything is made there
+abbrev pub found_at : Option Kind → Finding
+found_at None = finding.Absent
+found_at (Some kind) = finding.Same
+
+-- what is wrong with what stands where something else was to stand, or with nothing there
+abbrev pub why_not : Option Kind → Why
+why_not None = why.Missing
+why_not (Some kind) = why.Kind
+
+-- what is found where an entry of a kind is made: what stands there is of this kind, or it differs
+abbrev pub found_making : Kind → Path → Option Kind → Finding → Finding
+found_making kind inner here before =
+    cond (option_map_or (same_kind kind) here false) before
+    (finding.Differs (record { path = inner; why = why_not here }))
+
+-- what is found with an entry of this kind that is made at a path: an object that is compared is held against what is noted there
+abbrev pub found_by : Kind → Path → Path → Noted → Finding → Finding
+found_by kind place path entries before =
+    cond (not (length place == 0)
+    && is_same before)
+    (found_making kind (drop 1 path) (kind_noted (place ++ drop 1 path) entries) before) before
 
 -- this was found at the file
 abbrev pub differs_in : Path → Finding
@@ -52,17 +78,25 @@ IsEndOf before after path Tells = ((after ≡ before) × Tells true) ⊎ ((after
 
 -- of the version's inventory that is the same, the text that stands is held from then on
 abbrev pub IsEndOfVersion : Finding → Finding → Path → List ℕ → Option Reading → Type 0
-IsEndOfVersion before after path held old = ((after ≡ before) × TellsRest held old true) ⊎ (after ≡ differs_in path)
+IsEndOfVersion before after path held old = ((after ≡ before) × TellsRest held old true)
+    ⊎ (after ≡ differs_in path)
 
 -- what is found with the end of the file at hand, by how it is compared; these inventories are held before and after
 abbrev pub FindsByEnd : Open → Finding → Finding → Path → List ℕ → List ℕ → List ℕ → Option Reading → Type 0
 FindsByEnd state.Nothing before after path inventory sidecar held old = after ≡ before
-FindsByEnd state.Content before after path inventory sidecar held old = IsEndOf before after path (TellsEnd old)
-FindsByEnd (state.Version text) before after path inventory sidecar held old = IsEndOfVersion before after path held old
-FindsByEnd state.Inventory before after path inventory sidecar held old = IsEndOf before after path (TellsRest inventory old)
-FindsByEnd state.Sidecar before after path inventory sidecar held old = IsEndOf before after path (TellsRest sidecar old)
+FindsByEnd state.Content before after path inventory sidecar held old =
+    IsEndOf before after path (TellsEnd old)
+FindsByEnd (state.Version text) before after path inventory sidecar held old =
+    IsEndOfVersion before after path held old
+FindsByEnd state.Inventory before after path inventory sidecar held old =
+    IsEndOf before after path (TellsRest inventory old)
+FindsByEnd state.Sidecar before after path inventory sidecar held old =
+    IsEndOf before after path (TellsRest sidecar old)
 
 -- where an object is compared, its first entry that wasn't made is one too many
-abbrev pub FindsByMove : Path → List (Path × Kind) → Finding → Finding → Type 0
+abbrev pub FindsByMove : Path → Noted → Finding → Finding → Type 0
 FindsByMove place [] before after = after ≡ before
-FindsByMove place (entry ∷ later) before after = after ≡ cond (not (length place == 0) && is_same before) (finding.Differs (record { path = drop (length place) entry.0; why = why.Extra })) before
+FindsByMove place (entry ∷ later) before after =
+    after ≡ cond (not (length place == 0)
+    && is_same before)
+    (finding.Differs (record { path = drop (length place) entry.1.0; why = why.Extra })) before

@@ -2,6 +2,8 @@ pub mod Auditing
 pub mod Bytes
 pub mod Comparing
 pub mod Difference
+pub mod Entries
 pub mod Lines
+pub mod Paths
 pub mod Root
 pub mod Telling

@@ -2,6 +2,8 @@
 use Rattle.std.specs.Prelude.{◌≡◌, Bool, true, false, List, Option, None, Some, IsSome, is_some}
 use Rattle.std.specs.Option.{option_map, option_map_or, ForSome}
 use Rattle.std.specs.List.{All}
+use Rattle.std.specs.Map.{values_of}
+use Rattle.pt_audit.specs.Entries.{Noted}
 use Rattle.pt_tree.specs.Forest.{Dir, Forest, dir_at, is_proper, kind_of, listing_at, node_at}
 use Rattle.pt_tree.specs.Listing.{Item}
 use Rattle.pt_tree.specs.Path.{Path, parent}
@@ -29,12 +31,20 @@ abbrev pub is_standing : Option Forest → Path × Kind → Bool
 is_standing None e = true
 is_standing (Some f) e = option_map_or (same_kind e.1) (kind_at f e.0) false
 
+-- it is a directory
+abbrev pub is_dir : Option Kind → Bool
+is_dir here = option_map_or (same_kind kind.Dir) here false
+
 abbrev pub Stands : Option Forest → Path × Kind → Type 0
 Stands tree e = is_standing tree e ≡ true
 
+-- where a tree is told, what stands at a path is of this kind, or nothing stands there
+abbrev pub IsSeen : Option Forest → Path → Option Kind → Type 0
+IsSeen tree p here = ForSome tree (λ f. kind_at f p ≡ here)
+
 -- so it does of all of these
-abbrev pub AllStand : Option Forest → List (Path × Kind) → Type 0
-AllStand tree entries = All (Stands tree) entries
+abbrev pub AllStand : Option Forest → Noted → Type 0
+AllStand tree entries = All (Stands tree) (values_of entries)
 
 -- where a tree is told, a directory is above the path
 unfoldable pub CanLook : Option Forest → Path → Type 0

@@ -2,15 +2,18 @@
 //! A destination that holds what a run makes against what stands, and makes nothing.
 ghost use Rattle.std.specs.Prelude.{not, length, true, ◌==◌, ◌&&◌, ◌≡◌, ⊤, ◌++◌, [], ◌∷◌};
 ghost use Rattle.std.specs.Prelude.{IfOk, IfSome, OnErr, OnOk, Option};
+ghost use Rattle.std.specs.Option.{ForSome};
 ghost use Rattle.pt_tree.specs.Failures.{IsCounted};
 ghost use Rattle.pt_tree.specs.Forest.{Forest};
-ghost use Rattle.pt_audit.specs.Comparing.{FindsByEnd, FindsByMove, FindsByPiece, is_reading_if};
+ghost use Rattle.pt_audit.specs.Comparing.{FindsByEnd, FindsByMove, FindsByPiece, found_at, found_by, is_reading_if, why_not as why_not_for};
 ghost use Rattle.pt_audit.specs.Difference.{is_same};
 ghost use Rattle.pt_audit.specs.Bytes.{TellsRest};
 ghost use Rattle.std.specs.String.{string_bytes};
 ghost use Rattle.pt_audit.specs.declared.difference.Finding.TheVariants as finding;
 ghost use Rattle.pt_tree.specs.declared.kind.Kind.TheVariants as kind;
-ghost use Rattle.pt_audit.specs.Root.{AllStand, Lists, Reads, Stands, tree_in};
+ghost use Rattle.pt_audit.specs.Entries.{kind_noted};
+ghost use Rattle.pt_audit.specs.Paths.{IsOpenedAs, opened_named as opened_by_name};
+ghost use Rattle.pt_audit.specs.Root.{AllStand, Lists, Reads, Stands, kind_at, tree_in};
 
 use crate::bytes::{are_the_rest, come_next, has_ended, rest_of};
 use crate::entries::Entries;
@@ -19,7 +22,7 @@ use crate::paths::{Part, below, is_named, joined, part_of};
 use crate::root::standing;
 use crate::{Difference, Finding, Root, Why};
 use pt_object::{Algorithm, sidecar};
-use pt_tree::{Block, Dest, Kind, Listing, MemoryFault, Name, NamePath, TreeFault};
+use pt_tree::{Block, Dest, Kind, Known, Listing, MemoryFault, Name, NamePath, TreeFault};
 use std::alloc::Global;
 use std::mem;
 
@@ -152,7 +155,10 @@ impl<R: Root> Comparing<R> {
 
     // Looks at the place of the next object.
     fn come_to(&mut self, path: &NamePath) -> Result<(), TreeFault>
-        ensures { self.new.failures ≡ self.old.failures }
+        ensures failures { self.new.failures ≡ self.old.failures }
+        ensures place { OnOk result (self.new.place ≡ path.now) }
+        ensures found { OnOk result (ForSome (tree_in (R.told self.old.root))
+            (λ f. self.new.finding ≡ found_at (kind_at f path.now))) }
     {
         self.forget();
         let place = path.copy()?;
@@ -198,17 +204,22 @@ impl<R: Root> Comparing<R> {
 
     // Takes out what stands at a path and wasn't made yet.
     fn taken(&mut self, path: &NamePath) -> Result<Option<Kind>, MemoryFault>
+        ensures here { IfOk result (λ here. here ≡ kind_noted path.now self.old.entries) }
         ensures stands { IfOk result (λ here. IfSome here
             (λ kind. Stands (tree_in (R.told self.old.root)) (path.now, kind))) }
         ensures root { self.new.root ≡ self.old.root }
         ensures failures { self.new.failures ≡ self.old.failures }
+        ensures finding { self.new.finding ≡ self.old.finding }
+        ensures place { self.new.place ≡ self.old.place }
     {
         self.entries.take(path)
     }
 
     // A folder is made.
     fn meet_folder(&mut self, path: &NamePath) -> Result<(), TreeFault>
-        ensures { self.new.failures ≡ self.old.failures }
+        ensures failures { self.new.failures ≡ self.old.failures }
+        ensures found { OnOk result (self.new.finding
+            ≡ found_by kind.Dir self.old.place path.now self.old.entries self.old.finding) }
     {
         if !self.compares() {
             return Ok(());
@@ -227,7 +238,8 @@ impl<R: Root> Comparing<R> {
     // Notes what stands in a folder.
     fn enter(&mut self, path: &NamePath) -> Result<(), TreeFault>
         requires { Stands (tree_in (R.told self.old.root)) (path.now, kind.Dir) }
-        ensures { self.new.failures ≡ self.old.failures }
+        ensures failures { self.new.failures ≡ self.old.failures }
+        ensures finding { self.new.finding ≡ self.old.finding }
     {
         let listing = self.root.list(path)?;
         note(&mut self.entries, path, &listing)?;
@@ -236,7 +248,9 @@ impl<R: Root> Comparing<R> {
 
     // A file is made.
     fn meet_file(&mut self, path: &NamePath) -> Result<(), TreeFault>
-        ensures { self.new.failures ≡ self.old.failures }
+        ensures failures { self.new.failures ≡ self.old.failures }
+        ensures found { OnOk result (self.new.finding
+            ≡ found_by kind.File self.old.place path.now self.old.entries self.old.finding) }
     {
         self.file = Open::Nothing;
         if !self.compares() {
@@ -256,7 +270,10 @@ impl<R: Root> Comparing<R> {
     // The file that stands at a path is at hand; the other is its path from the place on.
     fn take_up(&mut self, path: &NamePath, inner: NamePath) -> Result<(), TreeFault>
         requires { Stands (tree_in (R.told self.old.root)) (path.now, kind.File) }
-        ensures { self.new.failures ≡ self.old.failures }
+        ensures failures { self.new.failures ≡ self.old.failures }
+        ensures finding { self.new.finding ≡ self.old.finding }
+        ensures opened { OnOk result (self.new.opened ≡ inner) }
+        ensures file { OnOk result (IsOpenedAs inner self.new.file) }
     {
         self.file = Open::Nothing;
         self.root.open(path)?;
@@ -358,7 +375,9 @@ impl<R: Root> Comparing<R> {
 }
 
 // What is wrong where something else was to stand.
-fn why_not(here: Option<Kind>) -> Why {
+fn why_not(here: Option<Kind>) -> Why
+    ensures { result ≡ why_not_for here }
+{
     match here {
         Some(_) => Why::Kind,
         None => Why::Missing,
@@ -366,14 +385,26 @@ fn why_not(here: Option<Kind>) -> Why {
 }
 
 // How the file at this path of an object is compared.
-fn opened_as(alloc: Global, path: &NamePath) -> Open {
+fn opened_as(alloc: Global, path: &NamePath) -> Open
+    ensures { IsOpenedAs path.now result }
+{
     match path.names() {
-        [name] if is_named(name, "inventory.json") => Open::Inventory,
-        [_, name] if is_named(name, "inventory.json") => Open::Version(Vec::new(alloc)),
-        [name] | [_, name] if name.bytes().starts_with(b"inventory.json.".as_slice()) => {
-            Open::Sidecar
-        }
+        [name] => opened_named(Open::Inventory, name),
+        [_, name] => opened_named(Open::Version(Vec::new(alloc)), name),
         _ => Open::Content,
+    }
+}
+
+// How a file of this name is compared, where the inventory is compared so.
+fn opened_named(inventory: Open, name: &Name) -> Open
+    ensures { result ≡ opened_by_name inventory name.now }
+{
+    if is_named(name, Known::Inventory) {
+        inventory
+    } else if name.bytes().starts_with(b"inventory.json.".as_slice()) {
+        Open::Sidecar
+    } else {
+        Open::Content
     }
 }
 

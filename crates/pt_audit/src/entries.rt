@@ -1,8 +1,10 @@
 //! The entries of an object that stands which weren't met yet.
-ghost use Rattle.std.specs.Prelude.{◌≡◌, [], IfOk, IfSome, OnErr, OnOk, ◌∷◌, List, MatchOption, Option};
-ghost use Rattle.pt_tree.specs.Path.{Path};
+ghost use Rattle.std.specs.Prelude.{◌≡◌, ℕ, [], IfOk, IfSome, OnErr, OnOk, ◌∷◌, MatchOption, Option};
+ghost use Rattle.std.specs.Global.{Vec};
+ghost use Rattle.pt_tree.specs.Path.{joined};
 ghost use Rattle.pt_tree.specs.declared.kind.Kind.{Kind};
 ghost use Rattle.pt_tree.specs.Forest.{Forest};
+ghost use Rattle.pt_audit.specs.Entries.{Noted, kind_if as kind_if_at, kind_noted, with_entry, without};
 ghost use Rattle.pt_audit.specs.Root.{AllStand, Stands};
 
 use pt_tree::{Kind, MemoryFault, NamePath};
@@ -10,21 +12,18 @@ use std::alloc::Global;
 use std::collections::BTreeMap;
 use std::marker::Model;
 
-/// Entries by the texts of their paths, seen as the list of their paths and kinds.
+/// Entries by the texts of their paths, seen as their list.
 #[derive(Drop)]
 pub(crate) struct Entries {
     by_text: BTreeMap<Vec<u8>, (NamePath, Kind)>,
 }
 
 impl Model for Entries {
-    ghost use Rattle.std.specs.Prelude.{List};
-    ghost use Rattle.std.specs.BTreeMap.{values};
-    ghost use Rattle.pt_tree.specs.Path.{Path};
-    ghost use Rattle.pt_tree.specs.declared.kind.Kind.{Kind};
+    ghost use Rattle.pt_audit.specs.Entries.{Noted};
 
-    ghost Value = { List (Path × Kind) };
+    ghost Value = { Noted };
 
-    ghost view = { λ e. values e.by_text };
+    ghost view = { λ e. e.by_text.entries };
 }
 
 impl Entries {
@@ -39,7 +38,10 @@ impl Entries {
 
     /// Notes an entry. After `Memory` they are as before.
     pub(crate) fn add(&mut self, path: NamePath, kind: Kind) -> Result<(), MemoryFault>
-        ensures { (tree : Option Forest) → AllStand tree self.old → Stands tree (path, kind)
+        ensures noted { OnOk result ((text : Vec ℕ) × (text.items ≡ joined path)
+            × (self.new ≡ with_entry text (path, kind) self.old)) }
+        ensures same { OnErr result (self.new ≡ self.old) }
+        ensures stand { (tree : Option Forest) → AllStand tree self.old → Stands tree (path, kind)
             → AllStand tree self.new }
     {
         let text = path.join()?;
@@ -51,25 +53,36 @@ impl Entries {
 
     /// Takes out the entry of a path, if there is one, and gives its kind.
     pub(crate) fn take(&mut self, path: &NamePath) -> Result<Option<Kind>, MemoryFault>
-        ensures left { (tree : Option Forest) → AllStand tree self.old → AllStand tree self.new }
-        ensures kind { (tree : Option Forest) → AllStand tree self.old
-            → IfOk result (λ taken. IfSome taken (λ kind. Stands tree (path.now, kind))) }
+        ensures kind { IfOk result (λ here. here ≡ kind_noted path.now self.old) }
+        ensures left { OnOk result (self.new ≡ without path.now self.old) }
+        ensures same { OnErr result (self.new ≡ self.old) }
+        ensures stand { (tree : Option Forest) → AllStand tree self.old → AllStand tree self.new }
+        ensures taken { (tree : Option Forest) → AllStand tree self.old
+            → IfOk result (λ here. IfSome here (λ kind. Stands tree (path.now, kind))) }
     {
         let text = path.join()?;
-        match self.by_text.remove(text.as_slice()) {
-            Some((found, kind)) if found == *path => Ok(Some(kind)),
-            _ => Ok(None),
-        }
+        let found = self.by_text.remove(text.as_slice());
+        Ok(kind_if(path, found))
     }
 
     /// The path of the first, by the order of their texts.
     pub(crate) fn first(&self) -> Option<&NamePath>
-        ensures { MatchOption result (self.now ≡ [])
-            (λ path. (kind : Kind) × (later : List (Path × Kind)) × (self.now ≡ (path.now, kind) ∷ later)) }
+        ensures { MatchOption result (self.now ≡ []) (λ path. (text : Vec ℕ) × (kind : Kind)
+            × (later : Noted) × (self.now ≡ (text, (path.now, kind)) ∷ later)) }
     {
         match self.by_text.first_key_value() {
             Some((_, (path, _))) => Some(path),
             None => None,
         }
+    }
+}
+
+// The kind of what was found, if it has this path.
+fn kind_if(path: &NamePath, found: Option<(NamePath, Kind)>) -> Option<Kind>
+    ensures { result ≡ kind_if_at path.now found }
+{
+    match found {
+        Some((found, kind)) if found == *path => Some(kind),
+        _ => None,
     }
 }

@@ -1,20 +1,19 @@
 //! The storage root that stands, as an audit reads it.
-ghost use Rattle.std.specs.Prelude.{◌≡◌, IfOk, IfSome};
+ghost use Rattle.std.specs.Prelude.{◌≡◌, IfOk};
 ghost use Rattle.pt_tree.specs.Failures.{IsCounted};
-ghost use Rattle.pt_audit.specs.Root.{CanLook, Stands, tree_in};
+ghost use Rattle.pt_audit.specs.Root.{CanLook, IsSeen, is_dir as is_dir_kind, tree_in};
 
 use pt_tree::{Kind, NamePath, Source, TreeFault};
 use std::alloc::Global;
 
 /// A source that is asked, too, what stands at a path.
 pub trait Root: Source {
-    /// The kind of what stands at a path, links not followed; None where nothing is found.
+    /// The kind of what stands at a path, links not followed; None where nothing does.
     ///
     /// Where it tells, a directory has to be above the path. The open file stays as it is.
     fn kind(&mut self, path: &NamePath) -> Result<Option<Kind>, TreeFault>
         requires { CanLook (tree_in (Self.told self.old)) path.now }
-        ensures kind { IfOk result (λ here. IfSome here
-            (λ kind. Stands (tree_in (Self.told self.old)) (path.now, kind))) }
+        ensures kind { IfOk result (λ here. IsSeen (tree_in (Self.told self.old)) path.now here) }
         ensures same { Self.told self.new ≡ Self.told self.old }
         ensures failures { IsCounted (Self.failed self.old) (Self.failed self.new) result };
 }
@@ -27,19 +26,24 @@ pub fn standing<R: Root>(
     root: &mut R,
     path: &NamePath,
 ) -> Result<Option<Kind>, TreeFault>
-    ensures kind { IfOk result (λ here. IfSome here
-        (λ kind. Stands (tree_in (R.told root.old)) (path.now, kind))) }
+    ensures kind { IfOk result (λ here. IsSeen (tree_in (R.told root.old)) path.now here) }
     ensures same { R.told root.new ≡ R.told root.old }
     ensures failures { IsCounted (R.failed root.old) (R.failed root.new) result }
 {
     let mut way = NamePath::new(alloc);
     let mut here = Some(Kind::Dir);
     for name in path.names() {
-        let Some(Kind::Dir) = here else {
+        if !is_dir(here) {
             return Ok(None);
-        };
+        }
         way.push(name.copy()?)?;
         here = root.kind(&way)?;
     }
     Ok(here)
+}
+
+fn is_dir(here: Option<Kind>) -> bool
+    ensures { result ≡ is_dir_kind here }
+{
+    matches!(here, Some(Kind::Dir))
 }

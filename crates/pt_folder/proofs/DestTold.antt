@@ -2,7 +2,6 @@
 use Rattle.std.proofs.Common.{◌≡◌, ℕ, List, refl, sym, ap, subst, ◌∙◌, inl, inr}
 use Rattle.std.specs.Prelude.{Option, None, Some, Result, Ok, Err, IfOk, OnOk, OnErr, MatchResult}
 use Rattle.std.specs.Option.{option_map, ForSome}
-use Rattle.std.specs.Fs.{file_type}
 use Rattle.std.specs.declared.fs.Metadata.{Metadata}
 use Rattle.std.specs.declared.io.Error.{Error}
 use Rattle.pt_tree.specs.declared.kind.Kind.{Kind}
@@ -12,16 +11,9 @@ use Rattle.pt_tree.specs.Tree.{Tree, Entry, Folder, kind_of_entry, put, CanMake,
 use Rattle.pt_tree.specs.Dest.{Writing, IsKindAt, MayMake, MayMove, after_mkdir}
 use Rattle.pt_folder.specs.declared.writing.Writing.{Writing as Open}
 use Rattle.pt_folder.specs.Calls.{AsksOnce, IsAnswer, LeadsToKind, MakesOnce}
-use Rattle.pt_folder.specs.DestLaws.{Becomes, DirLaw, Kept, KindLaw, LooksRight, MakesDir}
-use Rattle.pt_folder.proofs.Types.{right_kind}
+use Rattle.pt_folder.specs.DestLaws.{Becomes, DirLaw, Kept, KindLaw, MakesDir}
+use Rattle.pt_folder.proofs.Types.{right_kind_here}
 use Rattle.pt_folder.specs.DestHeld.{told_of, IsPlaced}
-
-right_kind_here : (here : Option Entry) (reply : Result Metadata Error) (k : Option Kind) → LooksRight here reply → LeadsToKind reply (Ok k) → option_map kind_of_entry here ≡ k
-right_kind_here None (Ok m) k right leads = absurd right
-right_kind_here (Some e) (Ok m) None right leads = absurd leads
-right_kind_here (Some e) (Ok m) (Some k) right leads = right_kind (Some (kind_of_entry e)) (file_type m) k right leads
-right_kind_here here (Err e) None right leads = ap (option_map kind_of_entry) (right leads)
-right_kind_here here (Err e) (Some k) right leads = absurd leads
 
 -- what is told of a tree
 abbrev pub told_at : {F : Type 0} → Option (Open F) → Tree → Writing
@@ -64,7 +56,7 @@ module _ {S F : Type 0} (kept : S → List ℕ → Kept F) (folder : List ℕ) w
   kind_tells looks law old new p (Err e) w asked = tt
   kind_tells looks law old new p (Ok k) w (inl none) = absurd none.1
   kind_tells looks law old new p (Ok k) w (inr asked) =
-      kind_is w (kept old folder).tree p k (λ t is. right_kind_here (t p) asked.reply k ((law old new folder p asked.reply asked.named asked.made).shown t is) asked.gives)
+      kind_is w (kept old folder).tree p k (λ t is. right_kind_here (option_map kind_of_entry (t p)) asked.reply k ((law old new folder p asked.reply asked.named asked.made).shown t is) asked.gives)
 
   -- a directory is made, or nothing is changed
   pub mkdir_gives : (makes : S → List ℕ → Result (Unit {0}) Error → S → Type 0) → DirLaw kept makes → (old new : S) (p : Path) (longest : ℕ) (result : Result (Unit {0}) TreeFault)

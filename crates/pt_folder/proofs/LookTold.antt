@@ -1,7 +1,6 @@
 -- What a look at an entry of a source tells, by the law of its system.
 use Rattle.std.proofs.Common.{◌≡◌, List, ℕ, ap, inl, inr}
-use Rattle.std.specs.Prelude.{Option, None, Some, IsSome, IfOk, IfSome, Result, Ok, Err}
-use Rattle.std.specs.Fs.{file_type}
+use Rattle.std.specs.Prelude.{Option, None, Some, IsSome, IfOk, Result, Ok, Err}
 use Rattle.std.specs.Option.{option_map, ForSome}
 use Rattle.std.specs.declared.fs.Metadata.{Metadata}
 use Rattle.std.specs.declared.io.Error.{Error}
@@ -10,9 +9,8 @@ use Rattle.pt_tree.specs.Path.{Path, parent}
 use Rattle.pt_tree.specs.declared.faults.TreeFault.{TreeFault}
 use Rattle.pt_tree.specs.declared.kind.Kind.{Kind}
 use Rattle.pt_folder.specs.Calls.{AsksOnce, LeadsToKind}
-use Rattle.pt_folder.specs.Laws.{Shows}
 use Rattle.pt_folder.specs.SourceLaws.{LookLaw}
-use Rattle.pt_folder.proofs.Types.{right_kind}
+use Rattle.pt_folder.proofs.Types.{right_kind_here}
 
 module _ {S : Type 0} (kept : S → List ℕ → Option Forest) (looks : S → List ℕ → Result Metadata Error → S → Type 0) (law : LookLaw kept looks) (folder : List ℕ) (old new : S) (p : Path) where
   pub look_same : (result : Result (Option Kind) TreeFault) → ForSome (kept old folder) (λ f. IsSome (dir_at f (parent p))) → AsksOnce looks LeadsToKind folder p old new result → kept new folder ≡ kept old folder
@@ -20,12 +18,8 @@ module _ {S : Type 0} (kept : S → List ℕ → Option Forest) (looks : S → L
   look_same result above (inr asked) = (law old new folder p asked.reply asked.named above asked.made).same
 
   pub look_tells : (result : Result (Option Kind) TreeFault) → ForSome (kept old folder) (λ f. IsSome (dir_at f (parent p))) → AsksOnce looks LeadsToKind folder p old new result
-      → IfOk result (λ here. IfSome here (λ kind. ForSome (kept old folder) (λ f. option_map kind_of (node_at (Dir f) p) ≡ Some kind)))
+      → IfOk result (λ here. ForSome (kept old folder) (λ f. option_map kind_of (node_at (Dir f) p) ≡ here))
   look_tells (Err e) above asked = tt
-  look_tells (Ok None) above asked = tt
-  look_tells (Ok (Some k)) above (inl none) = absurd none.1
-  look_tells (Ok (Some k)) above (inr asked) = by asked.reply asked.gives (law old new folder p asked.reply asked.named above asked.made).shown
-    where
-      by : (reply : Result Metadata Error) → LeadsToKind reply (Ok (Some k)) → ForSome (kept old folder) (λ f. IfOk reply (λ m. Shows (option_map kind_of (node_at (Dir f) p)) (file_type m))) → ForSome (kept old folder) (λ f. option_map kind_of (node_at (Dir f) p) ≡ Some k)
-      by (Ok m) leads shown = λ f is. right_kind (option_map kind_of (node_at (Dir f) p)) (file_type m) k (shown f is) leads
-      by (Err e) leads shown = absurd leads
+  look_tells (Ok here) above (inl none) = absurd none.1
+  look_tells (Ok here) above (inr asked) = let look = law old new folder p asked.reply asked.named above asked.made in
+      λ f is. right_kind_here (option_map kind_of (node_at (Dir f) p)) asked.reply here (look.shown f is) asked.gives

@@ -1,18 +1,12 @@
 -- What a system keeps to that keeps the tree of a folder that one run writes, as POSIX says of its calls.
 use Rattle.std.specs.Prelude.{◌≡◌, ℕ, take, List, [], Option, None, Some, IsSome, IfOk, Result, Ok, Err}
 use Rattle.std.specs.Option.{option_map, ForSome}
-use Rattle.std.specs.Fs.{file_type}
-use Rattle.std.specs.IoError.{error_kind}
 use Rattle.std.specs.declared.fs.Metadata.{Metadata}
 use Rattle.std.specs.declared.io.Error.{Error}
 use Rattle.pt_tree.specs.Path.{Path, rest_below}
 use Rattle.pt_tree.specs.Tree.{Tree, Entry, Bytes, Folder, kind_of_entry, put, added, moved, bytes_of, IsTree, CanMake, CanMove}
-use Rattle.pt_folder.specs.Folder.{IsAbsent, entry_text}
-use Rattle.pt_folder.specs.Laws.{IsPath, Shows}
-
-abbrev pub LooksRight : Option Entry → Result Metadata Error → Type 0
-LooksRight here (Ok m) = Shows (option_map kind_of_entry here) (file_type m)
-LooksRight here (Err e) = IsAbsent (error_kind e) → here ≡ None
+use Rattle.pt_folder.specs.Folder.{entry_text}
+use Rattle.pt_folder.specs.Laws.{IsPath, LooksRight}
 
 -- A folder as a system keeps it: its tree, if it tells one, and where in it an open file stands.
 pub record Kept (F : Type 0) : Type 0 where
@@ -22,7 +16,7 @@ pub record Kept (F : Type 0) : Type 0 where
 -- a look changes nothing and shows what stands there
 pub record Looked {F : Type 0} (old new : Kept F) (p : Path) (reply : Result Metadata Error) : Type 0 where
   pub same : new ≡ old
-  pub shown : ForSome old.tree (λ t. LooksRight (t p) reply)
+  pub shown : ForSome old.tree (λ t. LooksRight (option_map kind_of_entry (t p)) reply)
 
 -- the tree becomes this, and open files stay where they are
 abbrev pub Becomes : {F : Type 0} → (Tree → Tree) → Kept F → Kept F → Type 0
@@ -35,11 +29,13 @@ MakesDir old new p (Err e) = new ≡ old
 
 -- an open file that is not at or below p stays where it is
 abbrev pub StaysApart : {F : Type 0} → Kept F → Kept F → Path → Type 0
-StaysApart {F} old new p = (f : F) (q : Path) → old.place f ≡ Some q → rest_below p q ≡ None → new.place f ≡ Some q
+StaysApart {F} old new p = (f : F) (q : Path) → old.place f ≡ Some q → rest_below p q ≡ None
+    → new.place f ≡ Some q
 
 -- all at and below `from` is moved, or nothing changes
 abbrev pub Moves : {F : Type 0} → Kept F → Kept F → Path → Path → Result (Unit {0}) Error → Type 0
-Moves old new from to (Ok done) = (new.tree ≡ option_map (λ t. moved t from to) old.tree) × StaysApart old new from
+Moves old new from to (Ok done) = (new.tree ≡ option_map (λ t. moved t from to) old.tree)
+    × StaysApart old new from
 Moves old new from to (Err e) = new ≡ old
 
 -- an empty file is made and open, or nothing changes
@@ -49,7 +45,8 @@ MakesFile old new p (Ok file) = (new.tree ≡ option_map (λ t. put t p (Bytes [
 MakesFile old new p (Err e) = new ≡ old
 
 -- so many bytes of a piece, from its start, stand behind the file's, which is open where it was
-pub record AddsPart {F : Type 0} (old new : Kept F) (q : Path) (file : F) (piece : List ℕ) (count : ℕ) : Type 0 where
+pub record AddsPart {F : Type 0} (old new : Kept F) (q : Path) (file : F) (piece : List ℕ)
+    (count : ℕ) : Type 0 where
   pub tree : new.tree ≡ option_map (λ t. added t q (take count piece)) old.tree
   pub place : ForSome old.tree (λ _. new.place file ≡ Some q)
 
@@ -65,7 +62,8 @@ pub record Opened {F R : Type 0} (left : R → Option (List ℕ)) (old new : Kep
   pub bytes : ForSome old.tree (λ t. IsSome (bytes_of (t p)) → IfOk reply (λ r. left r ≡ bytes_of (t p)))
 
 -- the laws, one for each call; the conditions are those under which a destination is called
-abbrev pub KindLaw : {S F : Type 0} → (S → List ℕ → Kept F) → (S → List ℕ → Result Metadata Error → S → Type 0) → Type 0
+abbrev pub KindLaw : {S F : Type 0} → (S → List ℕ → Kept F)
+    → (S → List ℕ → Result Metadata Error → S → Type 0) → Type 0
 KindLaw {S} {F} kept looks =
     (old new : S) (folder : List ℕ) (p : Path) (reply : Result Metadata Error) → IsPath p
     → looks old (entry_text folder p) reply new → Looked (kept old folder) (kept new folder) p reply
@@ -85,7 +83,8 @@ MoveLaw {S} {F} kept renames =
     → renames old (entry_text folder from) (entry_text folder to) reply new
     → Moves (kept old folder) (kept new folder) from to reply
 
-abbrev pub FileLaw : {S F : Type 0} → (S → List ℕ → Kept F) → (S → List ℕ → Result F Error → S → Type 0) → Type 0
+abbrev pub FileLaw : {S F : Type 0} → (S → List ℕ → Kept F)
+    → (S → List ℕ → Result F Error → S → Type 0) → Type 0
 FileLaw {S} {F} kept makes = (old new : S) (folder : List ℕ) (p : Path) (reply : Result F Error)
     → IsPath p → ForSome (kept old folder).tree (λ t. CanMake t p)
     → makes old (entry_text folder p) reply new → MakesFile (kept old folder) (kept new folder) p reply

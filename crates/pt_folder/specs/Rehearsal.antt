@@ -1,5 +1,5 @@
 -- What a rehearsal remembers, and what it answers by it.
-use Rattle.std.specs.Prelude.{◌≡◌, ◌⊎◌, ℕ, ⊤, Bool, true, [], Option, Some, Result, Ok, Err}
+use Rattle.std.specs.Prelude.{◌≡◌, ◌≢◌, ◌⊎◌, ℕ, ⊤, Bool, true, [], length, Option, Some, OnOk, Result, Ok, Err}
 use Rattle.std.specs.BTreeSet.{BTreeSet, contains_by, insert_key}
 use Rattle.std.specs.Cmp.Lexicographic.{slice_cmp}
 use Rattle.std.specs.Global.{Vec}
@@ -33,14 +33,16 @@ abbrev pub Remembers : BTreeSet (Vec ℕ) → BTreeSet (Vec ℕ) → Path → Ty
 Remembers old new p = (text : Vec ℕ) × (text.items ≡ joined p)
     × (new.keys ≡ insert_key (λ a b. slice_cmp nat_cmp a.items b.items) old.keys text)
 
-module _ {S F D : Type 0} {sys : OfSystem S F D} {handle : OfHandle F} {file : OfInput F} {dir : OfInput D} where
+module _ {S F D : Type 0} {sys : OfSystem S F D} {handle : OfHandle F} {file : OfInput F}
+    {dir : OfInput D} where
   -- the same folder, with the same settings and open file, of which the system keeps what it kept
   abbrev pub IsSame : (old new : Rehearsal S F D sys handle file dir) → Type 0
   IsSame old new =
       (new.dest.folder ≡ old.dest.folder)
       × IsSetAs old.dest.longest old.dest.synced new.dest.longest new.dest.synced
       × (new.dest.writing ≡ old.dest.writing)
-      × (sys.kept new.dest.system old.dest.folder.path.now ≡ sys.kept old.dest.system old.dest.folder.path.now)
+      × (sys.kept new.dest.system old.dest.folder.path.now
+      ≡ sys.kept old.dest.system old.dest.folder.path.now)
 
   -- a call changes nothing of that, and its failure is counted
   pub record IsCall {T : Type 0} (old new : Rehearsal S F D sys handle file dir)
@@ -55,6 +57,10 @@ module _ {S F D : Type 0} {sys : OfSystem S F D} {handle : OfHandle F} {file : O
       ((new.dest.system ≡ old.dest.system) × IsFromMemory old.moved p result)
       ⊎ Looks LeadsToKind old.dest new.dest p result
 
-  -- nothing is asked, or the system is asked once to look at the folder itself
-  abbrev pub LooksAtFolder : (old new : Rehearsal S F D sys handle file dir) → Result (Unit {0}) TreeFault → Type 0
-  LooksAtFolder old new result = (new.dest.system ≡ old.dest.system) ⊎ Looks IsThere old.dest new.dest [] result
+  -- nothing is asked, as of an entry that isn't right in the folder, or where it is refused; or the system is asked once to
+  -- look at the folder itself
+  abbrev pub LooksAtFolder : (old new : Rehearsal S F D sys handle file dir) → Path
+      → Result (Unit {0}) TreeFault → Type 0
+  LooksAtFolder old new p result =
+      ((new.dest.system ≡ old.dest.system) × OnOk result (length p ≢ 1))
+      ⊎ Looks IsThere old.dest new.dest [] result

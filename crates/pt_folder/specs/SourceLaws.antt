@@ -1,20 +1,19 @@
 -- What a system keeps to that keeps the tree of a folder that nobody writes, as POSIX says of its calls.
 use Rattle.std.specs.Prelude.{◌≡◌, ℕ, true, List, map, Option, None, Some, IsSome, IfOk, IsPermutation, Result}
 use Rattle.std.specs.Option.{option_map, ForSome}
-use Rattle.std.specs.Fs.{file_type}
 use Rattle.std.specs.declared.fs.Metadata.{Metadata}
 use Rattle.std.specs.declared.io.Error.{Error}
 use Rattle.pt_tree.specs.Forest.{Forest, Dir, dir_at, file_at, is_proper, kind_of, listing_of, node_at}
 use Rattle.pt_tree.specs.Listing.{Item}
 use Rattle.pt_tree.specs.Path.{Path, parent}
 use Rattle.pt_folder.specs.Folder.{entry_text}
-use Rattle.pt_folder.specs.Laws.{IsPath, Shows}
+use Rattle.pt_folder.specs.Laws.{IsPath, LooksRight}
 use Rattle.pt_folder.specs.Names.{GivesNames}
 
 -- a look changes nothing and shows what stands there
 pub record Looked (old new : Option Forest) (p : Path) (reply : Result Metadata Error) : Type 0 where
   pub same : new ≡ old
-  pub shown : ForSome old (λ f. IfOk reply (λ m. Shows (option_map kind_of (node_at (Dir f) p)) (file_type m)))
+  pub shown : ForSome old (λ f. LooksRight (option_map kind_of (node_at (Dir f) p)) reply)
 
 -- a file is opened at its start, and changes nothing
 pub record Opened {F : Type 0} (bytes left : F → Option (List ℕ)) (old new : Option Forest)
@@ -29,7 +28,8 @@ names_of d = map (λ (item : Item). item.0) (listing_of d)
 
 -- it gives the names of a directory, each once, in any order
 abbrev pub GivesAll : Option (List ℕ) → Option Forest → Type 0
-GivesAll (Some bytes) (Some d) = (names : List (List ℕ)) → GivesNames bytes names → IsPermutation names (names_of d)
+GivesAll (Some bytes) (Some d) = (names : List (List ℕ)) → GivesNames bytes names
+    → IsPermutation names (names_of d)
 GivesAll None (Some d) = ⊥
 GivesAll left None = Unit {0}
 
@@ -53,7 +53,8 @@ abbrev pub OpenLaw : {S F : Type 0} → (S → List ℕ → Option Forest) → (
 OpenLaw {S} {F} forest bytes left opens =
     (old new : S) (folder : List ℕ) (p : Path) (reply : Result F Error) → IsPath p
     → ForSome (forest old folder) (λ f. IsSome (file_at f p))
-    → opens old (entry_text folder p) reply new → Opened bytes left (forest old folder) (forest new folder) p reply
+    → opens old (entry_text folder p) reply new
+    → Opened bytes left (forest old folder) (forest new folder) p reply
 
 abbrev pub NamesLaw : {S D : Type 0} → (S → List ℕ → Option Forest) → (D → Option (List ℕ))
     → (S → List ℕ → Result D Error → S → Type 0) → Type 0

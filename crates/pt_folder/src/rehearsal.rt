@@ -1,8 +1,9 @@
 ghost use Rattle.std.proofs.Common.{◌∙◌, refl, subst};
-ghost use Rattle.std.specs.Prelude.{◌≡◌, [], Ok, OnOk, OnErr, IfOk};
+ghost use Rattle.std.specs.Prelude.{◌≡◌, ◌≤◌, [], Ok, OnOk, OnErr, IfOk, length};
 ghost use Rattle.std.specs.Option.{option_map};
 ghost use Rattle.pt_folder.specs.Calls.{CannotMake};
 ghost use Rattle.pt_folder.specs.Failure.{OnDevice};
+ghost use Rattle.pt_folder.specs.Folder.{entry_text};
 ghost use Rattle.pt_folder.specs.Rehearsal.{is_known};
 
 use crate::HostDest;
@@ -114,7 +115,9 @@ impl<'a, S: System> Dest for Rehearsal<'a, S> {
         ensures made { OnOk result (no_dest self.new
             ≡ option_map (after_mkdir path.now) (no_dest self.old)) }
         ensures same { OnErr result (no_dest self.new ≡ no_dest self.old) }
-        ensures asked { LooksAtFolder self.old self.new result }
+        ensures fits { OnOk result (length (entry_text self.old.dest.folder.path.now path.now)
+            ≤ self.old.dest.longest) }
+        ensures asked { LooksAtFolder self.old self.new path.now result }
         ensures moved { self.new.moved ≡ self.old.moved }
         ensures call { IsCall self.old self.new result }
     {
@@ -130,6 +133,8 @@ impl<'a, S: System> Dest for Rehearsal<'a, S> {
             ≡ option_map (after_create path.now) (no_dest self.old)) }
         ensures same { OnErr result (no_dest self.new ≡ no_dest self.old) }
         ensures system { self.new.dest.system ≡ self.old.dest.system }
+        ensures fits { OnOk result (length (entry_text self.old.dest.folder.path.now path.now)
+            ≤ self.old.dest.longest) }
         ensures refused { OnDevice result (CannotMake self.old.dest.longest
             self.old.dest.folder.path.now path.now) }
         ensures moved { self.new.moved ≡ self.old.moved }

@@ -68,22 +68,22 @@ impl<'a, S: System> HostSource<'a, S> {
         self.at.as_str()
     }
 
-    /// The kind of what stands at a path, links not followed; None where the system finds nothing there, or a parent that
-    /// isn't a directory.
+    /// The kind of what stands at a path, links not followed; None where nothing does.
     ///
     /// Where the system keeps a tree, a directory has to be above the path. The open file stays as it is.
     pub fn look(&mut self, path: &NamePath) -> Result<Option<Kind>, TreeFault>
         requires { ForSome (S.forest self.old.system self.old.folder.path.now)
             (λ f. IsSome (dir_at f (parent path.now))) }
-        ensures kind { IfOk result (λ here. IfSome here (λ kind.
+        ensures kind { IfOk result (λ here.
             ForSome (S.forest self.old.system self.old.folder.path.now)
-            (λ f. option_map kind_of (node_at (Dir f) path.now) ≡ Some kind))) }
+            (λ f. option_map kind_of (node_at (Dir f) path.now) ≡ here)) }
         ensures same { S.forest self.new.system self.new.folder.path.now
             ≡ S.forest self.old.system self.old.folder.path.now }
         ensures asked { AsksOnce S.looks LeadsToKind self.old.folder.path.now path.now
             self.old.system self.new.system result }
         ensures reading { self.new.reading ≡ self.old.reading }
         ensures folder { self.new.folder ≡ self.old.folder }
+        ensures calls { self.new.calls ≡ self.old.calls }
         ensures failures { IsCounted self.old.failures self.new.failures result }
     {
         let mut at = String::new(self.folder.alloc);
