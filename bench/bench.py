@@ -7,6 +7,7 @@ What counts is processor time, of the user and of the system together, as the sy
 it says less of other work on the machine than time on a clock does. Each command is run seven times, the commands of a store in
 turn; its figure is the median, and beside it stand the least and the most. A run reads each file twice, digests it twice and writes
 it once, so its due is sha512sum twice and cp -r once. Objects and megabytes a second are those of a second of processor time.
+Then the root that a run made is held against its store by `audit`, as often.
 
 --instructions  counts also the instructions of one run each of the program and its peer, by callgrind of valgrind, over the small
                 stores. It would count each byte that `rep stosb` fills as one, so the C library is told to fill without it.
@@ -27,6 +28,7 @@ import tempfile
 from collections import namedtuple
 
 REPEATS = 7
+MIGRATE = ["migrate", "--created", "2024-05-01T12:00:00Z", "--name", "Ada"]
 HERE = os.path.dirname(os.path.abspath(__file__))
 PEER = os.path.join(HERE, "peer.rs")
 DEBIAN = "/usr/share/cargo/registry"
@@ -119,6 +121,13 @@ def measure_times(commands, dest, repeats, output):
     return times, outputs
 
 
+def audit_times(program, source, dest, repeats, output):
+    """The processor times of audits of the root that a run makes of a source."""
+    emptied(dest)
+    processor_time([program, *MIGRATE, source, dest], output)
+    return [processor_time([program, "audit", source, dest], output) for _ in range(repeats)]
+
+
 def instructions(command, dest, folder):
     """How many instructions a run takes, by callgrind."""
     emptied(dest)
@@ -161,9 +170,8 @@ def build_peer(folder):
 
 def commands_of(program, peer, source, dest):
     """What is measured over a store, each by its name."""
-    words = ["migrate", "--created", "2024-05-01T12:00:00Z", "--name", "Ada"]
     commands = {
-        "migrate": [program, *words, source, dest],
+        "migrate": [program, *MIGRATE, source, dest],
         "sha512sum": ["sh", "-c", 'find "$1" -type f -print0 | xargs -0 sha512sum', "sh", source],
         "cp -r": ["cp", "-r", source, f"{dest}/copy"],
     }
@@ -188,9 +196,9 @@ def tell(name, store, held, times):
         print(f"    {command:10} {middle[command]:8.3f} s ({min(taken):.3f} to {max(taken):.3f})")
     own = middle["migrate"]
     due = 2 * middle["sha512sum"] + middle["cp -r"]
-    against = [f"{own / middle[other]:.2f} times {other}" for other in times if other != "migrate"]
+    against = [f"{own / middle[other]:.2f} times {other}" for other in times if other not in ("migrate", "audit")]
     print(f"    {store.objects / own:.0f} objects, {store.objects * store.files / own:.0f} files, {held / own / 1e6:.1f} MB a second")
-    print(f"    migrate takes {', '.join(against)}, {own / due:.2f} times its due", flush=True)
+    print(f"    migrate takes {', '.join(against)}, {own / due:.2f} times its due; audit {middle['audit'] / own:.2f} times migrate", flush=True)
 
 
 def measure(program, peer, name, folder, counts):
@@ -199,8 +207,10 @@ def measure(program, peer, name, folder, counts):
     source, dest = f"{folder}/store", f"{folder}/dest"
     held = make_store(source, store)
     commands = commands_of(program, peer, source, dest)
-    times, outputs = measure_times(commands, dest, 1 if name in MILLION else REPEATS, f"{folder}/output")
+    repeats = 1 if name in MILLION else REPEATS
+    times, outputs = measure_times(commands, dest, repeats, f"{folder}/output")
     check_outputs(name, store, outputs)
+    times["audit"] = audit_times(program, source, dest, repeats, f"{folder}/output")
     tell(name, store, held, times)
     if counts and held < 1e8 and name not in MILLION:
         for command in ("migrate", "plain Rust"):
