@@ -57,7 +57,8 @@ names_status (Err names.Write) = 3
 names_status (Err names.Memory) = 3
 
 -- the names of an identifier were written behind what an output held; or that is refused so, and a front of them is there
-pub record WritesNames (layout : Tuples) (prefix id : List ℕ) (old new : Option (List ℕ)) (written : Result (Unit {0}) NamesFault) : Type 0 where
+pub record WritesNames (layout : Tuples) (prefix id : List ℕ) (old new : Option (List ℕ))
+    (written : Result (Unit {0}) NamesFault) : Type 0 where
   pub empty : IsErrOf written names.Empty ↔ (id ≡ [])
   pub ok : OnOk written (Appends old new (names_text layout prefix id))
   pub err : IfErr written (λ fault. LeavesWritten fault old new (names_text layout prefix id))

@@ -34,7 +34,9 @@ message_rule = record (option_rule (codes "message")) { defaults = codes "Migrat
 
 -- `--digest ALGORITHM`, one of these words
 abbrev pub digest_rule : Bor (List (Bor Text)) → Rule
-digest_rule words = record (option_rule (codes "digest")) { defaults = codes "sha512" ∷ []; parser = Some (vp.Names words) }
+digest_rule words =
+    record (option_rule
+    (codes "digest")) { defaults = codes "sha512" ∷ []; parser = Some (vp.Names words) }
 
 -- the words of the two algorithms, wherever they lie in memory
 abbrev pub SpellsAlgorithms : Bor (List (Bor Text)) → Type 0
@@ -45,7 +47,9 @@ IsDigestRule rule = (words : Bor (List (Bor Text))) × SpellsAlgorithms words ×
 
 -- `--progress WHEN`, one of these words
 abbrev pub progress_rule : Bor (List (Bor Text)) → Rule
-progress_rule words = record (option_rule (codes "progress")) { defaults = codes "auto" ∷ []; parser = Some (vp.Names words) }
+progress_rule words =
+    record (option_rule
+    (codes "progress")) { defaults = codes "auto" ∷ []; parser = Some (vp.Names words) }
 
 -- the words that say when, wherever they lie in memory
 abbrev pub SpellsTimes : Bor (List (Bor Text)) → Type 0
@@ -127,13 +131,16 @@ dest_rule = record (new_rule (codes "DEST")) { required = true }
 
 -- `names [OPTIONS] ID`
 abbrev pub names_app : App
-names_app = on_top (λ s. record s { rules = prefix_rule ∷ size_rule ∷ count_rule ∷ id_rule ∷ [] }) (new_app (codes "names"))
+names_app = on_top (λ s. record s { rules = prefix_rule ∷ size_rule ∷ count_rule ∷ id_rule ∷ [] })
+    (new_app (codes "names"))
 
 -- the options of `migrate` and its two paths
 abbrev pub migrate_rules : Spelled → List Rule
 migrate_rules words =
-    created_rule ∷ name_rule ∷ address_rule ∷ message_rule ∷ digest_rule words.algorithms ∷ size_rule ∷ count_rule ∷ gather_rule
-    ∷ share_rule ∷ ignore_rule ∷ sync_rule ∷ rehearse_rule ∷ verbose_rule ∷ progress_rule words.times ∷ interval_rule ∷ expect_rule
+    created_rule ∷ name_rule ∷ address_rule ∷ message_rule ∷ digest_rule words.algorithms
+    ∷ size_rule ∷ count_rule ∷ gather_rule
+    ∷ share_rule ∷ ignore_rule ∷ sync_rule ∷ rehearse_rule ∷ verbose_rule
+    ∷ progress_rule words.times ∷ interval_rule ∷ expect_rule
     ∷ source_rule ∷ dest_rule ∷ []
 
 -- `migrate [OPTIONS] SOURCE DEST`
@@ -159,7 +166,8 @@ IsAuditApp app = (words : Spelled) × (app ≡ audit_app words)
 
 -- `pairtree2ocfl` with a command behind it, or `--version`
 abbrev pub top_app : App
-top_app = on_top (λ s. record s { has_version = true; subcommand_required = true }) (new_app (codes "pairtree2ocfl"))
+top_app = on_top (λ s. record s { has_version = true; subcommand_required = true })
+    (new_app (codes "pairtree2ocfl"))
 
 -- the program, whose parser reads the values of `migrate` and of `audit` from these words
 abbrev pub program : Spelled → Spelled → App

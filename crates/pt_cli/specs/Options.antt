@@ -51,7 +51,8 @@ progress_of word =
 abbrev pub number_of : Text → Option ℕ
 number_of text =
     let digits = without_leading_plus text in
-    if is_numeral digits && nat_lt (digits_value 10 digits) (2 ^ 32) then Some (digits_value 10 digits) else None
+    if is_numeral digits
+    && nat_lt (digits_value 10 digits) (2 ^ 32) then Some (digits_value 10 digits) else None
 
 -- the number that an option was given
 abbrev pub number_in : Text → List Row → Option ℕ

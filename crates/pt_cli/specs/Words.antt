@@ -96,7 +96,8 @@ described given None (Ok layout) = parted given layout (share_asked given.share)
 
 -- what `migrate` with these options is answered
 abbrev pub migrate_answer : Options → Result Command WordsFault
-migrate_answer given = described given (meta_refusal given.created given.name) (layout_of given.size given.count)
+migrate_answer given =
+    described given (meta_refusal given.created given.name) (layout_of given.size given.count)
 
 -- the audit with these options, this layout and this share
 abbrev pub audit_with : AuditOptions → Tuples → Portion → Command

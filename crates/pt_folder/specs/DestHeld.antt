@@ -17,7 +17,8 @@ unless_synced false kept = kept
 
 -- the tree that the system keeps, and the path of the open file
 abbrev pub told_of : {F : Type 0} → Kept F → Option (Open F) → Option Writing
-told_of kept writing = option_map (λ t. record { tree = t; writing = option_map (λ w. w.path) writing }) kept.tree
+told_of kept writing =
+    option_map (λ t. record { tree = t; writing = option_map (λ w. w.path) writing }) kept.tree
 
 -- where the system tells, the open file stands at the path that is remembered of it
 abbrev pub IsPlaced : {F : Type 0} → Kept F → Option (Open F) → Type 0

@@ -58,7 +58,8 @@ FailsToPeek {S} {F} opens reads text old new e = opens old text (Err e) new
     × FailsToRead reads 8192 file e after)
 
 -- looking at something answered with this error
-abbrev pub FailsLook : {S : Type 0} → (S → List ℕ → Result Metadata Error → S → Type 0) → List ℕ → Error → Type 0
+abbrev pub FailsLook : {S : Type 0} → (S → List ℕ → Result Metadata Error → S → Type 0) → List ℕ
+    → Error → Type 0
 FailsLook {S} looks text e = (old : S) × (new : S) × looks old text (Err e) new
 
 -- why a name isn't added to these: it would be one too many, or no entry may have it
@@ -80,7 +81,8 @@ abbrev pub IsOfNames : List ℕ → Failure → Type 0
 IsOfNames text f = (string_bytes f.path ≡ text) × IsNamesCause f.cause
 
 -- of an entry in a directory: looking at it failed; or its name comes twice
-abbrev pub IsOfEntry : {S : Type 0} → (S → List ℕ → Result Metadata Error → S → Type 0) → List ℕ → Failure → Type 0
+abbrev pub IsOfEntry : {S : Type 0} → (S → List ℕ → Result Metadata Error → S → Type 0) → List ℕ
+    → Failure → Type 0
 IsOfEntry looks front f =
     ((name : List ℕ) × IsOfCall (front ++ name) (FailsLook looks (front ++ name)) f)
     ⊎ IsAt front cause.Twice f

@@ -19,7 +19,8 @@ use Rattle.pt_folder.specs.declared.system.Handle.{Ghosts as OfHandle}
 use Rattle.pt_folder.specs.declared.system.Input.{Ghosts as OfInput}
 use Rattle.pt_folder.specs.declared.system.System.{Ghosts as OfSystem}
 
-module _ {S F D : Type 0} {sys : OfSystem S F D} {handle : OfHandle F} {file : OfInput F} {dir : OfInput D} where
+module _ {S F D : Type 0} {sys : OfSystem S F D} {handle : OfHandle F} {file : OfInput F}
+    {dir : OfInput D} where
   -- the tree that the system keeps there, where files aren't put onto the disk, and the path of the open file
   abbrev pub told : HostDest S F D sys handle file dir → Option Writing
   told d = told_of (unless_synced d.synced (sys.kept d.system d.folder.path.now)) d.writing
@@ -56,11 +57,13 @@ module _ {S F D : Type 0} {sys : OfSystem S F D} {handle : OfHandle F} {file : O
   abbrev pub KeepsPeek : (old new : HostDest S F D sys handle file dir) → Path → Type 0
   KeepsPeek old new p =
       KeepsCall old.folder.path.now p
-      (FailsToPeek (λ s. sys.opens s for_reading) file.reads (entry_text old.folder.path.now p) old.system new.system)
+      (FailsToPeek (λ s. sys.opens s for_reading) file.reads
+      (entry_text old.folder.path.now p) old.system new.system)
       new.last
 
   -- the system is asked once to make a directory, unless its path is too long, and so it was answered
-  abbrev pub MakesDir : (old new : HostDest S F D sys handle file dir) → Path → Result (Unit {0}) TreeFault → Type 0
+  abbrev pub MakesDir : (old new : HostDest S F D sys handle file dir) → Path
+      → Result (Unit {0}) TreeFault → Type 0
   MakesDir old new p result =
       MakesOnce old.longest sys.makes_dir IsAnswer old.folder.path.now p old.system new.system result
 
@@ -71,7 +74,8 @@ module _ {S F D : Type 0} {sys : OfSystem S F D} {handle : OfHandle F} {file : O
       (λ e. sys.makes_dir old.system (entry_text old.folder.path.now p) (Err e) new.system) new.last
 
   -- the system is asked once to make a file, unless its path is too long, and by its answer that is the open one
-  abbrev pub MakesFile : (old new : HostDest S F D sys handle file dir) → Path → Result (Unit {0}) TreeFault → Type 0
+  abbrev pub MakesFile : (old new : HostDest S F D sys handle file dir) → Path
+      → Result (Unit {0}) TreeFault → Type 0
   MakesFile old new p result =
       MakesOnce old.longest (λ s. sys.opens s for_making) (MakesAt p old.writing new.writing)
       old.folder.path.now p old.system new.system result
@@ -83,7 +87,8 @@ module _ {S F D : Type 0} {sys : OfSystem S F D} {handle : OfHandle F} {file : O
       (λ e. sys.opens old.system for_making (entry_text old.folder.path.now p) (Err e) new.system) new.last
 
   -- the writes that the open file is asked for, and so they were answered; where none is open, that is a failure
-  abbrev pub Writes : (old new : HostDest S F D sys handle file dir) → List ℕ → Result (Unit {0}) TreeFault → Type 0
+  abbrev pub Writes : (old new : HostDest S F D sys handle file dir) → List ℕ
+      → Result (Unit {0}) TreeFault → Type 0
   Writes old new piece result = WritesTo sys.writes old.system old.writing new.system new.writing piece result
 
   -- what is kept, where memory allowed it, of a failed write
@@ -98,14 +103,20 @@ module _ {S F D : Type 0} {sys : OfSystem S F D} {handle : OfHandle F} {file : O
   -- what is kept, where memory allowed it, of a file that isn't put onto the disk
   abbrev pub KeepsClose : (old new : HostDest S F D sys handle file dir) → Type 0
   KeepsClose old new =
-      IfSome new.last (IsOfWriting old.folder.path.now (λ w e. (after : F) × handle.syncs w (Err e) after) old.writing)
+      IfSome new.last
+      (IsOfWriting old.folder.path.now (λ w e. (after : F)
+      × handle.syncs w (Err e) after) old.writing)
 
   -- the system is asked once to move an entry, and what comes after that
-  abbrev pub Moves : (old new : HostDest S F D sys handle file dir) → Path → Path → Result (Unit {0}) TreeFault → Type 0
+  abbrev pub Moves : (old new : HostDest S F D sys handle file dir) → Path → Path
+      → Result (Unit {0}) TreeFault → Type 0
   Moves old new from to result =
-      MovesOnce sys.renames sys.opens handle.syncs old.synced old.folder.path.now from to old.system new.system result
+      MovesOnce sys.renames sys.opens handle.syncs old.synced old.folder.path.now from to old.system
+      new.system result
 
   -- what is kept, where memory allowed it, of a failed move
   abbrev pub KeepsMove : (old new : HostDest S F D sys handle file dir) → Path → Path → Type 0
   KeepsMove old new from to =
-      IfSome new.last (IsOfMove sys.renames sys.opens handle.syncs old.folder.path.now from to old.system new.system)
+      IfSome new.last
+      (IsOfMove sys.renames sys.opens handle.syncs old.folder.path.now from to old.system
+      new.system)

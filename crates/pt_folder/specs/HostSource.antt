@@ -18,7 +18,8 @@ use Rattle.pt_folder.specs.Opening.{KeepsOpening, OpensOnce}
 use Rattle.pt_folder.specs.Reading.{IsOfReading, ReadsBy, unread_open}
 use Rattle.pt_folder.specs.SourceHeld.{told_of}
 
-module _ {S F D : Type 0} {sys : OfSystem S F D} {handle : OfHandle F} {file : OfInput F} {dir : OfInput D} where
+module _ {S F D : Type 0} {sys : OfSystem S F D} {handle : OfHandle F} {file : OfInput F}
+    {dir : OfInput D} where
   -- the tree that the system keeps there, and what isn't read of the open file
   abbrev pub told : HostSource S F D sys handle file dir → Option Reading
   told s = told_of (sys.forest s.system s.folder.path.now) (unread_open file.bytes s.reading)
@@ -33,14 +34,16 @@ module _ {S F D : Type 0} {sys : OfSystem S F D} {handle : OfHandle F} {file : O
   -- why it wasn't
   abbrev pub CannotList : (old new : HostSource S F D sys handle file dir) → Path → TreeFault → Type 0
   CannotList old new p fault =
-      IsDueTo fault (FailsToList sys.opens_dir sys.looks dir.reads old.folder.path.now p old.system new.system)
+      IsDueTo fault
+      (FailsToList sys.opens_dir sys.looks dir.reads old.folder.path.now p old.system new.system)
 
   -- what is kept, where memory allowed it, of a failed listing
   abbrev pub KeepsList : (old new : HostSource S F D sys handle file dir) → Path → Type 0
   KeepsList old new p = KeepsListing sys.looks old.folder.path.now p new.last
 
   -- the system is asked to look, and to open what is a file, and so it was answered
-  abbrev pub Opens : (old new : HostSource S F D sys handle file dir) → Path → Result (Unit {0}) TreeFault → Type 0
+  abbrev pub Opens : (old new : HostSource S F D sys handle file dir) → Path
+      → Result (Unit {0}) TreeFault → Type 0
   Opens old new p result =
       OpensOnce sys.looks (λ s. sys.opens s for_reading) old.folder.path.now p
       old.reading new.reading old.system new.system result
@@ -48,10 +51,12 @@ module _ {S F D : Type 0} {sys : OfSystem S F D} {handle : OfHandle F} {file : O
   -- what is kept, where memory allowed it, of a failed opening
   abbrev pub KeepsOpen : (old new : HostSource S F D sys handle file dir) → Path → Type 0
   KeepsOpen old new p =
-      KeepsOpening sys.looks (λ s. sys.opens s for_reading) old.folder.path.now p old.system new.system new.last
+      KeepsOpening sys.looks
+      (λ s. sys.opens s for_reading) old.folder.path.now p old.system new.system new.last
 
   -- the open file is read on, into this block, and so it was answered; where none is open, that is a failure
-  abbrev pub Reads : (old new : HostSource S F D sys handle file dir) → List ℕ → Result (Unit {0}) TreeFault → Type 0
+  abbrev pub Reads : (old new : HostSource S F D sys handle file dir) → List ℕ
+      → Result (Unit {0}) TreeFault → Type 0
   Reads old new block result = ReadsBy file.reads handle.goes old.reading new.reading block result
 
   -- what is kept, where memory allowed it, of a failed reading

@@ -34,7 +34,8 @@ LeadsToOwnKind (Err e) (Ok kind) = ⊥
 LeadsToOwnKind (Err e) (Err fault) = fault ≡ fault_of e
 
 -- an entry is looked at once, links not followed, and this is its kind
-abbrev pub LooksAt : {S : Type 0} → (S → List ℕ → Result Metadata Error → S → Type 0) → List ℕ → S → Item → S → Type 0
+abbrev pub LooksAt : {S : Type 0} → (S → List ℕ → Result Metadata Error → S → Type 0) → List ℕ → S
+    → Item → S → Type 0
 LooksAt looks front old item new = (metadata : Metadata)
     × looks old (front ++ item.0) (Ok metadata) new × IsKind (file_type metadata) item.1
 
@@ -55,7 +56,8 @@ pub record GetsNames {D : Type 0} (reads : D → List ℕ → Result ℕ Error �
 -- that a count of 64 bits has room for
 abbrev pub IsGivenUp : {D : Type 0} → (D → List ℕ → Result ℕ Error → D → Type 0) → ℕ → List (List ℕ)
     → ℕ → D → D → Type 0
-IsGivenUp reads most names count last new = ((e : Error) × Reads reads 8192 last (Err e) new × (fault_of e ≡ Device))
+IsGivenUp reads most names count last new = ((e : Error) × Reads reads 8192 last (Err e) new
+    × (fault_of e ≡ Device))
     ⊎ (((piece : List ℕ) × GivesPiece reads 8192 last piece new × RefusesBytes most names piece)
     ⊎ ((count ≡ 2 ^ 64 - 1) × (new ≡ last)))
 

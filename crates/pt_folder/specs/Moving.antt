@@ -18,7 +18,8 @@ holder_text path = path ++ 47 ∷ 46 ∷ 46 ∷ []
 abbrev pub IsSynced : {S F : Type 0} → (S → OpenOptions → List ℕ → Result F Error → S → Type 0)
     → (F → Result (Unit {0}) Error → F → Type 0) → List ℕ → S → S → Result (Unit {0}) TreeFault
     → Type 0
-IsSynced {S} {F} opens syncs path old new result = (reply : Result F Error) × opens old for_reading path reply new
+IsSynced {S} {F} opens syncs path old new result = (reply : Result F Error)
+    × opens old for_reading path reply new
     × MatchResult reply (λ file. (answer : Result (Unit {0}) Error) × (after : F)
     × syncs file answer after × IsAnswer answer result) (λ e. result ≡ Err (fault_of e))
 

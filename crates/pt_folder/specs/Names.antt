@@ -36,7 +36,8 @@ IsRefusedName most names name = (is_entry name ≡ true) × ((most ≤ length na
 -- bytes without a NUL behind them, or a name that isn't added
 abbrev pub EndsNames : ℕ → List (List ℕ) → List ℕ → Type 0
 EndsNames most names rest = ((0 < length rest) × LacksNul rest)
-    ⊎ ((name : List ℕ) × (more : List ℕ) × (rest ≡ ended name ++ more) × LacksNul name × IsRefusedName most names name)
+    ⊎ ((name : List ℕ) × (more : List ℕ) × (rest ≡ ended name ++ more) × LacksNul name
+    × IsRefusedName most names name)
 
 -- the bytes give names that are added, and behind them comes what isn't
 pub record RefusesBytes (most : ℕ) (old : List (List ℕ)) (bytes : List ℕ) : Type 0 where

@@ -26,7 +26,8 @@ pub record Stands {F : Type 0} (bytes left : F → Option (List ℕ)) (r : Readi
   pub at_place : r.lost ≡ false → ForSome (bytes r.file) (λ xs. left r.file ≡ Some (drop r.place xs))
   pub at_end : r.ended ≡ true → ForSome (bytes r.file) (λ xs. drop r.place xs ≡ [])
 
-abbrev pub StandsOpen : {F : Type 0} → (F → Option (List ℕ)) → (F → Option (List ℕ)) → Option (Reading F) → Type 0
+abbrev pub StandsOpen : {F : Type 0} → (F → Option (List ℕ)) → (F → Option (List ℕ))
+    → Option (Reading F) → Type 0
 StandsOpen bytes left reading = ForSome reading (Stands bytes left)
 
 -- the block is the next bytes, as many as it holds
@@ -63,8 +64,10 @@ ReadsOn reads goes (Some old) None block = ⊥
 ReadsOn reads goes (Some old) (Some new) block = ReadsNext reads goes old new block
 
 -- the file was asked to go to its place, and answered so; it may still stand elsewhere
-abbrev pub FailsToGoBack : {F : Type 0} → (F → ℕ → Result ℕ Error → F → Type 0) → Reading F → Error → Reading F → Type 0
-FailsToGoBack goes old e new = (old.lost ≡ true) × goes old.file old.place (Err e) new.file × (new.lost ≡ true)
+abbrev pub FailsToGoBack : {F : Type 0} → (F → ℕ → Result ℕ Error → F → Type 0) → Reading F → Error
+    → Reading F → Type 0
+FailsToGoBack goes old e new = (old.lost ≡ true) × goes old.file old.place (Err e) new.file
+    × (new.lost ≡ true)
 
 -- the file went to its place, if it may have stood elsewhere; after some reads or none, one answered so
 abbrev pub FailsAtRead : {F : Type 0} → (F → List ℕ → Result ℕ Error → F → Type 0)
@@ -92,7 +95,8 @@ abbrev pub FailsOn : {F : Type 0} → (F → List ℕ → Result ℕ Error → F
     → Type 0
 FailsOn reads goes None new fault = (fault ≡ Device) × (new ≡ None)
 FailsOn reads goes (Some old) None fault = ⊥
-FailsOn reads goes (Some old) (Some new) fault = (e : Error) × FailsToReadOn reads goes old e new × (fault ≡ fault_of e)
+FailsOn reads goes (Some old) (Some new) fault = (e : Error) × FailsToReadOn reads goes old e new
+    × (fault ≡ fault_of e)
 
 -- reading on went well so, or failed so
 abbrev pub ReadsBy : {F : Type 0} → (F → List ℕ → Result ℕ Error → F → Type 0)

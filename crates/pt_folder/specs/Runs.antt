@@ -9,7 +9,8 @@ use Rattle.pt_folder.specs.Bytes.{TakesBlock}
 use Rattle.pt_folder.specs.Calls.{fault_of}
 
 -- one read into a buffer of so much room, and what it answered
-abbrev pub Reads : {F : Type 0} → (F → List ℕ → Result ℕ Error → F → Type 0) → ℕ → F → Result ℕ Error → F → Type 0
+abbrev pub Reads : {F : Type 0} → (F → List ℕ → Result ℕ Error → F → Type 0) → ℕ → F
+    → Result ℕ Error → F → Type 0
 Reads reads room old reply new = (buffer : List ℕ) × (length buffer ≡ room) × reads old buffer reply new
 
 -- one read into a buffer of so much room gave these bytes, of which there are some
@@ -24,7 +25,8 @@ pub record GivesPiece {F : Type 0} (reads : F → List ℕ → Result ℕ Error 
 -- one more piece of a block, behind what was read of it, into the room that is left
 abbrev pub ReadsMore : {F : Type 0} → (F → List ℕ → Result ℕ Error → F → Type 0) → ℕ → F × List ℕ
     → List ℕ → F × List ℕ → Type 0
-ReadsMore reads room old piece new = GivesPiece reads (room - length old.1) old.0 piece new.0 × (new.1 ≡ old.1 ++ piece)
+ReadsMore reads room old piece new =
+    GivesPiece reads (room - length old.1) old.0 piece new.0 × (new.1 ≡ old.1 ++ piece)
 
 -- These bytes were read piece by piece, each read going on from where the last one left the file, until there was no
 -- room or a read gave nothing.
@@ -52,8 +54,10 @@ abbrev pub on_pairs : {S F : Type 0} → (S → F → List ℕ → Result ℕ Er
 on_pairs writes old piece reply new = writes old.0 old.1 piece reply new.0 new.1
 
 -- a write of all the bytes that are left took so many of them, and some
-abbrev pub WritesMore : {F : Type 0} → (F → List ℕ → Result ℕ Error → F → Type 0) → F × List ℕ → ℕ → F × List ℕ → Type 0
-WritesMore writes old taken new = (0 < taken) × writes old.0 old.1 (Ok taken) new.0 × (new.1 ≡ drop taken old.1)
+abbrev pub WritesMore : {F : Type 0} → (F → List ℕ → Result ℕ Error → F → Type 0) → F × List ℕ → ℕ
+    → F × List ℕ → Type 0
+WritesMore writes old taken new = (0 < taken) × writes old.0 old.1 (Ok taken) new.0
+    × (new.1 ≡ drop taken old.1)
 
 -- all the bytes were written, each write beginning with the first that was left
 abbrev pub WritesAll : {F : Type 0} → (F → List ℕ → Result ℕ Error → F → Type 0) → List ℕ → F → F → Type 0

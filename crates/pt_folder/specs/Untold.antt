@@ -18,11 +18,13 @@ unknown file = None
 pub untold_look : (p : Path) (reply : Result Metadata Error) → Looked no_forest no_forest p reply
 untold_look p reply = record { same = refl; shown = λ f is. absurd (cc) }
 
-pub untold_open : {F : Type 0} (p : Path) (reply : Result F Error) → Opened unknown unknown no_forest no_forest p reply
+pub untold_open : {F : Type 0} (p : Path) (reply : Result F Error)
+    → Opened unknown unknown no_forest no_forest p reply
 untold_open p (Ok file) = record { same = refl; start = refl; given = λ f is. absurd (cc) }
 untold_open p (Err e) = record { same = refl; start = tt; given = λ f is. absurd (cc) }
 
-pub untold_names : {D : Type 0} (p : Path) (reply : Result D Error) → Listed unknown no_forest no_forest p reply
+pub untold_names : {D : Type 0} (p : Path) (reply : Result D Error)
+    → Listed unknown no_forest no_forest p reply
 untold_names p reply = record { same = refl; given = λ f is. absurd (cc) }
 
 pub untold_proper : (f : Forest) → no_forest ≡ Some f → is_proper f ≡ true
@@ -31,10 +33,12 @@ untold_proper f is = absurd (cc)
 abbrev pub no_kept : {F : Type 0} → Kept F
 no_kept = record { tree = None; place = λ _. None }
 
-pub untold_kind : {F : Type 0} (p : Path) (reply : Result Metadata Error) → Seen (no_kept {F = F}) no_kept p reply
+pub untold_kind : {F : Type 0} (p : Path) (reply : Result Metadata Error)
+    → Seen (no_kept {F = F}) no_kept p reply
 untold_kind p reply = record { same = refl; shown = λ t is. absurd (cc) }
 
-pub untold_dir : (F : Type 0) (p : Path) (reply : Result (Unit {0}) Error) → MakesDir (no_kept {F = F}) no_kept p reply
+pub untold_dir : (F : Type 0) (p : Path) (reply : Result (Unit {0}) Error)
+    → MakesDir (no_kept {F = F}) no_kept p reply
 untold_dir F p (Ok x) = refl
 untold_dir F p (Err e) = refl
 
@@ -43,7 +47,8 @@ pub untold_move : (F : Type 0) (from to : Path) (reply : Result (Unit {0}) Error
 untold_move F from to (Ok x) = (refl, λ f q at apart. at)
 untold_move F from to (Err e) = refl
 
-pub untold_file : {F : Type 0} (p : Path) (reply : Result F Error) → MakesFile (no_kept {F = F}) no_kept p reply
+pub untold_file : {F : Type 0} (p : Path) (reply : Result F Error)
+    → MakesFile (no_kept {F = F}) no_kept p reply
 untold_file p (Ok x) = (refl, λ t is. absurd (cc))
 untold_file p (Err e) = refl
 

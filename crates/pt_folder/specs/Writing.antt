@@ -41,7 +41,8 @@ WritesTo writes s (Some old) new_s (Some new) piece result = (new.path ≡ old.p
 -- writes of a piece to a file ended with this error
 abbrev pub FailsToAdd : {S F : Type 0} → (S → F → List ℕ → Result ℕ Error → S → F → Type 0) → List ℕ
     → S → F → Error → Type 0
-FailsToAdd {S} {F} writes piece s file e = (after : S × F) × FailsToWrite (on_pairs writes) piece (s, file) e after
+FailsToAdd {S} {F} writes piece s file e = (after : S × F)
+    × FailsToWrite (on_pairs writes) piece (s, file) e after
 
 -- how the open file is closed: at once, or put onto the disk before, and so it was answered
 abbrev pub FinishesBy : {F : Type 0} → (F → Result (Unit {0}) Error → F → Type 0) → Bool → F

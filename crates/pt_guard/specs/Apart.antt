@@ -12,28 +12,40 @@ abbrev pub Ends : {S : Type 0} → Lie → S → S → Lie → Type 0
 Ends answer mid new lie = (lie ≡ answer) × (new ≡ mid)
 
 -- what a path leads to and each folder above it is asked for, at most so many, until one is this folder; where one can't be told it is unknown
-abbrev pub Climbs : {S : Type 0} → (S → List ℕ → Result Folder Error → S → Type 0) → Folder → ℕ → List ℕ → S → S → Lie → Type 0
+abbrev pub Climbs : {S : Type 0} → (S → List ℕ → Result Folder Error → S → Type 0) → Folder → ℕ
+    → List ℕ → S → S → Lie → Type 0
 Climbs identifies target zero path old new lie = Ends Unknown old new lie
-Climbs {S} identifies target (suc left) path old new lie = (a : Result Folder Error) × (mid : S) × identifies old path a mid
-    × MatchResult a (λ found. (same : Bool) × (IsTrue same ↔ (found ≡ target)) × MatchBool same (Ends Inside mid new lie)
+Climbs {S} identifies target (suc left) path old new lie = (a : Result Folder Error) × (mid : S)
+    × identifies old path a mid
+    × MatchResult a (λ found. (same : Bool) × (IsTrue same ↔ (found ≡ target))
+    × MatchBool same (Ends Inside mid new lie)
     ((more : Bool) × (IsTrue more ↔ IsSome (path_parent path))
-    × MatchBool more (Climbs identifies target left (unwrap_or (path_parent path) path) mid new lie) (Ends Apart mid new lie)))
+    × MatchBool more (Climbs identifies target left (unwrap_or (path_parent path) path) mid new lie)
+    (Ends Apart mid new lie)))
     (λ _. Ends Unknown mid new lie)
 
 -- the folder at a path is asked for, and it and those above the resolved path are compared
-abbrev pub IsHeld : {S : Type 0} → (S → List ℕ → Result Folder Error → S → Type 0) → List ℕ → List ℕ → S → S → Lie → Type 0
-IsHeld {S} identifies outer place old new lie = (a : Result Folder Error) × (mid : S) × identifies old outer a mid
-    × MatchResult a (λ target. Climbs identifies target (length place) place mid new lie) (λ _. Ends Unknown mid new lie)
+abbrev pub IsHeld : {S : Type 0} → (S → List ℕ → Result Folder Error → S → Type 0) → List ℕ → List ℕ
+    → S → S → Lie → Type 0
+IsHeld {S} identifies outer place old new lie = (a : Result Folder Error) × (mid : S)
+    × identifies old outer a mid
+    × MatchResult a (λ target. Climbs identifies target (length place) place mid new lie)
+    (λ _. Ends Unknown mid new lie)
 
 -- of a path that can't be resolved: it is unknown where something stands at it, and apart where nothing does
-abbrev pub Stands : {S : Type 0} → (S → List ℕ → Result Folder Error → S → Type 0) → List ℕ → S → S → Lie → Type 0
-Stands identifies path old new lie = (a : Result Folder Error) × identifies old path a new × MatchResult a (λ _. lie ≡ Unknown) (λ _. lie ≡ Apart)
+abbrev pub Stands : {S : Type 0} → (S → List ℕ → Result Folder Error → S → Type 0) → List ℕ → S → S
+    → Lie → Type 0
+Stands identifies path old new lie = (a : Result Folder Error) × identifies old path a new
+    × MatchResult a (λ _. lie ≡ Unknown) (λ _. lie ≡ Apart)
 
 -- both paths were resolved, and the first is the second or goes on from it, name by name, or its folder or one above it is the second's
-abbrev pub LiesIn : {S : Type 0} → (S → List ℕ → Result Place Error → S → Type 0) → (S → List ℕ → Result Folder Error → S → Type 0) → List ℕ → List ℕ → S → S → Lie → Type 0
-LiesIn {S} resolves identifies inner outer old new lie = (a : Result Place Error) × (mid : S) × resolves old inner a mid
+abbrev pub LiesIn : {S : Type 0} → (S → List ℕ → Result Place Error → S → Type 0)
+    → (S → List ℕ → Result Folder Error → S → Type 0) → List ℕ → List ℕ → S → S → Lie → Type 0
+LiesIn {S} resolves identifies inner outer old new lie = (a : Result Place Error) × (mid : S)
+    × resolves old inner a mid
     × MatchResult a (λ p. (b : Result Place Error) × (next : S) × resolves mid outer b next
-    × MatchResult b (λ q. (within : Bool) × (IsTrue within ↔ PathStartsWith (path_buf_bytes p) (path_buf_bytes q))
+    × MatchResult b (λ q. (within : Bool)
+    × (IsTrue within ↔ PathStartsWith (path_buf_bytes p) (path_buf_bytes q))
     × MatchBool within (Ends Inside next new lie) (IsHeld identifies outer (path_buf_bytes p) next new lie))
     (λ _. Stands identifies outer next new lie))
     (λ _. Stands identifies inner mid new lie)
@@ -46,19 +58,29 @@ GoesOn second Unknown mid new lie = Ends Unknown mid new lie
 
 -- one is asked, and the next where that is apart
 abbrev pub OrElse : {S : Type 0} → (S → S → Lie → Type 0) → (S → S → Lie → Type 0) → S → S → Lie → Type 0
-OrElse {S} first second old new lie = (one : Lie) × (mid : S) × first old mid one × GoesOn second one mid new lie
+OrElse {S} first second old new lie = (one : Lie) × (mid : S) × first old mid one
+    × GoesOn second one mid new lie
 
 -- how a path lies to one folder, and else to another
-abbrev pub InEither : {S : Type 0} → (S → List ℕ → Result Place Error → S → Type 0) → (S → List ℕ → Result Folder Error → S → Type 0) → List ℕ → List ℕ → List ℕ → S → S → Lie → Type 0
-InEither resolves identifies inner one other = OrElse (LiesIn resolves identifies inner one) (LiesIn resolves identifies inner other)
+abbrev pub InEither : {S : Type 0} → (S → List ℕ → Result Place Error → S → Type 0)
+    → (S → List ℕ → Result Folder Error → S → Type 0) → List ℕ → List ℕ → List ℕ → S → S → Lie
+    → Type 0
+InEither resolves identifies inner one other =
+    OrElse (LiesIn resolves identifies inner one) (LiesIn resolves identifies inner other)
 
 -- asked one after another, until one isn't apart: the destination in the store or its `pairtree_root`; the store in one of what the
 -- destination is to hold; the store's `pairtree_root` in one of that
-abbrev pub Finds : {S : Type 0} → (S → List ℕ → Result Place Error → S → Type 0) → (S → List ℕ → Result Folder Error → S → Type 0) → List ℕ → List ℕ → List ℕ → List ℕ → List ℕ → S → S → Lie → Type 0
-Finds resolves identifies source tree dest root staging = OrElse (InEither resolves identifies dest source tree)
-    (OrElse (InEither resolves identifies source root staging) (InEither resolves identifies tree root staging))
+abbrev pub Finds : {S : Type 0} → (S → List ℕ → Result Place Error → S → Type 0)
+    → (S → List ℕ → Result Folder Error → S → Type 0) → List ℕ → List ℕ → List ℕ → List ℕ → List ℕ
+    → S → S → Lie → Type 0
+Finds resolves identifies source tree dest root staging =
+    OrElse (InEither resolves identifies dest source tree)
+    (OrElse (InEither resolves identifies source root staging)
+    (InEither resolves identifies tree root staging))
 
 -- the same of a store and a destination, which is to hold `ocfl` and `staging`
-abbrev pub Overlaps : {S : Type 0} → (S → List ℕ → Result Place Error → S → Type 0) → (S → List ℕ → Result Folder Error → S → Type 0) → List ℕ → List ℕ → S → S → Lie → Type 0
+abbrev pub Overlaps : {S : Type 0} → (S → List ℕ → Result Place Error → S → Type 0)
+    → (S → List ℕ → Result Folder Error → S → Type 0) → List ℕ → List ℕ → S → S → Lie → Type 0
 Overlaps resolves identifies source dest =
-    Finds resolves identifies source (source ++ codes "/pairtree_root") dest (dest ++ codes "/ocfl") (dest ++ codes "/staging")
+    Finds resolves identifies source (source ++ codes "/pairtree_root") dest (dest ++ codes "/ocfl")
+    (dest ++ codes "/staging")

@@ -8,9 +8,13 @@ use Rattle.pt_tree.specs.Source.{Reading}
 -- in every directory without the entries of these names, whatever they are and hold
 abbrev pub without : List (List ℕ) → Forest → Forest
 without names none = none
-without names (file name bytes after) = cond (is_among names name) (without names after) (file name bytes (without names after))
-without names (other name after) = cond (is_among names name) (without names after) (other name (without names after))
-without names (dir name inside after) = cond (is_among names name) (without names after) (dir name (without names inside) (without names after))
+without names (file name bytes after) =
+    cond (is_among names name) (without names after) (file name bytes (without names after))
+without names (other name after) =
+    cond (is_among names name) (without names after) (other name (without names after))
+without names (dir name inside after) =
+    cond (is_among names name) (without names after)
+    (dir name (without names inside) (without names after))
 
 -- what is read of such a tree
 abbrev pub reading_without : List (List ℕ) → Reading → Reading

@@ -26,18 +26,27 @@ use Rattle.pt_state.specs.declared.state.State.{State}
 -- the row at the position is passed, and this is next
 unfoldable pub IsPassed : State → Position → Part → Type 0
 IsPassed s position next =
-    (row : Row) × ((slice_get s.rows position.row ≡ Some row) × (is_stored s.contents position.stored row.path ≡ false) × (next ≡ content_at s.rows (behind position)))
+    (row : Row) × ((slice_get s.rows position.row ≡ Some row)
+    × (is_stored s.contents position.stored row.path ≡ false)
+    × (next ≡ content_at s.rows (behind position)))
 
 -- a folder of the content at the position is next, at this path
 unfoldable pub IsNextFolder : State → Position → Path → Type 0
 IsNextFolder s position path =
-    (row : Row) × ((slice_get s.rows position.row ≡ Some row) × (is_stored s.contents position.stored row.path ≡ true) × (nat_lt position.directories (length row.path) ≡ true) × (position.directories < 2 ^ 64 - 1) × (path ≡ in_content (take position.directories row.path)))
+    (row : Row) × ((slice_get s.rows position.row ≡ Some row)
+    × (is_stored s.contents position.stored row.path ≡ true)
+    × (nat_lt position.directories (length row.path) ≡ true) × (position.directories < 2 ^ 64 - 1)
+    × (path ≡ in_content (take position.directories row.path)))
 
 -- its file is next
 unfoldable pub IsNextCopy : State → Object → Position → Copied → Type 0
 IsNextCopy s object position copied =
-    (row : Row) × ((slice_get s.rows position.row ≡ Some row) × (is_stored s.contents position.stored row.path ≡ true) × (nat_lt position.directories (length row.path) ≡ false)
-    × (copied.to ≡ in_content row.path) × (copied.from ≡ in_pairtree (path_of_source object s.trail ++ row.path)) × (copied.length ≡ row.length))
+    (row : Row) × ((slice_get s.rows position.row ≡ Some row)
+    × (is_stored s.contents position.stored row.path ≡ true)
+    × (nat_lt position.directories (length row.path) ≡ false)
+    × (copied.to ≡ in_content row.path)
+    × (copied.from ≡ in_pairtree (path_of_source object s.trail ++ row.path))
+    × (copied.length ≡ row.length))
 
 -- this is next at the position
 abbrev pub IsStep : State → Object → Position → Step → Type 0
@@ -48,12 +57,15 @@ IsStep s object position (step.File copied) = IsNextCopy s object position copie
 -- what was read is as the row at the position says, and this is next
 unfoldable pub IsAsRead : List Row → List Content → Position → ℕ → List ℕ → Part → Type 0
 IsAsRead rows contents position left digest next =
-    (row : Row) × ((slice_get rows position.row ≡ Some row) × (((left == 0) && bytes_eq digest row.digest) ≡ true) × (next ≡ content_at rows (behind_stored contents position row.path)))
+    (row : Row) × ((slice_get rows position.row ≡ Some row)
+    × (((left == 0) && bytes_eq digest row.digest) ≡ true)
+    × (next ≡ content_at rows (behind_stored contents position row.path)))
 
 -- it is not
 unfoldable pub IsOther : List Row → Position → ℕ → List ℕ → Type 0
 IsOther rows position left digest =
-    (row : Row) × ((slice_get rows position.row ≡ Some row) × (((left == 0) && bytes_eq digest row.digest) ≡ false))
+    (row : Row) × ((slice_get rows position.row ≡ Some row)
+    × (((left == 0) && bytes_eq digest row.digest) ≡ false))
 
 -- so the end of a file is answered
 abbrev pub EndsAs : List Row → List Content → Position → ℕ → List ℕ → Option Part → Type 0

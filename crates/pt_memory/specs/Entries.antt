@@ -23,9 +23,11 @@ forest_of (Dir' name p inside q after) = dir name (forest_of inside) (forest_of 
 -- the first file that has a place, with its path and the place
 abbrev pub open_of : Entries → Option (Path × ℕ)
 open_of End = None
-open_of (File' name held p after) = option_or (option_map (λ place. (name ∷ [], place)) held.place) (open_of after)
+open_of (File' name held p after) =
+    option_or (option_map (λ place. (name ∷ [], place)) held.place) (open_of after)
 open_of (Other' name p after) = open_of after
-open_of (Dir' name p inside q after) = option_or (option_map (λ o. (name ∷ o.0, o.1)) (open_of inside)) (open_of after)
+open_of (Dir' name p inside q after) =
+    option_or (option_map (λ o. (name ∷ o.0, o.1)) (open_of inside)) (open_of after)
 
 abbrev pub node_of : Found → Node
 node_of (found.File bytes) = node.File bytes.now

@@ -20,7 +20,8 @@ after_failure f = record { left = f.left; failures = one_more f.failures }
 
 -- a call was made: it used the fuse up by one, or failed
 abbrev pub after_call : Fuse → Fuse
-after_call f = cond (is_blown f) (after_failure f) (record { left = option_map (λ left. left - 1) f.left; failures = f.failures })
+after_call f = cond (is_blown f) (after_failure f)
+    (record { left = option_map (λ left. left - 1) f.left; failures = f.failures })
 
 -- what the fuse answers
 abbrev pub fuse_answer : Fuse → Result (Unit {0}) TreeFault

@@ -21,7 +21,10 @@ pub record LooseState : Type 0 where
   pub swap : Option Swapping
 
 abbrev pub loose_state : LooseSource → LooseState
-loose_state l = record { source = source_state l.source; swap = option_map (λ s. record { left = s.left; path = s.path; bytes = s.bytes.items }) l.swap }
+loose_state l = record {
+  source = source_state l.source;
+  swap = option_map (λ s. record { left = s.left; path = s.path; bytes = s.bytes.items }) l.swap;
+}
 
 -- a call is over: the swap comes a call nearer, or acts and is gone
 abbrev pub ticked : LooseState → LooseState
@@ -29,7 +32,9 @@ ticked s = by s.swap
   where
     by : Option Swapping → LooseState
     by None = s
-    by (Some w) = cond (nat_le w.left 1) (record { source = swapped w.path w.bytes s.source; swap = None }) (record { source = s.source; swap = Some (record w { left = w.left - 1 }) })
+    by (Some w) = cond (nat_le w.left 1)
+        (record { source = swapped w.path w.bytes s.source; swap = None })
+        (record { source = s.source; swap = Some (record w { left = w.left - 1 }) })
 
 -- a call of the tree in memory, and then the swap's turn
 pub record Then (gives : SourceState → Type 0) (old new : LooseState) : Type 0 where
@@ -43,7 +48,9 @@ swap_refusal tree p = option_map_or (λ _. None) (file_at tree p) (Some swap.Abs
 
 -- the swap is the one that is still to come, or acts at once
 abbrev pub after_swap : ℕ → Path → List ℕ → LooseState → LooseState
-after_swap calls p bytes s = cond (calls == 0) (record { source = swapped p bytes s.source; swap = None }) (record { source = s.source; swap = Some (record { left = calls; path = p; bytes = bytes }) })
+after_swap calls p bytes s =
+    cond (calls == 0) (record { source = swapped p bytes s.source; swap = None })
+    (record { source = s.source; swap = Some (record { left = calls; path = p; bytes = bytes }) })
 
 abbrev pub swap_number : SwapFault → ℕ
 swap_number swap.Absent = 1

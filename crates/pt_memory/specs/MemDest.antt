@@ -29,7 +29,8 @@ abbrev pub dest_told : MemDest → Option Writing
 dest_told d = Some (dest_state d).told
 
 abbrev pub new_dest : DestState
-new_dest = record { told = record { tree = tree_of none; writing = None }; fuse = record { left = None; failures = 0 } }
+new_dest = record
+    { told = record { tree = tree_of none; writing = None }; fuse = record { left = None; failures = 0 } }
 
 -- a call was made, and left this
 abbrev pub after_dest_call : DestState → Writing → DestState
@@ -42,13 +43,16 @@ Passes false old new result P = P
 
 -- A change is made, or memory runs out and nothing is changed.
 abbrev pub Makes : DestState → DestState → Result (Unit {0}) TreeFault → Writing → Type 0
-Makes old new result made = MatchResult result (λ _. new ≡ after_dest_call old made) (λ e. (e ≡ Memory) × (new ≡ after_dest_call old old.told))
+Makes old new result made =
+    MatchResult result (λ _. new ≡ after_dest_call old made) (λ e. (e ≡ Memory)
+    × (new ≡ after_dest_call old old.told))
 
 -- A piece is added to the open file; where the fuse fails, half of it, rounded down.
 abbrev pub Appends : Bool → DestState → DestState → Result (Unit {0}) TreeFault → List ℕ → Type 0
 Appends false old new result piece = Makes old new result (after_append piece old.told)
 Appends true old new result piece = MatchResult result (λ _. ⊥)
-    (λ e. MatchFault e (new ≡ after_dest_call old (after_append (take (length piece / 2) piece) old.told)) (new ≡ old))
+    (λ e. MatchFault e (new
+    ≡ after_dest_call old (after_append (take (length piece / 2) piece) old.told)) (new ≡ old))
   where
     MatchFault : TreeFault → Type 0 → Type 0 → Type 0
     MatchFault Device P Q = P
@@ -56,7 +60,8 @@ Appends true old new result piece = MatchResult result (λ _. ⊥)
 
 -- this stands at the path now, and all else is as before
 abbrev pub after_plant : Path → Entry → DestState → DestState
-after_plant p e s = record { told = record { tree = put s.told.tree p e; writing = s.told.writing }; fuse = s.fuse }
+after_plant p e s =
+    record { told = record { tree = put s.told.tree p e; writing = s.told.writing }; fuse = s.fuse }
 
 -- why nothing can be taken away: nothing is there, or it is the top
 abbrev pub take_refusal : Tree → Path → Option TakeFault
@@ -69,7 +74,11 @@ take_refusal t p = absent (t p)
 
 -- all at and below the path is gone, and a file that was open there is closed
 abbrev pub after_take : Path → DestState → DestState
-after_take p s = record { told = record { tree = without s.told.tree p; writing = open_unless_below p s.told.writing }; fuse = s.fuse }
+after_take p s =
+    record {
+      told = record { tree = without s.told.tree p; writing = open_unless_below p s.told.writing };
+      fuse = s.fuse;
+    }
 
 -- with another fuse
 abbrev pub dest_fused : Option ℕ → DestState → DestState

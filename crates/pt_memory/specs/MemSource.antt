@@ -22,7 +22,8 @@ pub record SourceState : Type 0 where
   pub calls : ℕ
 
 abbrev pub source_state : MemSource → SourceState
-source_state s = record { tree = forest_of s.entries; reading = open_of s.entries; fuse = s.fuse; calls = s.calls }
+source_state s =
+    record { tree = forest_of s.entries; reading = open_of s.entries; fuse = s.fuse; calls = s.calls }
 
 abbrev pub source_tree : MemSource → Forest
 source_tree s = forest_of s.entries
@@ -56,22 +57,31 @@ abbrev pub after_source_failure : SourceState → SourceState
 after_source_failure s = record (after_source_call s) { fuse = after_failure (after_call s.fuse) }
 
 -- A call: it fails by the fuse, or because what it needs isn't there; else P says what it gives.
-abbrev pub CallGives : {T X : Type 0} → Bool → SourceState → SourceState → Option X → Result T TreeFault → (X → Type 0) → Type 0
+abbrev pub CallGives : {T X : Type 0} → Bool → SourceState → SourceState → Option X
+    → Result T TreeFault → (X → Type 0) → Type 0
 CallGives true old new needed result P = (result ≡ Err Device) × (new ≡ after_source_call old)
 CallGives false old new None result P = (result ≡ Err Device) × (new ≡ after_source_failure old)
 CallGives false old new (Some x) result P = P x
 
 -- `list` gives the directory's names and kinds, unless memory runs out
 abbrev pub ListGives : SourceState → SourceState → Path → Result (List Item) TreeFault → Type 0
-ListGives old new p result = CallGives (is_blown old.fuse) old new (listing_at old.tree p) result (λ items. (new ≡ after_source_call old) × MatchResult result (λ listing. listing ≡ items) (λ e. e ≡ Memory))
+ListGives old new p result =
+    CallGives (is_blown old.fuse) old new (listing_at old.tree p) result
+    (λ items. (new ≡ after_source_call old)
+    × MatchResult result (λ listing. listing ≡ items) (λ e. e ≡ Memory))
 
 -- `open` opens the file at its start
 abbrev pub OpenGives : SourceState → SourceState → Path → Result (Unit {0}) TreeFault → Type 0
-OpenGives old new p result = CallGives (is_blown old.fuse) old new (file_at old.tree p) result (λ bytes. (result ≡ Ok tt) × (new ≡ record (after_source_call old) { reading = Some (p, 0) }))
+OpenGives old new p result =
+    CallGives (is_blown old.fuse) old new (file_at old.tree p) result (λ bytes. (result ≡ Ok tt)
+    × (new ≡ record (after_source_call old) { reading = Some (p, 0) }))
 
 -- `next` gives the next bytes and moves on behind them
 abbrev pub NextGives : SourceState → SourceState → List ℕ → Result (Unit {0}) TreeFault → Type 0
-NextGives old new block result = CallGives (is_blown old.fuse) old new (unread_of old) result (λ bytes. (result ≡ Ok tt) × (block ≡ take 8192 bytes) × (new ≡ record (after_source_call old) { reading = moved_on old.reading (length block) }))
+NextGives old new block result =
+    CallGives (is_blown old.fuse) old new (unread_of old) result (λ bytes. (result ≡ Ok tt)
+    × (block ≡ take 8192 bytes)
+    × (new ≡ record (after_source_call old) { reading = moved_on old.reading (length block) }))
 
 -- it was called so many times, as its counter that wraps tells
 abbrev pub source_called : MemSource → ℕ → Type 0

@@ -9,7 +9,8 @@ use Rattle.pt_tree.specs.Source.{Reading}
 abbrev pub source_told : MemSource → Option Reading
 source_told s = Some (reading_of (source_state s))
 
-pub proper_told : (source : MemSource) (state : Reading) → source_told source ≡ Some state → is_proper state.tree ≡ true
+pub proper_told : (source : MemSource) (state : Reading) → source_told source ≡ Some state
+    → is_proper state.tree ≡ true
 proper_told source state is =
     let same : reading_of (source_state source) ≡ state = cc in
     ap (λ (s : Reading). is_proper s.tree) (sym same) ∙ source.proper

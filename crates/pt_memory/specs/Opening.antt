@@ -17,9 +17,12 @@ is_just path name = same_path path (name ∷ [])
 -- which file is open once the one at a path was opened
 abbrev pub opened : Forest → Path → Option (Path × ℕ)
 opened none path = None
-opened (file name bytes after) path = option_or (cond (is_just path name) (Some (name ∷ [], 0)) None) (opened after path)
+opened (file name bytes after) path =
+    option_or (cond (is_just path name) (Some (name ∷ [], 0)) None) (opened after path)
 opened (other name after) path = opened after path
-opened (dir name inside after) path = option_or (option_map (λ o. (name ∷ o.0, o.1)) (opened inside (below path name))) (opened after path)
+opened (dir name inside after) path =
+    option_or (option_map (λ o. (name ∷ o.0, o.1)) (opened inside (below path name)))
+    (opened after path)
 
 -- what a read gives of the open file's bytes and place; with none open, what the block was
 abbrev pub block_after : Option (List ℕ × ℕ) → List ℕ → List ℕ

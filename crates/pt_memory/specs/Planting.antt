@@ -16,7 +16,9 @@ is_folder (Some Special) = false
 -- why nothing can be planted at a path; the empty path is taken by the top
 abbrev pub plant_refusal : Tree → Path → Option PlantFault
 plant_refusal t [] = Some fault.Taken
-plant_refusal t (n ∷ p) = cond (is_folder (t (parent (n ∷ p)))) (cond (is_some (t (n ∷ p))) (Some fault.Taken) None) (Some fault.NoParent)
+plant_refusal t (n ∷ p) =
+    cond (is_folder (t (parent (n ∷ p)))) (cond (is_some (t (n ∷ p))) (Some fault.Taken) None)
+    (Some fault.NoParent)
 
 -- an entry of this name that holds nothing inside, alone
 abbrev pub leaf_of : List ℕ → Entry → Forest

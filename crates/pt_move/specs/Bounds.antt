@@ -16,7 +16,8 @@ IsWithin job phase.Begin held turns = turns ≡ 0
 IsWithin job (phase.Prefix here) held turns = turns ≡ 1
 IsWithin job (phase.OpenObject object) held turns = object.empty ≤ turns
 IsWithin job (phase.Scan object) held turns = object.empty ≤ turns
-IsWithin job (phase.Read object bytes) held turns = (object.empty ≤ turns) × (bytes ≤ job.limits.file_bytes) × (length held.rows < job.limits.files)
+IsWithin job (phase.Read object bytes) held turns = (object.empty ≤ turns)
+    × (bytes ≤ job.limits.file_bytes) × (length held.rows < job.limits.files)
 IsWithin job _ held turns = ⊤
 
 -- the rows are no more than the limits allow, and together no longer

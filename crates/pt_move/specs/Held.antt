@@ -9,7 +9,8 @@ listings = map (λ (frame : Frame). frame.listing)
 
 -- places apart, the trail is the earlier one, or that with one listing entered, or that with inner listings left
 unfoldable pub Moves : List Frame → List Frame → Type 0
-Moves old new = ((items : List Item) × (listings new ≡ items ∷ listings old)) ⊎ ((n : ℕ) × (listings new ≡ drop n (listings old)))
+Moves old new = ((items : List Item) × (listings new ≡ items ∷ listings old))
+    ⊎ ((n : ℕ) × (listings new ≡ drop n (listings old)))
 
 -- a table is the earlier one, or that with one record more, or empty
 unfoldable pub Gains : {A : Type 0} → List A → List A → Type 0

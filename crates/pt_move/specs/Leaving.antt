@@ -40,7 +40,8 @@ abbrev pub EndsTold : Answer → Option (List ℕ) → Option (List ℕ) → Rep
 EndsTold (Ok next) before after old new = EndsBy next before after old new
 EndsTold (Err why) before after old new = ⊤
 
-pub record TurnLeaves (s s' : State) (before after : Option (List ℕ)) (old new : Failures) (answer : Answer) : Type 0 where
+pub record TurnLeaves (s s' : State) (before after : Option (List ℕ)) (old new : Failures)
+    (answer : Answer) : Type 0 where
   pub failures : BlamesBy answer old new
   pub told : TellsBy answer before after s.counts s'.counts
   pub ended : EndsTold answer before after s.counts s'.counts

@@ -18,7 +18,8 @@ pub record Migrates (job : Job) (old new : World) (result : Result Report Fault)
   -- at its end the root holds all objects that are carried, each whole, nothing else is changed, and the log has all lines
   pub ends : IfOk result (EndsWhole job (source_tree old.source) (start_of old) new.dest new.log)
   -- and the state of the version of each is its files
-  pub states : IfOk result (λ report. StatesAreFiles job (source_tree old.source) (start_of old) new.dest new.log)
+  pub states : IfOk result
+      (λ report. StatesAreFiles job (source_tree old.source) (start_of old) new.dest new.log)
   -- however it ends, destination and log are such as a fault may leave
   pub left : FaultLeaves job (source_tree old.source) (start_of old) new.dest new.log
   -- and as they were after an early fault
@@ -34,7 +35,8 @@ pub record Migrates (job : Job) (old new : World) (result : Result Report Fault)
   -- a source or a destination is refused only for what it is
   pub says : IfErr result (SaysRightly job (source_tree old.source) (dest_tree old.dest))
   -- and over a good start none is
-  pub good : IfErr result (WantsMemory job (source_tree old.source) (dest_tree old.dest) old.failures new.failures)
+  pub good : IfErr result
+      (WantsMemory job (source_tree old.source) (dest_tree old.dest) old.failures new.failures)
   -- a device is blamed exactly where it failed
   pub source : Counts 1 old.failures.source new.failures.source result
   pub dest : Counts 2 old.failures.dest new.failures.dest result

@@ -32,29 +32,35 @@ use Rattle.pt_move.specs.declared.fault.Fault.TheVariants as fault
 -- from this source, and from these at the start: the root with all objects that are carried, nothing else changed, all their lines, and their numbers
 abbrev pub IsWhole : plan.Job → Forest → Tree → Writing → List ℕ → List ℕ → Counts → Type 0
 IsWhole job source start now first last counts =
-    ((told : List ℕ) × (last ≡ first ++ told) × IsEnd job source start now.tree told) × (last_line counts ≡ end_line (all_lines job source (root_in start)))
+    ((told : List ℕ) × (last ≡ first ++ told) × IsEnd job source start now.tree told)
+    × (last_line counts ≡ end_line (all_lines job source (root_in start)))
 
 -- what a run that ended well leaves, where all three tell
 unfoldable pub EndsWhole : Job → Option Forest → Start → Option Writing → Option (List ℕ) → Report → Type 0
 EndsWhole job source start dest log report =
-    (s : Forest) (t : Tree) (now : Writing) (first last : List ℕ) → source ≡ Some s → start.dest ≡ Some t → dest ≡ Some now → start.log ≡ Some first → log ≡ Some last
+    (s : Forest) (t : Tree) (now : Writing) (first last : List ℕ) → source ≡ Some s
+    → start.dest ≡ Some t → dest ≡ Some now → start.log ≡ Some first → log ≡ Some last
     → IsWhole (job_of job) s t now first last (counts_of report)
 
 -- and for each object that is carried the state of its version in the destination is its files, where no two of them whose bytes differ have one digest
 unfoldable pub StatesAreFiles : Job → Option Forest → Start → Option Writing → Option (List ℕ) → Type 0
 StatesAreFiles job source start dest log =
-    (s : Forest) (t : Tree) (now : Writing) (first last : List ℕ) → source ≡ Some s → start.dest ≡ Some t → dest ≡ Some now → start.log ≡ Some first → log ≡ Some last
+    (s : Forest) (t : Tree) (now : Writing) (first last : List ℕ) → source ≡ Some s
+    → start.dest ≡ Some t → dest ≡ Some now → start.log ≡ Some first → log ≡ Some last
     → All (HasItsFiles (job_of job) now.tree) (all_carried (job_of job) s (root_in t))
 
 -- what a run leaves that a fault ended, where all three tell: destination and log such as any fault may leave
 unfoldable pub FaultLeaves : Job → Option Forest → Start → Option Writing → Option (List ℕ) → Type 0
 FaultLeaves job source start dest log =
-    (s : Forest) (t : Tree) (now : Writing) (first last : List ℕ) → source ≡ Some s → start.dest ≡ Some t → dest ≡ Some now → start.log ≡ Some first → log ≡ Some last
+    (s : Forest) (t : Tree) (now : Writing) (first last : List ℕ) → source ≡ Some s
+    → start.dest ≡ Some t → dest ≡ Some now → start.log ≡ Some first → log ≡ Some last
     → IsLeftByFault (job_of job) s t now.tree first last
 
 -- the destination is as it was at the start, where it tells, and so is the log
 unfoldable pub LeavesAll : Start → Option Writing → Option (List ℕ) → Type 0
-LeavesAll start dest log = ((t : Tree) (now : Writing) → start.dest ≡ Some t → dest ≡ Some now → now.tree ≡ t) × ((first last : List ℕ) → start.log ≡ Some first → log ≡ Some last → last ≡ first)
+LeavesAll start dest log = ((t : Tree) (now : Writing) → start.dest ≡ Some t → dest ≡ Some now
+    → now.tree ≡ t)
+    × ((first last : List ℕ) → start.log ≡ Some first → log ≡ Some last → last ≡ first)
 
 -- where the source is no store, or its prefix isn't good, or something stands at `staging`
 abbrev pub IfEarly : Fault → Type 0 → Type 0
@@ -78,11 +84,13 @@ StandsStillIn start now = (t : Tree) (w : Writing) → start ≡ Some t → now 
 
 -- no more turns were made than the work, where source and destination tell
 unfoldable pub MadeWithinWork : Job → Option Forest → Option Tree → Report → Type 0
-MadeWithinWork job source start report = (s : Forest) (t : Tree) → source ≡ Some s → start ≡ Some t → report.turns ≤ work (job_of job) s (root_in t)
+MadeWithinWork job source start report = (s : Forest) (t : Tree) → source ≡ Some s → start ≡ Some t
+    → report.turns ≤ work (job_of job) s (root_in t)
 
 -- no more is held than the source's bound, where it tells
 unfoldable pub HoldsWithinBound : Job → Option Forest → State → Type 0
-HoldsWithinBound job source state = (s : Forest) → source ≡ Some s → IsWithinBound (job_of job) s (held_of state [])
+HoldsWithinBound job source state = (s : Forest) → source ≡ Some s
+    → IsWithinBound (job_of job) s (held_of state [])
 
 -- ---- refusals
 
@@ -104,7 +112,8 @@ SaysOfDest job _ start = ⊤
 -- of both: where the way to an object's place is barred, that object is one that is carried; and the limit of turns is met only where it is less than the work
 abbrev pub SaysOfBoth : plan.Job → Fault → Forest → Tree → Type 0
 SaysOfBoth job fault.Turns source start = job.limits.turns < work job source (root_in start)
-SaysOfBoth job fault.Target source start = IsBadTarget job (root_in start) (IsCarriedOf job source (root_in start))
+SaysOfBoth job fault.Target source start =
+    IsBadTarget job (root_in start) (IsCarriedOf job source (root_in start))
 SaysOfBoth job _ source start = ⊤
 
 -- a fault says so of the source where it tells, of the destination as it was at the start where that tells, and of both
@@ -121,4 +130,6 @@ failures source dest log = record { source = source; dest = dest; log = log }
 -- over a good start, with a limit of at least the work, where no device failed: memory was wanting
 unfoldable pub WantsMemory : Job → Option Forest → Option Tree → Failures → Failures → Fault → Type 0
 WantsMemory job source dest old new f =
-    (s : Forest) (t : Tree) → source ≡ Some s → dest ≡ Some t → IsStart (job_of job) s (root_in t) → IsFree t staging → work (job_of job) s (root_in t) ≤ job.limits.turns → NoneRose old new → f ≡ fault.Memory
+    (s : Forest) (t : Tree) → source ≡ Some s → dest ≡ Some t → IsStart (job_of job) s (root_in t)
+    → IsFree t staging → work (job_of job) s (root_in t) ≤ job.limits.turns → NoneRose old new
+    → f ≡ fault.Memory

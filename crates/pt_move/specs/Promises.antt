@@ -35,7 +35,8 @@ UnlessEnded (Err f) P = P
 
 -- ---- a step
 
-pub record StepPromises (start : Start) (old new : World) (before after : Running) (answer : Result Turn Fault) : Type 0 where
+pub record StepPromises (start : Start) (old new : World) (before after : Running)
+    (answer : Result Turn Fault) : Type 0 where
   -- the run is in progress still, or has ended, and began at that start
   pub begun : IsBegun start new after
   -- the destination holds only whole objects at places where nothing stood, and a part of one more in `staging`
@@ -47,9 +48,12 @@ pub record StepPromises (start : Start) (old new : World) (before after : Runnin
   -- no more is held than the source's bound
   pub bound : UnlessEnded answer (HoldsWithinBound before.state.job (source_tree old.source) after.state)
   -- at the end the root holds all objects that are carried, nothing else is changed, and the log has all lines with their numbers
-  pub ends : IfFinished answer (EndsWhole before.state.job (source_tree old.source) start new.dest new.log after.state.counts)
+  pub ends : IfFinished answer
+      (EndsWhole before.state.job
+      (source_tree old.source) start new.dest new.log after.state.counts)
   -- and the state of the version of each object that is carried is its files
-  pub states : IfFinished answer (StatesAreFiles before.state.job (source_tree old.source) start new.dest new.log)
+  pub states : IfFinished answer
+      (StatesAreFiles before.state.job (source_tree old.source) start new.dest new.log)
   -- destination and log are such as a fault may leave
   pub left : FaultLeaves before.state.job (source_tree old.source) start new.dest new.log
   -- and as they were at the start after an early fault
@@ -59,7 +63,8 @@ pub record StepPromises (start : Start) (old new : World) (before after : Runnin
   -- a source or destination is refused only for what it is
   pub says : IfHalted answer (SaysRightly before.state.job (source_tree old.source) start.dest)
   -- and over a good start none is
-  pub good : IfHalted answer (WantsMemory before.state.job (source_tree old.source) start.dest old.failures new.failures)
+  pub good : IfHalted answer
+      (WantsMemory before.state.job (source_tree old.source) start.dest old.failures new.failures)
 
 -- the run keeps its promises in this step
 unfoldable pub Keeps : Start → World → World → Running → Running → Result Turn Fault → Type 0

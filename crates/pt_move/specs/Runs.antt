@@ -18,7 +18,9 @@ use Rattle.pt_move.specs.declared.fault.Fault.TheVariants as fault
 -- so many turns lead from a run that is to begin, over this world, to this run over that one
 pub data Turns (job : plan.Job) (first : World) : ℕ → Run → World → Type 0 where
   NoTurn : Turns job first 0 new_run first
-  OneMore : (n : ℕ) (run : Run) (old new : World) (after : Kept) (next : Phase) → Turns job first n run old → Turn job run.phase (turning run.kept) after old new (Ok next) → Turns job first (n + 1) (record { phase = next; kept = after }) new
+  OneMore : (n : ℕ) (run : Run) (old new : World) (after : Kept) (next : Phase)
+      → Turns job first n run old → Turn job run.phase (turning run.kept) after old new (Ok next)
+      → Turns job first (n + 1) (record { phase = next; kept = after }) new
 
 -- the run came to its end by as many turns as it reports
 pub record Finished (job : Job) (old new : World) (report : Report) : Type 0 where

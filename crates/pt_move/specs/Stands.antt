@@ -14,11 +14,15 @@ abbrev pub Stands : Phase → State → Type 0
 Stands (phase.RootMake item) s = item < 6
 Stands (phase.RootCheck file) s = file < 3
 Stands phase.OpenRoot s = s.trail ≡ []
-Stands (phase.OpenObject object) s = IsSite object s.trail × (object.gathered ≡ false → IsTrue (is_dir_entry (current_entry s.trail)))
+Stands (phase.OpenObject object) s =
+    IsSite object s.trail
+    × (object.gathered ≡ false → IsTrue (is_dir_entry (current_entry s.trail)))
 Stands (phase.Scan object) s = IsSite object s.trail × (0 < own_listings object s.trail)
-Stands (phase.Read object bytes) s = IsSite object s.trail × (0 < own_listings object s.trail) × IsSome (current_entry s.trail)
+Stands (phase.Read object bytes) s =
+    IsSite object s.trail × (0 < own_listings object s.trail) × IsSome (current_entry s.trail)
 Stands (phase.Make object part) s = IsReadyFor part object s
-Stands (phase.Copy object position left) s = (position.row < length s.rows) × (position.stored < length s.contents)
+Stands (phase.Copy object position left) s = (position.row < length s.rows)
+    × (position.stored < length s.contents)
 Stands (phase.Tuples object number) s = number < s.job.layout.count
 Stands (phase.Line object) s = 0 < length s.trail
 Stands phase.Ended s = ⊥

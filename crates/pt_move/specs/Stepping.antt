@@ -32,14 +32,16 @@ abbrev pub EndsAs : Running → Running → Result Turn Fault → Type 0
 EndsAs old new (Ok turn.More) = IsTurn old × (new.phase ≢ phase.Ended)
 EndsAs old new (Ok turn.Finished) = IsTurn old × (new.phase ≡ phase.Ended)
 EndsAs old new (Err fault.Ended) = (old.phase ≡ phase.Ended) × (new ≡ old)
-EndsAs old new (Err fault.Turns) = (old.phase ≢ phase.Ended) × ((old.state.job.limits.turns ≤ old.state.counts.turns) × (new.phase ≡ phase.Ended))
+EndsAs old new (Err fault.Turns) = (old.phase ≢ phase.Ended)
+    × ((old.state.job.limits.turns ≤ old.state.counts.turns) × (new.phase ≡ phase.Ended))
 EndsAs old new (Err f) = IsTurn old × (new.phase ≡ phase.Ended)
 
 -- a turn is counted, a faulty one too, and at most one line with it
 abbrev pub IsCounted : Running → Running → Result Turn Fault → Type 0
 IsCounted old new (Err fault.Ended) = new.state.counts ≡ old.state.counts
 IsCounted old new (Err fault.Turns) = new.state.counts ≡ old.state.counts
-IsCounted old new r = (new.state.counts.turns ≡ old.state.counts.turns + 1) × (lines_put (counts_of new.state.counts) ≤ lines_put (counts_of old.state.counts) + 1)
+IsCounted old new r = (new.state.counts.turns ≡ old.state.counts.turns + 1)
+    × (lines_put (counts_of new.state.counts) ≤ lines_put (counts_of old.state.counts) + 1)
 
 -- where no turn was made, the device is the very value that it was; else it is the same device, as its calls left it
 abbrev pub Stays : {X : Type 0} → (X → X → Type 0) → Result Turn Fault → X → X → Type 0
@@ -59,11 +61,15 @@ most_calls_at r = cond (r.state.counts.turns == 1) 2 1
 
 -- by the answer it is one of the definitions' turns. After the end, and where exactly as many as the limit were made, it is none: what the run holds and the devices are as they were
 unfoldable pub MakesTurn : World → World → Running → Running → Result Turn Fault → Type 0
-MakesTurn old new before after (Ok turn.More) = CountedTurn before.phase before.state after.state old new (Ok after.phase)
-MakesTurn old new before after (Ok turn.Finished) = CountedTurn before.phase before.state after.state old new (Ok phase.Ended)
+MakesTurn old new before after (Ok turn.More) =
+    CountedTurn before.phase before.state after.state old new (Ok after.phase)
+MakesTurn old new before after (Ok turn.Finished) =
+    CountedTurn before.phase before.state after.state old new (Ok phase.Ended)
 MakesTurn old new before after (Err fault.Ended) = (after ≡ before) × (new ≡ old)
-MakesTurn old new before after (Err fault.Turns) = (after.state ≡ before.state) × (new ≡ old) × (before.state.counts.turns ≡ before.state.job.limits.turns)
-MakesTurn old new before after (Err f) = (why : Halt) × (f ≡ fault_of why) × CountedTurn before.phase before.state after.state old new (Err why)
+MakesTurn old new before after (Err fault.Turns) = (after.state ≡ before.state) × (new ≡ old)
+    × (before.state.counts.turns ≡ before.state.job.limits.turns)
+MakesTurn old new before after (Err f) = (why : Halt) × (f ≡ fault_of why)
+    × CountedTurn before.phase before.state after.state old new (Err why)
 
 -- ---- what it leaves
 

@@ -21,7 +21,9 @@ unfoldable pub CountedTurn : Phase → State → State → World → World → A
 CountedTurn here s s' old new answer =
     (s'.job ≡ s.job)
     × ((fed : List ℕ) → HasBeenFed s.job.algorithm s.hasher fed
-    → (fed' : List ℕ) × (FedAfter answer s.job.algorithm s'.hasher fed' × Turn (job_of s.job) here (turning (kept_of s fed)) (kept_of s' fed') old new answer))
+    → (fed' : List ℕ)
+    × (FedAfter answer s.job.algorithm s'.hasher fed'
+    × Turn (job_of s.job) here (turning (kept_of s fed)) (kept_of s' fed') old new answer))
 
 -- until a run has ended, its hasher has been fed something
 abbrev pub HasFed : Phase → Algorithm → Hasher → Type 0

@@ -27,7 +27,8 @@ digest_text id = encode_lower (sha256 id)
 
 -- an encoding of up to 100 characters, or the first 100 of a longer one, `-` and the digest's text
 abbrev pub shortened : List ℕ → List ℕ → List ℕ
-shortened encoding digits = if nat_le (length encoding) 100 then encoding else take 100 encoding ++ 45 ∷ digits
+shortened encoding digits =
+    if nat_le (length encoding) 100 then encoding else take 100 encoding ++ 45 ∷ digits
 
 -- the last name of an identifier's place
 abbrev pub last_name_of : List ℕ → List ℕ

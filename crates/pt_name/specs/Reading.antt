@@ -17,7 +17,8 @@ stands_for character byte =
 
 -- the number of two hex digits of either case
 abbrev pub hex_value : ℕ → ℕ → Option ℕ
-hex_value high low = option_and_then (λ h. option_map (λ l. 16 * h + l) (hex_digit_value low)) (hex_digit_value high)
+hex_value high low =
+    option_and_then (λ h. option_map (λ l. 16 * h + l) (hex_digit_value low)) (hex_digit_value high)
 
 -- A piece of a text that is a spelling of a byte: a character that stands for it, or `^` and two hex digits of either
 -- case whose number it is.
@@ -31,7 +32,8 @@ IsSpelling byte (caret ∷ high ∷ low ∷ other ∷ more) = ⊥
 -- The text reads these bytes: it can be cut into as many pieces, each a spelling of its byte.
 abbrev pub Reads : List ℕ → List ℕ → Type 0
 Reads text [] = text ≡ []
-Reads text (byte ∷ bytes) = (piece rest : List ℕ) × IsSpelling byte piece × (text ≡ piece ++ rest) × Reads rest bytes
+Reads text (byte ∷ bytes) = (piece rest : List ℕ) × IsSpelling byte piece × (text ≡ piece ++ rest)
+    × Reads rest bytes
 
 -- ---- the same as a function
 

@@ -31,4 +31,5 @@ digest_at items position = slice_index_or (map (λ c. c.digest) items) position 
 
 -- no two items have one digest
 abbrev pub DigestsDiffer : List Content → Type 0
-DigestsDiffer items = (p q : ℕ) → p < length items → q < length items → digest_at items p ≡ digest_at items q → p ≡ q
+DigestsDiffer items = (p q : ℕ) → p < length items → q < length items
+    → digest_at items p ≡ digest_at items q → p ≡ q

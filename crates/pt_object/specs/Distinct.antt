@@ -37,4 +37,6 @@ NotingGivesDistinct = (rows : List Row) → noted_all [] rows ≡ map content_of
 
 -- of all rows noted in order, the path that is found is the first one with the digest
 abbrev pub NotingKeepsFirst : Type 0
-NotingKeepsFirst = (rows : List Row) (digest : List ℕ) → first_path (noted_all [] rows) digest ≡ option_map (λ row. row.path) (find (row_has_digest digest) rows)
+NotingKeepsFirst = (rows : List Row) (digest : List ℕ)
+    → first_path (noted_all [] rows) digest
+    ≡ option_map (λ row. row.path) (find (row_has_digest digest) rows)

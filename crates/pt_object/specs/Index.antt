@@ -13,7 +13,8 @@ digest_in items index place = digest_at items (slice_index index place)
 pub record IsIndex (items : List Content) (index : List ℕ) : Type 0 where
   pub as_long : length index ≡ length items
   pub within : (k : ℕ) → k < length index → slice_index index k < length items
-  pub rises : (i j : ℕ) → i < j → j < length index → digest_cmp (digest_in items index i) (digest_in items index j) ≡ Less
+  pub rises : (i j : ℕ) → i < j → j < length index
+      → digest_cmp (digest_in items index i) (digest_in items index j) ≡ Less
   pub complete : (p : ℕ) → p < length items → (k : ℕ) × (k < length index) × (slice_index index k ≡ p)
 
 -- the item at the position has the digest

@@ -22,7 +22,8 @@ texts list = items_of (map string list)
 
 -- the content's digest with the path where it is stored
 abbrev pub put_content : Members → Content → Members
-put_content members content = put (encode_lower content.digest) (array (texts (content_path content.path ∷ []))) members
+put_content members content =
+    put (encode_lower content.digest) (array (texts (content_path content.path ∷ []))) members
 
 -- the manifest: each distinct digest with the stored path of its first file
 abbrev pub manifest_members : List Row → Members
@@ -34,7 +35,9 @@ paths_with rows digest = map (λ row. row.path) (filter (row_has_digest digest) 
 
 -- the content's digest with the logical paths of all its files
 abbrev pub put_paths : List Row → Members → Content → Members
-put_paths rows members content = put (encode_lower content.digest) (array (texts (map joined (paths_with rows content.digest)))) members
+put_paths rows members content =
+    put (encode_lower content.digest)
+    (array (texts (map joined (paths_with rows content.digest)))) members
 
 -- the state: each distinct digest with the logical paths of its files
 abbrev pub state_members : List Row → Members
@@ -43,7 +46,9 @@ state_members rows = fold (put_paths rows) no_members (map content_of_row (disti
 -- who made the version: without an address the name alone
 abbrev pub user_tree : Option (List ℕ) → List ℕ → Data
 user_tree None name = object (member (codes "name") (string name) no_members)
-user_tree (Some address) name = object (member (codes "address") (string address) (member (codes "name") (string name) no_members))
+user_tree (Some address) name =
+    object (member (codes "address") (string address)
+    (member (codes "name") (string name) no_members))
 
 abbrev pub version_tree : MetaParts → Data → Data
 version_tree meta state = object
@@ -64,7 +69,8 @@ document_tree id manifest version algorithm = object
 -- the inventory of the object with this identifier and these files
 abbrev pub inventory_tree : List ℕ → List Row → MetaParts → Algorithm → Data
 inventory_tree id rows meta algorithm =
-    document_tree id (object (manifest_members rows)) (version_tree meta (object (state_members rows))) algorithm
+    document_tree id (object (manifest_members rows))
+    (version_tree meta (object (state_members rows))) algorithm
 
 -- its text, with no space
 abbrev pub inventory_text : List ℕ → List Row → MetaParts → Algorithm → List ℕ

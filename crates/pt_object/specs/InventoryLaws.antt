@@ -9,4 +9,5 @@ use Rattle.pt_object.specs.declared.rows.Row.{Row}
 -- reading the inventory's text as JSON gives its tree
 abbrev pub InventoryReadsAsItsTree : Type 0
 InventoryReadsAsItsTree =
-    (id : List ℕ) (rows : List Row) (meta : MetaParts) (algorithm : Algorithm) → read (inventory_text id rows meta algorithm) ≡ Some (inventory_tree id rows meta algorithm)
+    (id : List ℕ) (rows : List Row) (meta : MetaParts) (algorithm : Algorithm)
+    → read (inventory_text id rows meta algorithm) ≡ Some (inventory_tree id rows meta algorithm)

@@ -7,7 +7,9 @@ use Rattle.pt_object.specs.declared.meta.MetaFault.TheVariants as fault
 
 -- why there is no description with these two
 abbrev pub meta_refusal : List ℕ → List ℕ → Option MetaFault
-meta_refusal created name = cond (is_moment created) (cond (length name == 0) (Some fault.EmptyName) None) (Some fault.Created)
+meta_refusal created name =
+    cond (is_moment created) (cond (length name == 0) (Some fault.EmptyName) None)
+    (Some fault.Created)
 
 -- an empty address is none
 abbrev pub given_address : Option (List ℕ) → Option (List ℕ)
@@ -16,7 +18,8 @@ given_address (Some []) = None
 given_address (Some (x ∷ xs)) = Some (x ∷ xs)
 
 abbrev pub parts_of : List ℕ → List ℕ → Option (List ℕ) → List ℕ → MetaParts
-parts_of created name address message = record { created = created; name = name; address = address; message = message }
+parts_of created name address message =
+    record { created = created; name = name; address = address; message = message }
 
 abbrev pub meta_number : MetaFault → ℕ
 meta_number fault.Created = 1

@@ -52,7 +52,8 @@ file_in folder file = (folder ++ file.0, file.1)
 
 -- the inventory and its sidecar in a folder
 abbrev pub inventory_files : Path → Algorithm → List ℕ → List File
-inventory_files folder algorithm text = (folder ++ inventory_name ∷ [], text) ∷ (folder ++ sidecar_name algorithm ∷ [], sidecar_text algorithm text) ∷ []
+inventory_files folder algorithm text = (folder ++ inventory_name ∷ [], text)
+    ∷ (folder ++ sidecar_name algorithm ∷ [], sidecar_text algorithm text) ∷ []
 
 -- all files of the object with this inventory: the declaration, the stored files, the inventory and its sidecar in the version's folder and at the top
 abbrev pub object_files : Algorithm → List ℕ → List File → List File
@@ -63,15 +64,19 @@ object_files algorithm text stored =
 
 -- the object with this identifier and these rows, where this is held at the stored paths
 abbrev pub object_of_rows : List ℕ → List Row → (Path → List ℕ) → MetaParts → Algorithm → Tree
-object_of_rows id rows held meta algorithm = holding (object_files algorithm (inventory_text id rows meta algorithm) (stored_files rows held))
+object_of_rows id rows held meta algorithm =
+    holding (object_files algorithm (inventory_text id rows meta algorithm)
+    (stored_files rows held))
 
 -- the object with this identifier and these files
 abbrev pub object_of : List ℕ → List File → MetaParts → Algorithm → Tree
-object_of id files meta algorithm = object_of_rows id (rows_of algorithm files) (bytes_in files) meta algorithm
+object_of id files meta algorithm =
+    object_of_rows id (rows_of algorithm files) (bytes_in files) meta algorithm
 
 -- where the content of a row is stored: at the path of the first row with its digest
 abbrev pub stored_path : List Row → Row → Path
-stored_path rows row = unwrap_or (option_map (λ first. first.path) (find (row_has_digest row.digest) rows)) row.path
+stored_path rows row =
+    unwrap_or (option_map (λ first. first.path) (find (row_has_digest row.digest) rows)) row.path
 
 -- the files of the rows, where this is held at the stored paths
 abbrev pub files_of_rows : List Row → (Path → List ℕ) → List File

@@ -12,7 +12,8 @@ extension_name = codes "0003-hash-and-id-n-tuple-storage-layout"
 
 -- what `ocfl_layout.json` holds
 abbrev pub layout_text : List ℕ
-layout_text = codes "{\"description\":\"SHA-256 of the identifier in tuples, then the encoded identifier\",\"extension\":\"0003-hash-and-id-n-tuple-storage-layout\"}"
+layout_text = codes
+    "{\"description\":\"SHA-256 of the identifier in tuples, then the encoded identifier\",\"extension\":\"0003-hash-and-id-n-tuple-storage-layout\"}"
 
 -- the extension's configuration, for tuples of this size and number
 abbrev pub config_tree : ℕ → ℕ → Data

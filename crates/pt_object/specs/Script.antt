@@ -46,7 +46,8 @@ pub record StandsAtPrefix (script : List Item) (start t : Tree) : Type 0 where
 
 -- from this start each item of the script may be made after those before it
 abbrev pub CanBeMadeInTurn : List Item → Tree → Type 0
-CanBeMadeInTurn script start = (i : ℕ) (item : Item) → slice_get script i ≡ Some item → CanMake (made (take i script) start) (item_path item)
+CanBeMadeInTurn script start = (i : ℕ) (item : Item) → slice_get script i ≡ Some item
+    → CanMake (made (take i script) start) (item_path item)
 
 -- the item, below a folder
 abbrev pub item_in : Path → Item → Item
@@ -61,7 +62,9 @@ folders_above (name ∷ next ∷ path) = (name ∷ []) ∷ map (λ folder. name 
 
 -- the folders above a file that no earlier file needed, outermost first, then the file
 abbrev pub file_items : List File → File → List Item
-file_items earlier file = map MakeFolder (filter (λ folder. not (leads_to earlier folder)) (folders_above file.0)) ++ MakeFile file.0 file.1 ∷ []
+file_items earlier file =
+    map MakeFolder (filter (λ folder. not (leads_to earlier folder)) (folders_above file.0))
+    ++ MakeFile file.0 file.1 ∷ []
 
 -- so for each of these files, after the earlier ones
 abbrev pub files_items : List File → List File → List Item

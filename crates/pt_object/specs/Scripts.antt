@@ -53,8 +53,11 @@ object_items algorithm text stored =
 
 -- the script of the object with this identifier and these rows, where this is held at the stored paths
 abbrev pub script_of_rows : List ℕ → List Row → (Path → List ℕ) → MetaParts → Algorithm → List Item
-script_of_rows id rows held meta algorithm = map (item_in staging) (object_items algorithm (inventory_text id rows meta algorithm) (stored_files rows held))
+script_of_rows id rows held meta algorithm =
+    map (item_in staging)
+    (object_items algorithm (inventory_text id rows meta algorithm) (stored_files rows held))
 
 -- the script of the object with this identifier and these files
 abbrev pub script_of : List ℕ → List File → MetaParts → Algorithm → List Item
-script_of id files meta algorithm = script_of_rows id (rows_of algorithm files) (bytes_in files) meta algorithm
+script_of id files meta algorithm =
+    script_of_rows id (rows_of algorithm files) (bytes_in files) meta algorithm

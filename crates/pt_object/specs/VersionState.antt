@@ -23,7 +23,8 @@ path_before p q = is_lt (slice_cmp (slice_cmp nat_cmp) p q)
 -- the file among others in rising order of their paths
 abbrev pub inserted : File → List File → List File
 inserted file [] = file ∷ []
-inserted file (next ∷ files) = cond (path_before next.0 file.0) (next ∷ inserted file files) (file ∷ next ∷ files)
+inserted file (next ∷ files) =
+    cond (path_before next.0 file.0) (next ∷ inserted file files) (file ∷ next ∷ files)
 
 -- these files in rising order of their paths
 abbrev pub in_order : List File → List File
@@ -42,7 +43,8 @@ as_text (object ms) = None
 -- the texts, if all of them are texts
 abbrev pub as_texts : Items → Option (List (List ℕ))
 as_texts no_items = Some []
-as_texts (item d items) = option_and_then (λ text. option_map (λ texts. text ∷ texts) (as_texts items)) (as_text d)
+as_texts (item d items) =
+    option_and_then (λ text. option_map (λ texts. text ∷ texts) (as_texts items)) (as_text d)
 
 -- the texts of an array of texts
 abbrev pub texts_of : Data → Option (List (List ℕ))
@@ -68,28 +70,40 @@ members_of (object ms) = Some ms
 -- the bytes at the first content path that the manifest has under the digest, in the object at a place
 abbrev pub content_at : Tree → Path → Members → List ℕ → Option (List ℕ)
 content_at t place manifest digest =
-    option_and_then (λ text. bytes_of (t (place ++ names_in text))) (option_and_then first_of (option_and_then texts_of (get_member digest manifest)))
+    option_and_then (λ text. bytes_of (t (place ++ names_in text)))
+    (option_and_then first_of (option_and_then texts_of (get_member digest manifest)))
 
 -- the logical paths under a digest, each with those bytes
 abbrev pub files_under : Option (List ℕ) → Data → Option (List File)
-files_under bytes paths = option_and_then (λ held. option_map (λ texts. map (λ text. (names_in text, held)) texts) (texts_of paths)) bytes
+files_under bytes paths =
+    option_and_then
+    (λ held. option_map (λ texts. map (λ text. (names_in text, held)) texts) (texts_of paths)) bytes
 
 -- so for each digest of a state
 abbrev pub files_of_state : Tree → Path → Members → Members → Option (List File)
 files_of_state t place manifest no_members = Some []
 files_of_state t place manifest (member digest paths state) =
-    option_and_then (λ files. option_map (λ others. files ++ others) (files_of_state t place manifest state)) (files_under (content_at t place manifest digest) paths)
+    option_and_then
+    (λ files. option_map (λ others. files ++ others) (files_of_state t place manifest state))
+    (files_under (content_at t place manifest digest) paths)
 
 -- the state of the version `v1` in an inventory
 abbrev pub state_in : Data → Option Members
-state_in inventory = option_and_then members_of (option_and_then (get (codes "state")) (option_and_then (get (codes "v1")) (get (codes "versions") inventory)))
+state_in inventory =
+    option_and_then members_of
+    (option_and_then (get (codes "state"))
+    (option_and_then (get (codes "v1")) (get (codes "versions") inventory)))
 
 -- what the inventory says of the object at a place, in rising order of the paths
 abbrev pub state_by : Tree → Path → Data → Option (List File)
 state_by t place inventory =
-    option_and_then (λ manifest. option_and_then (λ state. option_map in_order (files_of_state t place manifest state)) (state_in inventory))
+    option_and_then
+    (λ manifest. option_and_then
+    (λ state. option_map in_order (files_of_state t place manifest state)) (state_in inventory))
     (option_and_then members_of (get (codes "manifest") inventory))
 
 -- the files that the first version of the object at a place has, in rising order of their paths, compared name by name
 abbrev pub v1_state : Tree → Path → Option (List File)
-v1_state t place = option_and_then (state_by t place) (option_and_then read (bytes_of (t (place ++ inventory_name ∷ []))))
+v1_state t place =
+    option_and_then (state_by t place)
+    (option_and_then read (bytes_of (t (place ++ inventory_name ∷ []))))

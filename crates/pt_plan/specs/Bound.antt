@@ -34,13 +34,15 @@ records_of job held = length held + length (distinct (rows_of job.algorithm held
 -- at each directory of the object that is scanned, its own included: what is listed on the way, with all its scanned files and their contents
 abbrev pub held_in_object : Job → Forest → PairtreeObject → List ℕ
 held_in_object job top object =
-    map (λ path. listed top (object.at ++ path) + records_of job (files (scanned job.limits object))) ([] ∷ dirs (scanned job.limits object))
+    map (λ path. listed top (object.at ++ path)
+    + records_of job (files (scanned job.limits object))) ([] ∷ dirs (scanned job.limits object))
 
 -- at the directories of the item's object, unless its own directory is too deep
 abbrev pub held_by_verdict : Job → Forest → Verdict → List ℕ
 held_by_verdict job top Interior = []
 held_by_verdict job top (Skip why) = []
-held_by_verdict job top (Named id object) = cond (is_too_deep job.limits object) [] (held_in_object job top object)
+held_by_verdict job top (Named id object) =
+    cond (is_too_deep job.limits object) [] (held_in_object job top object)
 
 -- at a site: what is listed on the way
 abbrev pub held_by_visit : Forest → Path → Visit → List ℕ

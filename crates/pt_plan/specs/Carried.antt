@@ -22,11 +22,13 @@ use Rattle.pt_plan.specs.Store.{has_prefix, is_store}
 abbrev pub has_place : Job → Path → Verdict → Bool
 has_place job place Interior = false
 has_place job place (Skip why) = false
-has_place job place (Named id object) = is_none (cause_of job.limits object) && same_path (place_of job.tuples id) place
+has_place job place (Named id object) =
+    is_none (cause_of job.limits object) && same_path (place_of job.tuples id) place
 
 -- something stands in the root at the place, or an earlier item against whose object there is no cause has it
 abbrev pub is_taken_place : Job → Tree → List Item → Path → Bool
-is_taken_place job root earlier place = is_some (root place) || list_any (λ item. has_place job place item.verdict) earlier
+is_taken_place job root earlier place =
+    is_some (root place) || list_any (λ item. has_place job place item.verdict) earlier
 
 -- the item is named, and its place is taken
 abbrev pub is_taken : Job → Tree → List Item → Verdict → Bool
@@ -41,7 +43,8 @@ Marked = Item × Bool
 -- these items, where others came before them
 abbrev pub marked_after : Job → Tree → List Item → List Item → List Marked
 marked_after job root earlier [] = []
-marked_after job root earlier (item ∷ others) = (item, is_taken job root earlier item.verdict) ∷ marked_after job root (earlier ++ item ∷ []) others
+marked_after job root earlier (item ∷ others) = (item, is_taken job root earlier item.verdict)
+    ∷ marked_after job root (earlier ++ item ∷ []) others
 
 -- the items of a source against a root
 abbrev pub marked : Job → Forest → Tree → List Marked
@@ -85,16 +88,20 @@ place_of_carried job object = place_of job.tuples object.id
 
 -- what the object has at a path of the root: nothing, unless that is its place or below it (OCFL 1.1, "Object Structure")
 abbrev pub entry_of_object : Job → Path → Carried → Option Entry
-entry_of_object job path object = option_and_then (object_of object.id object.files job.meta job.algorithm) (rest_below (place_of_carried job object) path)
+entry_of_object job path object =
+    option_and_then (object_of object.id object.files job.meta job.algorithm)
+    (rest_below (place_of_carried job object) path)
 
 -- what one of these objects has at a path
 abbrev pub entry_of_objects : Job → List Carried → Path → Option Entry
 entry_of_objects job [] path = None
-entry_of_objects job (object ∷ others) path = option_or (entry_of_object job path object) (entry_of_objects job others path)
+entry_of_objects job (object ∷ others) path =
+    option_or (entry_of_object job path object) (entry_of_objects job others path)
 
 -- the path is on the way to the place of one of them
 abbrev pub is_on_the_way : Job → List Carried → Path → Bool
-is_on_the_way job objects path = list_any (λ object. is_some (rest_below path (place_of_carried job object))) objects
+is_on_the_way job objects path =
+    list_any (λ object. is_some (rest_below path (place_of_carried job object))) objects
 
 -- a folder, where one is needed
 abbrev pub folder_where : Bool → Option Entry
@@ -103,7 +110,9 @@ folder_where false = None
 
 -- a tree with these objects at their places, and folders on the way to them; what stands in it stays
 abbrev pub with_objects : Job → List Carried → Tree → Tree
-with_objects job objects t = λ path. option_or (t path) (option_or (entry_of_objects job objects path) (folder_where (is_on_the_way job objects path)))
+with_objects job objects t =
+    λ path. option_or (t path)
+    (option_or (entry_of_objects job objects path) (folder_where (is_on_the_way job objects path)))
 
 -- the root after the first k items: the one that stands, or else a new one, with the objects that are carried of them
 abbrev pub after : Job → Forest → Tree → ℕ → Tree
@@ -124,7 +133,9 @@ is_folder_or_free (Some Special) = false
 
 -- nothing that stands is in the way to the object's place
 abbrev pub is_way_free : Job → Tree → Carried → Bool
-is_way_free job root object = list_all (λ folder. is_folder_or_free (root folder)) (folders_above (place_of_carried job object))
+is_way_free job root object =
+    list_all (λ folder. is_folder_or_free (root folder))
+    (folders_above (place_of_carried job object))
 
 -- the root has the layout's three files with their bytes, and the way to the place of each object that is carried is free
 pub record IsUsable (job : Job) (source : Forest) (root : Tree) : Type 0 where

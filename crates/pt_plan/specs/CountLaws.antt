@@ -21,23 +21,30 @@ abbrev pub LinesTellNumbers : Type 0
 LinesTellNumbers =
     (job : Job) (source : Forest) (root : Tree) (k : ℕ)
     → end_line (lines job source root k)
-    ≡ End (length (carried_among job source root k)) (count_by (λ m. m.1) (take k (marked job source root))) (count_by (is_passed_over job) (take k (marked job source root)))
+    ≡ End (length (carried_among job source root k))
+    (count_by (λ m. m.1) (take k (marked job source root)))
+    (count_by (is_passed_over job) (take k (marked job source root)))
 
 -- so the end line tells them of all items
 abbrev pub EndLineTellsNumbers : Type 0
 EndLineTellsNumbers =
     (job : Job) (source : Forest) (root : Tree)
     → end_line (all_lines job source root)
-    ≡ End (length (all_carried job source root)) (count_by (λ m. m.1) (marked job source root)) (count_by (is_passed_over job) (marked job source root))
+    ≡ End (length (all_carried job source root)) (count_by (λ m. m.1) (marked job source root))
+    (count_by (is_passed_over job) (marked job source root))
 
 -- each line is counted once
 abbrev pub EachLineIsCounted : Type 0
 EachLineIsCounted =
     (job : Job) (source : Forest) (root : Tree) (k : ℕ)
-    → length (lines job source root k) ≡ count_by is_done (lines job source root k) + count_by is_present (lines job source root k) + count_by is_skipped (lines job source root k)
+    → length (lines job source root k)
+    ≡ count_by is_done (lines job source root k) + count_by is_present (lines job source root k)
+    + count_by is_skipped (lines job source root k)
 
 -- with one item more, each number grows by that of the item's line
 abbrev pub CountsGrow : Type 0
 CountsGrow =
-    (job : Job) (source : Forest) (root : Tree) (k : ℕ) (m : Marked) (test : Line → Bool) → slice_get (marked job source root) k ≡ Some m
-    → count_by test (lines job source root (suc k)) ≡ count_by test (lines job source root k) + count_by test (line_of job m)
+    (job : Job) (source : Forest) (root : Tree) (k : ℕ) (m : Marked) (test : Line → Bool)
+    → slice_get (marked job source root) k ≡ Some m
+    → count_by test (lines job source root (suc k))
+    ≡ count_by test (lines job source root k) + count_by test (line_of job m)

@@ -19,31 +19,41 @@ BeginsWith front whole = (rest : List ℕ) × (whole ≡ front ++ rest)
 
 -- the most that a log holds after k items: their lines, and after all items the end line too
 abbrev pub most_told : Job → Forest → Tree → ℕ → List ℕ
-most_told job source root k = cond (length (items job source) == k) (log_of job source root) (text job source root k)
+most_told job source root k =
+    cond (length (items job source) == k) (log_of job source root) (text job source root k)
 
 -- what a log may hold after k items: nothing before the first; then the lines of all but the last of them, with some of what comes next
 abbrev pub IsLogAfter : Job → Forest → Tree → ℕ → List ℕ → Type 0
 IsLogAfter job source root zero log = log ≡ []
-IsLogAfter job source root (suc k) log = BeginsWith (text job source root k) log × BeginsWith log (most_told job source root (suc k))
+IsLogAfter job source root (suc k) log =
+    BeginsWith (text job source root k) log × BeginsWith log (most_told job source root (suc k))
 
 -- ---- the destination
 
 -- the item of this number is carried as this object
 abbrev pub IsCarriedAs : Job → Forest → Tree → ℕ → Carried → Type 0
-IsCarriedAs job source root k object = (m : Marked) × (slice_get (marked job source root) k ≡ Some m) × (carried_by job m.1 m.0.verdict ≡ object ∷ [])
+IsCarriedAs job source root k object = (m : Marked)
+    × (slice_get (marked job source root) k ≡ Some m)
+    × (carried_by job m.1 m.0.verdict ≡ object ∷ [])
 
 -- the root after k items, with some of the first tuple directories of the object that comes next
 abbrev pub on_the_way_to : Job → Forest → Tree → ℕ → Carried → ℕ → Tree
-on_the_way_to job source root k object tuples = with_folders (take tuples (tuple_folders job object)) (after job source root k)
+on_the_way_to job source root k object tuples =
+    with_folders (take tuples (tuple_folders job object)) (after job source root k)
 
 -- what a fault leaves of a start: all as it was; a part of a new root in `staging`; the root after k items; or that and, of an object that is carried next, some tuple directories and a part in `staging`
 pub data IsLeft (job : Job) (source : Forest) (start : Tree) : Tree → List ℕ → Type 0 where
   AsItWas : IsLeft job source start start []
-  MakingRoot : (now : Tree) → IsFree (root_in start) [] → StandsAtPrefix (root_script job.tuples) start now → IsLeft job source start now []
-  Between : (k : ℕ) (log : List ℕ) → k ≤ length (items job source) → IsLogAfter job source (root_in start) k log
+  MakingRoot : (now : Tree) → IsFree (root_in start) []
+      → StandsAtPrefix (root_script job.tuples) start now → IsLeft job source start now []
+  Between : (k : ℕ) (log : List ℕ) → k ≤ length (items job source)
+      → IsLogAfter job source (root_in start) k log
       → IsLeft job source start (with_root start (after job source (root_in start) k)) log
-  Carrying : (k tuples : ℕ) (object : Carried) (now : Tree) (log : List ℕ) → IsCarriedAs job source (root_in start) k object → IsLogAfter job source (root_in start) k log
-      → StandsAtPrefix (script_of object.id object.files job.meta job.algorithm) (with_root start (on_the_way_to job source (root_in start) k object tuples)) now
+  Carrying : (k tuples : ℕ) (object : Carried) (now : Tree) (log : List ℕ)
+      → IsCarriedAs job source (root_in start) k object
+      → IsLogAfter job source (root_in start) k log
+      → StandsAtPrefix (script_of object.id object.files job.meta job.algorithm)
+      (with_root start (on_the_way_to job source (root_in start) k object tuples)) now
       → IsLeft job source start now log
 
 -- nothing was changed, and nothing told
@@ -52,4 +62,5 @@ IsUntouched start now log = (now ≡ start) × (log ≡ [])
 
 -- what any fault may leave; where something stands at `staging`, all as it was
 abbrev pub MayBeLeft : Job → Forest → Tree → Tree → List ℕ → Type 0
-MayBeLeft job source start now log = IsUntouched start now log ⊎ (IsFree start staging × IsLeft job source start now log)
+MayBeLeft job source start now log =
+    IsUntouched start now log ⊎ (IsFree start staging × IsLeft job source start now log)

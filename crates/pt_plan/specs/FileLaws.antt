@@ -11,7 +11,9 @@ use Rattle.pt_plan.specs.Job.{Job}
 -- in the order of the walk the files of a proper directory have logical paths that come in order, none leading to another
 abbrev pub FilesComeInOrder : Type 0
 FilesComeInOrder =
-    (inside : Forest) → is_proper inside ≡ true → (part_in_order (paths_of (files (entries inside))) ≡ true) × (list_all is_logical (paths_of (files (entries inside))) ≡ true)
+    (inside : Forest) → is_proper inside ≡ true
+    → (part_in_order (paths_of (files (entries inside))) ≡ true)
+    × (list_all is_logical (paths_of (files (entries inside))) ≡ true)
 
 -- these files have logical paths that come in order, none leading to another
 abbrev pub comes_in_order : List File → Bool
@@ -20,4 +22,5 @@ comes_in_order held = part_in_order (paths_of held) && list_all is_logical (path
 -- so it is with each object that is carried from a proper source, whatever root stands
 abbrev pub CarriedFilesComeInOrder : Type 0
 CarriedFilesComeInOrder =
-    (job : Job) (source : Forest) (root : Tree) (k : ℕ) → is_proper source ≡ true → list_all (λ object. comes_in_order object.files) (carried_among job source root k) ≡ true
+    (job : Job) (source : Forest) (root : Tree) (k : ℕ) → is_proper source ≡ true
+    → list_all (λ object. comes_in_order object.files) (carried_among job source root k) ≡ true

@@ -36,15 +36,27 @@ pub record StandsAtContent (script : List Item) (start t : Tree) : Type 0 where
 -- the objects come to places where nothing stands, one after another
 abbrev pub come_to_free_places : Job → Tree → List Carried → Bool
 come_to_free_places job root [] = true
-come_to_free_places job root (object ∷ objects) = is_whole object && (is_place_free job root object && come_to_free_places job (with_objects job (object ∷ []) root) objects)
+come_to_free_places job root (object ∷ objects) =
+    is_whole object
+    && (is_place_free job root object
+    && come_to_free_places job (with_objects job (object ∷ []) root) objects)
 
 -- what is left of a start: all as it was; a part of a new root in `staging`; the root, or a new one, with some objects; or that and some tuple directories of one more object, and a part of an object in `staging`
 pub data IsKept (job : Job) (start : Tree) : Tree → Type 0 where
   AsItWas : IsKept job start start
-  MakingRoot : (now : Tree) → IsFree (root_in start) [] → StandsAtPrefix (root_script job.tuples) start now → IsKept job start now
-  Holding : (objects : List Carried) → come_to_free_places job (base job.tuples (root_in start)) objects ≡ true
+  MakingRoot : (now : Tree) → IsFree (root_in start) []
+      → StandsAtPrefix (root_script job.tuples) start now → IsKept job start now
+  Holding : (objects : List Carried)
+      → come_to_free_places job (base job.tuples (root_in start)) objects ≡ true
       → IsKept job start (with_root start (with_objects job objects (base job.tuples (root_in start))))
-  Making : (objects : List Carried) (next : Carried) (tuples : ℕ) (now : Tree) → come_to_free_places job (base job.tuples (root_in start)) (objects ++ next ∷ []) ≡ true
-      → StandsAtPrefix (script_of next.id next.files job.meta job.algorithm) (with_root start (with_folders (take tuples (tuple_folders job next)) (with_objects job objects (base job.tuples (root_in start))))) now
-      ⊎ StandsAtContent (script_of next.id next.files job.meta job.algorithm) (with_root start (with_folders (take tuples (tuple_folders job next)) (with_objects job objects (base job.tuples (root_in start))))) now
+  Making : (objects : List Carried) (next : Carried) (tuples : ℕ) (now : Tree)
+      → come_to_free_places job (base job.tuples (root_in start)) (objects ++ next ∷ []) ≡ true
+      → StandsAtPrefix (script_of next.id next.files job.meta job.algorithm)
+      (with_root start
+      (with_folders (take tuples (tuple_folders job next))
+      (with_objects job objects (base job.tuples (root_in start))))) now
+      ⊎ StandsAtContent (script_of next.id next.files job.meta job.algorithm)
+      (with_root start
+      (with_folders (take tuples (tuple_folders job next))
+      (with_objects job objects (base job.tuples (root_in start))))) now
       → IsKept job start now

@@ -15,9 +15,11 @@ use Rattle.pt_plan.specs.Roots.{root_in}
 -- objects come to free places, each whole
 abbrev pub FaultsLeaveWhatIsKept : Type 0
 FaultsLeaveWhatIsKept =
-    (job : Job) (source : Forest) (start now : Tree) (log : List ℕ) → is_proper source ≡ true → HasNoGaps (root_in start) → MayBeLeft job source start now log → IsKept job start now
+    (job : Job) (source : Forest) (start now : Tree) (log : List ℕ) → is_proper source ≡ true
+    → HasNoGaps (root_in start) → MayBeLeft job source start now log → IsKept job start now
 
 -- an object made of rows of which none leads to another is whole, with what is held where their contents are stored
 abbrev pub RowsMakeWholeObjects : Type 0
 RowsMakeWholeObjects =
-    (id : List ℕ) (rows : List Row) (held : Path → List ℕ) → are_apart (row_paths rows) ≡ true → is_whole (record { id = id; files = files_of_rows rows held }) ≡ true
+    (id : List ℕ) (rows : List Row) (held : Path → List ℕ) → are_apart (row_paths rows) ≡ true
+    → is_whole (record { id = id; files = files_of_rows rows held }) ≡ true

@@ -23,35 +23,44 @@ RootsHaveNoGaps = (t : Tree) → IsTree t → HasNoGaps (root_in t) × IsRooted 
 -- with one item more, if it is carried, the root has its tuple directories, where they didn't stand, and its object at its place
 abbrev pub AfterGrows : Type 0
 AfterGrows =
-    (job : Job) (source : Forest) (root : Tree) (k : ℕ) (object : Carried) → HasNoGaps root → IsCarriedAs job source root k object
+    (job : Job) (source : Forest) (root : Tree) (k : ℕ) (object : Carried) → HasNoGaps root
+    → IsCarriedAs job source root k object
     → after job source root (suc k)
-    ≡ placed (with_folders (tuple_folders job object) (after job source root k)) (place_of_carried job object) (object_of object.id object.files job.meta job.algorithm)
+    ≡ placed (with_folders (tuple_folders job object) (after job source root k))
+    (place_of_carried job object) (object_of object.id object.files job.meta job.algorithm)
 
 -- if it isn't carried, the root stays
 abbrev pub AfterStays : Type 0
 AfterStays =
-    (job : Job) (source : Forest) (root : Tree) (k : ℕ) (m : Marked) → slice_get (marked job source root) k ≡ Some m → carried_by job m.1 m.0.verdict ≡ []
+    (job : Job) (source : Forest) (root : Tree) (k : ℕ) (m : Marked)
+    → slice_get (marked job source root) k ≡ Some m → carried_by job m.1 m.0.verdict ≡ []
     → after job source root (suc k) ≡ after job source root k
 
 -- one tuple directory more is made where nothing stands, and is there where a folder stands
 abbrev pub FoldersGrow : Type 0
 FoldersGrow =
     (folders : List Path) (t : Tree) (n : ℕ) (folder : Path) → slice_get folders n ≡ Some folder
-    → (with_folders (take n folders) t folder ≡ None → with_folders (take (suc n) folders) t ≡ put (with_folders (take n folders) t) folder Folder)
-    × (with_folders (take n folders) t folder ≡ Some Folder → with_folders (take (suc n) folders) t ≡ with_folders (take n folders) t)
+    → (with_folders (take n folders) t folder ≡ None
+    → with_folders (take (suc n) folders) t ≡ put (with_folders (take n folders) t) folder Folder)
+    × (with_folders (take n folders) t folder ≡ Some Folder
+    → with_folders (take (suc n) folders) t ≡ with_folders (take n folders) t)
 
 -- what is made in the root of a destination is made at its path in the destination
 abbrev pub RootIsMadeInPlace : Type 0
-RootIsMadeInPlace = (t root : Tree) (path : Path) (entry : Entry) → put (with_root t root) (storage_root ++ path) entry ≡ with_root t (put root path entry)
+RootIsMadeInPlace = (t root : Tree) (path : Path) (entry : Entry)
+    → put (with_root t root) (storage_root ++ path) entry ≡ with_root t (put root path entry)
 
 -- what stands in `staging`, moved to a place of the root, stands in the root at that place
 abbrev pub ObjectIsMovedIn : Type 0
 ObjectIsMovedIn =
-    (t root inside : Tree) (place : Path) → IsFree t staging → moved (placed (with_root t root) staging inside) staging (storage_root ++ place) ≡ with_root t (placed root place inside)
+    (t root inside : Tree) (place : Path) → IsFree t staging
+    → moved (placed (with_root t root) staging inside) staging (storage_root ++ place)
+    ≡ with_root t (placed root place inside)
 
 -- a new root, moved out of `staging`, is the destination's
 abbrev pub RootIsMovedIn : Type 0
-RootIsMovedIn = (t root : Tree) → IsFree t staging → moved (placed t staging root) staging storage_root ≡ with_root t root
+RootIsMovedIn = (t root : Tree) → IsFree t staging
+    → moved (placed t staging root) staging storage_root ≡ with_root t root
 
 -- a destination with its own root is itself
 abbrev pub RootIsItsOwn : Type 0

@@ -14,18 +14,24 @@ use Rattle.pt_plan.specs.Lines.{all_lines, end_line, line_of, line_text, lines, 
 abbrev pub IsTakenAgainstEarlier : Type 0
 IsTakenAgainstEarlier =
     (job : Job) (source : Forest) (root : Tree) (k : ℕ)
-    → slice_get (marked job source root) k ≡ option_map (λ (item : Item). (item, is_taken job root (take k (items job source)) item.verdict)) (slice_get (items job source) k)
+    → slice_get (marked job source root) k
+    ≡ option_map
+    (λ (item : Item). (item, is_taken job root (take k (items job source)) item.verdict))
+    (slice_get (items job source) k)
 
 -- with one item more its object, if it is carried, comes last
 abbrev pub CarriedGrows : Type 0
 CarriedGrows =
-    (job : Job) (source : Forest) (root : Tree) (k : ℕ) (m : Marked) → slice_get (marked job source root) k ≡ Some m
-    → carried_among job source root (suc k) ≡ carried_among job source root k ++ carried_by job m.1 m.0.verdict
+    (job : Job) (source : Forest) (root : Tree) (k : ℕ) (m : Marked)
+    → slice_get (marked job source root) k ≡ Some m
+    → carried_among job source root (suc k)
+    ≡ carried_among job source root k ++ carried_by job m.1 m.0.verdict
 
 -- and its line, if it has one
 abbrev pub TextGrows : Type 0
 TextGrows =
-    (job : Job) (source : Forest) (root : Tree) (k : ℕ) (m : Marked) → slice_get (marked job source root) k ≡ Some m
+    (job : Job) (source : Forest) (root : Tree) (k : ℕ) (m : Marked)
+    → slice_get (marked job source root) k ≡ Some m
     → (lines job source root (suc k) ≡ lines job source root k ++ line_of job m)
     × (text job source root (suc k) ≡ text job source root k ++ flat_map line_text (line_of job m))
 
@@ -40,9 +46,11 @@ AllItemsAreAll =
 
 -- before any item the root is the one that stands, or else a new one
 abbrev pub BeginsWithTheBase : Type 0
-BeginsWithTheBase = (job : Job) (source : Forest) (root : Tree) → after job source root 0 ≡ base job.tuples root
+BeginsWithTheBase = (job : Job) (source : Forest) (root : Tree)
+    → after job source root 0 ≡ base job.tuples root
 
 -- what stands then stands after any number of items, as it was
 abbrev pub WhatStandsStays : Type 0
 WhatStandsStays =
-    (job : Job) (source : Forest) (root : Tree) (k : ℕ) (path : Path) (entry : Entry) → base job.tuples root path ≡ Some entry → after job source root k path ≡ Some entry
+    (job : Job) (source : Forest) (root : Tree) (k : ℕ) (path : Path) (entry : Entry)
+    → base job.tuples root path ≡ Some entry → after job source root k path ≡ Some entry

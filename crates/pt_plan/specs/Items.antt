@@ -72,7 +72,9 @@ bad_entry limits object = first_bad limits (length object.at) 0 (entries object.
 
 -- why the object isn't carried
 abbrev pub cause_of : Bounds → PairtreeObject → Option Cause
-cause_of limits object = cond (is_too_deep limits object) (Some cause.Limit) (option_map (λ bad. bad.1) (bad_entry limits object))
+cause_of limits object =
+    cond (is_too_deep limits object) (Some cause.Limit)
+    (option_map (λ bad. bad.1) (bad_entry limits object))
 
 -- by the cause against it, if there is one
 abbrev pub outcome_by : List File → Option Cause → Outcome
@@ -96,7 +98,8 @@ named job id object = cond (is_reserved job id) (Skip cause.Reserved) (Named id 
 -- by what the site's names read: nothing; bytes that aren't UTF-8; or the identifier's part behind the prefix
 abbrev pub verdict_by_reading : Job → List ℕ → PairtreeObject → Option (List ℕ) → Verdict
 verdict_by_reading job prefix object None = Skip cause.Name
-verdict_by_reading job prefix object (Some read) = cond (is_utf8 read) (named job (prefix ++ read) object) (Skip cause.Utf8)
+verdict_by_reading job prefix object (Some read) =
+    cond (is_utf8 read) (named job (prefix ++ read) object) (Skip cause.Utf8)
 
 -- the names of the site's path are read with nothing between (Pairtree 0.1, "Identifier string cleaning")
 abbrev pub verdict_on_object : Job → List ℕ → Path → PairtreeObject → Verdict
@@ -107,7 +110,8 @@ abbrev pub encapsulated : Path → Forest → Option PairtreeObject
 encapsulated site none = None
 encapsulated site (file name bytes after) = None
 encapsulated site (other name after) = None
-encapsulated site (dir name inside after) = Some (record { at = site ++ name ∷ []; gathered = false; inside = inside })
+encapsulated site (dir name inside after) =
+    Some (record { at = site ++ name ∷ []; gathered = false; inside = inside })
 
 -- the object of a site that is gathered
 abbrev pub gathered_from : Path → Forest → PairtreeObject
@@ -122,12 +126,15 @@ verdict_on_candidate job prefix site (Some object) = verdict_on_object job prefi
 abbrev pub verdict_by_finding : Job → List ℕ → Path → Forest → Finding → Verdict
 verdict_by_finding job prefix site inside finding.Interior = Interior
 verdict_by_finding job prefix site inside (finding.Skip why) = Skip why
-verdict_by_finding job prefix site inside (finding.Candidate i) = verdict_on_candidate job prefix site (encapsulated site (entries_from i inside))
-verdict_by_finding job prefix site inside finding.Gathered = verdict_on_object job prefix site (gathered_from site inside)
+verdict_by_finding job prefix site inside (finding.Candidate i) =
+    verdict_on_candidate job prefix site (encapsulated site (entries_from i inside))
+verdict_by_finding job prefix site inside finding.Gathered =
+    verdict_on_object job prefix site (gathered_from site inside)
 
 -- a site that is listed comes to what it is found to be; a shorty below a name of one byte, or too deep, is passed over
 abbrev pub verdict_by_visit : Job → List ℕ → Path → Visit → Verdict
-verdict_by_visit job prefix path (Listed inside) = verdict_by_finding job prefix path inside (found (listing_of inside) (at_of path) (form_of job))
+verdict_by_visit job prefix path (Listed inside) =
+    verdict_by_finding job prefix path inside (found (listing_of inside) (at_of path) (form_of job))
 verdict_by_visit job prefix path Past = Skip cause.Past
 verdict_by_visit job prefix path Deep = Skip cause.Limit
 
@@ -137,7 +144,8 @@ verdict_of job prefix path visit = ours job.share (verdict_by_visit job prefix p
 
 -- the directory on the way, with its verdict
 abbrev pub item_of : Job → List ℕ → Site → Item
-item_of job prefix site = record { path = site.0; visit = site.1; verdict = verdict_of job prefix site.0 site.1 }
+item_of job prefix site =
+    record { path = site.0; visit = site.1; verdict = verdict_of job prefix site.0 site.1 }
 
 -- the directories on the way, in the order of the walk, each with its verdict
 abbrev pub items : Job → Forest → List Item

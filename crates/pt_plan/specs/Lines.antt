@@ -31,12 +31,14 @@ bytes_in_all = sum_by (λ file. length file.1)
 -- an object whose place isn't taken is carried, or passed over for a cause at its site
 abbrev pub line_by_outcome : Path → List ℕ → PairtreeObject → Path → Outcome → Line
 line_by_outcome site id object place (Fails why) = Skipped site why
-line_by_outcome site id object place (Holds files) = Done object.at (bytes_in_all files) (empties_of object.inside) (length files) id place
+line_by_outcome site id object place (Holds files) =
+    Done object.at (bytes_in_all files) (empties_of object.inside) (length files) id place
 
 -- of an object: a taken place is told before any cause
 abbrev pub line_of_object : Job → Path → List ℕ → PairtreeObject → Bool → Line
 line_of_object job site id object true = Present object.at id (place_of job.tuples id)
-line_of_object job site id object false = line_by_outcome site id object (place_of job.tuples id) (outcome job.limits object)
+line_of_object job site id object false =
+    line_by_outcome site id object (place_of job.tuples id) (outcome job.limits object)
 
 -- of an item with this verdict
 abbrev pub line_by_verdict : Job → Path → Bool → Verdict → List Line
@@ -128,4 +130,6 @@ text job source root k = flat_map line_text (lines job source root k)
 
 -- the log of a whole run: the lines of all items, and the end line
 abbrev pub log_of : Job → Forest → Tree → List ℕ
-log_of job source root = flat_map line_text (all_lines job source root) ++ line_text (end_line (all_lines job source root))
+log_of job source root =
+    flat_map line_text (all_lines job source root)
+    ++ line_text (end_line (all_lines job source root))

@@ -36,11 +36,13 @@ MayOpenPrefix told here = here ≡ Some kind.File → CanOpen told (prefix_file 
 
 -- the entry at the innermost place, if it is a directory, may be listed
 unfoldable pub MayEnter : Option Reading → List Frame → Type 0
-MayEnter told trail = (name : List ℕ) → current_entry trail ≡ Some (name, kind.Dir) → CanList told (in_pairtree (names_to trail))
+MayEnter told trail = (name : List ℕ) → current_entry trail ≡ Some (name, kind.Dir)
+    → CanList told (in_pairtree (names_to trail))
 
 -- and if it is a file, it may be opened
 unfoldable pub MayOpen : Option Reading → List Frame → Type 0
-MayOpen told trail = (name : List ℕ) → current_entry trail ≡ Some (name, kind.File) → CanOpen told (in_pairtree (names_to trail))
+MayOpen told trail = (name : List ℕ) → current_entry trail ≡ Some (name, kind.File)
+    → CanOpen told (in_pairtree (names_to trail))
 
 -- the file of a row of the object may be opened
 unfoldable pub MayOpenRow : Option Reading → Object → List Frame → Path → Type 0
@@ -50,7 +52,8 @@ MayOpenRow told object trail path = CanOpen told (in_pairtree (path_of_source ob
 
 -- the item of this number of the root's script may be made
 unfoldable pub MayMakeRootItem : Option Writing → Tuples → ℕ → Type 0
-MayMakeRootItem told tuples number = (item : Item) → slice_get (root_script tuples) number ≡ Some item → MayMake told (item_path item)
+MayMakeRootItem told tuples number = (item : Item)
+    → slice_get (root_script tuples) number ≡ Some item → MayMake told (item_path item)
 
 -- a folder is above the path
 unfoldable pub HasParent : Option Writing → Path → Type 0
@@ -58,24 +61,34 @@ HasParent told path = ForSome told (λ s. s.tree (parent path) ≡ Some Folder)
 
 -- of the content of a row that is to be stored the next folder may be made, or, where all stand, its file, and the source's file may be opened
 abbrev pub MayMakeStored : Option Reading → Option Writing → Object → List Frame → Position → Path → Type 0
-MayMakeStored reading writing object trail position path = (nat_lt position.directories (length path) ≡ true → MayMake writing (in_content (take position.directories path)))
-    × (nat_lt position.directories (length path) ≡ false → MayMake writing (in_content path) × MayOpenRow reading object trail path)
+MayMakeStored reading writing object trail position path =
+    (nat_lt position.directories (length path) ≡ true
+    → MayMake writing (in_content (take position.directories path)))
+    × (nat_lt position.directories (length path) ≡ false → MayMake writing (in_content path)
+    × MayOpenRow reading object trail path)
 
 -- of the row at a position the content may be made, if it is to be stored
 unfoldable pub MayMakeContent : Option Reading → Option Writing → Object → Held → Position → Type 0
 MayMakeContent reading writing object held position =
-    (row : Row) → slice_get held.rows position.row ≡ Some row → is_stored held.contents position.stored row.path ≡ true → MayMakeStored reading writing object held.trail position row.path
+    (row : Row) → slice_get held.rows position.row ≡ Some row
+    → is_stored held.contents position.stored row.path ≡ true
+    → MayMakeStored reading writing object held.trail position row.path
 
 -- a part of an object may be made
 abbrev pub MayMakePart : Job → Object → Part → Held → Option Reading → Option Writing → Type 0
 MayMakePart job object part.Staging held reading writing = MayMake writing staging
-MayMakePart job object part.Declaration held reading writing = MayMake writing (staging ++ object_declaration_name ∷ [])
+MayMakePart job object part.Declaration held reading writing =
+    MayMake writing (staging ++ object_declaration_name ∷ [])
 MayMakePart job object part.Version held reading writing = MayMake writing (in_version [])
-MayMakePart job object (part.Content position) held reading writing = MayMakeContent reading writing object held position
-MayMakePart job object part.VersionInventory held reading writing = MayMake writing (in_version (inventory_name ∷ []))
-MayMakePart job object part.VersionSidecar held reading writing = MayMake writing (in_version (sidecar_name job.algorithm ∷ []))
+MayMakePart job object (part.Content position) held reading writing =
+    MayMakeContent reading writing object held position
+MayMakePart job object part.VersionInventory held reading writing =
+    MayMake writing (in_version (inventory_name ∷ []))
+MayMakePart job object part.VersionSidecar held reading writing =
+    MayMake writing (in_version (sidecar_name job.algorithm ∷ []))
 MayMakePart job object part.Inventory held reading writing = MayMake writing (staging ++ inventory_name ∷ [])
-MayMakePart job object part.Sidecar held reading writing = MayMake writing (staging ++ sidecar_name job.algorithm ∷ [])
+MayMakePart job object part.Sidecar held reading writing =
+    MayMake writing (staging ++ sidecar_name job.algorithm ∷ [])
 
 -- ---- by the phase
 
@@ -90,8 +103,10 @@ Permits job phase.RootRename held reading writing = MayMove writing staging stor
 Permits job (phase.RootCheck file) held reading writing = ⊤
 Permits job phase.OpenRoot held reading writing = CanList reading (in_pairtree [])
 Permits job phase.Judge held reading writing = ⊤
-Permits job (phase.OpenObject object) held reading writing = object.gathered ≡ false → MayEnter reading held.trail
-Permits job (phase.Scan object) held reading writing = MayEnter reading held.trail × MayOpen reading held.trail
+Permits job (phase.OpenObject object) held reading writing =
+    object.gathered ≡ false → MayEnter reading held.trail
+Permits job (phase.Scan object) held reading writing =
+    MayEnter reading held.trail × MayOpen reading held.trail
 Permits job (phase.Read object bytes) held reading writing = CanRead reading
 Permits job (phase.Make object here) held reading writing = MayMakePart job object here held reading writing
 Permits job (phase.Copy object position left) held reading writing = CanRead reading × CanWrite writing

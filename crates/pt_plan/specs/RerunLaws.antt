@@ -24,19 +24,23 @@ pub record EndsAlike (job : Job) (source : Forest) (first later : Tree) : Type 0
 -- so it is with the root that any fault leaves
 abbrev pub RerunEndsAlike : Type 0
 RerunEndsAlike =
-    (job : Job) (source : Forest) (start now : Tree) (log : List ℕ) → IsRooted (root_in start) → IsTarget job source (root_in start) → MayBeLeft job source start now log
+    (job : Job) (source : Forest) (start now : Tree) (log : List ℕ) → IsRooted (root_in start)
+    → IsTarget job source (root_in start) → MayBeLeft job source start now log
     → EndsAlike job source (root_in start) (root_in now)
 
 -- a run over what is left, once `staging` is taken away: it may end well, nothing stands at `staging`, and what it then leaves is what one undisturbed run leaves
 pub record RerunEnds (job : Job) (source : Forest) (start now : Tree) : Type 0 where
   pub begins : IsStart job source (root_in (without now staging))
   pub free : IsFree (without now staging) staging
-  pub same : with_root (without now staging) (after_all job source (root_in (without now staging))) ≡ with_root (without start staging) (after_all job source (root_in start))
+  pub same : with_root (without now staging) (after_all job source (root_in (without now staging)))
+      ≡ with_root (without start staging) (after_all job source (root_in start))
 
 -- so it is with what any fault leaves of a run that might have ended well
 abbrev pub RerunLeavesTheSame : Type 0
 RerunLeavesTheSame =
-    (job : Job) (source : Forest) (start now : Tree) (log : List ℕ) → IsTree start → IsStart job source (root_in start) → MayBeLeft job source start now log → RerunEnds job source start now
+    (job : Job) (source : Forest) (start now : Tree) (log : List ℕ) → IsTree start
+    → IsStart job source (root_in start) → MayBeLeft job source start now log
+    → RerunEnds job source start now
 
 -- taking `staging` away leaves the root
 abbrev pub RootStaysWithoutStaging : Type 0

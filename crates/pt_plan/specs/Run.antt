@@ -41,7 +41,8 @@ no_counts = record { done = 0; present = 0; skipped = 0; turns = 0 }
 
 -- a run that is to begin
 abbrev pub new_run : Run
-new_run = record { phase = phase.Begin; kept = record { prefix = []; held = nothing_held; counts = no_counts } }
+new_run = record
+    { phase = phase.Begin; kept = record { prefix = []; held = nothing_held; counts = no_counts } }
 
 -- with another trail
 abbrev pub with_trail : Held → List Frame → Held

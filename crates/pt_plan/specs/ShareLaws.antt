@@ -31,17 +31,23 @@ sum_of_shares f (suc count) = sum_of_shares f count + f (suc count)
 abbrev pub SharesTellTheWhole : Type 0
 SharesTellTheWhole =
     (job : Job) (source : Forest) (root : Tree) (count : ℕ) → 1 ≤ count → (test : Line → Bool)
-    → count_by test (all_lines (of_whole job) source root) ≡ sum_of_shares (λ index. count_by test (all_lines (of_share job count index) source root)) count
+    → count_by test (all_lines (of_whole job) source root)
+    ≡ sum_of_shares
+    (λ index. count_by test (all_lines (of_share job count index) source root)) count
 
 -- what stands at a path after a run of the whole stands there after the run of some share, as it is, and nothing else stands there after any share's
 abbrev pub SharesLeaveTheWhole : Type 0
 SharesLeaveTheWhole =
     (job : Job) (source : Forest) (root : Tree) (count : ℕ) → 1 ≤ count → (path : Path) (entry : Entry)
-    → (after_all (of_whole job) source root path ≡ Some entry) ↔ ((index : ℕ) × IsOneOf count index × (after_all (of_share job count index) source root path ≡ Some entry))
+    → (after_all (of_whole job) source root path ≡ Some entry)
+    ↔ ((index : ℕ) × IsOneOf count index
+    × (after_all (of_share job count index) source root path ≡ Some entry))
 
 -- where two shares have something, it stood in the root that both began with, or is a folder
 abbrev pub SharesMeetInFolders : Type 0
 SharesMeetInFolders =
-    (job : Job) (source : Forest) (root : Tree) (count index other : ℕ) (path : Path) (entry there : Entry) → IsOneOf count index → IsOneOf count other → index ≢ other
-    → after_all (of_share job count index) source root path ≡ Some entry → after_all (of_share job count other) source root path ≡ Some there
+    (job : Job) (source : Forest) (root : Tree) (count index other : ℕ) (path : Path)
+    (entry there : Entry) → IsOneOf count index → IsOneOf count other → index ≢ other
+    → after_all (of_share job count index) source root path ≡ Some entry
+    → after_all (of_share job count other) source root path ≡ Some there
     → (base job.tuples root path ≡ Some entry) ⊎ (entry ≡ Folder)

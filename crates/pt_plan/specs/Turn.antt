@@ -19,12 +19,23 @@ use Rattle.pt_plan.specs.declared.phase.Phase.{Phase}
 -- ---- what a turn does with what is held
 
 -- from the phase, the prefix and what is held to those after, with the calls and the answer: one of the lines of the groups
-pub data Follows (job : Job) (counts : Counts) : Phase → List ℕ → Held → List ℕ → Held → Calls → Answer → Type 0 where
-  Start : (here : Phase) (prefix read : List ℕ) (held : Held) (calls : Calls) (answer : Answer) → Starts job here prefix read calls answer → Follows job counts here prefix held read held calls answer
-  Walk : (here : Phase) (prefix : List ℕ) (held new : Held) (calls : Calls) (answer : Answer) → Walks job prefix here held new calls answer → Follows job counts here prefix held prefix new calls answer
-  Scan : (here : Phase) (prefix : List ℕ) (held new : Held) (calls : Calls) (answer : Answer) → Scans job here held new calls answer → Follows job counts here prefix held prefix new calls answer
-  Make : (here : Phase) (prefix : List ℕ) (held new : Held) (calls : Calls) (answer : Answer) → Makings job here held new calls answer → Follows job counts here prefix held prefix new calls answer
-  Place : (here : Phase) (prefix : List ℕ) (held new : Held) (calls : Calls) (answer : Answer) → Places job counts here held new calls answer → Follows job counts here prefix held prefix new calls answer
+pub data Follows (job : Job) (counts : Counts) : Phase → List ℕ → Held → List ℕ → Held → Calls
+    → Answer → Type 0 where
+  Start : (here : Phase) (prefix read : List ℕ) (held : Held) (calls : Calls) (answer : Answer)
+      → Starts job here prefix read calls answer
+      → Follows job counts here prefix held read held calls answer
+  Walk : (here : Phase) (prefix : List ℕ) (held new : Held) (calls : Calls) (answer : Answer)
+      → Walks job prefix here held new calls answer
+      → Follows job counts here prefix held prefix new calls answer
+  Scan : (here : Phase) (prefix : List ℕ) (held new : Held) (calls : Calls) (answer : Answer)
+      → Scans job here held new calls answer
+      → Follows job counts here prefix held prefix new calls answer
+  Make : (here : Phase) (prefix : List ℕ) (held new : Held) (calls : Calls) (answer : Answer)
+      → Makings job here held new calls answer
+      → Follows job counts here prefix held prefix new calls answer
+  Place : (here : Phase) (prefix : List ℕ) (held new : Held) (calls : Calls) (answer : Answer)
+      → Places job counts here held new calls answer
+      → Follows job counts here prefix held prefix new calls answer
 
 -- ---- what is counted
 
@@ -76,7 +87,8 @@ Did calls old new = Happens calls old new × NoneFailed old.failures new.failure
 
 -- nothing was changed, and the run halts for this
 unfoldable pub Stays : Halt → World → World → Type 0
-Stays why old new = (source_tree new.source ≡ source_tree old.source) × (new.dest ≡ old.dest) × (new.log ≡ old.log) × HasFailed why old.failures new.failures
+Stays why old new = (source_tree new.source ≡ source_tree old.source) × (new.dest ≡ old.dest)
+    × (new.log ≡ old.log) × HasFailed why old.failures new.failures
 
 -- a part of what the calls change is left, and the run halts for this
 unfoldable pub LeavesSome : Calls → Halt → World → World → Type 0
@@ -97,15 +109,22 @@ HoldsMore rows held calls old new = (rows ≡ held.rows) × Answers calls.asked 
 -- from a phase, what is kept and the world to what is kept and the world after, with the answer. Its own count isn't spoken of: it is made as the turn begins
 pub data Turn (job : Job) (here : Phase) (before after : Kept) (old new : World) : Answer → Type 0 where
   -- all calls succeed, and the run goes on at the next phase
-  GoesOn : (calls : Calls) (next : Phase) → Follows job before.counts here before.prefix before.held after.prefix after.held calls (Ok next) → Did calls old new → after.counts ≡ counted calls.line before.counts
+  GoesOn : (calls : Calls) (next : Phase)
+      → Follows job before.counts here before.prefix before.held after.prefix after.held calls
+      (Ok next) → Did calls old new → after.counts ≡ counted calls.line before.counts
       → Turn job here before after old new (Ok next)
   -- all calls succeed, and what they answer halts the run
-  IsRefused : (prefix : List ℕ) (held : Held) (calls : Calls) (why : Halt) → Follows job before.counts here before.prefix before.held prefix held calls (Err why) → Did calls old new → IsHalted before.held.rows before after
+  IsRefused : (prefix : List ℕ) (held : Held) (calls : Calls) (why : Halt)
+      → Follows job before.counts here before.prefix before.held prefix held calls (Err why)
+      → Did calls old new → IsHalted before.held.rows before after
       → Turn job here before after old new (Err why)
   -- a call fails, or a growth is refused, before anything is changed
   FailsAtFirst : (why : Halt) → Stays why old new → IsHalted before.held.rows before after
       → Turn job here before after old new (Err why)
   -- or later: a part of what the turn was to change is left
-  FailsLater : (prefix : List ℕ) (held : Held) (calls : Calls) (answer : Answer) (rows : List Row) (why : Halt) → Follows job before.counts here before.prefix before.held prefix held calls answer → LeavesSome calls why old new
+  FailsLater : (prefix : List ℕ) (held : Held) (calls : Calls) (answer : Answer) (rows : List Row)
+      (why : Halt)
+      → Follows job before.counts here before.prefix before.held prefix held calls answer
+      → LeavesSome calls why old new
       → (rows ≡ before.held.rows) ⊎ HoldsMore rows held calls old new → IsHalted rows before after
       → Turn job here before after old new (Err why)

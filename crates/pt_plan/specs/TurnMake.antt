@@ -30,11 +30,14 @@ use Rattle.pt_plan.specs.declared.phase.Position.{Position}
 
 -- the content of this number has this path, so that the row is the first with its digest
 abbrev pub is_stored : List Content → ℕ → Path → Bool
-is_stored contents number path = option_map_or (λ (content : Content). same_path content.path path) (slice_get contents number) false
+is_stored contents number path =
+    option_map_or (λ (content : Content). same_path content.path path)
+    (slice_get contents number) false
 
 -- the part at a position: the content there, or what follows the contents
 abbrev pub content_at : List Row → Position → Part
-content_at rows position = cond (nat_lt position.row (length rows)) (part.Content position) part.VersionInventory
+content_at rows position =
+    cond (nat_lt position.row (length rows)) (part.Content position) part.VersionInventory
 
 -- how many names two paths begin with alike
 abbrev pub shared : Path → Path → ℕ
@@ -54,7 +57,11 @@ behind position = record position { row = position.row + 1 }
 -- the position behind a row whose content has just been stored
 abbrev pub behind_stored : List Content → Position → Path → Position
 behind_stored contents position path =
-    record { row = position.row + 1; stored = position.stored + 1; directories = standing path (slice_get contents (position.stored + 1)) }
+    record {
+      row = position.row + 1;
+      stored = position.stored + 1;
+      directories = standing path (slice_get contents (position.stored + 1));
+    }
 
 -- with one more folder of the next content's path
 abbrev pub with_folder : Position → Position
@@ -82,11 +89,14 @@ text_of_inventory job object rows = inventory_text object.id rows job.meta job.a
 
 -- the inventory in a folder of `staging` (OCFL 1.1, "Inventory")
 abbrev pub inventory_file : Job → Object → List Row → Path → Item
-inventory_file job object rows folder = MakeFile (folder ++ inventory_name ∷ []) (text_of_inventory job object rows)
+inventory_file job object rows folder =
+    MakeFile (folder ++ inventory_name ∷ []) (text_of_inventory job object rows)
 
 -- its sidecar (OCFL 1.1, "Inventory Digest")
 abbrev pub sidecar_file : Job → Object → List Row → Path → Item
-sidecar_file job object rows folder = MakeFile (folder ++ sidecar_name job.algorithm ∷ []) (sidecar_text job.algorithm (text_of_inventory job object rows))
+sidecar_file job object rows folder =
+    MakeFile (folder ++ sidecar_name job.algorithm ∷ [])
+    (sidecar_text job.algorithm (text_of_inventory job object rows))
 
 -- after the last sidecar: the tuple directories, if the layout has any, else the renaming
 abbrev pub after_last : Job → Object → Phase
@@ -101,42 +111,81 @@ is_as_read job row left fed = (left == 0) && bytes_eq (digest_of job.algorithm f
 -- from the phase and what is held to what is held after, with the calls and the answer
 pub data Makings (job : Job) : Phase → Held → Held → Calls → Answer → Type 0 where
   MakesStaging : (held : Held) (object : Object)
-      → Makings job (phase.Make object part.Staging) held held (does (Makes (MakeFolder staging))) (Ok (phase.Make object part.Declaration))
+      → Makings job (phase.Make object part.Staging) held held (does (Makes (MakeFolder staging)))
+      (Ok (phase.Make object part.Declaration))
   MakesDeclaration : (held : Held) (object : Object)
-      → Makings job (phase.Make object part.Declaration) held held (does (Makes (MakeFile (staging ++ object_declaration_name ∷ []) object_declaration_bytes))) (Ok (phase.Make object part.Version))
+      → Makings job (phase.Make object part.Declaration) held held
+      (does (Makes (MakeFile (staging ++ object_declaration_name ∷ []) object_declaration_bytes)))
+      (Ok (phase.Make object part.Version))
   MakesVersion : (held : Held) (object : Object)
-      → Makings job (phase.Make object part.Version) held held (does (Makes (MakeFolder (in_version [])))) (Ok (phase.Make object (content_at held.rows (record { row = 0; stored = 0; directories = 0 }))))
+      → Makings job (phase.Make object part.Version) held held
+      (does (Makes (MakeFolder (in_version []))))
+      (Ok (phase.Make object
+      (content_at held.rows (record { row = 0; stored = 0; directories = 0 }))))
   -- a row whose content is stored already is passed
-  PassesRow : (held : Held) (object : Object) (position : Position) (row : Row) → slice_get held.rows position.row ≡ Some row → is_stored held.contents position.stored row.path ≡ false
-      → Makings job (phase.Make object (part.Content position)) held held no_calls (Ok (phase.Make object (content_at held.rows (behind position))))
+  PassesRow : (held : Held) (object : Object) (position : Position) (row : Row)
+      → slice_get held.rows position.row ≡ Some row
+      → is_stored held.contents position.stored row.path ≡ false
+      → Makings job (phase.Make object (part.Content position)) held held no_calls
+      (Ok (phase.Make object (content_at held.rows (behind position))))
   -- of any other the folders on the way are made
-  MakesFolder : (held : Held) (object : Object) (position : Position) (row : Row) → slice_get held.rows position.row ≡ Some row → is_stored held.contents position.stored row.path ≡ true → nat_lt position.directories (length row.path) ≡ true
-      → Makings job (phase.Make object (part.Content position)) held held (does (Makes (MakeFolder (in_content (take position.directories row.path))))) (Ok (phase.Make object (part.Content (with_folder position))))
+  MakesFolder : (held : Held) (object : Object) (position : Position) (row : Row)
+      → slice_get held.rows position.row ≡ Some row
+      → is_stored held.contents position.stored row.path ≡ true
+      → nat_lt position.directories (length row.path) ≡ true
+      → Makings job (phase.Make object (part.Content position)) held held
+      (does (Makes (MakeFolder (in_content (take position.directories row.path)))))
+      (Ok (phase.Make object (part.Content (with_folder position))))
   -- then its file is made, and the source's is opened
-  OpensCopy : (held : Held) (object : Object) (position : Position) (row : Row) → slice_get held.rows position.row ≡ Some row → is_stored held.contents position.stored row.path ≡ true → nat_lt position.directories (length row.path) ≡ false
+  OpensCopy : (held : Held) (object : Object) (position : Position) (row : Row)
+      → slice_get held.rows position.row ≡ Some row
+      → is_stored held.contents position.stored row.path ≡ true
+      → nat_lt position.directories (length row.path) ≡ false
       → Makings job (phase.Make object (part.Content position)) held (with_fed held [])
-      (record { asked = Opens (in_pairtree (path_of_source object held.trail ++ row.path)); change = Creates (in_content row.path); line = None }) (Ok (phase.Copy object position row.length))
+      (record {
+        asked = Opens (in_pairtree (path_of_source object held.trail ++ row.path));
+        change = Creates (in_content row.path);
+        line = None;
+      }) (Ok (phase.Copy object position row.length))
   -- a block is copied
-  CopiesOn : (held : Held) (object : Object) (position : Position) (left byte : ℕ) (block : List ℕ) → nat_lt left (length (byte ∷ block)) ≡ false
+  CopiesOn : (held : Held) (object : Object) (position : Position) (left byte : ℕ) (block : List ℕ)
+      → nat_lt left (length (byte ∷ block)) ≡ false
       → Makings job (phase.Copy object position left) held (with_fed held (held.fed ++ byte ∷ block))
-      (record { asked = Reads (byte ∷ block); change = Adds (byte ∷ block); line = None }) (Ok (phase.Copy object position (left - length (byte ∷ block))))
+      (record { asked = Reads (byte ∷ block); change = Adds (byte ∷ block); line = None })
+      (Ok (phase.Copy object position (left - length (byte ∷ block))))
   -- unless there are more bytes than the row says
-  ReadsMore : (held : Held) (object : Object) (position : Position) (left byte : ℕ) (block : List ℕ) → nat_lt left (length (byte ∷ block)) ≡ true
-      → Makings job (phase.Copy object position left) held held (asks (Reads (byte ∷ block))) (Err halt.Changed)
+  ReadsMore : (held : Held) (object : Object) (position : Position) (left byte : ℕ) (block : List ℕ)
+      → nat_lt left (length (byte ∷ block)) ≡ true
+      → Makings job (phase.Copy object position left) held held (asks (Reads (byte ∷ block)))
+      (Err halt.Changed)
   -- at the end the file is closed
-  EndsCopy : (held : Held) (object : Object) (position : Position) (row : Row) (left : ℕ) → slice_get held.rows position.row ≡ Some row → is_as_read job row left held.fed ≡ true
+  EndsCopy : (held : Held) (object : Object) (position : Position) (row : Row) (left : ℕ)
+      → slice_get held.rows position.row ≡ Some row → is_as_read job row left held.fed ≡ true
       → Makings job (phase.Copy object position left) held (with_fed held [])
-      (record { asked = Reads []; change = Finishes; line = None }) (Ok (phase.Make object (content_at held.rows (behind_stored held.contents position row.path))))
+      (record { asked = Reads []; change = Finishes; line = None })
+      (Ok (phase.Make object
+      (content_at held.rows (behind_stored held.contents position row.path))))
   -- unless the bytes are fewer, or others
-  ReadsOther : (held : Held) (object : Object) (position : Position) (row : Row) (left : ℕ) → slice_get held.rows position.row ≡ Some row → is_as_read job row left held.fed ≡ false
+  ReadsOther : (held : Held) (object : Object) (position : Position) (row : Row) (left : ℕ)
+      → slice_get held.rows position.row ≡ Some row → is_as_read job row left held.fed ≡ false
       → Makings job (phase.Copy object position left) held held (asks (Reads [])) (Err halt.Changed)
   -- an inventory's text is fed to the hasher as well
   MakesVersionInventory : (held : Held) (object : Object)
-      → Makings job (phase.Make object part.VersionInventory) held (with_fed held (text_of_inventory job object held.rows)) (does (Makes (inventory_file job object held.rows (in_version [])))) (Ok (phase.Make object part.VersionSidecar))
+      → Makings job (phase.Make object part.VersionInventory) held
+      (with_fed held (text_of_inventory job object held.rows))
+      (does (Makes (inventory_file job object held.rows (in_version []))))
+      (Ok (phase.Make object part.VersionSidecar))
   -- and the hasher's digest is taken for its sidecar; the inventory at the top has the same text, which isn't fed again
   MakesVersionSidecar : (held : Held) (object : Object)
-      → Makings job (phase.Make object part.VersionSidecar) held (with_fed held (text_of_inventory job object held.rows)) (does (Makes (sidecar_file job object held.rows (in_version [])))) (Ok (phase.Make object part.Inventory))
+      → Makings job (phase.Make object part.VersionSidecar) held
+      (with_fed held (text_of_inventory job object held.rows))
+      (does (Makes (sidecar_file job object held.rows (in_version []))))
+      (Ok (phase.Make object part.Inventory))
   MakesInventory : (held : Held) (object : Object)
-      → Makings job (phase.Make object part.Inventory) held (with_fed held (text_of_inventory job object held.rows)) (does (Makes (inventory_file job object held.rows staging))) (Ok (phase.Make object part.Sidecar))
+      → Makings job (phase.Make object part.Inventory) held
+      (with_fed held (text_of_inventory job object held.rows))
+      (does (Makes (inventory_file job object held.rows staging)))
+      (Ok (phase.Make object part.Sidecar))
   MakesSidecar : (held : Held) (object : Object)
-      → Makings job (phase.Make object part.Sidecar) held (with_fed held []) (does (Makes (sidecar_file job object held.rows staging))) (Ok (after_last job object))
+      → Makings job (phase.Make object part.Sidecar) held (with_fed held [])
+      (does (Makes (sidecar_file job object held.rows staging))) (Ok (after_last job object))

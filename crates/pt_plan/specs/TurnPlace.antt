@@ -25,7 +25,9 @@ tuple_folder object number = in_root (take (number + 1) object.place)
 
 -- after a tuple directory: the next one, or, after the last, the renaming
 abbrev pub after_tuple : Job → Object → ℕ → Phase
-after_tuple job object number = cond (nat_lt (number + 1) job.tuples.count) (phase.Tuples object (number + 1)) (phase.Rename object)
+after_tuple job object number =
+    cond (nat_lt (number + 1) job.tuples.count) (phase.Tuples object (number + 1))
+    (phase.Rename object)
 
 -- the lengths of all rows together
 abbrev pub bytes_in_rows : List Row → ℕ
@@ -33,7 +35,9 @@ bytes_in_rows = sum_by (λ row. row.length)
 
 -- the line of an object that was carried
 abbrev pub done_line : Object → Held → Line
-done_line object held = Done (path_of_source object held.trail) (bytes_in_rows held.rows) object.empty (length held.rows) object.id object.place
+done_line object held =
+    Done (path_of_source object held.trail) (bytes_in_rows held.rows) object.empty
+    (length held.rows) object.id object.place
 
 -- at the start of the site again, with nothing held of the object
 abbrev pub restarted : Held → Held
@@ -47,18 +51,24 @@ last_line counts = End counts.done counts.present counts.skipped
 pub data Places (job : Job) (counts : Counts) : Phase → Held → Held → Calls → Answer → Type 0 where
   -- a tuple directory is made, or stands already
   MakesTuple : (held : Held) (object : Object) (number : ℕ)
-      → Places job counts (phase.Tuples object number) held held (does (FindsNoneAndMakes (tuple_folder object number))) (Ok (after_tuple job object number))
+      → Places job counts (phase.Tuples object number) held held
+      (does (FindsNoneAndMakes (tuple_folder object number))) (Ok (after_tuple job object number))
   FindsTuple : (held : Held) (object : Object) (number : ℕ)
-      → Places job counts (phase.Tuples object number) held held (does (Finds (tuple_folder object number) (Some kind.Dir))) (Ok (after_tuple job object number))
+      → Places job counts (phase.Tuples object number) held held
+      (does (Finds (tuple_folder object number) (Some kind.Dir)))
+      (Ok (after_tuple job object number))
   -- unless its name is taken by something else
   IsInTheWay : (held : Held) (object : Object) (number : ℕ) (here : Kind) → is_dir_kind (Some here) ≡ false
-      → Places job counts (phase.Tuples object number) held held (does (Finds (tuple_folder object number) (Some here))) (Err halt.Target)
+      → Places job counts (phase.Tuples object number) held held
+      (does (Finds (tuple_folder object number) (Some here))) (Err halt.Target)
   -- `staging` becomes the object at its place
   RenamesObject : (held : Held) (object : Object)
-      → Places job counts (phase.Rename object) held held (does (Renames staging (in_root object.place))) (Ok (phase.Line object))
+      → Places job counts (phase.Rename object) held held
+      (does (Renames staging (in_root object.place))) (Ok (phase.Line object))
   -- the object is told, and the walk goes on at its site
   TellsDone : (held : Held) (object : Object)
-      → Places job counts (phase.Line object) held (restarted held) (tells (done_line object held)) (Ok phase.Walk)
+      → Places job counts (phase.Line object) held (restarted held) (tells (done_line object held))
+      (Ok phase.Walk)
   -- the end is told
   TellsEnd : (held : Held)
       → Places job counts phase.End held held (tells (last_line counts)) (Ok phase.Ended)

@@ -38,7 +38,8 @@ is_dir_kind (Some kind.Other) = false
 
 -- the top lists the version file and the directory of the pairtree (Pairtree 0.1)
 abbrev pub lists_store : List Entry → Bool
-lists_store entries = is_file_kind (kind_in entries version_file) && is_dir_kind (kind_in entries pairtree_root)
+lists_store entries =
+    is_file_kind (kind_in entries version_file) && is_dir_kind (kind_in entries pairtree_root)
 
 -- after an item of the root's script: the next one, or, after the last, the renaming
 abbrev pub after_item : ℕ → Phase
@@ -52,7 +53,8 @@ after_file file = cond (file == 2) phase.OpenRoot (phase.RootCheck (file + 1))
 pub data Starts (job : Job) : Phase → List ℕ → List ℕ → Calls → Answer → Type 0 where
   -- the top is listed
   IsStore : (prefix : List ℕ) (entries : List Entry) → lists_store entries ≡ true
-      → Starts job phase.Begin prefix prefix (asks (Lists [] entries)) (Ok (phase.Prefix (kind_in entries prefix_file)))
+      → Starts job phase.Begin prefix prefix (asks (Lists [] entries))
+      (Ok (phase.Prefix (kind_in entries prefix_file)))
   IsNoStore : (prefix : List ℕ) (entries : List Entry) → lists_store entries ≡ false
       → Starts job phase.Begin prefix prefix (asks (Lists [] entries)) (Err halt.NotPairtree)
   -- the prefix is read, if there is a file for it
@@ -61,9 +63,11 @@ pub data Starts (job : Job) : Phase → List ℕ → List ℕ → Calls → Answ
   IsNoPrefixFile : (prefix : List ℕ) (here : Option Kind) → here ≢ None → is_file_kind here ≡ false
       → Starts job (phase.Prefix here) prefix prefix no_calls (Err halt.Prefix)
   HasPrefix : (prefix block : List ℕ) → prefix_refusal block ≡ None
-      → Starts job (phase.Prefix (Some kind.File)) prefix (without_line_ends block) (asks (OpensAndReads (prefix_file ∷ []) block)) (Ok phase.Staging)
+      → Starts job (phase.Prefix (Some kind.File)) prefix (without_line_ends block)
+      (asks (OpensAndReads (prefix_file ∷ []) block)) (Ok phase.Staging)
   IsNoPrefix : (prefix block : List ℕ) (why : PrefixFault) → prefix_refusal block ≡ Some why
-      → Starts job (phase.Prefix (Some kind.File)) prefix prefix (asks (OpensAndReads (prefix_file ∷ []) block)) (Err halt.Prefix)
+      → Starts job (phase.Prefix (Some kind.File)) prefix prefix
+      (asks (OpensAndReads (prefix_file ∷ []) block)) (Err halt.Prefix)
   -- nothing may stand at `staging`
   HasNoStaging : (prefix : List ℕ)
       → Starts job phase.Staging prefix prefix (does (Finds staging None)) (Ok phase.Root)
@@ -73,19 +77,28 @@ pub data Starts (job : Job) : Phase → List ℕ → List ℕ → Calls → Answ
   HasNoRoot : (prefix : List ℕ)
       → Starts job phase.Root prefix prefix (does (Finds storage_root None)) (Ok (phase.RootMake 0))
   HasRoot : (prefix : List ℕ)
-      → Starts job phase.Root prefix prefix (does (Finds storage_root (Some kind.Dir))) (Ok (phase.RootCheck 0))
+      → Starts job phase.Root prefix prefix (does (Finds storage_root (Some kind.Dir)))
+      (Ok (phase.RootCheck 0))
   IsNoRoot : (prefix : List ℕ) (here : Kind) → is_dir_kind (Some here) ≡ false
       → Starts job phase.Root prefix prefix (does (Finds storage_root (Some here))) (Err halt.Target)
   -- one item of the root's script is made
-  MakesRoot : (prefix : List ℕ) (number : ℕ) (item : Item) → slice_get (root_script job.tuples) number ≡ Some item
+  MakesRoot : (prefix : List ℕ) (number : ℕ) (item : Item)
+      → slice_get (root_script job.tuples) number ≡ Some item
       → Starts job (phase.RootMake number) prefix prefix (does (Makes item)) (Ok (after_item number))
   -- `staging` becomes the root
   RenamesRoot : (prefix : List ℕ)
       → Starts job phase.RootRename prefix prefix (does (Renames staging storage_root)) (Ok phase.OpenRoot)
   -- one of the root's three files is compared
-  IsSame : (prefix : List ℕ) (number : ℕ) (path : Path) (bytes : List ℕ) → slice_get (root_files_of job.tuples) number ≡ Some (path, bytes)
-      → Starts job (phase.RootCheck number) prefix prefix (does (Peeks (storage_root ++ path) bytes)) (Ok (after_file number))
-  IsNoFile : (prefix : List ℕ) (number : ℕ) (path : Path) (bytes : List ℕ) (here : Option Kind) → slice_get (root_files_of job.tuples) number ≡ Some (path, bytes) → is_file_kind here ≡ false
-      → Starts job (phase.RootCheck number) prefix prefix (does (Finds (storage_root ++ path) here)) (Err halt.Target)
-  Differs : (prefix : List ℕ) (number : ℕ) (path : Path) (bytes block : List ℕ) → slice_get (root_files_of job.tuples) number ≡ Some (path, bytes) → bytes_eq block bytes ≡ false
-      → Starts job (phase.RootCheck number) prefix prefix (does (Peeks (storage_root ++ path) block)) (Err halt.Target)
+  IsSame : (prefix : List ℕ) (number : ℕ) (path : Path) (bytes : List ℕ)
+      → slice_get (root_files_of job.tuples) number ≡ Some (path, bytes)
+      → Starts job (phase.RootCheck number) prefix prefix
+      (does (Peeks (storage_root ++ path) bytes)) (Ok (after_file number))
+  IsNoFile : (prefix : List ℕ) (number : ℕ) (path : Path) (bytes : List ℕ) (here : Option Kind)
+      → slice_get (root_files_of job.tuples) number ≡ Some (path, bytes) → is_file_kind here ≡ false
+      → Starts job (phase.RootCheck number) prefix prefix (does (Finds (storage_root ++ path) here))
+      (Err halt.Target)
+  Differs : (prefix : List ℕ) (number : ℕ) (path : Path) (bytes block : List ℕ)
+      → slice_get (root_files_of job.tuples) number ≡ Some (path, bytes)
+      → bytes_eq block bytes ≡ false
+      → Starts job (phase.RootCheck number) prefix prefix
+      (does (Peeks (storage_root ++ path) block)) (Err halt.Target)

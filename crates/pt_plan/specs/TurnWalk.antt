@@ -48,7 +48,8 @@ unless_reserved job id = cond (is_reserved job id) (Err cause.Reserved) (Ok id)
 
 abbrev pub identifier_by : Job → List ℕ → Option (List ℕ) → Result (List ℕ) Cause
 identifier_by job prefix None = Err cause.Name
-identifier_by job prefix (Some read) = cond (is_utf8 read) (unless_reserved job (prefix ++ read)) (Err cause.Utf8)
+identifier_by job prefix (Some read) =
+    cond (is_utf8 read) (unless_reserved job (prefix ++ read)) (Err cause.Utf8)
 
 -- the identifier that the names of a site's path read, behind the prefix, or why none is carried (Pairtree 0.1, "Identifier string cleaning")
 abbrev pub identifier_at : Job → List ℕ → Path → Result (List ℕ) Cause
@@ -63,12 +64,14 @@ judged_by_identifier index (Err why) = Skip why
 abbrev pub judged_by_finding : Job → List ℕ → Path → Finding → VerdictOn (Option ℕ)
 judged_by_finding job prefix site finding.Interior = Interior
 judged_by_finding job prefix site (finding.Skip why) = Skip why
-judged_by_finding job prefix site (finding.Candidate index) = judged_by_identifier (Some index) (identifier_at job prefix site)
+judged_by_finding job prefix site (finding.Candidate index) =
+    judged_by_identifier (Some index) (identifier_at job prefix site)
 judged_by_finding job prefix site finding.Gathered = judged_by_identifier None (identifier_at job prefix site)
 
 -- the site that the innermost listing is of, as far as it is of the job's share
 abbrev pub judged_at : Job → List ℕ → List Frame → VerdictOn (Option ℕ)
-judged_at job prefix trail = ours job.share (judged_by_finding job prefix (trail_path trail) (found_at (form_of job) trail))
+judged_at job prefix trail =
+    ours job.share (judged_by_finding job prefix (trail_path trail) (found_at (form_of job) trail))
 
 -- the trail at the site's object: its place at the entry of this index, if there is one
 abbrev pub at_object : Option ℕ → List Frame → List Frame
@@ -82,7 +85,14 @@ path_of_object None trail = trail_path trail
 
 -- an object whose place is free, before it is entered
 abbrev pub new_object : Job → List ℕ → Option ℕ → List Frame → Object
-new_object job id index trail = record { id = id; place = place_of job.tuples id; gathered = is_none index; site = length trail; empty = 0 }
+new_object job id index trail =
+    record {
+      id = id;
+      place = place_of job.tuples id;
+      gathered = is_none index;
+      site = length trail;
+      empty = 0;
+    }
 
 -- ---- the turns
 
@@ -98,7 +108,8 @@ in_pairtree path = pairtree_root ∷ path
 pub data Walks (job : Job) (prefix : List ℕ) : Phase → Held → Held → Calls → Answer → Type 0 where
   -- the pairtree's directory is listed and entered
   OpensRoot : (held : Held) (items : List Item)
-      → Walks job prefix phase.OpenRoot held (with_trail held (entered items held.trail)) (asks (Lists (in_pairtree []) items)) (Ok phase.Judge)
+      → Walks job prefix phase.OpenRoot held (with_trail held (entered items held.trail))
+      (asks (Lists (in_pairtree []) items)) (Ok phase.Judge)
   -- the site only leads on, or is of another share
   LeadsOn : (held : Held) → judged_at job prefix held.trail ≡ Interior
       → Walks job prefix phase.Judge held held no_calls (Ok phase.Walk)
@@ -106,27 +117,44 @@ pub data Walks (job : Job) (prefix : List ℕ) : Phase → Held → Held → Cal
   IsSkipped : (held : Held) (why : Cause) → judged_at job prefix held.trail ≡ Skip why
       → Walks job prefix phase.Judge held held (tells (Skipped (trail_path held.trail) why)) (Ok phase.Walk)
   -- its place is taken
-  IsPresent : (held : Held) (index : Option ℕ) (id : List ℕ) (here : Kind) → judged_at job prefix held.trail ≡ Named id index
+  IsPresent : (held : Held) (index : Option ℕ) (id : List ℕ) (here : Kind)
+      → judged_at job prefix held.trail ≡ Named id index
       → Walks job prefix phase.Judge held held
-      (record { asked = AsksNothing; change = Finds (in_root (place_of job.tuples id)) (Some here); line = Some (Present (path_of_object index held.trail) id (place_of job.tuples id)) }) (Ok phase.Walk)
+      (record {
+        asked = AsksNothing;
+        change = Finds (in_root (place_of job.tuples id)) (Some here);
+        line = Some (Present (path_of_object index held.trail) id (place_of job.tuples id));
+      }) (Ok phase.Walk)
   -- its place is free
   IsNew : (held : Held) (index : Option ℕ) (id : List ℕ) → judged_at job prefix held.trail ≡ Named id index
-      → Walks job prefix phase.Judge held (with_trail held (at_object index held.trail)) (does (Finds (in_root (place_of job.tuples id)) None)) (Ok (phase.OpenObject (new_object job id index held.trail)))
+      → Walks job prefix phase.Judge held (with_trail held (at_object index held.trail))
+      (does (Finds (in_root (place_of job.tuples id)) None))
+      (Ok (phase.OpenObject (new_object job id index held.trail)))
   -- a shorty below a name of one byte, which the first share tells
-  IsPast : (held : Held) (name : List ℕ) → current_entry held.trail ≡ Some (name, kind.Dir) → is_short name ≡ true → is_last (at_of (trail_path held.trail)) ≡ true
-      → Walks job prefix phase.Walk held (with_trail held (advanced held.trail)) (tells_if (is_first job.share) (Skipped (names_to held.trail) cause.Past)) (Ok phase.Walk)
+  IsPast : (held : Held) (name : List ℕ) → current_entry held.trail ≡ Some (name, kind.Dir)
+      → is_short name ≡ true → is_last (at_of (trail_path held.trail)) ≡ true
+      → Walks job prefix phase.Walk held (with_trail held (advanced held.trail))
+      (tells_if (is_first job.share) (Skipped (names_to held.trail) cause.Past)) (Ok phase.Walk)
   -- a shorty that is too deep, which the first share tells
-  IsDeep : (held : Held) (name : List ℕ) → current_entry held.trail ≡ Some (name, kind.Dir) → is_short name ≡ true → is_last (at_of (trail_path held.trail)) ≡ false → nat_lt job.limits.depth (length held.trail) ≡ true
-      → Walks job prefix phase.Walk held (with_trail held (advanced held.trail)) (tells_if (is_first job.share) (Skipped (names_to held.trail) cause.Limit)) (Ok phase.Walk)
+  IsDeep : (held : Held) (name : List ℕ) → current_entry held.trail ≡ Some (name, kind.Dir)
+      → is_short name ≡ true → is_last (at_of (trail_path held.trail)) ≡ false
+      → nat_lt job.limits.depth (length held.trail) ≡ true
+      → Walks job prefix phase.Walk held (with_trail held (advanced held.trail))
+      (tells_if (is_first job.share) (Skipped (names_to held.trail) cause.Limit)) (Ok phase.Walk)
   -- any other shorty is listed and entered
-  EntersSite : (held : Held) (name : List ℕ) (items : List Item) → current_entry held.trail ≡ Some (name, kind.Dir) → is_short name ≡ true → is_last (at_of (trail_path held.trail)) ≡ false → nat_lt job.limits.depth (length held.trail) ≡ false
-      → Walks job prefix phase.Walk held (with_trail held (entered items held.trail)) (asks (Lists (in_pairtree (names_to held.trail)) items)) (Ok phase.Judge)
+  EntersSite : (held : Held) (name : List ℕ) (items : List Item)
+      → current_entry held.trail ≡ Some (name, kind.Dir) → is_short name ≡ true
+      → is_last (at_of (trail_path held.trail)) ≡ false
+      → nat_lt job.limits.depth (length held.trail) ≡ false
+      → Walks job prefix phase.Walk held (with_trail held (entered items held.trail))
+      (asks (Lists (in_pairtree (names_to held.trail)) items)) (Ok phase.Judge)
   -- any other entry is passed
   PassesEntry : (held : Held) (item : Item) → current_entry held.trail ≡ Some item → is_shorty item ≡ false
       → Walks job prefix phase.Walk held (with_trail held (advanced held.trail)) no_calls (Ok phase.Walk)
   -- at its end the listing is left
   LeavesSite : (held : Held) → current_entry held.trail ≡ None → nat_lt 1 (length held.trail) ≡ true
-      → Walks job prefix phase.Walk held (with_trail held (advanced (parent held.trail))) no_calls (Ok phase.Walk)
+      → Walks job prefix phase.Walk held (with_trail held (advanced (parent held.trail))) no_calls
+      (Ok phase.Walk)
   -- at the end of the outermost the walk is done
   EndsWalk : (held : Held) → current_entry held.trail ≡ None → nat_lt 1 (length held.trail) ≡ false
       → Walks job prefix phase.Walk held held no_calls (Ok phase.End)

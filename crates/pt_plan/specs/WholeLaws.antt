@@ -13,18 +13,24 @@ use Rattle.pt_plan.specs.Roots.{root_in, storage_root, with_root}
 
 -- at the object's place and below it stands its OCFL object, path by path, and nothing else
 abbrev pub StandsWhole : Job → Tree → Carried → Type 0
-StandsWhole job root object = (q : Path) → root (place_of_carried job object ++ q) ≡ object_of object.id object.files job.meta job.algorithm q
+StandsWhole job root object = (q : Path)
+    → root (place_of_carried job object ++ q)
+    ≡ object_of object.id object.files job.meta job.algorithm q
 
 -- so it is with each object that is carried of the first items
 abbrev pub CarriedStandWhole : Type 0
-CarriedStandWhole = (job : Job) (source : Forest) (root : Tree) (k : ℕ) → HasNoGaps root → All (StandsWhole job (after job source root k)) (carried_among job source root k)
+CarriedStandWhole = (job : Job) (source : Forest) (root : Tree) (k : ℕ) → HasNoGaps root
+    → All (StandsWhole job (after job source root k)) (carried_among job source root k)
 
 -- the state of the object's version is its files, each at its logical path with its bytes, where no two of them whose bytes differ have one digest (OCFL 1.1, "Version Block")
 abbrev pub HasItsFiles : Job → Tree → Carried → Type 0
-HasItsFiles job now object = DigestsTellApart job.algorithm object.files → v1_state now (storage_root ++ place_of_carried job object) ≡ Some object.files
+HasItsFiles job now object =
+    DigestsTellApart job.algorithm object.files
+    → v1_state now (storage_root ++ place_of_carried job object) ≡ Some object.files
 
 -- so it is with each object that is carried, in the destination that a run leaves that ends well
 abbrev pub CarriedHaveTheirFiles : Type 0
 CarriedHaveTheirFiles =
     (job : Job) (source : Forest) (start : Tree) → is_proper source ≡ true → IsTree start
-    → All (HasItsFiles job (with_root start (after_all job source (root_in start)))) (all_carried job source (root_in start))
+    → All (HasItsFiles job (with_root start (after_all job source (root_in start))))
+    (all_carried job source (root_in start))

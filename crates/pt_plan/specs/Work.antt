@@ -30,7 +30,9 @@ work_at Other = 1
 
 -- the entries up to the first bad one, and that one
 abbrev pub met : Bounds → PairtreeObject → List Entry
-met limits object = cond (is_too_deep limits object) [] (scanned limits object ++ option_to_list (option_map (λ bad. bad.0) (bad_entry limits object)))
+met limits object =
+    cond (is_too_deep limits object) []
+    (scanned limits object ++ option_to_list (option_map (λ bad. bad.0) (bad_entry limits object)))
 
 -- the shorties of a site that is gathered are passed, one by one
 abbrev pub site_entries : PairtreeObject → Visit → ℕ
@@ -40,7 +42,8 @@ site_entries object Deep = 0
 
 -- to judge the object's place, enter its directory, and meet its entries
 abbrev pub work_to_scan : Job → Visit → PairtreeObject → ℕ
-work_to_scan job visit object = 2 + sum_by (λ entry. work_at entry.1) (met job.limits object) + site_entries object visit
+work_to_scan job visit object =
+    2 + sum_by (λ entry. work_at entry.1) (met job.limits object) + site_entries object visit
 
 -- ---- making
 
@@ -51,7 +54,8 @@ work_to_copy rows = sum_by (λ row. reads row.length) (distinct rows) + (length 
 -- the items of the script, the copies, the tuple directories, the renaming and the line
 abbrev pub work_to_make : Job → List ℕ → List File → ℕ
 work_to_make job id held =
-    length (script_of id held job.meta job.algorithm) + work_to_copy (rows_of job.algorithm held) + job.tuples.count + 2
+    length (script_of id held job.meta job.algorithm) + work_to_copy (rows_of job.algorithm held)
+    + job.tuples.count + 2
 
 -- nothing is made of an object that fails
 abbrev pub work_by_outcome : Job → List ℕ → Outcome → ℕ
@@ -64,7 +68,9 @@ work_by_outcome job id (Holds held) = work_to_make job id held
 abbrev pub work_on_object : Job → Visit → Bool → Verdict → ℕ
 work_on_object job visit taken Interior = 0
 work_on_object job visit taken (Skip why) = 0
-work_on_object job visit taken (Named id object) = cond taken 0 (work_to_scan job visit object + work_by_outcome job id (outcome job.limits object))
+work_on_object job visit taken (Named id object) =
+    cond taken 0
+    (work_to_scan job visit object + work_by_outcome job id (outcome job.limits object))
 
 -- a site that is listed is judged, walked entry by entry, and left
 abbrev pub work_on_site : Visit → ℕ

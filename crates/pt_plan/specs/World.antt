@@ -69,7 +69,8 @@ tells line = record { asked = AsksNothing; change = ChangesNothing; line = Some 
 
 -- the line is told, or nothing is
 abbrev pub tells_if : Bool → Line → Calls
-tells_if told line = record { asked = AsksNothing; change = ChangesNothing; line = cond told (Some line) None }
+tells_if told line =
+    record { asked = AsksNothing; change = ChangesNothing; line = cond told (Some line) None }
 
 -- ---- how the devices answer, and what they are left with, where they tell
 
@@ -79,7 +80,9 @@ Answers AsksNothing old new = new ≡ old
 Answers (Lists path entries) old new = IsListed old path entries × (names_rise entries ≡ true) × (new ≡ old)
 Answers (Opens path) old new = new ≡ option_map (after_open path) old
 Answers (Reads block) old new = IsRead old block × (new ≡ option_map after_next old)
-Answers (OpensAndReads path block) old new = IsRead (option_map (after_open path) old) block × (new ≡ option_map after_next (option_map (after_open path) old))
+Answers (OpensAndReads path block) old new =
+    IsRead (option_map (after_open path) old) block
+    × (new ≡ option_map after_next (option_map (after_open path) old))
 
 -- a folder is made, or a file with all its bytes, which is closed
 abbrev pub after_make : Item → Writing → Writing
@@ -90,7 +93,8 @@ after_make (MakeFile path bytes) s = record { tree = done (MakeFile path bytes) 
 unfoldable pub Changes : Change → Option Writing → Option Writing → Type 0
 Changes ChangesNothing old new = new ≡ old
 Changes (Finds path here) old new = IsKindAt old path here × (new ≡ old)
-Changes (Peeks path block) old new = IsKindAt old path (Some kind.File) × IsPeeked old path block × (new ≡ old)
+Changes (Peeks path block) old new =
+    IsKindAt old path (Some kind.File) × IsPeeked old path block × (new ≡ old)
 Changes (FindsNoneAndMakes path) old new = IsKindAt old path None × (new ≡ option_map (after_mkdir path) old)
 Changes (Makes item) old new = new ≡ option_map (after_make item) old
 Changes (Creates path) old new = new ≡ option_map (after_create path) old
@@ -127,9 +131,13 @@ WasFound (Some line) _ dest = ⊤
 -- of what it does in the destination: nothing; of a file some bytes, from its start; or of a piece
 pub data LeavesPart (old new : Option Writing) : Change → Type 0 where
   Untouched : (change : Change) → dest_tree new ≡ dest_tree old → LeavesPart old new change
-  OfFile : (path : Path) (bytes : List ℕ) (count : ℕ) → dest_tree new ≡ option_map (done (MakeFile path (take count bytes))) (dest_tree old) → LeavesPart old new (Makes (MakeFile path bytes))
-  NewFile : (path : Path) → dest_tree new ≡ option_map (λ t. put t path (Bytes [])) (dest_tree old) → LeavesPart old new (Creates path)
-  OfPiece : (piece : List ℕ) (count : ℕ) → new ≡ option_map (after_append (take count piece)) old → LeavesPart old new (Adds piece)
+  OfFile : (path : Path) (bytes : List ℕ) (count : ℕ)
+      → dest_tree new ≡ option_map (done (MakeFile path (take count bytes))) (dest_tree old)
+      → LeavesPart old new (Makes (MakeFile path bytes))
+  NewFile : (path : Path) → dest_tree new ≡ option_map (λ t. put t path (Bytes [])) (dest_tree old)
+      → LeavesPart old new (Creates path)
+  OfPiece : (piece : List ℕ) (count : ℕ) → new ≡ option_map (after_append (take count piece)) old
+      → LeavesPart old new (Adds piece)
 
 -- of the line, from its start
 abbrev pub LeavesFront : Option Line → Option (List ℕ) → Option (List ℕ) → Type 0

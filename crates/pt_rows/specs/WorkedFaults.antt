@@ -16,7 +16,9 @@ one_object = record { id = codes "abc"; files = (codes "a.txt" ∷ [], codes "ab
 abbrev pub OneObjectHasTuples : Type 0
 OneObjectHasTuples =
     (all_carried worked_job store_of_one_object no_root ≡ one_object ∷ [])
-    × (tuple_folders worked_job one_object ≡ (codes "ba7" ∷ []) ∷ (codes "ba7" ∷ codes "816" ∷ []) ∷ (codes "ba7" ∷ codes "816" ∷ codes "bf8" ∷ []) ∷ [])
+    × (tuple_folders worked_job one_object
+    ≡ (codes "ba7" ∷ []) ∷ (codes "ba7" ∷ codes "816" ∷ [])
+    ∷ (codes "ba7" ∷ codes "816" ∷ codes "bf8" ∷ []) ∷ [])
 
 -- the root after a fault at the third of them
 abbrev pub root_of_two_tuples : Tree
@@ -33,14 +35,17 @@ TwoTuplesStand =
 abbrev pub RerunCarriesTheObject : Type 0
 RerunCarriesTheObject =
     (map is_done (all_lines worked_job store_of_one_object root_of_two_tuples) ≡ true ∷ [])
-    × (after_all worked_job store_of_one_object root_of_two_tuples (codes "ba7" ∷ codes "816" ∷ codes "bf8" ∷ codes "abc" ∷ codes "v1" ∷ codes "content" ∷ codes "a.txt" ∷ []) ≡ Some (Bytes (codes "abc")))
+    × (after_all worked_job store_of_one_object root_of_two_tuples
+    (codes "ba7" ∷ codes "816" ∷ codes "bf8" ∷ codes "abc" ∷ codes "v1" ∷ codes "content"
+    ∷ codes "a.txt" ∷ []) ≡ Some (Bytes (codes "abc")))
 
 -- the empty store has one item; before it nothing is told, and after it the end line
 abbrev pub EmptyStoreTells : Type 0
 EmptyStoreTells =
     (length (items worked_job empty_store) ≡ 1)
     × (most_told worked_job empty_store no_root 0 ≡ [])
-    × (most_told worked_job empty_store no_root 1 ≡ codes "{\"as\":\"end\",\"done\":0,\"present\":0,\"skip\":0}\n")
+    × (most_told worked_job empty_store no_root 1
+    ≡ codes "{\"as\":\"end\",\"done\":0,\"present\":0,\"skip\":0}\n")
 
 -- of two sites with one identifier one is carried and one is present
 abbrev pub OneIdentifierCounts : Type 0

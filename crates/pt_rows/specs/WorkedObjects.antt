@@ -13,14 +13,16 @@ use Rattle.pt_object.specs.Scripts.{script_of, script_of_rows}
 use Rattle.pt_object.specs.declared.algorithm.Algorithm.TheVariants.{Sha256, Sha512}
 
 abbrev pub worked_meta : MetaParts
-worked_meta = record { created = codes "2024-05-01T12:00:00Z"; name = codes "Ada"; address = None; message = codes "Migrated from Pairtree" }
+worked_meta = record
+    { created = codes "2024-05-01T12:00:00Z"; name = codes "Ada"; address = None; message = codes "Migrated from Pairtree" }
 
 -- the store of one object: the file `a.txt` with the bytes `abc`
 abbrev pub one_file : List File
 one_file = (codes "a.txt" ∷ [], codes "abc") ∷ []
 
 abbrev pub one_file_inventory : List ℕ
-one_file_inventory = codes "{\"digestAlgorithm\":\"sha512\",\"head\":\"v1\",\"id\":\"abc\",\"manifest\":{\"ddaf35a193617abacc417349ae20413112e6fa4e89a97ea20a9eeee64b55d39a2192992a274fc1a836ba3c23a3feebbd454d4423643ce80e2a9ac94fa54ca49f\":[\"v1/content/a.txt\"]},\"type\":\"https://ocfl.io/1.1/spec/#inventory\",\"versions\":{\"v1\":{\"created\":\"2024-05-01T12:00:00Z\",\"message\":\"Migrated from Pairtree\",\"state\":{\"ddaf35a193617abacc417349ae20413112e6fa4e89a97ea20a9eeee64b55d39a2192992a274fc1a836ba3c23a3feebbd454d4423643ce80e2a9ac94fa54ca49f\":[\"a.txt\"]},\"user\":{\"name\":\"Ada\"}}}}"
+one_file_inventory =
+    codes "{\"digestAlgorithm\":\"sha512\",\"head\":\"v1\",\"id\":\"abc\",\"manifest\":{\"ddaf35a193617abacc417349ae20413112e6fa4e89a97ea20a9eeee64b55d39a2192992a274fc1a836ba3c23a3feebbd454d4423643ce80e2a9ac94fa54ca49f\":[\"v1/content/a.txt\"]},\"type\":\"https://ocfl.io/1.1/spec/#inventory\",\"versions\":{\"v1\":{\"created\":\"2024-05-01T12:00:00Z\",\"message\":\"Migrated from Pairtree\",\"state\":{\"ddaf35a193617abacc417349ae20413112e6fa4e89a97ea20a9eeee64b55d39a2192992a274fc1a836ba3c23a3feebbd454d4423643ce80e2a9ac94fa54ca49f\":[\"a.txt\"]},\"user\":{\"name\":\"Ada\"}}}}"
 
 abbrev pub one_file_sidecar : List ℕ
 one_file_sidecar = codes "1eb21c66539478d2c419e0d996719da1e26c4c3d1ae2836137bbb99f412ba2fa2877b301344d7d7303197c96be4dbc6520706609ea235ea04f41f4f087a2d28c inventory.json\n"
@@ -28,7 +30,8 @@ one_file_sidecar = codes "1eb21c66539478d2c419e0d996719da1e26c4c3d1ae2836137bbb9
 -- the files of its object
 abbrev pub OneFileObject : Type 0
 OneFileObject =
-    object_files Sha512 (inventory_text (codes "abc") (rows_of Sha512 one_file) worked_meta Sha512) (stored_files (rows_of Sha512 one_file) (bytes_in one_file))
+    object_files Sha512 (inventory_text (codes "abc") (rows_of Sha512 one_file) worked_meta Sha512)
+    (stored_files (rows_of Sha512 one_file) (bytes_in one_file))
     ≡ (codes "0=ocfl_object_1.1" ∷ [], codes "ocfl_object_1.1\n")
     ∷ (codes "v1" ∷ codes "content" ∷ codes "a.txt" ∷ [], codes "abc")
     ∷ (codes "v1" ∷ codes "inventory.json" ∷ [], one_file_inventory)
@@ -60,7 +63,10 @@ paths_made script = map item_path script
 abbrev pub EqualContentsPaths : Type 0
 EqualContentsPaths =
     (held : Path → List ℕ)
-    → paths_made (script_of_rows (codes "abcd") (row_of (codes "a" ∷ codes "x" ∷ []) (1 ∷ []) 3 ∷ row_of (codes "a.txt" ∷ []) (1 ∷ []) 3 ∷ row_of (codes "c" ∷ []) (2 ∷ []) 0 ∷ []) held worked_meta Sha512)
+    → paths_made
+    (script_of_rows (codes "abcd")
+    (row_of (codes "a" ∷ codes "x" ∷ []) (1 ∷ []) 3 ∷ row_of (codes "a.txt" ∷ []) (1 ∷ []) 3
+    ∷ row_of (codes "c" ∷ []) (2 ∷ []) 0 ∷ []) held worked_meta Sha512)
     ≡ (codes "staging" ∷ [])
     ∷ (codes "staging" ∷ codes "0=ocfl_object_1.1" ∷ [])
     ∷ (codes "staging" ∷ codes "v1" ∷ [])
@@ -91,7 +97,9 @@ NoFilesPaths =
 abbrev pub FourFilesStored : Type 0
 FourFilesStored =
     (held : Path → List ℕ)
-    → stored_files (row_of (codes "f0" ∷ []) (0 ∷ []) 0 ∷ row_of (codes "f1" ∷ []) (1 ∷ []) 8191 ∷ row_of (codes "f2" ∷ []) (2 ∷ []) 8192 ∷ row_of (codes "f3" ∷ []) (3 ∷ []) 8193 ∷ []) held
+    → stored_files
+    (row_of (codes "f0" ∷ []) (0 ∷ []) 0 ∷ row_of (codes "f1" ∷ []) (1 ∷ []) 8191
+    ∷ row_of (codes "f2" ∷ []) (2 ∷ []) 8192 ∷ row_of (codes "f3" ∷ []) (3 ∷ []) 8193 ∷ []) held
     ≡ (codes "f0" ∷ [], held (codes "f0" ∷ []))
     ∷ (codes "f1" ∷ [], held (codes "f1" ∷ []))
     ∷ (codes "f2" ∷ [], held (codes "f2" ∷ []))
@@ -103,7 +111,10 @@ abbrev pub SharedFolders : Type 0
 SharedFolders =
     (held : Path → List ℕ)
     → drop 3 (take 11 (paths_made (script_of_rows (codes "abc")
-    (row_of (codes "a" ∷ codes "b" ∷ codes "c" ∷ []) (1 ∷ []) 3 ∷ row_of (codes "a" ∷ codes "b" ∷ codes "d" ∷ []) (2 ∷ []) 3 ∷ row_of (codes "a" ∷ codes "e" ∷ codes "f" ∷ []) (3 ∷ []) 3 ∷ row_of (codes "z" ∷ []) (4 ∷ []) 3 ∷ [])
+    (row_of (codes "a" ∷ codes "b" ∷ codes "c" ∷ []) (1 ∷ []) 3
+    ∷ row_of (codes "a" ∷ codes "b" ∷ codes "d" ∷ []) (2 ∷ []) 3
+    ∷ row_of (codes "a" ∷ codes "e" ∷ codes "f" ∷ []) (3 ∷ []) 3
+    ∷ row_of (codes "z" ∷ []) (4 ∷ []) 3 ∷ [])
     held worked_meta Sha512)))
     ≡ (codes "staging" ∷ codes "v1" ∷ codes "content" ∷ [])
     ∷ (codes "staging" ∷ codes "v1" ∷ codes "content" ∷ codes "a" ∷ [])
@@ -122,7 +133,8 @@ StandsAsRoot root =
     × (root (codes "extensions" ∷ []) ≡ Some Folder)
     × (root (codes "extensions" ∷ codes "0003-hash-and-id-n-tuple-storage-layout" ∷ []) ≡ Some Folder)
     × (root (codes "extensions" ∷ codes "0003-hash-and-id-n-tuple-storage-layout" ∷ codes "config.json" ∷ [])
-    ≡ Some (Bytes (codes "{\"digestAlgorithm\":\"sha256\",\"extensionName\":\"0003-hash-and-id-n-tuple-storage-layout\",\"numberOfTuples\":3,\"tupleSize\":3}")))
+    ≡ Some (Bytes
+    (codes "{\"digestAlgorithm\":\"sha256\",\"extensionName\":\"0003-hash-and-id-n-tuple-storage-layout\",\"numberOfTuples\":3,\"tupleSize\":3}")))
     × (root (codes "staging" ∷ []) ≡ None)
 
 abbrev pub RootStands : Type 0

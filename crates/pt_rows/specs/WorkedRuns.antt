@@ -41,7 +41,8 @@ OneObjectIsNamed =
     map (λ (item : Item). item.verdict) (items worked_job store_of_one_object)
     ≡ Interior
     ∷ Interior
-    ∷ Named (codes "abc") (record { at = codes "ab" ∷ codes "c" ∷ codes "obj" ∷ []; gathered = false; inside = one_file (codes "a.txt") (codes "abc") })
+    ∷ Named (codes "abc")
+    (record { at = codes "ab" ∷ codes "c" ∷ codes "obj" ∷ []; gathered = false; inside = one_file (codes "a.txt") (codes "abc") })
     ∷ []
 
 -- the identifier begins with the prefix
@@ -49,12 +50,14 @@ abbrev pub PrefixIsRead : Type 0
 PrefixIsRead =
     map (λ (item : Item). item.verdict) (items worked_job (prefixed_store (codes "a\n")))
     ≡ Interior
-    ∷ Named (codes "abc") (record { at = codes "bc" ∷ codes "abc" ∷ []; gathered = false; inside = one_file (codes "a.txt") (codes "abc") })
+    ∷ Named (codes "abc")
+    (record { at = codes "bc" ∷ codes "abc" ∷ []; gathered = false; inside = one_file (codes "a.txt") (codes "abc") })
     ∷ []
 
 -- the empty store has no lines
 abbrev pub EmptyStoreLog : Type 0
-EmptyStoreLog = log_of worked_job empty_store no_root ≡ codes "{\"as\":\"end\",\"done\":0,\"present\":0,\"skip\":0}\n"
+EmptyStoreLog = log_of worked_job empty_store no_root
+    ≡ codes "{\"as\":\"end\",\"done\":0,\"present\":0,\"skip\":0}\n"
 
 -- what stands beside a pairtree's paths is passed over
 abbrev pub StraysLog : Type 0
@@ -72,7 +75,8 @@ BadNamesLog =
 abbrev pub DividedLog : Type 0
 DividedLog =
     (all_lines worked_job divided_store no_root ≡ Skipped (codes "ab" ∷ codes "c" ∷ []) cause.Split ∷ [])
-    × (all_lines worked_job (at_abc (other (codes "special") none)) no_root ≡ Skipped (codes "ab" ∷ codes "c" ∷ []) cause.Split ∷ [])
+    × (all_lines worked_job (at_abc (other (codes "special") none)) no_root
+    ≡ Skipped (codes "ab" ∷ codes "c" ∷ []) cause.Split ∷ [])
 
 -- the place of the root's own extensions is reserved
 abbrev pub ExtensionsLog : Type 0
@@ -100,36 +104,50 @@ IsPassedOver job source why = all_lines job source no_root ≡ Skipped (codes "a
 abbrev pub FirstBadEntryCounts : Type 0
 FirstBadEntryCounts =
     IsPassedOver worked_job (object_abc (other (codes "m") none)) cause.Other
-    × IsPassedOver (limited_job (record greatest_limits { files = 1 })) (object_abc (file (codes "a") [] (file (codes "b") [] (other (codes "z") none)))) cause.Limit
-    × IsPassedOver (limited_job (record greatest_limits { files = 1 })) (object_abc (file (codes "a") [] (other (codes "aa") (file (codes "b") [] none)))) cause.Other
+    × IsPassedOver (limited_job (record greatest_limits { files = 1 }))
+    (object_abc (file (codes "a") []
+    (file (codes "b") [] (other (codes "z") none)))) cause.Limit
+    × IsPassedOver (limited_job (record greatest_limits { files = 1 }))
+    (object_abc (file (codes "a") []
+    (other (codes "aa") (file (codes "b") [] none)))) cause.Other
 
 -- a length at its limit is carried, and one above it isn't
 abbrev pub LengthsAreLimited : Type 0
 LengthsAreLimited =
-    IsPassedOver (limited_job (record greatest_limits { file_bytes = 8192 })) (object_abc (one_file (codes "f") (replicate 8193 97))) cause.Limit
-    × (all_lines (record flat_job { limits = record greatest_limits { file_bytes = 8192 } }) (object_abc (one_file (codes "f") (replicate 8192 97))) no_root
+    IsPassedOver (limited_job (record greatest_limits { file_bytes = 8192 }))
+    (object_abc (one_file (codes "f") (replicate 8193 97))) cause.Limit
+    × (all_lines (record flat_job { limits = record greatest_limits { file_bytes = 8192 } })
+    (object_abc (one_file (codes "f") (replicate 8192 97))) no_root
     ≡ Done (codes "ab" ∷ codes "c" ∷ codes "obj" ∷ []) 8192 0 1 (codes "abc") (codes "abc" ∷ []) ∷ [])
-    × IsPassedOver (limited_job (record greatest_limits { path_bytes = 3 })) (object_abc (one_dir (codes "a") (one_file (codes "bc") []))) cause.Limit
-    × (all_lines (record flat_job { limits = record greatest_limits { path_bytes = 3 } }) (object_abc (one_dir (codes "a") (one_file (codes "b") []))) no_root
+    × IsPassedOver (limited_job (record greatest_limits { path_bytes = 3 }))
+    (object_abc (one_dir (codes "a") (one_file (codes "bc") []))) cause.Limit
+    × (all_lines (record flat_job { limits = record greatest_limits { path_bytes = 3 } })
+    (object_abc (one_dir (codes "a") (one_file (codes "b") []))) no_root
     ≡ Done (codes "ab" ∷ codes "c" ∷ codes "obj" ∷ []) 0 0 1 (codes "abc") (codes "abc" ∷ []) ∷ [])
 
 -- an object's directory that is too deep is passed over at its site, and a site that is too deep at itself
 abbrev pub DepthsAreLimited : Type 0
 DepthsAreLimited =
     (all_lines (limited_job (record greatest_limits { depth = 2 })) store_of_two_depths no_root
-    ≡ Skipped (codes "ab" ∷ codes "cd" ∷ []) cause.Limit ∷ Skipped (codes "ab" ∷ codes "cd" ∷ codes "ef" ∷ []) cause.Limit ∷ [])
-    × IsPassedOver (limited_job (record { files = 1; path_bytes = 1; depth = 1; file_bytes = 1; turns = 1 })) store_of_one_object cause.Limit
+    ≡ Skipped (codes "ab" ∷ codes "cd" ∷ []) cause.Limit
+    ∷ Skipped (codes "ab" ∷ codes "cd" ∷ codes "ef" ∷ []) cause.Limit ∷ [])
+    × IsPassedOver (limited_job
+    (record { files = 1; path_bytes = 1; depth = 1; file_bytes = 1; turns = 1 }))
+    store_of_one_object cause.Limit
 
 -- an object without files is carried, and its empty directories are counted
 abbrev pub EmptyDirectoriesAreCounted : Type 0
 EmptyDirectoriesAreCounted =
-    (all_lines flat_job (object_abc (one_dir (codes "e") none)) no_root ≡ Done (codes "ab" ∷ codes "c" ∷ codes "obj" ∷ []) 0 1 0 (codes "abc") (codes "abc" ∷ []) ∷ [])
-    × (all_lines flat_job (object_abc none) no_root ≡ Done (codes "ab" ∷ codes "c" ∷ codes "obj" ∷ []) 0 1 0 (codes "abc") (codes "abc" ∷ []) ∷ [])
+    (all_lines flat_job (object_abc (one_dir (codes "e") none)) no_root
+    ≡ Done (codes "ab" ∷ codes "c" ∷ codes "obj" ∷ []) 0 1 0 (codes "abc") (codes "abc" ∷ []) ∷ [])
+    × (all_lines flat_job (object_abc none) no_root
+    ≡ Done (codes "ab" ∷ codes "c" ∷ codes "obj" ∷ []) 0 1 0 (codes "abc") (codes "abc" ∷ []) ∷ [])
 
 -- divided sites are carried whole, but for their shorties, which are walked as before
 abbrev pub DividedSitesAreGathered : Type 0
 DividedSitesAreGathered =
-    (all_lines (record flat_job { gather = true }) divided_store no_root ≡ Done (codes "ab" ∷ codes "c" ∷ []) 3 0 2 (codes "abc") (codes "abc" ∷ []) ∷ [])
+    (all_lines (record flat_job { gather = true }) divided_store no_root
+    ≡ Done (codes "ab" ∷ codes "c" ∷ []) 3 0 2 (codes "abc") (codes "abc" ∷ []) ∷ [])
     × (all_lines (record flat_job { gather = true }) store_to_gather no_root
     ≡ Done (codes "ab" ∷ codes "cd" ∷ []) 3 0 1 (codes "abcd") (codes "abcd" ∷ [])
     ∷ Done (codes "ab" ∷ codes "cd" ∷ codes "ef" ∷ []) 0 0 1 (codes "abcdef") (codes "abcdef" ∷ [])
@@ -159,15 +177,18 @@ abbrev pub SecondRunCarriesNothing : Type 0
 SecondRunCarriesNothing =
     (all_lines flat_job store_of_one_object (after_all flat_job store_of_one_object no_root)
     ≡ Present (codes "ab" ∷ codes "c" ∷ codes "obj" ∷ []) (codes "abc") (codes "abc" ∷ []) ∷ [])
-    × OneObjectStands (after_all flat_job store_of_one_object (after_all flat_job store_of_one_object no_root))
+    × OneObjectStands
+    (after_all flat_job store_of_one_object (after_all flat_job store_of_one_object no_root))
 
 -- the turns of some runs, at most: for these two it is what they take
 abbrev pub WorkOfFirstRuns : Type 0
-WorkOfFirstRuns = (work worked_job empty_store no_root ≡ 15) × (work worked_job store_of_one_object no_root ≡ 43)
+WorkOfFirstRuns = (work worked_job empty_store no_root ≡ 15)
+    × (work worked_job store_of_one_object no_root ≡ 43)
 
 -- where something stands at the object's place
 abbrev pub WorkOfSecondRun : Type 0
-WorkOfSecondRun = (root : Tree) → is_some (root (place_of worked_job.tuples (codes "abc"))) ≡ true → work worked_job store_of_one_object root ≡ 22
+WorkOfSecondRun = (root : Tree) → is_some (root (place_of worked_job.tuples (codes "abc"))) ≡ true
+    → work worked_job store_of_one_object root ≡ 22
 
 -- with other tuples
 abbrev pub WorkWithOtherTuples : Type 0
@@ -179,7 +200,9 @@ WorkWithOtherTuples =
 abbrev pub WorkOfSkips : Type 0
 WorkOfSkips =
     (work flat_job store_of_extensions no_root ≡ 31)
-    × (work (limited_job (record { files = 1; path_bytes = 1; depth = 1; file_bytes = 1; turns = 1 })) store_of_one_object no_root ≡ 19)
+    × (work (limited_job
+    (record { files = 1; path_bytes = 1; depth = 1; file_bytes = 1; turns = 1 }))
+    store_of_one_object no_root ≡ 19)
 
 -- where a divided site is gathered
 abbrev pub WorkOfGathering : Type 0
@@ -206,22 +229,28 @@ OneObjectLog =
 -- equal contents are counted each time, and a site's own object comes before those below it
 abbrev pub LinesComeInOrder : Type 0
 LinesComeInOrder =
-    (all_lines flat_job store_of_equal_contents no_root ≡ Done (codes "ab" ∷ codes "cd" ∷ codes "obj" ∷ []) 6 0 3 (codes "abcd") (codes "abcd" ∷ []) ∷ [])
+    (all_lines flat_job store_of_equal_contents no_root
+    ≡ Done (codes "ab" ∷ codes "cd" ∷ codes "obj" ∷ []) 6 0 3 (codes "abcd") (codes "abcd" ∷ [])
+    ∷ [])
     × (all_lines flat_job store_of_nested_sites no_root
     ≡ Done (codes "ab" ∷ codes "cd" ∷ codes "abcd" ∷ []) 3 0 1 (codes "abcd") (codes "abcd" ∷ [])
-    ∷ Done (codes "ab" ∷ codes "cd" ∷ codes "e" ∷ codes "abcde" ∷ []) 0 0 1 (codes "abcde") (codes "abcde" ∷ [])
+    ∷ Done (codes "ab" ∷ codes "cd" ∷ codes "e" ∷ codes "abcde" ∷ []) 0 0 1 (codes "abcde")
+    (codes "abcde" ∷ [])
     ∷ [])
 
 -- an identifier that is a line feed
 abbrev pub LineFeedLog : Type 0
 LineFeedLog =
-    log_of flat_job (store (one_dir (codes "^0") (one_dir (codes "a") (one_dir (codes "obj") (one_file (97 ∷ 1 ∷ 98 ∷ []) []))))) no_root
+    log_of flat_job
+    (store (one_dir (codes "^0")
+    (one_dir (codes "a") (one_dir (codes "obj") (one_file (97 ∷ 1 ∷ 98 ∷ []) []))))) no_root
     ≡ codes "{\"as\":\"done\",\"at\":\"^0/a/obj\",\"bytes\":0,\"empty\":0,\"files\":1,\"id\":\"\\n\",\"to\":\"%0a\"}\n{\"as\":\"end\",\"done\":1,\"present\":0,\"skip\":0}\n"
 
 -- a taken place is told before a cause against the object, which then isn't looked at
 abbrev pub PresentComesFirst : Type 0
 PresentComesFirst =
-    all_lines flat_job (object_abc (file (codes "a.txt") (codes "abc") (other (codes "m") none))) (after_all flat_job store_of_one_object no_root)
+    all_lines flat_job (object_abc (file (codes "a.txt") (codes "abc") (other (codes "m") none)))
+    (after_all flat_job store_of_one_object no_root)
     ≡ Present (codes "ab" ∷ codes "c" ∷ codes "obj" ∷ []) (codes "abc") (codes "abc" ∷ []) ∷ []
 
 -- a new root, with this at the first tuple of the place of `abc`
@@ -234,7 +263,8 @@ are_ways_free root = list_all (is_way_free worked_job root) (all_carried worked_
 
 -- the way to the place of `abc` is free over a new root, and where its first tuple is a folder, but not where that is a file
 abbrev pub WaysAreTold : Type 0
-WaysAreTold = (are_ways_free (root_of worked_job.tuples) ≡ true) × (are_ways_free (root_with Folder) ≡ true) × (are_ways_free (root_with (Bytes [])) ≡ false)
+WaysAreTold = (are_ways_free (root_of worked_job.tuples) ≡ true)
+    × (are_ways_free (root_with Folder) ≡ true) × (are_ways_free (root_with (Bytes [])) ≡ false)
 
 -- in a chain of 600 the object's directory is too deep, in one of 601 the last site; in one of 599 the object is carried
 abbrev pub DepthsOfChains : Type 0
@@ -245,7 +275,8 @@ DepthsOfChains =
 
 -- with one line feed more at the end of the file that describes the layout
 abbrev pub altered_root : Tree
-altered_root = put (root_of worked_job.tuples) (codes "ocfl_layout.json" ∷ []) (Bytes (layout_text ++ 10 ∷ []))
+altered_root = put (root_of worked_job.tuples) (codes "ocfl_layout.json" ∷ [])
+    (Bytes (layout_text ++ 10 ∷ []))
 
 -- a new root is usable, and not one of another layout, nor one with other bytes in a root file, nor one with a file in the way
 abbrev pub UsableRootsAreTold : Type 0

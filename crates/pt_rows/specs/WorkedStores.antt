@@ -12,7 +12,14 @@ use Rattle.pt_plan.specs.Job.{Job}
 
 -- tuples of three digits, three of them, and the greatest limits
 abbrev pub worked_job : Job
-worked_job = record { meta = worked_meta; tuples = record { size = 3; count = 3 }; algorithm = Sha512; limits = greatest_limits; gather = false; share = whole }
+worked_job = record {
+  meta = worked_meta;
+  tuples = record { size = 3; count = 3 };
+  algorithm = Sha512;
+  limits = greatest_limits;
+  gather = false;
+  share = whole;
+}
 
 -- with no tuples
 abbrev pub flat_job : Job
@@ -58,11 +65,14 @@ store_of_one_object = object_abc (one_file (codes "a.txt") (codes "abc"))
 
 -- an empty directory `a/bc/obj`, an empty directory `de`, and a file `readme`
 abbrev pub store_of_strays : Forest
-store_of_strays = store (dir (codes "a") (one_dir (codes "bc") (one_dir (codes "obj") none)) (dir (codes "de") none (one_file (codes "readme") [])))
+store_of_strays =
+    store (dir (codes "a") (one_dir (codes "bc") (one_dir (codes "obj") none))
+    (dir (codes "de") none (one_file (codes "readme") [])))
 
 -- a file and a directory at `ab/c`
 abbrev pub divided_store : Forest
-divided_store = at_abc (file (codes "notes.txt") (codes "abc") (one_dir (codes "obj") (one_file (codes "f") [])))
+divided_store = at_abc
+    (file (codes "notes.txt") (codes "abc") (one_dir (codes "obj") (one_file (codes "f") [])))
 
 -- `^f/f/obj/x` and `a^/2/obj/x`
 abbrev pub store_of_bad_names : Forest
@@ -73,34 +83,52 @@ store_of_bad_names = store
 -- `^6/1b/c/one/a.txt` and `ab/c/two/b.txt`
 abbrev pub store_of_one_identifier : Forest
 store_of_one_identifier = store
-    (dir (codes "^6") (one_dir (codes "1b") (one_dir (codes "c") (one_dir (codes "one") (one_file (codes "a.txt") (codes "abc")))))
+    (dir (codes "^6")
+    (one_dir (codes "1b")
+    (one_dir (codes "c") (one_dir (codes "one") (one_file (codes "a.txt") (codes "abc")))))
     (one_dir (codes "ab") (one_dir (codes "c") (one_dir (codes "two") (one_file (codes "b.txt") [])))))
 
 -- a prefix file, and `bc/abc/a.txt`
 abbrev pub prefixed_store : List ℕ → Forest
-prefixed_store bytes = file (codes "pairtree_prefix") bytes (store (one_dir (codes "bc") (one_dir (codes "abc") (one_file (codes "a.txt") (codes "abc")))))
+prefixed_store bytes =
+    file (codes "pairtree_prefix") bytes
+    (store (one_dir (codes "bc") (one_dir (codes "abc") (one_file (codes "a.txt") (codes "abc")))))
 
 -- `ab/cd/obj` with `a/x` and `a.txt`, which are equal, and `c`, which is empty
 abbrev pub store_of_equal_contents : Forest
 store_of_equal_contents = store (one_dir (codes "ab") (one_dir (codes "cd") (one_dir (codes "obj")
-    (dir (codes "a") (one_file (codes "x") (codes "abc")) (file (codes "a.txt") (codes "abc") (one_file (codes "c") []))))))
+    (dir (codes "a") (one_file (codes "x") (codes "abc"))
+    (file (codes "a.txt") (codes "abc") (one_file (codes "c") []))))))
 
 -- `ex/te/ns/io/ns/obj/f`
 abbrev pub store_of_extensions : Forest
-store_of_extensions = store (one_dir (codes "ex") (one_dir (codes "te") (one_dir (codes "ns") (one_dir (codes "io") (one_dir (codes "ns") (one_dir (codes "obj") (one_file (codes "f") [])))))))
+store_of_extensions =
+    store (one_dir (codes "ex")
+    (one_dir (codes "te")
+    (one_dir (codes "ns")
+    (one_dir (codes "io")
+    (one_dir (codes "ns") (one_dir (codes "obj") (one_file (codes "f") [])))))))
 
 -- `ab/cd/obj/f` and `ab/cd/ef/obj/f`
 abbrev pub store_of_two_depths : Forest
-store_of_two_depths = store (one_dir (codes "ab") (one_dir (codes "cd") (dir (codes "ef") (one_dir (codes "obj") (one_file (codes "f") [])) (one_dir (codes "obj") (one_file (codes "f") [])))))
+store_of_two_depths =
+    store (one_dir (codes "ab")
+    (one_dir (codes "cd")
+    (dir (codes "ef") (one_dir (codes "obj") (one_file (codes "f") []))
+    (one_dir (codes "obj") (one_file (codes "f") [])))))
 
 -- `ab/cd/x` and `ab/cd/ef/f.txt`
 abbrev pub store_to_gather : Forest
-store_to_gather = store (one_dir (codes "ab") (one_dir (codes "cd") (dir (codes "ef") (one_file (codes "f.txt") []) (one_file (codes "x") (codes "abc")))))
+store_to_gather =
+    store (one_dir (codes "ab")
+    (one_dir (codes "cd")
+    (dir (codes "ef") (one_file (codes "f.txt") []) (one_file (codes "x") (codes "abc")))))
 
 -- `ab/cd/abcd/f` and `ab/cd/e/abcde/f`
 abbrev pub store_of_nested_sites : Forest
 store_of_nested_sites = store (one_dir (codes "ab") (one_dir (codes "cd")
-    (dir (codes "abcd") (one_file (codes "f") (codes "abc")) (one_dir (codes "e") (one_dir (codes "abcde") (one_file (codes "f") []))))))
+    (dir (codes "abcd") (one_file (codes "f") (codes "abc"))
+    (one_dir (codes "e") (one_dir (codes "abcde") (one_file (codes "f") []))))))
 
 -- so many directories, one in the other, and this in the last
 abbrev pub chain : ℕ → Forest → Forest

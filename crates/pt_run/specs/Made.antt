@@ -75,7 +75,8 @@ none_failed = record { source = 0; dest = 0; log = 0 }
 
 -- the two folders of a run
 abbrev pub between : Wanted → List ℕ → List ℕ → Between
-between wanted store folder = record { store = store; folder = folder; ignored = wanted.ignored; synced = wanted.sync }
+between wanted store folder =
+    record { store = store; folder = folder; ignored = wanted.ignored; synced = wanted.sync }
 
 -- a run was made over these folders of the systems, with no file open, and left the systems and the output so
 abbrev pub RunsOver : {S D W F : Type 0} → (S → List ℕ → Option Forest) → (D → List ℕ → Kept F)

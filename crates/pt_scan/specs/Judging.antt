@@ -18,7 +18,9 @@ use Rattle.pt_scan.specs.declared.judging.Verdict.TheVariants as verdict
 
 -- there is this cause against the site, or against its object's identifier
 unfoldable pub PassesSite : State → Cause → Type 0
-PassesSite s why = judged_by_finding (job_of s.job) (string_bytes s.prefix) (trail_path s.trail) (found_at (form_of (job_of s.job)) s.trail) ≡ Skip why
+PassesSite s why =
+    judged_by_finding (job_of s.job) (string_bytes s.prefix) (trail_path s.trail)
+    (found_at (form_of (job_of s.job)) s.trail) ≡ Skip why
 
 -- the site has an object, which is the entry of this index, or else is gathered
 unfoldable pub FindsObject : State → Option ℕ → Type 0
@@ -26,8 +28,11 @@ FindsObject s index = found_at (form_of (job_of s.job)) s.trail ≡ has_object i
 
 -- the object's identifier and place, or why none is carried
 unfoldable pub IsNamed : State → Verdict → Type 0
-IsNamed s (verdict.Carry named) = (identifier_at (job_of s.job) (string_bytes s.prefix) (trail_path s.trail) ≡ Ok named.id) × (named.place ≡ place_of s.job.layout named.id)
-IsNamed s (verdict.Pass why) = identifier_at (job_of s.job) (string_bytes s.prefix) (trail_path s.trail) ≡ Err why
+IsNamed s (verdict.Carry named) =
+    (identifier_at (job_of s.job) (string_bytes s.prefix) (trail_path s.trail) ≡ Ok named.id)
+    × (named.place ≡ place_of s.job.layout named.id)
+IsNamed s (verdict.Pass why) =
+    identifier_at (job_of s.job) (string_bytes s.prefix) (trail_path s.trail) ≡ Err why
 
 -- the identifier behind a prefix, by what a text reads
 abbrev pub read_behind : List ℕ → Option (List ℕ) → Result (List ℕ) Cause
@@ -40,5 +45,7 @@ is_own_place tuples place = tuples.count == 0 && same_path place (codes "extensi
 
 -- the identifier's place, unless that is the root's own
 unfoldable pub IsPlaced : Tuples → List ℕ → Verdict → Type 0
-IsPlaced tuples id (verdict.Carry named) = (named.id ≡ id) × (named.place ≡ place_of tuples id) × (is_own_place tuples (place_of tuples id) ≡ false)
-IsPlaced tuples id (verdict.Pass why) = (why ≡ cause.Reserved) × (is_own_place tuples (place_of tuples id) ≡ true)
+IsPlaced tuples id (verdict.Carry named) = (named.id ≡ id) × (named.place ≡ place_of tuples id)
+    × (is_own_place tuples (place_of tuples id) ≡ false)
+IsPlaced tuples id (verdict.Pass why) = (why ≡ cause.Reserved)
+    × (is_own_place tuples (place_of tuples id) ≡ true)

@@ -26,7 +26,9 @@ IsSite object trail = (0 < object.site) × (object.site ≤ length trail)
 
 -- the entry at the trail's place is a directory of the object
 unfoldable pub IsAtDirectory : Object → List Frame → Type 0
-IsAtDirectory object trail = (name : List ℕ) × ((current_entry trail ≡ Some (name, kind.Dir)) × (is_passed object trail (name, kind.Dir) ≡ false))
+IsAtDirectory object trail = (name : List ℕ)
+    × ((current_entry trail ≡ Some (name, kind.Dir))
+    × (is_passed object trail (name, kind.Dir) ≡ false))
 
 -- it is a file
 unfoldable pub IsAtFile : List Frame → Type 0
@@ -34,11 +36,16 @@ IsAtFile trail = (name : List ℕ) × (current_entry trail ≡ Some (name, kind.
 
 -- at this phase the object is to be passed over for this cause
 unfoldable pub GivesUp : Phase → Object → Cause → State → Type 0
-GivesUp here object why s = (fed : List ℕ) → Scans (job_of s.job) here (held_of s fed) (back_at_site object (held_of s fed)) (tells (skipped object (held_of s fed) why)) (Ok phase.Walk)
+GivesUp here object why s = (fed : List ℕ)
+    → Scans (job_of s.job) here (held_of s fed) (back_at_site object (held_of s fed))
+    (tells (skipped object (held_of s fed) why)) (Ok phase.Walk)
 
 -- at this phase the directory at the trail's place is to be entered
 unfoldable pub EntersNext : Phase → Object → State → Type 0
-EntersNext here object s = (fed : List ℕ) (items : List Item) → Scans (job_of s.job) here (held_of s fed) (with_trail (held_of s fed) (entered items s.trail)) (asks (Lists (in_pairtree (names_to s.trail)) items)) (Ok (phase.Scan (with_directory object items)))
+EntersNext here object s = (fed : List ℕ) (items : List Item)
+    → Scans (job_of s.job) here (held_of s fed) (with_trail (held_of s fed) (entered items s.trail))
+    (asks (Lists (in_pairtree (names_to s.trail)) items))
+    (Ok (phase.Scan (with_directory object items)))
 
 -- at this phase it is met: where it is too deep the object is passed over for that, and else it is entered
 pub record MeetsDirectory (here : Phase) (object : Object) (s : State) : Type 0 where

@@ -22,8 +22,14 @@ IsAtShorty trail = (name : List ℕ) × ((current_entry trail ≡ Some (name, ki
 
 -- it is to be passed over for this cause, which the first share tells
 unfoldable pub PassesShorty : State → Cause → Type 0
-PassesShorty s why = (fed : List ℕ) → Walks (job_of s.job) (string_bytes s.prefix) phase.Walk (held_of s fed) (with_trail (held_of s fed) (advanced s.trail)) (tells_if (is_first s.job.share) (Skipped (names_to s.trail) why)) (Ok phase.Walk)
+PassesShorty s why = (fed : List ℕ)
+    → Walks (job_of s.job) (string_bytes s.prefix) phase.Walk (held_of s fed)
+    (with_trail (held_of s fed) (advanced s.trail))
+    (tells_if (is_first s.job.share) (Skipped (names_to s.trail) why)) (Ok phase.Walk)
 
 -- it is to be entered
 unfoldable pub EntersSite : State → Type 0
-EntersSite s = (fed : List ℕ) (items : List Item) → Walks (job_of s.job) (string_bytes s.prefix) phase.Walk (held_of s fed) (with_trail (held_of s fed) (entered items s.trail)) (asks (Lists (in_pairtree (names_to s.trail)) items)) (Ok phase.Judge)
+EntersSite s = (fed : List ℕ) (items : List Item)
+    → Walks (job_of s.job) (string_bytes s.prefix) phase.Walk (held_of s fed)
+    (with_trail (held_of s fed) (entered items s.trail))
+    (asks (Lists (in_pairtree (names_to s.trail)) items)) (Ok phase.Judge)

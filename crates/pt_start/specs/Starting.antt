@@ -20,7 +20,9 @@ IsRootItem tuples number item = slice_get (root_script tuples) number ≡ Some i
 
 -- the file of this number, at this path of the destination, is to hold these bytes
 unfoldable pub IsRootFile : Tuples → ℕ → Path → List ℕ → Type 0
-IsRootFile tuples number whole bytes = (path : Path) × ((whole ≡ storage_root ++ path) × (slice_get (root_files_of tuples) number ≡ Some (path, bytes)))
+IsRootFile tuples number whole bytes = (path : Path)
+    × ((whole ≡ storage_root ++ path)
+    × (slice_get (root_files_of tuples) number ≡ Some (path, bytes)))
 
 -- why reading the prefix failed
 abbrev pub PrefixFails : List ℕ → Halt → Type 0

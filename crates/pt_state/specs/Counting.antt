@@ -16,7 +16,8 @@ unfolding AtMostCalls
 calls_most a b m n calls few = λ x h. let made = calls x h in (made.0, (le_trans made.1.0 few, made.1.1))
 
 -- calls are followed by others
-pub calls_more : (a b d : ℕ → Type 0) (m n : ℕ) → AtMostCalls m a b → AtMostCalls n b d → AtMostCalls (m + n) a d
+pub calls_more : (a b d : ℕ → Type 0) (m n : ℕ) → AtMostCalls m a b → AtMostCalls n b d
+    → AtMostCalls (m + n) a d
 unfolding AtMostCalls
 calls_more a b d m n first next = λ x h.
     let one = first x h in
@@ -25,8 +26,10 @@ calls_more a b d m n first next = λ x h.
 
 -- or by none
 pub calls_still : (a b d : ℕ → Type 0) (n : ℕ) → AtMostCalls n a b → AtMostCalls 0 b d → AtMostCalls n a d
-calls_still a b d n first next = subst (λ (k : ℕ). AtMostCalls k a d) (add-zero n) (calls_more a b d n 0 first next)
+calls_still a b d n first next =
+    subst (λ (k : ℕ). AtMostCalls k a d) (add-zero n) (calls_more a b d n 0 first next)
 
 -- or come after none
 pub calls_after : (a b d : ℕ → Type 0) (n : ℕ) → AtMostCalls 0 a b → AtMostCalls n b d → AtMostCalls n a d
-calls_after a b d n first next = subst (λ (k : ℕ). AtMostCalls k a d) (zero-add n) (calls_more a b d 0 n first next)
+calls_after a b d n first next =
+    subst (λ (k : ℕ). AtMostCalls k a d) (zero-add n) (calls_more a b d 0 n first next)

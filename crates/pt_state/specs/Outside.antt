@@ -16,7 +16,8 @@ use Rattle.pt_state.specs.declared.state.State.{State}
 
 -- the world of devices that tell this and failed so often
 abbrev pub world : Option Reading → Option Writing → Option (List ℕ) → ℕ → ℕ → ℕ → World
-world source dest log s d l = record { source = source; dest = dest; log = log; failures = record { source = s; dest = d; log = l } }
+world source dest log s d l =
+    record { source = source; dest = dest; log = log; failures = record { source = s; dest = d; log = l } }
 
 -- where the run goes on the hasher was fed this
 abbrev pub FedAfter : Answer → Algorithm → Hasher → List ℕ → Type 0
@@ -28,7 +29,9 @@ unfoldable pub Turned : Phase → State → State → World → World → Answer
 Turned here s s' old new answer =
     (s'.job ≡ s.job)
     × ((fed : List ℕ) → HasBeenFed s.job.algorithm s.hasher fed
-    → (fed' : List ℕ) × (FedAfter answer s.job.algorithm s'.hasher fed' × Turn (job_of s.job) here (kept_of s fed) (kept_of s' fed') old new answer))
+    → (fed' : List ℕ)
+    × (FedAfter answer s.job.algorithm s'.hasher fed'
+    × Turn (job_of s.job) here (kept_of s fed) (kept_of s' fed') old new answer))
 
 -- it isn't the log that failed
 abbrev pub IsNotOfLog : Halt → Type 0

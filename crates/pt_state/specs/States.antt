@@ -9,11 +9,19 @@ use Rattle.pt_state.specs.declared.state.State.{State}
 
 -- what it was asked for
 abbrev pub job_of : own.Job → Job
-job_of job = record { meta = job.meta; tuples = job.layout; algorithm = job.algorithm; limits = job.limits; gather = job.gather; share = job.share }
+job_of job = record {
+  meta = job.meta;
+  tuples = job.layout;
+  algorithm = job.algorithm;
+  limits = job.limits;
+  gather = job.gather;
+  share = job.share;
+}
 
 -- its counts
 abbrev pub counts_of : Report → Counts
-counts_of counts = record { done = counts.done; present = counts.present; skipped = counts.skipped; turns = counts.turns }
+counts_of counts =
+    record { done = counts.done; present = counts.present; skipped = counts.skipped; turns = counts.turns }
 
 -- what it holds of the source, where the hasher was fed this
 abbrev pub held_of : State → List ℕ → Held

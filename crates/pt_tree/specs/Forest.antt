@@ -81,7 +81,8 @@ abbrev pub is_proper : Forest → Bool
 is_proper none = true
 is_proper (file name bytes after) = is_name name && (comes_before name after && is_proper after)
 is_proper (other name after) = is_name name && (comes_before name after && is_proper after)
-is_proper (dir name inside after) = is_name name && (comes_before name after && (is_proper inside && is_proper after))
+is_proper (dir name inside after) =
+    is_name name && (comes_before name after && (is_proper inside && is_proper after))
 
 -- p and q hold the same
 abbrev pub same_forest : Forest → Forest → Bool
@@ -114,9 +115,15 @@ in_front (dir name inside _) others = dir name inside others
 -- the first entry of leaf, put in its place among the others
 abbrev pub inserted : Forest → Forest → Forest
 inserted leaf none = in_front leaf none
-inserted leaf (file name bytes after) = cond (is_before name (first_name leaf)) (file name bytes (inserted leaf after)) (in_front leaf (file name bytes after))
-inserted leaf (other name after) = cond (is_before name (first_name leaf)) (other name (inserted leaf after)) (in_front leaf (other name after))
-inserted leaf (dir name inside after) = cond (is_before name (first_name leaf)) (dir name inside (inserted leaf after)) (in_front leaf (dir name inside after))
+inserted leaf (file name bytes after) =
+    cond (is_before name (first_name leaf)) (file name bytes (inserted leaf after))
+    (in_front leaf (file name bytes after))
+inserted leaf (other name after) =
+    cond (is_before name (first_name leaf)) (other name (inserted leaf after))
+    (in_front leaf (other name after))
+inserted leaf (dir name inside after) =
+    cond (is_before name (first_name leaf)) (dir name inside (inserted leaf after))
+    (in_front leaf (dir name inside after))
 
 -- without the entry of a name
 abbrev pub removed : List ℕ → Forest → Forest
@@ -137,7 +144,8 @@ picked_at f [] n = picked n f
 picked_at none (d ∷ path) n = none
 picked_at (file name bytes after) (d ∷ path) n = picked_at after (d ∷ path) n
 picked_at (other name after) (d ∷ path) n = picked_at after (d ∷ path) n
-picked_at (dir name inside after) (d ∷ path) n = cond (bytes_eq name d) (picked_at inside path n) (picked_at after (d ∷ path) n)
+picked_at (dir name inside after) (d ∷ path) n =
+    cond (bytes_eq name d) (picked_at inside path n) (picked_at after (d ∷ path) n)
 
 -- the first entry alone, and the others
 abbrev pub first_alone : Forest → Forest
@@ -152,9 +160,12 @@ without_first (dir name inside after) = after
 -- with other bytes in the file of a name
 abbrev pub rewritten : (List ℕ → List ℕ) → List ℕ → Forest → Forest
 rewritten g n none = none
-rewritten g n (file name bytes after) = cond (bytes_eq name n) (file name (g bytes) after) (file name bytes (rewritten g n after))
-rewritten g n (other name after) = cond (bytes_eq name n) (other name after) (other name (rewritten g n after))
-rewritten g n (dir name inside after) = cond (bytes_eq name n) (dir name inside after) (dir name inside (rewritten g n after))
+rewritten g n (file name bytes after) =
+    cond (bytes_eq name n) (file name (g bytes) after) (file name bytes (rewritten g n after))
+rewritten g n (other name after) =
+    cond (bytes_eq name n) (other name after) (other name (rewritten g n after))
+rewritten g n (dir name inside after) =
+    cond (bytes_eq name n) (dir name inside after) (dir name inside (rewritten g n after))
 
 -- with g of what it was in the directory at a path
 abbrev pub changed : (Forest → Forest) → Forest → Path → Forest
@@ -162,7 +173,9 @@ changed g f [] = g f
 changed g none (n ∷ path) = none
 changed g (file name bytes after) (n ∷ path) = file name bytes (changed g after (n ∷ path))
 changed g (other name after) (n ∷ path) = other name (changed g after (n ∷ path))
-changed g (dir name inside after) (n ∷ path) = cond (bytes_eq name n) (dir name (changed g inside path) after) (dir name inside (changed g after (n ∷ path)))
+changed g (dir name inside after) (n ∷ path) =
+    cond (bytes_eq name n) (dir name (changed g inside path) after)
+    (dir name inside (changed g after (n ∷ path)))
 
 -- the first entry under another name
 abbrev pub named : List ℕ → Forest → Forest

@@ -7,7 +7,9 @@ use Rattle.pt_tree.specs.declared.name.NameFault.TheVariants as fault
 
 -- holds `/` or NUL, or is `.` or `..`
 abbrev pub is_forbidden_name : List ℕ → Bool
-is_forbidden_name bytes = list_any (λ b. b == 47) bytes || list_any (λ b. b == 0) bytes || bytes_eq bytes (46 ∷ []) || bytes_eq bytes (46 ∷ 46 ∷ [])
+is_forbidden_name bytes =
+    list_any (λ b. b == 47) bytes || list_any (λ b. b == 0) bytes || bytes_eq bytes (46 ∷ [])
+    || bytes_eq bytes (46 ∷ 46 ∷ [])
 
 -- why these bytes are no name; nothing, if they are one
 abbrev pub name_refusal : List ℕ → Option NameFault

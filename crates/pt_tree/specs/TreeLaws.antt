@@ -9,7 +9,8 @@ use Rattle.pt_tree.specs.Tree.{Entry, Folder, IsTree, entry_of, tree_of}
 abbrev pub entry_below : Node → Path → Option Entry
 entry_below node path = option_map entry_of (node_at node path)
 
-pub in_folder : (x : Node) (p : Path) (n : List ℕ) → IsSome (entry_below x (p ++ n ∷ [])) → entry_below x p ≡ Some Folder
+pub in_folder : (x : Node) (p : Path) (n : List ℕ) → IsSome (entry_below x (p ++ n ∷ []))
+    → entry_below x p ≡ Some Folder
 in_folder (File b) [] n h = absurd (cc)
 in_folder Other [] n h = absurd (cc)
 in_folder (Dir e) [] n h = refl
@@ -17,7 +18,10 @@ in_folder (File b) (m ∷ p) n h = absurd (cc)
 in_folder Other (m ∷ p) n h = absurd (cc)
 in_folder (Dir e) (m ∷ p) n h = by (λ x h. in_folder x p n h) (find e m) h
   where
-    by : ((x : Node) → IsSome (entry_below x (p ++ n ∷ [])) → entry_below x p ≡ Some Folder) → (o : Option Node) → IsSome (option_map entry_of (option_and_then (λ node. node_at node (p ++ n ∷ [])) o)) → option_map entry_of (option_and_then (λ node. node_at node p) o) ≡ Some Folder
+    by : ((x : Node) → IsSome (entry_below x (p ++ n ∷ [])) → entry_below x p ≡ Some Folder)
+        → (o : Option Node)
+        → IsSome (option_map entry_of (option_and_then (λ node. node_at node (p ++ n ∷ [])) o))
+        → option_map entry_of (option_and_then (λ node. node_at node p) o) ≡ Some Folder
     by later None h = absurd (cc)
     by later (Some x) h = later x h
 

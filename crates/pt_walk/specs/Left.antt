@@ -34,12 +34,17 @@ Fits top (frame ∷ frames) = (listing_at top (names_to frames) ≡ Some frame.l
 -- the sites after those entries at which the frames stand
 abbrev pub sites_after : ℕ → Forest → List Frame → List Site
 sites_after depth top [] = []
-sites_after depth top (frame ∷ frames) = sites_in depth (names_to frames) (entries_from (frame.place + 1) (inside_at top (names_to frames))) ++ sites_after depth top frames
+sites_after depth top (frame ∷ frames) =
+    sites_in depth (names_to frames)
+    (entries_from (frame.place + 1) (inside_at top (names_to frames)))
+    ++ sites_after depth top frames
 
 -- the sites that are still to come: the entry at the innermost place is the next
 abbrev pub sites_left : ℕ → Forest → List Frame → List Site
 sites_left depth top [] = []
-sites_left depth top (frame ∷ frames) = sites_in depth (names_to frames) (entries_from frame.place (inside_at top (names_to frames))) ++ sites_after depth top frames
+sites_left depth top (frame ∷ frames) =
+    sites_in depth (names_to frames) (entries_from frame.place (inside_at top (names_to frames)))
+    ++ sites_after depth top frames
 
 -- what belongs to the object, of a directory this many names inside it
 abbrev pub of_object : Bool → ℕ → Forest → Forest
@@ -56,21 +61,27 @@ abbrev pub entries_after : Bool → Forest → ℕ → List Frame → List Entry
 entries_after gathered top zero frames = []
 entries_after gathered top (suc k) [] = []
 entries_after gathered top (suc k) (frame ∷ frames) =
-    entries_in (names_to (take k frames)) (of_object gathered k (entries_from (frame.place + 1) (inside_at top (names_to frames)))) ++ entries_after gathered top k frames
+    entries_in (names_to (take k frames))
+    (of_object gathered k (entries_from (frame.place + 1) (inside_at top (names_to frames))))
+    ++ entries_after gathered top k frames
 
 -- the entries of the object that are still to come, where the first so many frames are its own: the entry at the innermost place is the next
 abbrev pub entries_left : Bool → Forest → ℕ → List Frame → List Entry
 entries_left gathered top zero frames = []
 entries_left gathered top (suc k) [] = []
 entries_left gathered top (suc k) (frame ∷ frames) =
-    entries_in (names_to (take k frames)) (of_object gathered k (entries_from frame.place (inside_at top (names_to frames)))) ++ entries_after gathered top k frames
+    entries_in (names_to (take k frames))
+    (of_object gathered k (entries_from frame.place (inside_at top (names_to frames))))
+    ++ entries_after gathered top k frames
 
 -- how many entries the directories on the way down this path list, from the node on
 abbrev pub listed_from : Node → Path → ℕ
 listed_from (File bytes) path = 0
 listed_from Other path = 0
 listed_from (Dir inside) [] = length (listing_of inside)
-listed_from (Dir inside) (name ∷ path) = length (listing_of inside) + unwrap_or (option_map (λ node. listed_from node path) (find inside name)) 0
+listed_from (Dir inside) (name ∷ path) =
+    length (listing_of inside)
+    + unwrap_or (option_map (λ node. listed_from node path) (find inside name)) 0
 
 -- how many entries the directories from the top to the one at this path list, both included
 abbrev pub listed : Forest → Path → ℕ

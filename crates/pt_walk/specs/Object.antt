@@ -16,7 +16,8 @@ abbrev pub entries_in : Path → Forest → List Entry
 entries_in path none = []
 entries_in path (file name bytes after) = (path ++ name ∷ [], File bytes) ∷ entries_in path after
 entries_in path (other name after) = (path ++ name ∷ [], Other) ∷ entries_in path after
-entries_in path (dir name inside after) = (path ++ name ∷ [], Dir inside) ∷ (entries_in (path ++ name ∷ []) inside ++ entries_in path after)
+entries_in path (dir name inside after) = (path ++ name ∷ [], Dir inside)
+    ∷ (entries_in (path ++ name ∷ []) inside ++ entries_in path after)
 
 -- the entries of an object's directory
 abbrev pub entries : Forest → List Entry
@@ -27,7 +28,8 @@ abbrev pub without_shorties : Forest → Forest
 without_shorties none = none
 without_shorties (file name bytes after) = file name bytes (without_shorties after)
 without_shorties (other name after) = other name (without_shorties after)
-without_shorties (dir name inside after) = cond (is_short name) (without_shorties after) (dir name inside (without_shorties after))
+without_shorties (dir name inside after) =
+    cond (is_short name) (without_shorties after) (dir name inside (without_shorties after))
 
 -- the files among these
 abbrev pub files : List Entry → List (Path × List ℕ)
@@ -57,8 +59,10 @@ empties_of object = emptiness object + empties (entries object)
 -- why an object isn't carried that has this entry after so many files, if its directory has this depth
 abbrev pub entry_cause : Bounds → ℕ → ℕ → Entry → Option Cause
 entry_cause limits depth held (path, File bytes) =
-    cond (nat_le limits.files held || nat_lt limits.path_bytes (length (joined path)) || nat_lt limits.file_bytes (length bytes)) (Some cause.Limit) None
-entry_cause limits depth held (path, Dir inside) = cond (nat_lt limits.depth (depth + length path)) (Some cause.Limit) None
+    cond (nat_le limits.files held || nat_lt limits.path_bytes (length (joined path))
+    || nat_lt limits.file_bytes (length bytes)) (Some cause.Limit) None
+entry_cause limits depth held (path, Dir inside) =
+    cond (nat_lt limits.depth (depth + length path)) (Some cause.Limit) None
 entry_cause limits depth held (path, Other) = Some cause.Other
 
 -- the files so far, with this entry
@@ -70,7 +74,9 @@ files_with held (path, Other) = held
 -- the entries before the first bad one
 abbrev pub before_bad : Bounds → ℕ → ℕ → List Entry → List Entry
 before_bad limits depth held [] = []
-before_bad limits depth held (entry ∷ others) = cond (is_none (entry_cause limits depth held entry)) (entry ∷ before_bad limits depth (files_with held entry) others) []
+before_bad limits depth held (entry ∷ others) =
+    cond (is_none (entry_cause limits depth held entry))
+    (entry ∷ before_bad limits depth (files_with held entry) others) []
 
 -- the entry with its cause, if it is bad; else what is found later
 abbrev pub bad_or : Option Cause → Entry → Option (Entry × Cause) → Option (Entry × Cause)
@@ -80,4 +86,6 @@ bad_or (Some why) entry later = Some (entry, why)
 -- the first bad entry, with its cause
 abbrev pub first_bad : Bounds → ℕ → ℕ → List Entry → Option (Entry × Cause)
 first_bad limits depth held [] = None
-first_bad limits depth held (entry ∷ others) = bad_or (entry_cause limits depth held entry) entry (first_bad limits depth (files_with held entry) others)
+first_bad limits depth held (entry ∷ others) =
+    bad_or (entry_cause limits depth held entry) entry
+    (first_bad limits depth (files_with held entry) others)

@@ -31,7 +31,9 @@ is_logical (name ∷ path) = is_name name && list_all is_name path
 -- the files of a proper directory have such paths, and they part in order
 abbrev pub FilesPartInOrder : Type 0
 FilesPartInOrder =
-    (object : Forest) → is_proper object ≡ true → (part_in_order (paths_of (files (entries object))) ≡ true) × (list_all is_logical (paths_of (files (entries object))) ≡ true)
+    (object : Forest) → is_proper object ≡ true
+    → (part_in_order (paths_of (files (entries object))) ≡ true)
+    × (list_all is_logical (paths_of (files (entries object))) ≡ true)
 
 -- what a proper site holds beside its shorties is proper
 abbrev pub GatheredIsProper : Type 0

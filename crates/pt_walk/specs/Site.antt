@@ -27,7 +27,9 @@ is_shorty item = is_dir item.1 && is_short item.0
 -- the entries that are no shorties: where each stands, if the first entry stands at i, and its kind
 abbrev pub non_shorties_from : ℕ → List Item → List (ℕ × Kind)
 non_shorties_from i [] = []
-non_shorties_from i (item ∷ items) = cond (is_shorty item) (non_shorties_from (i + 1) items) ((i, item.1) ∷ non_shorties_from (i + 1) items)
+non_shorties_from i (item ∷ items) =
+    cond (is_shorty item) (non_shorties_from (i + 1) items)
+    ((i, item.1) ∷ non_shorties_from (i + 1) items)
 
 abbrev pub non_shorties : List Item → List (ℕ × Kind)
 non_shorties = non_shorties_from 0

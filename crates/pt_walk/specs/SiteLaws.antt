@@ -16,19 +16,25 @@ PairFindsAsLast = (items : List Item) (form : Form) → found items at.Pair form
 
 -- each entry but the i-th is a shorty
 abbrev pub OthersAreShorties : List Item → ℕ → Type 0
-OthersAreShorties items i = (j : ℕ) (item : Item) → slice_get items j ≡ Some item → j ≢ i → is_shorty item ≡ true
+OthersAreShorties items i = (j : ℕ) (item : Item) → slice_get items j ≡ Some item → j ≢ i
+    → is_shorty item ≡ true
 
 -- a candidate is a directory with a longer name, and every other entry of its site is a shorty
 abbrev pub CandidateIsTheOnlyNonShorty : Type 0
 CandidateIsTheOnlyNonShorty =
-    (items : List Item) (where_it_stands : At) (form : Form) (i : ℕ) → found items where_it_stands form ≡ finding.Candidate i
-    → (name : List ℕ) × (slice_get items i ≡ Some (name, kind.Dir)) × (is_short name ≡ false) × OthersAreShorties items i
+    (items : List Item) (where_it_stands : At) (form : Form) (i : ℕ)
+    → found items where_it_stands form ≡ finding.Candidate i
+    → (name : List ℕ) × (slice_get items i ≡ Some (name, kind.Dir)) × (is_short name ≡ false)
+    × OthersAreShorties items i
 
 -- a site that only leads on holds shorties alone
 abbrev pub InteriorHoldsShorties : Type 0
 InteriorHoldsShorties =
-    (items : List Item) (where_it_stands : At) (form : Form) → found items where_it_stands form ≡ finding.Interior → (j : ℕ) (item : Item) → slice_get items j ≡ Some item → is_shorty item ≡ true
+    (items : List Item) (where_it_stands : At) (form : Form)
+    → found items where_it_stands form ≡ finding.Interior → (j : ℕ) (item : Item)
+    → slice_get items j ≡ Some item → is_shorty item ≡ true
 
 -- where a site stands goes by the last name of its path
 abbrev pub LastNameSaysWhere : Type 0
-LastNameSaysWhere = (path : Path) (name : List ℕ) → at_of (path ++ name ∷ []) ≡ cond (length name == 1) at.Last at.Pair
+LastNameSaysWhere = (path : Path) (name : List ℕ)
+    → at_of (path ++ name ∷ []) ≡ cond (length name == 1) at.Last at.Pair

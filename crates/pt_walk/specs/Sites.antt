@@ -29,7 +29,8 @@ is_last at.Last = true
 
 -- how a shorty of the directory at this path is met, if directories of at most this depth are listed
 abbrev pub visit_of : ℕ → Path → Forest → Visit
-visit_of depth path inside = cond (is_last (at_of path)) Past (cond (nat_lt depth (length path + 1)) Deep (Listed inside))
+visit_of depth path inside =
+    cond (is_last (at_of path)) Past (cond (nat_lt depth (length path + 1)) Deep (Listed inside))
 
 abbrev pub is_listed : Visit → Bool
 is_listed (Listed inside) = true
@@ -48,7 +49,9 @@ sites_in depth path none = []
 sites_in depth path (file name bytes after) = sites_in depth path after
 sites_in depth path (other name after) = sites_in depth path after
 sites_in depth path (dir name inside after) =
-    cond (is_short name) ((path ++ name ∷ [], visit_of depth path inside) ∷ walked (visit_of depth path inside) (sites_in depth (path ++ name ∷ []) inside)) []
+    cond (is_short name)
+    ((path ++ name ∷ [], visit_of depth path inside)
+    ∷ walked (visit_of depth path inside) (sites_in depth (path ++ name ∷ []) inside)) []
     ++ sites_in depth path after
 
 -- the top directory, and what its shorties lead to
