@@ -42,7 +42,7 @@ name_added texts i d name names added within told (so_far, all) is = go (is_name
     go : (b : Bool) → is_name (get_or texts i d).now ≡ b → Answers {T = List ℕ} (not_a_name b) fault.Memory (Ok name) (λ n. n ≡ (get_or texts i d).now) → (added ≡ written (take (i + 1) texts)) × (are_names added ≡ true)
     go true named at = (
       is ∙ ap (λ (l : List Text). l ++ name ∷ []) so_far ∙ ap (λ (n : Text). written (take i texts) ++ n ∷ []) at
-      ∙ sym (ap written (take_more texts i d within) ∙ map-append (λ (t : Bor Text). t.now) (take i texts) (get_or texts i d ∷ [])),
+          ∙ sym (ap written (take_more texts i d within) ∙ map-append (λ (t : Bor Text). t.now) (take i texts) (get_or texts i d ∷ [])),
       ap are_names is ∙ list_all-append is_name names (name ∷ []) ∙ both (are_names names) (is_name name) all (ap is_name at ∙ named),
     )
     go false none at = absurd (cc)
