@@ -73,6 +73,7 @@ impl<R: Root> Comparing<R> {
     /// One over a root, whose inventories have digests of this algorithm. It calls nothing and takes no memory.
     pub fn new(alloc: Global, root: R, algorithm: Algorithm) -> Comparing<R>
         ensures root { result.root ≡ root }
+        ensures algorithm { result.algorithm ≡ algorithm }
         ensures failures { result.failures ≡ 0 }
     {
         Comparing {
