@@ -1,5 +1,5 @@
 -- What holds of noted entries.
-use Rattle.std.proofs.Common.{◌≡◌, ◌∙◌, ap, ℕ, [], ◌∷◌, List, sym, subst, refl, true, false}
+use Rattle.std.proofs.Common.{◌≡◌, ◌∙◌, ap, ℕ, [], ◌∷◌, sym, subst, refl, true, false}
 use Rattle.std.specs.Prelude.{Bool, Option, None, Some, IfSome, cond, slice_get}
 use Rattle.std.specs.BTreeMap.{insert_entry}
 use Rattle.std.specs.Global.{Vec}

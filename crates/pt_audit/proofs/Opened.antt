@@ -1,5 +1,5 @@
 -- How the file at a path of an object is compared.
-use Rattle.std.proofs.Common.{◌≡◌, ℕ, List, [], ◌∷◌, ◌<◌, ◌⊎◌, length, get_or, refl, arith, ap, ◌∙◌, inl, inr}
+use Rattle.std.proofs.Common.{◌≡◌, ℕ, List, [], ◌∷◌, ◌<◌, length, get_or, arith, ap, ◌∙◌}
 use Rattle.std.specs.Global.{Vec}
 use Rattle.pt_tree.specs.Path.{Path}
 use Rattle.pt_audit.specs.Paths.{IsOpenedAs, opened_named}
@@ -16,13 +16,3 @@ two_names [] name d text file some few is none opened = absurd (omega (arith, so
 two_names (x ∷ []) name d text file some few is none opened = absurd (omega (arith, some))
 two_names (x ∷ y ∷ []) name d text file some few is none opened = (text, none, opened ∙ ap (opened_named (state.Version text)) is)
 two_names (x ∷ y ∷ z ∷ p) name d text file some few is none opened = absurd (omega (arith, few))
-
-pub no_name : (p : Path) → length p < 1 → IsOpenedAs p state.Content
-no_name [] few = refl
-no_name (x ∷ p) few = absurd (omega (arith, few))
-
-pub more_names : (p : Path) → 2 < length p → IsOpenedAs p state.Content
-more_names [] many = absurd (omega (arith, many))
-more_names (x ∷ []) many = absurd (omega (arith, many))
-more_names (x ∷ y ∷ []) many = absurd (omega (arith, many))
-more_names (x ∷ y ∷ z ∷ p) many = refl

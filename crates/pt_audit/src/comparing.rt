@@ -1,10 +1,8 @@
 #![tactic(auto, using(crate::proofs::Reading::calls, crate::proofs::Kept::kept))]
 //! A destination that holds what a run makes against what stands, and makes nothing.
-ghost use Rattle.std.specs.Prelude.{not, length, true, ◌==◌, ◌&&◌, ◌≡◌, ⊤, ◌++◌, [], ◌∷◌};
-ghost use Rattle.std.specs.Prelude.{IfOk, IfSome, OnErr, OnOk, Option};
+ghost use Rattle.std.specs.Prelude.{not, length, true, ◌==◌, ◌&&◌, ◌≡◌, ⊤, [], IfOk, IfSome, OnErr, OnOk};
 ghost use Rattle.std.specs.Option.{ForSome};
 ghost use Rattle.pt_tree.specs.Failures.{IsCounted};
-ghost use Rattle.pt_tree.specs.Forest.{Forest};
 ghost use Rattle.pt_audit.specs.Comparing.{FindsByEnd, FindsByMove, FindsByPiece, found_at, found_by, is_reading_if, why_not as why_not_for};
 ghost use Rattle.pt_audit.specs.Difference.{is_same};
 ghost use Rattle.pt_audit.specs.Bytes.{TellsRest};
@@ -13,16 +11,16 @@ ghost use Rattle.pt_audit.specs.declared.difference.Finding.TheVariants as findi
 ghost use Rattle.pt_tree.specs.declared.kind.Kind.TheVariants as kind;
 ghost use Rattle.pt_audit.specs.Entries.{kind_noted};
 ghost use Rattle.pt_audit.specs.Paths.{IsOpenedAs, opened_named as opened_by_name};
-ghost use Rattle.pt_audit.specs.Root.{AllStand, Lists, Reads, Stands, kind_at, tree_in};
+ghost use Rattle.pt_audit.specs.Root.{AllStand, Reads, Stands, kind_at, tree_in};
 
 use crate::bytes::{are_the_rest, come_next, has_ended, rest_of};
-use crate::entries::Entries;
+use crate::entries::{Entries, note};
 use crate::inventories::with_meta_of;
 use crate::paths::{Part, below, is_named, joined, part_of};
 use crate::root::standing;
 use crate::{Difference, Finding, Root, Why};
 use pt_object::{Algorithm, sidecar};
-use pt_tree::{Block, Dest, Kind, Known, Listing, MemoryFault, Name, NamePath, TreeFault};
+use pt_tree::{Block, Dest, Kind, Known, MemoryFault, Name, NamePath, TreeFault};
 use std::alloc::Global;
 use std::mem;
 
@@ -407,36 +405,6 @@ fn opened_named(inventory: Open, name: &Name) -> Open
     } else {
         Open::Content
     }
-}
-
-// Notes the entries of the directory at a path.
-#[tactic(auto, using(crate::proofs::Listed::listed_stands))]
-fn note(entries: &mut Entries, path: &NamePath, listing: &Listing) -> Result<(), MemoryFault>
-    ensures { (tree : Option Forest) → AllStand tree entries.old → Lists tree path.now listing.now
-        → AllStand tree entries.new }
-{
-    for i in 0..listing.len() {
-        let Some((name, kind)) = listing.get(i) else {
-            return Ok(());
-        };
-        note_entry(entries, path, name, kind)?;
-    }
-    Ok(())
-}
-
-// Notes the entry of this name and kind in the directory at a path.
-fn note_entry(
-    entries: &mut Entries,
-    path: &NamePath,
-    name: &Name,
-    kind: Kind,
-) -> Result<(), MemoryFault>
-    ensures { (tree : Option Forest) → AllStand tree entries.old
-        → Stands tree (path.now ++ name.now ∷ [], kind) → AllStand tree entries.new }
-{
-    let mut inner = path.copy()?;
-    inner.push(name.copy()?)?;
-    entries.add(inner, kind)
 }
 
 // Counts an answer `Device` as a failure, up to 2^64 - 1, and gives the answer.

@@ -1,13 +1,13 @@
 //! The entries of an object that stands which weren't met yet.
-ghost use Rattle.std.specs.Prelude.{◌≡◌, ℕ, [], IfOk, IfSome, OnErr, OnOk, ◌∷◌, MatchOption, Option};
+ghost use Rattle.std.specs.Prelude.{◌≡◌, ℕ, [], IfOk, IfSome, OnErr, OnOk, ◌∷◌, ◌++◌, MatchOption, Option};
 ghost use Rattle.std.specs.Global.{Vec};
 ghost use Rattle.pt_tree.specs.Path.{joined};
 ghost use Rattle.pt_tree.specs.declared.kind.Kind.{Kind};
 ghost use Rattle.pt_tree.specs.Forest.{Forest};
 ghost use Rattle.pt_audit.specs.Entries.{Noted, kind_if as kind_if_at, kind_noted, with_entry, without};
-ghost use Rattle.pt_audit.specs.Root.{AllStand, Stands};
+ghost use Rattle.pt_audit.specs.Root.{AllStand, Lists, Stands};
 
-use pt_tree::{Kind, MemoryFault, NamePath};
+use pt_tree::{Kind, Listing, MemoryFault, Name, NamePath};
 use std::alloc::Global;
 use std::collections::BTreeMap;
 use std::marker::Model;
@@ -85,4 +85,38 @@ fn kind_if(path: &NamePath, found: Option<(NamePath, Kind)>) -> Option<Kind>
         Some((found, kind)) if found == *path => Some(kind),
         _ => None,
     }
+}
+
+/// Notes the entries that the directory at a path lists.
+#[tactic(auto, using(crate::proofs::Listed::listed_stands))]
+pub(crate) fn note(
+    entries: &mut Entries,
+    path: &NamePath,
+    listing: &Listing,
+) -> Result<(), MemoryFault>
+    ensures { (tree : Option Forest) → AllStand tree entries.old → Lists tree path.now listing.now
+        → AllStand tree entries.new }
+{
+    for i in 0..listing.len() {
+        let Some((name, kind)) = listing.get(i) else {
+            return Ok(());
+        };
+        note_entry(entries, path, name, kind)?;
+    }
+    Ok(())
+}
+
+// Notes the entry of this name and kind in the directory at a path.
+fn note_entry(
+    entries: &mut Entries,
+    path: &NamePath,
+    name: &Name,
+    kind: Kind,
+) -> Result<(), MemoryFault>
+    ensures { (tree : Option Forest) → AllStand tree entries.old
+        → Stands tree (path.now ++ name.now ∷ [], kind) → AllStand tree entries.new }
+{
+    let mut inner = path.copy()?;
+    inner.push(name.copy()?)?;
+    entries.add(inner, kind)
 }

@@ -7,7 +7,7 @@ use Rattle.std.specs.declared.io.Error.{Error}
 use Rattle.pt_tree.specs.declared.kind.Kind.{Kind}
 use Rattle.pt_tree.specs.declared.faults.TreeFault.{TreeFault}
 use Rattle.pt_tree.specs.Path.{Path}
-use Rattle.pt_tree.specs.Tree.{Tree, Entry, Folder, kind_of_entry, put, CanMake, CanMove}
+use Rattle.pt_tree.specs.Tree.{Tree, Folder, kind_of_entry, put, CanMake, CanMove}
 use Rattle.pt_tree.specs.Dest.{Writing, IsKindAt, MayMake, MayMove, after_mkdir}
 use Rattle.pt_folder.specs.declared.writing.Writing.{Writing as Open}
 use Rattle.pt_folder.specs.Calls.{AsksOnce, IsAnswer, LeadsToKind, MakesOnce}

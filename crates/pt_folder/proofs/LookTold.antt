@@ -1,6 +1,6 @@
 -- What a look at an entry of a source tells, by the law of its system.
 use Rattle.std.proofs.Common.{◌≡◌, List, ℕ, ap, inl, inr}
-use Rattle.std.specs.Prelude.{Option, None, Some, IsSome, IfOk, Result, Ok, Err}
+use Rattle.std.specs.Prelude.{Option, IsSome, IfOk, Result, Ok, Err}
 use Rattle.std.specs.Option.{option_map, ForSome}
 use Rattle.std.specs.declared.fs.Metadata.{Metadata}
 use Rattle.std.specs.declared.io.Error.{Error}

@@ -4,7 +4,7 @@ use Rattle.std.specs.Option.{option_map, ForSome}
 use Rattle.std.specs.declared.fs.Metadata.{Metadata}
 use Rattle.std.specs.declared.io.Error.{Error}
 use Rattle.pt_tree.specs.Path.{Path, rest_below}
-use Rattle.pt_tree.specs.Tree.{Tree, Entry, Bytes, Folder, kind_of_entry, put, added, moved, bytes_of, IsTree, CanMake, CanMove}
+use Rattle.pt_tree.specs.Tree.{Tree, Bytes, Folder, kind_of_entry, put, added, moved, bytes_of, IsTree, CanMake, CanMove}
 use Rattle.pt_folder.specs.Folder.{entry_text}
 use Rattle.pt_folder.specs.Laws.{IsPath, LooksRight}
 

@@ -1,7 +1,7 @@
-use Rattle.std.proofs.Common.{◌≡◌, arith, subst, ap}
+use Rattle.std.proofs.Common.{arith, subst}
 use Rattle.pt_tree.specs.Path.{Path}
 use Rattle.pt_audit.specs.Paths.{IsOpenedAs}
-use Rattle.pt_audit.proofs.Opened.{more_names, no_name, one_name, two_names}
+use Rattle.pt_audit.proofs.Opened.{one_name, two_names}
 use Rattle.pt_audit.proofs.comparing.opened_as.Goals as goal
 
 pub returns-in-len1 : goal.returns-in-len1
