@@ -1,4 +1,5 @@
 pub mod Folders
+pub mod Grown
 pub mod Kept
 pub mod LineTexts
 pub mod Listed

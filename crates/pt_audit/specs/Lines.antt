@@ -1,11 +1,15 @@
 -- The lines of an audit's log: each one compact JSON object with its keys in byte order, and LF.
-use Rattle.std.specs.Prelude.{ℕ, List, [], ◌∷◌, ◌++◌, Option, None, Some, codes}
+use Rattle.std.specs.Prelude.{ℕ, List, [], ◌∷◌, ◌++◌, Option, None, Some, Ok, Err, Result, ⊤, codes}
+use Rattle.std.specs.Prelude.{String}
+use Rattle.std.specs.String.{string_bytes}
+use Rattle.std.specs.Global.{Global}
 use Rattle.pt_audit.specs.Difference.{why_word}
 use Rattle.pt_audit.specs.declared.difference.Finding.{Finding}
 use Rattle.pt_audit.specs.declared.difference.Finding.TheVariants as finding
 use Rattle.pt_audit.specs.declared.difference.Why.{Why}
 use Rattle.pt_plan.specs.Lines.{number_member, text_member}
 use Rattle.pt_tree.specs.Path.{Path, joined}
+use Rattle.pt_tree.specs.declared.faults.MemoryFault.{MemoryFault}
 use Rattle.serde_json.specs.Data.{Data, no_members}
 use Rattle.serde_json.specs.Data as json
 use Rattle.serde_json.specs.Written.{compact_text}
@@ -65,7 +69,13 @@ line_tree (End same absent differs skipped) = json.object
 abbrev pub line_text : Line → List ℕ
 line_text line = compact_text (line_tree line) ++ 10 ∷ []
 
--- what is put in place of a piece, if anything is
-abbrev pub in_place : Option (List ℕ) → List ℕ → List ℕ
-in_place None piece = piece
-in_place (Some text) piece = text
+-- what is put in place of a piece, if anything is; a line for which memory was wanting is put by nobody
+abbrev pub in_place : Result (Option (String Global)) MemoryFault → List ℕ → List ℕ
+in_place (Ok (Some text)) piece = string_bytes text
+in_place (Ok None) piece = piece
+in_place (Err wanting) piece = piece
+
+-- memory was wanting for the line: then the log is as it was, and wants it too
+abbrev pub IfWanting : Result (Option (String Global)) MemoryFault → Type 0 → Type 0
+IfWanting (Ok line) P = ⊤
+IfWanting (Err wanting) P = P

@@ -19,6 +19,10 @@ kind_at tree p = option_map kind_of (node_at (Dir tree) p)
 abbrev pub tree_in : Option Reading → Option Forest
 tree_in told = option_map (λ s. s.tree) told
 
+-- it is the same root, whose tree is as it was
+abbrev pub KeepsRoot : {R : Type 0} → (R → Option Reading) → (R → R → Type 0) → R → R → Type 0
+KeepsRoot told keeps old new = keeps old new × (tree_in (told new) ≡ tree_in (told old))
+
 -- one kind
 abbrev pub same_kind : Kind → Kind → Bool
 same_kind kind.File kind.File = true

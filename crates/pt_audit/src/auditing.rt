@@ -1,7 +1,8 @@
 //! A whole audit.
 ghost use Rattle.std.specs.Prelude.{◌≡◌, IfOk};
-ghost use Rattle.pt_move.specs.Running.{HasBegun};
-ghost use Rattle.pt_audit.specs.Auditing.{IsSmaller, world_of};
+ghost use Rattle.pt_audit.specs.Auditing.{Audits, IsNext, counts_with, world_of};
+ghost use Rattle.pt_audit.specs.Root.{KeepsRoot};
+ghost use Rattle.pt_audit.specs.Telling.{Grows, KeepsLog};
 
 use crate::lines::{end_line, object_line};
 use crate::{AuditLog, Comparing, Counts, Finding, Root};
@@ -16,72 +17,87 @@ use std::alloc::Global;
 /// so that a second folder of an identifier is compared too, and nothing stands at `staging`. Of the job's description of
 /// the version nothing is compared: moment, user and message may be whatever the inventory that stands gives. `Dest` is
 /// answered where the root can't be read, and the other faults as by `migrate`.
+///
+/// All that `migrate` promises of a run holds of it (`run`), over a destination and a log that tell nothing. Store and root
+/// are as they were, and what stood in the log stands.
 pub fn audit<S: Source, R: Root, L: Log>(
     alloc: Global,
     source: &mut S,
     dest: &mut Comparing<R>,
     log: &mut L,
     job: Job,
-) -> Result<Counts, Fault> {
-    let mut mover = Mover::start(alloc, job);
-    let mut lines = AuditLog::new(log);
-    let mut counts = Counts {
-        same: 0,
-        absent: 0,
-        differs: 0,
-        skipped: 0,
-    };
-    while let Turn::More = turned(alloc, &mut mover, source, dest, &mut lines, &mut counts)? {}
-    Ok(counts)
+) -> Result<Counts, Fault>
+    ensures run { Audits job
+        (world_of (S.told source.old) (S.failed source.old) dest.old.failures (L.failed log.old))
+        (world_of (S.told source.new) (S.failed source.new) dest.new.failures (L.failed log.new))
+        result }
+    ensures source_stays { S.keeps source.old source.new }
+    ensures root_stays { KeepsRoot R.told R.keeps dest.old.root dest.new.root }
+    ensures log_stays { L.keeps log.old log.new }
+    ensures log_grows { Grows (L.told log.old) (L.told log.new) }
+{
+    let mut instead = Ok(None);
+    let mut lines = AuditLog::new(log, &mut instead);
+    compared(alloc, source, dest, &mut lines, job)
 }
 
-// Makes a turn of the run that is compared, and has the log put the audit's line where that puts one.
-fn turned<S: Source, R: Root, L: Log>(
+// The run that is compared, whose log gets the audit's lines.
+fn compared<S: Source, R: Root, L: Log>(
     alloc: Global,
-    mover: &mut Mover,
     source: &mut S,
     dest: &mut Comparing<R>,
     lines: &mut AuditLog<'_, L>,
-    counts: &mut Counts,
-) -> Result<Turn, Fault>
-    requires { HasBegun (world_of (S.told source.old) (S.failed source.old) dest.old.failures
-        (L.failed lines.old.log.now)) mover.old }
-    ensures goes_on { HasBegun (world_of (S.told source.new) (S.failed source.new) dest.new.failures
-        (L.failed lines.new.log.now)) mover.new }
-    ensures smaller { IfOk result (λ turn. IsSmaller turn mover.old mover.new) }
+    job: Job,
+) -> Result<Counts, Fault>
+    ensures run { Audits job
+        (world_of (S.told source.old) (S.failed source.old) dest.old.failures
+        (L.failed lines.old.log.now))
+        (world_of (S.told source.new) (S.failed source.new) dest.new.failures
+        (L.failed lines.new.log.now))
+        result }
+    ensures source_stays { S.keeps source.old source.new }
+    ensures root_stays { KeepsRoot R.told R.keeps dest.old.root dest.new.root }
+    ensures log_stays { KeepsLog L.told L.keeps lines.old.log lines.new.log }
 {
-    if let Err(MemoryFault::Memory) = prepare(alloc, mover, dest, lines, counts) {
-        return Err(Fault::Memory);
+    let mut mover = Mover::start(alloc, job);
+    let mut counts = Counts::none();
+    while let Turn::More = mover.step(source, dest, lines)? {
+        lines.put_instead(next_line(alloc, &mover, dest.finding(), &mut counts));
     }
-    mover.step(source, dest, lines)
+    Ok(Counts {
+        skipped: mover.report().skipped,
+        ..counts
+    })
 }
 
-// Gives the log the line that it is to put in place of the run's, where the next turn puts one of an object or of the end.
-fn prepare<R: Root, L: Log>(
+// The audit's line in place of the one that the next turn puts, where that tells of an object or of the end. An object is
+// counted with it, by what was found.
+fn next_line(
     alloc: Global,
     mover: &Mover,
-    dest: &Comparing<R>,
-    lines: &mut AuditLog<'_, L>,
+    finding: &Finding,
     counts: &mut Counts,
-) -> Result<(), MemoryFault>
-    ensures { lines.new.log ≡ lines.old.log }
+) -> Result<Option<String>, MemoryFault>
+    ensures { IfOk result (IsNext mover.now finding.now counts.old counts.new) }
 {
     match mover.next_line()? {
         NextLine::Carried(object) => {
-            lines.put_instead(object_line(alloc, &object, dest.finding())?);
-            *counts = counted(*counts, dest.finding());
+            let line = object_line(alloc, &object, finding)?;
+            *counts = counted(*counts, finding);
+            Ok(Some(line))
         }
         NextLine::End => {
             counts.skipped = mover.report().skipped;
-            lines.put_instead(end_line(alloc, counts)?);
+            Ok(Some(end_line(alloc, counts)?))
         }
-        NextLine::Other => {}
+        NextLine::Other => Ok(None),
     }
-    Ok(())
 }
 
 // With one line more, by what was found.
-fn counted(counts: Counts, finding: &Finding) -> Counts {
+fn counted(counts: Counts, finding: &Finding) -> Counts
+    ensures { result ≡ counts_with finding.now counts }
+{
     match finding {
         Finding::Same => Counts {
             same: counts.same.saturating_add(1),

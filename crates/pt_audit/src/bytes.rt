@@ -22,6 +22,7 @@ pub(crate) fn come_next<R: Root>(
 ) -> Result<bool, TreeFault>
     requires { Reads (R.told root.old) }
     ensures tree { tree_in (R.told root.new) ≡ tree_in (R.told root.old) }
+    ensures keeps { R.keeps root.old root.new }
     ensures reads { Reads (R.told root.new) }
     ensures next { IfOk result (λ same. same ≡ true
         → CameNext bytes.now (R.told root.old) (R.told root.new)) }
@@ -43,6 +44,7 @@ pub(crate) fn come_next<R: Root>(
 pub(crate) fn has_ended<R: Root>(root: &mut R, block: &mut Block) -> Result<bool, TreeFault>
     requires { Reads (R.told root.old) }
     ensures tree { tree_in (R.told root.new) ≡ tree_in (R.told root.old) }
+    ensures keeps { R.keeps root.old root.new }
     ensures reads { Reads (R.told root.new) }
     ensures ended { IfOk result (TellsEnd (R.told root.old)) }
 {
@@ -58,6 +60,7 @@ pub(crate) fn are_the_rest<R: Root>(
 ) -> Result<bool, TreeFault>
     requires { Reads (R.told root.old) }
     ensures tree { tree_in (R.told root.new) ≡ tree_in (R.told root.old) }
+    ensures keeps { R.keeps root.old root.new }
     ensures reads { Reads (R.told root.new) }
     ensures same { IfOk result (TellsRest bytes.now (R.told root.old)) }
 {
@@ -75,6 +78,7 @@ pub(crate) fn rest_of<R: Root>(
 ) -> Result<Option<Vec<u8>>, TreeFault>
     requires { Reads (R.told root.old) }
     ensures tree { tree_in (R.told root.new) ≡ tree_in (R.told root.old) }
+    ensures keeps { R.keeps root.old root.new }
     ensures reads { Reads (R.told root.new) }
     ensures rest { IfOk result (IsAllLeft (R.told root.old)) }
 {

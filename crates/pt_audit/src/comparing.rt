@@ -1,6 +1,7 @@
 #![tactic(auto, using(crate::proofs::Reading::calls, crate::proofs::Kept::kept))]
 //! A destination that holds what a run makes against what stands, and makes nothing.
-ghost use Rattle.std.specs.Prelude.{not, length, true, ◌==◌, ◌&&◌, ◌≡◌, ⊤, [], IfOk, IfSome, OnErr, OnOk};
+ghost use Rattle.std.proofs.Common.{◌∙◌, refl};
+ghost use Rattle.std.specs.Prelude.{not, length, true, ◌==◌, ◌&&◌, ◌≡◌, [], IfOk, IfSome, OnErr, OnOk};
 ghost use Rattle.std.specs.Option.{ForSome};
 ghost use Rattle.pt_tree.specs.Failures.{IsCounted};
 ghost use Rattle.pt_audit.specs.Comparing.{FindsByEnd, FindsByMove, FindsByPiece, found_at, found_by, is_reading_if, why_not as why_not_for};
@@ -11,7 +12,7 @@ ghost use Rattle.pt_audit.specs.declared.difference.Finding.TheVariants as findi
 ghost use Rattle.pt_tree.specs.declared.kind.Kind.TheVariants as kind;
 ghost use Rattle.pt_audit.specs.Entries.{kind_noted};
 ghost use Rattle.pt_audit.specs.Paths.{IsOpenedAs, opened_named as opened_by_name};
-ghost use Rattle.pt_audit.specs.Root.{AllStand, Reads, Stands, kind_at, tree_in};
+ghost use Rattle.pt_audit.specs.Root.{AllStand, KeepsRoot, Reads, Stands, kind_at, tree_in};
 
 use crate::bytes::{are_the_rest, come_next, has_ended, rest_of};
 use crate::entries::{Entries, note};
@@ -114,7 +115,8 @@ impl<R: Root> Comparing<R> {
 
     // What stands at a path, as the run is to see it.
     fn seen(&mut self, path: &NamePath) -> Result<Option<Kind>, TreeFault>
-        ensures { self.new.failures ≡ self.old.failures }
+        ensures failures { self.new.failures ≡ self.old.failures }
+        ensures root { KeepsRoot R.told R.keeps self.old.root self.new.root }
     {
         match part_of(path) {
             Part::Staging => Ok(None),
@@ -130,7 +132,8 @@ impl<R: Root> Comparing<R> {
 
     // What stands at the top of the root, whose folder has to be there.
     fn top(&mut self, path: &NamePath) -> Result<Option<Kind>, TreeFault>
-        ensures { self.new.failures ≡ self.old.failures }
+        ensures failures { self.new.failures ≡ self.old.failures }
+        ensures root { KeepsRoot R.told R.keeps self.old.root self.new.root }
     {
         let folder = NamePath::new(self.alloc);
         let _entries = self.root.list(&folder)?;
@@ -141,6 +144,7 @@ impl<R: Root> Comparing<R> {
     fn peeked(&mut self, path: &NamePath, block: &mut Block) -> Result<(), TreeFault>
         ensures empty { OnErr result (block.new.items ≡ []) }
         ensures failures { self.new.failures ≡ self.old.failures }
+        ensures root { KeepsRoot R.told R.keeps self.old.root self.new.root }
     {
         block.clear();
         match standing(self.alloc, &mut self.root, path)? {
@@ -155,6 +159,7 @@ impl<R: Root> Comparing<R> {
     // Looks at the place of the next object.
     fn come_to(&mut self, path: &NamePath) -> Result<(), TreeFault>
         ensures failures { self.new.failures ≡ self.old.failures }
+        ensures root { KeepsRoot R.told R.keeps self.old.root self.new.root }
         ensures place { OnOk result (self.new.place ≡ path.now) }
         ensures found { OnOk result (ForSome (tree_in (R.told self.old.root))
             (λ f. self.new.finding ≡ found_at (kind_at f path.now))) }
@@ -217,6 +222,7 @@ impl<R: Root> Comparing<R> {
     // A folder is made.
     fn meet_folder(&mut self, path: &NamePath) -> Result<(), TreeFault>
         ensures failures { self.new.failures ≡ self.old.failures }
+        ensures root { KeepsRoot R.told R.keeps self.old.root self.new.root }
         ensures found { OnOk result (self.new.finding
             ≡ found_by kind.Dir self.old.place path.now self.old.entries self.old.finding) }
     {
@@ -238,6 +244,7 @@ impl<R: Root> Comparing<R> {
     fn enter(&mut self, path: &NamePath) -> Result<(), TreeFault>
         requires { Stands (tree_in (R.told self.old.root)) (path.now, kind.Dir) }
         ensures failures { self.new.failures ≡ self.old.failures }
+        ensures root { KeepsRoot R.told R.keeps self.old.root self.new.root }
         ensures finding { self.new.finding ≡ self.old.finding }
     {
         let listing = self.root.list(path)?;
@@ -248,6 +255,7 @@ impl<R: Root> Comparing<R> {
     // A file is made.
     fn meet_file(&mut self, path: &NamePath) -> Result<(), TreeFault>
         ensures failures { self.new.failures ≡ self.old.failures }
+        ensures root { KeepsRoot R.told R.keeps self.old.root self.new.root }
         ensures found { OnOk result (self.new.finding
             ≡ found_by kind.File self.old.place path.now self.old.entries self.old.finding) }
     {
@@ -270,6 +278,7 @@ impl<R: Root> Comparing<R> {
     fn take_up(&mut self, path: &NamePath, inner: NamePath) -> Result<(), TreeFault>
         requires { Stands (tree_in (R.told self.old.root)) (path.now, kind.File) }
         ensures failures { self.new.failures ≡ self.old.failures }
+        ensures root { KeepsRoot R.told R.keeps self.old.root self.new.root }
         ensures finding { self.new.finding ≡ self.old.finding }
         ensures opened { OnOk result (self.new.opened ≡ inner) }
         ensures file { OnOk result (IsOpenedAs inner self.new.file) }
@@ -284,6 +293,7 @@ impl<R: Root> Comparing<R> {
     // A piece is added to the file at hand.
     fn meet_piece(&mut self, piece: &[u8]) -> Result<(), TreeFault>
         ensures failures { self.new.failures ≡ self.old.failures }
+        ensures root { KeepsRoot R.told R.keeps self.old.root self.new.root }
         ensures found { OnOk result (FindsByPiece self.old.file self.old.finding self.new.finding
             self.old.opened piece.now (R.told self.old.root) (R.told self.new.root)) }
     {
@@ -305,6 +315,7 @@ impl<R: Root> Comparing<R> {
     // The file at hand is ended.
     fn meet_end(&mut self) -> Result<(), TreeFault>
         ensures failures { self.new.failures ≡ self.old.failures }
+        ensures root { KeepsRoot R.told R.keeps self.old.root self.new.root }
         ensures found { OnOk result (FindsByEnd self.old.file self.old.finding self.new.finding
             self.old.opened (string_bytes self.old.inventory) (string_bytes self.old.sidecar)
             (string_bytes self.new.inventory) (R.told self.old.root)) }
@@ -331,6 +342,7 @@ impl<R: Root> Comparing<R> {
     fn meet_version(&mut self, made: &[u8]) -> Result<bool, TreeFault>
         requires { Reads (R.told self.old.root) }
         ensures failures { self.new.failures ≡ self.old.failures }
+        ensures root { KeepsRoot R.told R.keeps self.old.root self.new.root }
         ensures finding { self.new.finding ≡ self.old.finding }
         ensures opened { self.new.opened ≡ self.old.opened }
         ensures held { IfOk result (λ same. same ≡ true
@@ -357,6 +369,7 @@ impl<R: Root> Comparing<R> {
     // What was made is moved to its place: what stands there beside it is more than the object has.
     fn meet_move(&mut self) -> Result<(), TreeFault>
         ensures failures { self.new.failures ≡ self.old.failures }
+        ensures root { KeepsRoot R.told R.keeps self.old.root self.new.root }
         ensures found { OnOk result (FindsByMove self.old.place self.old.entries
             self.old.finding self.new.finding) }
     {
@@ -425,11 +438,11 @@ impl<R: Root> Dest for Comparing<R> {
 
     ghost failed = { λ c. c.failures };
 
-    ghost keeps = { λ _ _. ⊤ };
+    ghost keeps = { λ a b. KeepsRoot R.told R.keeps a.root b.root };
 
-    ghost is_kept = { λ _. tt };
+    ghost is_kept = { λ a. (R.is_kept a.root, refl) };
 
-    ghost keeps_on = { λ _ _ _ _ _. tt };
+    ghost keeps_on = { λ a b c p q. (R.keeps_on a.root b.root c.root p.0 q.0, q.1 ∙ p.1) };
 
     ghost is_tree = { tree_untold };
 

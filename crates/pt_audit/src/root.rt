@@ -15,7 +15,8 @@ pub trait Root: Source {
         requires { CanLook (tree_in (Self.told self.old)) path.now }
         ensures kind { IfOk result (λ here. IsSeen (tree_in (Self.told self.old)) path.now here) }
         ensures same { Self.told self.new ≡ Self.told self.old }
-        ensures failures { IsCounted (Self.failed self.old) (Self.failed self.new) result };
+        ensures failures { IsCounted (Self.failed self.old) (Self.failed self.new) result }
+        ensures keeps { Self.keeps self.old self.new };
 }
 
 /// The kind of what stands at a path; None where nothing does, also below what is no directory. Each entry on its way is
@@ -29,6 +30,7 @@ pub fn standing<R: Root>(
     ensures kind { IfOk result (λ here. IsSeen (tree_in (R.told root.old)) path.now here) }
     ensures same { R.told root.new ≡ R.told root.old }
     ensures failures { IsCounted (R.failed root.old) (R.failed root.new) result }
+    ensures keeps { R.keeps root.old root.new }
 {
     let mut way = NamePath::new(alloc);
     let mut here = Some(Kind::Dir);

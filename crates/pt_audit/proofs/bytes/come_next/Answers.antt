@@ -19,4 +19,4 @@ loop-rest-preserved g c =
     let same = told_same c.as_slice.result.now c.next.new.block.items c.split_at.result.0.now c.if-ne.ensures c.as_slice.ensures.value in
     let has = one_passed c.min.result c.args.bytes.now c.loop-rest.rest.now c.split_at.result.0.now c.split_at.result.1.now c.next.new.block.items (told c.args.root.now) (told c.loop-rest.root) (told c.next.new.self)
     c.loop-rest.invariant.2 c.in_ok-next.ensures.block c.in_ok-next.ensures.moved c.min.ensures c.split_at.ensures.front c.split_at.ensures.back same in
-    (ap tree_in c.in_ok-next.ensures.moved ∙ next_tree (told c.loop-rest.root) ∙ c.loop-rest.invariant.0, ap is_reading c.in_ok-next.ensures.moved ∙ next_reads (told c.loop-rest.root) c.loop-rest.invariant.1, has)
+    (ap tree_in c.in_ok-next.ensures.moved ∙ next_tree (told c.loop-rest.root) ∙ c.loop-rest.invariant.0, ap is_reading c.in_ok-next.ensures.moved ∙ next_reads (told c.loop-rest.root) c.loop-rest.invariant.1, has, g.met.R.Source.keeps_on _ _ _ c.loop-rest.invariant.3 c.next.ensures.keeps)

@@ -4,7 +4,7 @@ use Rattle.pt_audit.proofs.Passed.{HasPassed}
 use Rattle.pt_audit.proofs.bytes.come_next.Given as goal
 
 abbrev pub invariant-loop-rest : goal.invariant-loop-rest
-invariant-loop-rest g l = (tree_in (g.R.Source.told l.root) ≡ tree_in (g.R.Source.told l.fn.root)) × Reads (g.R.Source.told l.root) × HasPassed l.fn.bytes l.rest (g.R.Source.told l.fn.root) (g.R.Source.told l.root)
+invariant-loop-rest g l = (tree_in (g.R.Source.told l.root) ≡ tree_in (g.R.Source.told l.fn.root)) × Reads (g.R.Source.told l.root) × HasPassed l.fn.bytes l.rest (g.R.Source.told l.fn.root) (g.R.Source.told l.root) × g.R.Source.keeps l.fn.root l.root
 
 abbrev pub decreases-loop-rest : goal.decreases-loop-rest
 decreases-loop-rest g l = length l.rest

@@ -23,4 +23,5 @@ loop-preserved g c =
       ap is_reading moved ∙ next_reads (told c.loop.root) c.loop.invariant.1,
       one_taken c.loop.bytes.items c.next.new.block.items c.extend_from_slice.new.self.items c.loop.counter (told c.args.root.now) (told c.loop.root) (told c.next.new.self)
           c.loop.invariant.2 c.in_ok-next.ensures.block moved c.if-is_empty.ensures longer,
+      g.met.R.Source.keeps_on _ _ _ c.loop.invariant.3 c.next.ensures.keeps,
     )
