@@ -11,7 +11,9 @@ Then the root that a run made is held against its store by `audit`, as often.
 
 --instructions  counts also the instructions of one run each of the program and its peer, by callgrind of valgrind, over the small
                 stores. It would count each byte that `rep stosb` fills as one, so the C library is told to fill without it.
---million       has also the store `million`, one object of a million files, in TMPDIR and not in memory; once each.
+--million       has also the stores `myriad` and `million`, one object of ten thousand and of a million small files, thrice each, and
+                says how much longer a file takes among a million. They lie in memory where that has room for MILLION_BYTES, else
+                in TMPDIR, where the file system's own costs for so many files are measured with them.
 
 The peer's digests are those of the crate sha2 where cargo finds it without a network (Debian: librust-sha2-dev); else they are its
 own, slower on large files, and that is said.
@@ -42,7 +44,10 @@ STORES = {
     "wide": Store(1, 10_000, 200, 0),
     "deep": Store(20, 20, 2_000, 300),
 }
-MILLION = {"million": Store(1, 1_000_000, 64, 0)}
+MILLION = {"myriad": Store(1, 10_000, 64, 0), "million": Store(1, 1_000_000, 64, 0)}
+MILLION_REPEATS = 3
+# What a million small files and their copies take in memory, with what a run holds of them.
+MILLION_BYTES = 14 << 30
 # More files than this in one object lie in folders of as many.
 IN_A_FOLDER = 10_000
 
@@ -202,12 +207,13 @@ def tell(name, store, held, times):
 
 
 def measure(program, peer, name, folder, counts):
-    """Measures one store in a folder, and prints its figures; counts says whether instructions are wanted."""
+    """Measures one store in a folder, prints its figures, and gives the seconds of each command for a file of it; counts says whether
+    instructions are wanted."""
     store = {**STORES, **MILLION}[name]
     source, dest = f"{folder}/store", f"{folder}/dest"
     held = make_store(source, store)
     commands = commands_of(program, peer, source, dest)
-    repeats = 1 if name in MILLION else REPEATS
+    repeats = MILLION_REPEATS if name in MILLION else REPEATS
     times, outputs = measure_times(commands, dest, repeats, f"{folder}/output")
     check_outputs(name, store, outputs)
     times["audit"] = audit_times(program, source, dest, repeats, f"{folder}/output")
@@ -216,6 +222,24 @@ def measure(program, peer, name, folder, counts):
         for command in ("migrate", "plain Rust"):
             if command in commands:
                 print(f"    {command:10} {instructions(commands[command], dest, folder) / 1e9:8.3f} thousand million instructions", flush=True)
+    files = store.objects * store.files
+    return {command: statistics.median(taken) / files for command, taken in times.items()}
+
+
+def tell_growth(each):
+    """Prints how much longer a file takes in an object of a million files than in one of ten thousand."""
+    for command, seconds in each["million"].items():
+        few = each["myriad"][command]
+        print(f"{command:10} {few * 1e6:6.1f} microseconds a file of ten thousand, {seconds * 1e6:6.1f} of a million: {seconds / few:.2f} times")
+
+
+def memory_with(room):
+    """The folder in memory, where it has room for so many bytes; else None."""
+    if not os.access("/dev/shm", os.W_OK):
+        return None
+    with open("/proc/meminfo", encoding="ascii") as lines:
+        free = next(int(line.split()[1]) * 1024 for line in lines if line.startswith("MemAvailable:"))
+    return "/dev/shm" if min(free, shutil.disk_usage("/dev/shm").free) >= room else None
 
 
 def main():
@@ -230,12 +254,15 @@ def main():
     counts = given.instructions and bool(shutil.which("valgrind"))
     if given.instructions and not counts:
         print("no valgrind is here, so no instructions are counted", flush=True)
-    memory = "/dev/shm" if os.access("/dev/shm", os.W_OK) else None
+    each = {}
     with tempfile.TemporaryDirectory() as built:
         peer = build_peer(built)
         for name in names:
-            with tempfile.TemporaryDirectory(dir=None if name in MILLION else memory) as folder:
-                measure(os.path.abspath(given.program), peer, name, folder, counts)
+            memory = memory_with(MILLION_BYTES if name in MILLION else 0)
+            with tempfile.TemporaryDirectory(dir=memory) as folder:
+                each[name] = measure(os.path.abspath(given.program), peer, name, folder, counts)
+    if all(name in each for name in MILLION):
+        tell_growth(each)
 
 
 if __name__ == "__main__":
