@@ -1,5 +1,6 @@
 pub mod BehindRows
 pub mod DistinctRows
+pub mod EitherPhase
 pub mod Feeding
 pub mod HeldKeeps
 pub mod MakesHold

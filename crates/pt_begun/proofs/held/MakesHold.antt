@@ -1,6 +1,6 @@
 -- Each turn that makes an object and goes on keeps what holds of what is held.
 use Rattle.std.proofs.Common.{◌≡◌, ◌<◌, ℕ, ◌+◌, ◌==◌, Bool, true, false, List, [], ◌∷◌, ◌++◌, refl, ap, sym, ◌∙◌, arith, cond, length}
-use Rattle.std.specs.Prelude.{Some, nat_lt, slice_get}
+use Rattle.std.specs.Prelude.{Ok, Some, nat_lt, slice_get}
 use Rattle.std.specs.Str.{bytes_eq}
 use Rattle.std.proofs.lemmas.Bool.{and_parts, eqb-false, ltb-false}
 use Rattle.pt_object.proofs.Ways.{same_name}
@@ -9,17 +9,20 @@ use Rattle.pt_object.specs.declared.rows.Row.{Row}
 use Rattle.pt_tree.specs.Path.{Path}
 use Rattle.pt_plan.specs.Job.{Job}
 use Rattle.pt_plan.specs.Run.{Held, with_fed}
-use Rattle.pt_plan.specs.TurnMake.{MakesStaging, MakesDeclaration, MakesVersion, PassesRow, MakesFolder, OpensCopy, CopiesOn, EndsCopy, MakesVersionInventory, MakesVersionSidecar, MakesInventory, MakesSidecar, behind, behind_stored, is_as_read, is_stored, text_of_inventory}
+use Rattle.pt_plan.specs.TurnMake.{Makings, MakesVersion, PassesRow, MakesFolder, OpensCopy, CopiesOn, EndsCopy, MakesVersionInventory, MakesVersionSidecar, MakesInventory, MakesSidecar, behind, behind_stored, is_as_read, is_stored, text_of_inventory}
+use Rattle.pt_plan.specs.World.{Calls}
 use Rattle.pt_plan.specs.declared.object.Object.{Object}
+use Rattle.pt_plan.specs.declared.phase.Phase.{Phase}
 use Rattle.pt_plan.specs.declared.phase.Part.TheVariants as part
 use Rattle.pt_plan.specs.declared.phase.Phase.TheVariants as phase
 use Rattle.pt_plan.specs.declared.phase.Position.{Position}
-use Rattle.pt_begun.specs.BegunHeld.{AreRows, IsObject, NumbersAt}
+use Rattle.pt_begun.specs.BegunHeld.{AreRows, HeldAt, NumbersAt}
 use Rattle.pt_begun.specs.HeldLaws.{MakingKeepsHeld}
 use Rattle.pt_begun.specs.PartsMade.{IsAtRow, IsAtStoredRow}
-use Rattle.pt_begun.specs.Past.{with_bytes_of}
+use Rattle.pt_begun.specs.Past.{Past, bytes_after, with_bytes_of}
+use Rattle.pt_begun.proofs.held.EitherPhase.{either_phase}
 use Rattle.pt_begun.proofs.held.Feeding.{makes_feed}
-use Rattle.pt_begun.proofs.held.HeldKeeps.{RestAt}
+use Rattle.pt_begun.proofs.held.HeldKeeps.{RestAt, with_rest}
 use Rattle.pt_begun.proofs.source.InPairtree.{some_same}
 use Rattle.pt_begun.proofs.held.Positions.{at_first, at_folder, at_passed, at_stored}
 use Rattle.pt_begun.proofs.held.ScansHold.{fed_rows}
@@ -43,117 +46,54 @@ numbers_at job object held position false at = tt
 above_none : (n : ℕ) → (n == 0) ≡ false → 0 < n
 above_none n some = let apart = eqb-false n 0 some in omega (arith, apart)
 
-after_sidecar : (job : Job) (bytes : Path → List ℕ) (held : Held) (object : Object) (flat : Bool) → (job.tuples.count == 0) ≡ flat → IsObject job object × (length held.trail ≡ object.site) → AreRows job bytes held
-    → RestAt job bytes (cond flat (phase.Rename object) (phase.Tuples object 0)) held
-after_sidecar job bytes held object true is ends rows = record { ends = ends; rows = rows; behind = tt; numbers = tt }
-after_sidecar job bytes held object false is ends rows = record { ends = ends; rows = rows; behind = tt; numbers = above_none job.tuples.count is }
-
 -- the row that is copied is the next content
 pub its_next : (held : Held) (position : Position) (row : Row) → slice_get held.rows position.row ≡ Some row → IsAtStoredRow held position → is_stored held.contents position.stored row.path ≡ true
 its_next held position row is at =
     let same : at.row ≡ row = some_same at.row row (sym at.is_row ∙ is) in
     ap (λ (r : Row). is_stored held.contents position.stored r.path) (sym same) ∙ at.next
 
+makes_rest : {job : Job} (past : Past) {here : Phase} {held after : Held} {calls : Calls} {next : Phase} → Makings job here held after calls (Ok next) → HeldAt job past here held
+    → RestAt job (bytes_after here next held past.bytes) next after
+makes_rest {job} past (MakesVersion was object) at = record {
+  ends = at.ends;
+  rows = at.rows;
+  behind = tt;
+  numbers = numbers_at job object was (record { row = 0; stored = 0; directories = 0 }) (nat_lt 0 (length was.rows)) (λ some. at_first was.rows some);
+}
+makes_rest {job} past (PassesRow was object position row is other) at = record {
+  ends = at.ends;
+  rows = at.rows;
+  behind = tt;
+  numbers = numbers_at job object was (behind position) (nat_lt (position.row + 1) (length was.rows)) (λ more. at_passed was.rows was.contents position row at.rows.contents at.rows.order is other more at.numbers);
+}
+makes_rest past (MakesFolder was object position row is stored more) at = record { ends = at.ends; rows = at.rows; behind = tt; numbers = at_folder was.rows position at.numbers }
+makes_rest {job} past (OpensCopy was object position row is stored all) at = record {
+  ends = at.ends;
+  rows = fed_rows job past.bytes was [] at.rows;
+  behind = tt;
+  numbers = record { at = at.numbers; row = row; is_row = is; next = stored; stand = ltb-false position.directories (length row.path) all };
+}
+makes_rest {job} past (CopiesOn was object position left byte block fits) at = record {
+  ends = at.ends;
+  rows = fed_rows job past.bytes was (was.fed ++ byte ∷ block) at.rows;
+  behind = tt;
+  numbers = record { at = at.numbers.at; row = at.numbers.row; is_row = at.numbers.is_row; next = at.numbers.next; stand = at.numbers.stand };
+}
+makes_rest {job} past (EndsCopy was object position row left is same) at = record {
+  ends = at.ends;
+  rows = rows_copied job past.bytes was position.row left row is same at.rows;
+  behind = tt;
+  numbers = numbers_at job object (with_fed was []) (behind_stored was.contents position row.path) (nat_lt (position.row + 1) (length was.rows)) (λ more. at_stored was.rows was.contents position row at.rows.contents at.rows.order is (its_next was position row is at.numbers) more at.numbers.at);
+}
+makes_rest {job} past (MakesVersionInventory was object) at = record { ends = at.ends; rows = fed_rows job past.bytes was (text_of_inventory job object was.rows) at.rows; behind = tt; numbers = tt }
+makes_rest {job} past (MakesVersionSidecar was object) at = record { ends = at.ends; rows = fed_rows job past.bytes was (text_of_inventory job object was.rows) at.rows; behind = tt; numbers = tt }
+makes_rest {job} past (MakesInventory was object) at = record { ends = at.ends; rows = fed_rows job past.bytes was (text_of_inventory job object was.rows) at.rows; behind = tt; numbers = tt }
+makes_rest {job} past {after} (MakesSidecar was object) at =
+    let rows = fed_rows job past.bytes was [] at.rows in
+    either_phase (λ p. RestAt job past.bytes p after) (job.tuples.count == 0) (phase.Rename object) (phase.Tuples object 0)
+    (λ flat. record { ends = at.ends; rows = rows; behind = tt; numbers = tt })
+    (λ some. record { ends = at.ends; rows = rows; behind = tt; numbers = above_none job.tuples.count some })
+makes_rest past turn at = record { ends = at.ends; rows = at.rows; behind = tt; numbers = tt }
+
 pub makes_hold : MakingKeepsHeld
-makes_hold job past here held after calls next (MakesStaging was object) at =
-    record {
-      trail = trail.makes_keep job here held after calls next (MakesStaging was object) at.trail;
-      ends = at.ends;
-      rows = at.rows;
-      behind = tt;
-      numbers = tt;
-      fed = makes_feed job here held after calls next (MakesStaging was object);
-    }
-makes_hold job past here held after calls next (MakesDeclaration was object) at =
-    record {
-      trail = trail.makes_keep job here held after calls next (MakesDeclaration was object) at.trail;
-      ends = at.ends;
-      rows = at.rows;
-      behind = tt;
-      numbers = tt;
-      fed = makes_feed job here held after calls next (MakesDeclaration was object);
-    }
-makes_hold job past here held after calls next (MakesVersion was object) at =
-    record {
-      trail = trail.makes_keep job here held after calls next (MakesVersion was object) at.trail;
-      ends = at.ends;
-      rows = at.rows;
-      behind = tt;
-      numbers = numbers_at job object was (record { row = 0; stored = 0; directories = 0 }) (nat_lt 0 (length was.rows)) (λ some. at_first was.rows some);
-      fed = makes_feed job here held after calls next (MakesVersion was object);
-    }
-makes_hold job past here held after calls next (PassesRow was object position row is other) at =
-    record {
-      trail = trail.makes_keep job here held after calls next (PassesRow was object position row is other) at.trail;
-      ends = at.ends;
-      rows = at.rows;
-      behind = tt;
-      numbers = numbers_at job object was (behind position) (nat_lt (position.row + 1) (length was.rows)) (λ more. at_passed was.rows was.contents position row at.rows.contents at.rows.order is other more at.numbers);
-      fed = makes_feed job here held after calls next (PassesRow was object position row is other);
-    }
-makes_hold job past here held after calls next (MakesFolder was object position row is stored more) at =
-    record {
-      trail = trail.makes_keep job here held after calls next (MakesFolder was object position row is stored more) at.trail;
-      ends = at.ends;
-      rows = at.rows;
-      behind = tt;
-      numbers = at_folder was.rows position at.numbers;
-      fed = makes_feed job here held after calls next (MakesFolder was object position row is stored more);
-    }
-makes_hold job past here held after calls next (OpensCopy was object position row is stored all) at =
-    record {
-      trail = trail.makes_keep job here held after calls next (OpensCopy was object position row is stored all) at.trail;
-      ends = at.ends;
-      rows = fed_rows job past.bytes was [] at.rows;
-      behind = tt;
-      numbers = record { at = at.numbers; row = row; is_row = is; next = stored; stand = ltb-false position.directories (length row.path) all };
-      fed = makes_feed job here held after calls next (OpensCopy was object position row is stored all);
-    }
-makes_hold job past here held after calls next (CopiesOn was object position left byte block fits) at =
-    record {
-      trail = trail.makes_keep job here held after calls next (CopiesOn was object position left byte block fits) at.trail;
-      ends = at.ends;
-      rows = fed_rows job past.bytes was (was.fed ++ byte ∷ block) at.rows;
-      behind = tt;
-      numbers = record { at = at.numbers.at; row = at.numbers.row; is_row = at.numbers.is_row; next = at.numbers.next; stand = at.numbers.stand };
-      fed = makes_feed job here held after calls next (CopiesOn was object position left byte block fits);
-    }
-makes_hold job past here held after calls next (EndsCopy was object position row left is same) at =
-    record {
-      trail = trail.makes_keep job here held after calls next (EndsCopy was object position row left is same) at.trail;
-      ends = at.ends;
-      rows = rows_copied job past.bytes was position.row left row is same at.rows;
-      behind = tt;
-      numbers = numbers_at job object (with_fed was []) (behind_stored was.contents position row.path) (nat_lt (position.row + 1) (length was.rows)) (λ more. at_stored was.rows was.contents position row at.rows.contents at.rows.order is (its_next was position row is at.numbers) more at.numbers.at);
-      fed = makes_feed job here held after calls next (EndsCopy was object position row left is same);
-    }
-makes_hold job past here held after calls next (MakesVersionInventory was object) at =
-    record {
-      trail = trail.makes_keep job here held after calls next (MakesVersionInventory was object) at.trail;
-      ends = at.ends;
-      rows = fed_rows job past.bytes was (text_of_inventory job object was.rows) at.rows;
-      behind = tt;
-      numbers = tt;
-      fed = makes_feed job here held after calls next (MakesVersionInventory was object);
-    }
-makes_hold job past here held after calls next (MakesVersionSidecar was object) at =
-    record {
-      trail = trail.makes_keep job here held after calls next (MakesVersionSidecar was object) at.trail;
-      ends = at.ends;
-      rows = fed_rows job past.bytes was (text_of_inventory job object was.rows) at.rows;
-      behind = tt;
-      numbers = tt;
-      fed = makes_feed job here held after calls next (MakesVersionSidecar was object);
-    }
-makes_hold job past here held after calls next (MakesInventory was object) at =
-    record {
-      trail = trail.makes_keep job here held after calls next (MakesInventory was object) at.trail;
-      ends = at.ends;
-      rows = fed_rows job past.bytes was (text_of_inventory job object was.rows) at.rows;
-      behind = tt;
-      numbers = tt;
-      fed = makes_feed job here held after calls next (MakesInventory was object);
-    }
-makes_hold job past here held after calls next (MakesSidecar was object) at =
-    let rest = after_sidecar job past.bytes (with_fed was []) object (job.tuples.count == 0) refl at.ends (fed_rows job past.bytes was [] at.rows) in
-    record { trail = trail.makes_keep job here held after calls next (MakesSidecar was object) at.trail; ends = rest.ends; rows = rest.rows; behind = rest.behind; numbers = rest.numbers; fed = makes_feed job here held after calls next (MakesSidecar was object) }
+makes_hold job past here held after calls next turn at = with_rest (makes_rest past turn at) (trail.makes_keep turn at.trail) (makes_feed turn)

@@ -1,7 +1,7 @@
 -- Each turn of the scan that goes on keeps what holds of what is held.
 use Rattle.std.proofs.Common.{◌≡◌, ◌<◌, ◌≤◌, ℕ, zero, suc, ◌-◌, ◌==◌, ◌&&◌, true, false, List, [], ◌∷◌, ◌++◌, refl, ap, sym, ◌∙◌, subst, arith, cond, length, map, take}
 use Rattle.std.specs.List.{list_all}
-use Rattle.std.specs.Prelude.{All, Some, not}
+use Rattle.std.specs.Prelude.{All, Ok, Some, not}
 use Rattle.std.proofs.lemmas.Bool.{and_from, and_parts, eqb-true}
 use Rattle.std.proofs.lemmas.List.{map-append}
 use Rattle.std.proofs.lemmas.List.Sums.{fold_push}
@@ -20,12 +20,16 @@ use Rattle.pt_walk.specs.Trail.{advanced, are_outer, current_entry, entered, ent
 use Rattle.pt_walk.specs.declared.frame.Frame.{Frame}
 use Rattle.pt_plan.specs.Job.{Job}
 use Rattle.pt_plan.specs.Run.{Held, with_fed, with_trail}
-use Rattle.pt_plan.specs.TurnScan.{StartsInSite, EntersObject, IsTooDeep, PassesShorty, EntersDirectory, MeetsDeep, OpensFile, MeetsLimit, MeetsOther, EndsSite, EndsObject, LeavesDirectory, ReadsOn, IsTooLong, EndsFile, is_in_site, is_own_directory, logical_path, own_listings, with_directory, with_file}
+use Rattle.pt_plan.specs.TurnScan.{Scans, back_at_site, StartsInSite, EntersObject, IsTooDeep, PassesShorty, EntersDirectory, MeetsDeep, OpensFile, MeetsLimit, MeetsOther, EndsSite, EndsObject, LeavesDirectory, ReadsOn, IsTooLong, EndsFile, is_in_site, is_own_directory, logical_path, own_listings, with_directory, with_file}
+use Rattle.pt_plan.specs.World.{Calls}
+use Rattle.pt_plan.specs.declared.phase.Phase.{Phase}
+use Rattle.pt_plan.specs.declared.phase.Phase.TheVariants as phase
 use Rattle.pt_plan.specs.declared.object.Object.{Object}
-use Rattle.pt_begun.specs.BegunHeld.{AreRows, EndsInObject, HoldsNoRows, IsBehindRows, IsObject, all_behind}
+use Rattle.pt_begun.specs.BegunHeld.{AreRows, HeldAt, EndsInObject, HoldsNoRows, IsBehindRows, IsObject, all_behind}
 use Rattle.pt_begun.specs.HeldLaws.{ScanningKeepsHeld}
-use Rattle.pt_begun.specs.Past.{with_bytes}
+use Rattle.pt_begun.specs.Past.{Past, bytes_after, with_bytes}
 use Rattle.pt_begun.proofs.held.BehindRows.{behind_advanced, behind_entered, behind_here, behind_left, behind_none, behind_noted}
+use Rattle.pt_begun.proofs.held.HeldKeeps.{RestAt, with_rest}
 use Rattle.pt_begun.proofs.held.Feeding.{scans_feed}
 use Rattle.pt_begun.proofs.source.InObject.{own_advanced, own_at_site, own_entered, own_parent}
 use Rattle.pt_begun.proofs.dest.Ordering.{order_push}
@@ -206,139 +210,56 @@ fed_rows job bytes held fed it = record { order = it.order; digests = it.digests
 moved_rows : (job : Job) (bytes : Path → List ℕ) (held : Held) (t : List Frame) → AreRows job bytes held → AreRows job bytes (with_trail held t)
 moved_rows job bytes held t it = record { order = it.order; digests = it.digests; contents = it.contents }
 
+no_object_rest : {job : Job} {bytes : Path → List ℕ} (object : Object) (held : Held) → RestAt job bytes phase.Walk (back_at_site object held)
+no_object_rest object held = record { ends = tt; rows = record { rows = refl; contents = refl }; behind = tt; numbers = tt }
+
+scans_rest : {job : Job} (past : Past) {here next : Phase} {held after : Held} {calls : Calls} → Scans job here held after calls (Ok next) → HeldAt job past here held → RestAt job (bytes_after here next held past.bytes) next after
+scans_rest {job} past {after} (StartsInSite was object gathered) at = record {
+  ends = (at.ends.0, first_in_site object was.trail gathered at.ends.1);
+  rows = moved_rows job past.bytes was after.trail (no_rows job past.bytes was at.rows);
+  behind = none_behind object after at.rows.rows;
+  numbers = tt;
+}
+scans_rest {job} past {after} (EntersObject was object items apart shallow) at = record {
+  ends = (counted job object items at.ends.0, counted_ends object items after.trail (first_in_directory object items was.trail at.ends.1));
+  rows = moved_rows job past.bytes was after.trail (no_rows job past.bytes was at.rows);
+  behind = none_behind (with_directory object items) after at.rows.rows;
+  numbers = tt;
+}
+scans_rest past (IsTooDeep was object apart deep) at = no_object_rest object was
+scans_rest {job} past {after} (PassesShorty was object item e passed) at = record {
+  ends = (at.ends.0, ends_advanced object was.trail at.ends.1);
+  rows = moved_rows job past.bytes was after.trail at.rows;
+  behind = all_advanced (row_paths was.rows) object was.trail at.behind;
+  numbers = tt;
+}
+scans_rest {job} past {after} (EntersDirectory was object name items e apart shallow) at = record {
+  ends = (counted job object items at.ends.0, counted_ends object items after.trail (ends_entered object items was.trail at.ends.1));
+  rows = moved_rows job past.bytes was after.trail at.rows;
+  behind = all_entered (row_paths was.rows) object was.trail (name, kind.Dir) items e at.ends.1 at.behind;
+  numbers = tt;
+}
+scans_rest past (MeetsDeep was object name e apart deep) at = no_object_rest object was
+scans_rest {job} past (OpensFile was object name e room) at = record { ends = at.ends; rows = fed_rows job past.bytes was [] at.rows; behind = at.behind; numbers = tt }
+scans_rest past (MeetsLimit was object name e room) at = no_object_rest object was
+scans_rest past (MeetsOther was object name e) at = no_object_rest object was
+scans_rest past (EndsSite was object e there) at = record { ends = (at.ends.0, eqb-true (length was.trail) object.site there); rows = at.rows; behind = tt; numbers = tt }
+scans_rest {job} past (EndsObject was object e apart own) at =
+    record { ends = (at.ends.0, at_site_again object was.trail own); rows = moved_rows job past.bytes was (parent was.trail) at.rows; behind = tt; numbers = tt }
+scans_rest {job} past {after} (LeavesDirectory was object e apart outside) at = record {
+  ends = (at.ends.0, ends_left object was.trail apart outside at.ends.1);
+  rows = moved_rows job past.bytes was after.trail at.rows;
+  behind = all_left (row_paths was.rows) object was.trail (below_site_of object was.trail apart at.ends.1.within) at.behind;
+  numbers = tt;
+}
+scans_rest {job} past {after} (ReadsOn was object bytes byte block short) at = record { ends = at.ends; rows = fed_rows job past.bytes was after.fed at.rows; behind = at.behind; numbers = tt }
+scans_rest past (IsTooLong was object bytes byte block long) at = no_object_rest object was
+scans_rest {job} past (EndsFile was object bytes) at = record {
+  ends = (at.ends.0, ends_advanced object was.trail at.ends.1);
+  rows = rows_noted job past.bytes object was at.trail.entry.0 bytes at.trail.entry.1 at.ends.1 at.behind at.rows;
+  behind = behind_file job object was at.trail.entry.0 bytes at.trail.is_one at.trail.entry.1 at.ends.1 at.behind;
+  numbers = tt;
+}
+
 pub scans_hold : ScanningKeepsHeld
-scans_hold job past old new here next held after calls (StartsInSite was object gathered) answers at =
-    record {
-      trail = trail.scans_keep job old new here next held after calls (StartsInSite was object gathered) answers at.trail;
-      ends = (at.ends.0, first_in_site object was.trail gathered at.ends.1);
-      rows = moved_rows job past.bytes was (sought 0 was.trail) (no_rows job past.bytes was at.rows);
-      behind = none_behind object (with_trail was (sought 0 was.trail)) at.rows.rows;
-      numbers = tt;
-      fed = scans_feed job here held after calls next (StartsInSite was object gathered);
-    }
-scans_hold job past old new here next held after calls (EntersObject was object items apart shallow) answers at =
-    record {
-      trail = trail.scans_keep job old new here next held after calls (EntersObject was object items apart shallow) answers at.trail;
-      ends = (counted job object items at.ends.0, counted_ends object items (entered items was.trail) (first_in_directory object items was.trail at.ends.1));
-      rows = moved_rows job past.bytes was (entered items was.trail) (no_rows job past.bytes was at.rows);
-      behind = none_behind (with_directory object items) (with_trail was (entered items was.trail)) at.rows.rows;
-      numbers = tt;
-      fed = scans_feed job here held after calls next (EntersObject was object items apart shallow);
-    }
-scans_hold job past old new here next held after calls (IsTooDeep was object apart deep) answers at =
-    record {
-      trail = trail.scans_keep job old new here next held after calls (IsTooDeep was object apart deep) answers at.trail;
-      ends = tt;
-      rows = record { rows = refl; contents = refl };
-      behind = tt;
-      numbers = tt;
-      fed = scans_feed job here held after calls next (IsTooDeep was object apart deep);
-    }
-scans_hold job past old new here next held after calls (PassesShorty was object item e passed) answers at =
-    record {
-      trail = trail.scans_keep job old new here next held after calls (PassesShorty was object item e passed) answers at.trail;
-      ends = (at.ends.0, ends_advanced object was.trail at.ends.1);
-      rows = moved_rows job past.bytes was (advanced was.trail) at.rows;
-      behind = all_advanced (row_paths was.rows) object was.trail at.behind;
-      numbers = tt;
-      fed = scans_feed job here held after calls next (PassesShorty was object item e passed);
-    }
-scans_hold job past old new here next held after calls (EntersDirectory was object name items e apart shallow) answers at =
-    record {
-      trail = trail.scans_keep job old new here next held after calls (EntersDirectory was object name items e apart shallow) answers at.trail;
-      ends = (counted job object items at.ends.0, counted_ends object items (entered items was.trail) (ends_entered object items was.trail at.ends.1));
-      rows = moved_rows job past.bytes was (entered items was.trail) at.rows;
-      behind = all_entered (row_paths was.rows) object was.trail (name, kind.Dir) items e at.ends.1 at.behind;
-      numbers = tt;
-      fed = scans_feed job here held after calls next (EntersDirectory was object name items e apart shallow);
-    }
-scans_hold job past old new here next held after calls (MeetsDeep was object name e apart deep) answers at =
-    record {
-      trail = trail.scans_keep job old new here next held after calls (MeetsDeep was object name e apart deep) answers at.trail;
-      ends = tt;
-      rows = record { rows = refl; contents = refl };
-      behind = tt;
-      numbers = tt;
-      fed = scans_feed job here held after calls next (MeetsDeep was object name e apart deep);
-    }
-scans_hold job past old new here next held after calls (OpensFile was object name e room) answers at =
-    record {
-      trail = trail.scans_keep job old new here next held after calls (OpensFile was object name e room) answers at.trail;
-      ends = at.ends;
-      rows = fed_rows job past.bytes was [] at.rows;
-      behind = at.behind;
-      numbers = tt;
-      fed = scans_feed job here held after calls next (OpensFile was object name e room);
-    }
-scans_hold job past old new here next held after calls (MeetsLimit was object name e room) answers at =
-    record {
-      trail = trail.scans_keep job old new here next held after calls (MeetsLimit was object name e room) answers at.trail;
-      ends = tt;
-      rows = record { rows = refl; contents = refl };
-      behind = tt;
-      numbers = tt;
-      fed = scans_feed job here held after calls next (MeetsLimit was object name e room);
-    }
-scans_hold job past old new here next held after calls (MeetsOther was object name e) answers at =
-    record {
-      trail = trail.scans_keep job old new here next held after calls (MeetsOther was object name e) answers at.trail;
-      ends = tt;
-      rows = record { rows = refl; contents = refl };
-      behind = tt;
-      numbers = tt;
-      fed = scans_feed job here held after calls next (MeetsOther was object name e);
-    }
-scans_hold job past old new here next held after calls (EndsSite was object e there) answers at =
-    record {
-      trail = trail.scans_keep job old new here next held after calls (EndsSite was object e there) answers at.trail;
-      ends = (at.ends.0, eqb-true (length was.trail) object.site there);
-      rows = at.rows;
-      behind = tt;
-      numbers = tt;
-      fed = scans_feed job here held after calls next (EndsSite was object e there);
-    }
-scans_hold job past old new here next held after calls (EndsObject was object e apart own) answers at =
-    record {
-      trail = trail.scans_keep job old new here next held after calls (EndsObject was object e apart own) answers at.trail;
-      ends = (at.ends.0, at_site_again object was.trail own);
-      rows = moved_rows job past.bytes was (parent was.trail) at.rows;
-      behind = tt;
-      numbers = tt;
-      fed = scans_feed job here held after calls next (EndsObject was object e apart own);
-    }
-scans_hold job past old new here next held after calls (LeavesDirectory was object e apart outside) answers at =
-    record {
-      trail = trail.scans_keep job old new here next held after calls (LeavesDirectory was object e apart outside) answers at.trail;
-      ends = (at.ends.0, ends_left object was.trail apart outside at.ends.1);
-      rows = moved_rows job past.bytes was (advanced (parent was.trail)) at.rows;
-      behind = all_left (row_paths was.rows) object was.trail (below_site_of object was.trail apart at.ends.1.within) at.behind;
-      numbers = tt;
-      fed = scans_feed job here held after calls next (LeavesDirectory was object e apart outside);
-    }
-scans_hold job past old new here next held after calls (ReadsOn was object bytes byte block short) answers at =
-    record {
-      trail = trail.scans_keep job old new here next held after calls (ReadsOn was object bytes byte block short) answers at.trail;
-      ends = at.ends;
-      rows = fed_rows job past.bytes was (was.fed ++ byte ∷ block) at.rows;
-      behind = at.behind;
-      numbers = tt;
-      fed = scans_feed job here held after calls next (ReadsOn was object bytes byte block short);
-    }
-scans_hold job past old new here next held after calls (IsTooLong was object bytes byte block long) answers at =
-    record {
-      trail = trail.scans_keep job old new here next held after calls (IsTooLong was object bytes byte block long) answers at.trail;
-      ends = tt;
-      rows = record { rows = refl; contents = refl };
-      behind = tt;
-      numbers = tt;
-      fed = scans_feed job here held after calls next (IsTooLong was object bytes byte block long);
-    }
-scans_hold job past old new here next held after calls (EndsFile was object bytes) answers at =
-    record {
-      trail = trail.scans_keep job old new here next held after calls (EndsFile was object bytes) answers at.trail;
-      ends = (at.ends.0, ends_advanced object was.trail at.ends.1);
-      rows = rows_noted job past.bytes object was at.trail.entry.0 bytes at.trail.entry.1 at.ends.1 at.behind at.rows;
-      behind = behind_file job object was at.trail.entry.0 bytes at.trail.is_one at.trail.entry.1 at.ends.1 at.behind;
-      numbers = tt;
-      fed = scans_feed job here held after calls next (EndsFile was object bytes);
-    }
+scans_hold job past old new here next held after calls turn answers at = with_rest (scans_rest past turn at) (trail.scans_keep old new turn answers at.trail) (scans_feed turn)

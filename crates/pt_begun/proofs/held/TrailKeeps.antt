@@ -1,5 +1,5 @@
 -- Each turn that goes on keeps the trail one.
-use Rattle.std.proofs.Common.{◌≡◌, ◌≤◌, ℕ, zero, suc, ◌+◌, ◌-◌, ◌==◌, ◌&&◌, Bool, true, false, List, [], ◌∷◌, refl, ap, sym, ◌∙◌, subst, cond, length, arith, drop}
+use Rattle.std.proofs.Common.{◌≡◌, ◌≤◌, ℕ, zero, suc, ◌+◌, ◌-◌, ◌==◌, ◌&&◌, true, false, List, [], ◌∷◌, refl, ap, sym, ◌∙◌, subst, length, arith, drop}
 use Rattle.std.specs.Prelude.{Option, None, Some, Ok, is_none, nat_le, nat_lt}
 use Rattle.std.proofs.lemmas.Bool.{and_from, and_parts, le-leb}
 use Rattle.std.proofs.lemmas.Option.{slice_get_within}
@@ -12,13 +12,14 @@ use Rattle.pt_walk.specs.Trail.{advanced, are_outer, current_entry, entered, ent
 use Rattle.pt_walk.specs.declared.frame.Frame.{Frame}
 use Rattle.pt_begun.proofs.source.NewObject.{named_found}
 use Rattle.pt_begun.specs.BegunHeld.{TrailAt}
+use Rattle.pt_begun.proofs.held.EitherPhase.{either_phase}
 use Rattle.pt_plan.specs.Job.{Job, form_of}
-use Rattle.pt_plan.specs.Run.{Counts, Held, with_fed}
-use Rattle.pt_plan.specs.TurnMake.{Makings, MakesStaging, MakesDeclaration, MakesVersion, PassesRow, MakesFolder, OpensCopy, CopiesOn, EndsCopy, MakesVersionInventory, MakesVersionSidecar, MakesInventory, MakesSidecar}
-use Rattle.pt_plan.specs.TurnPlace.{Places, MakesTuple, FindsTuple, RenamesObject, TellsDone, TellsEnd}
+use Rattle.pt_plan.specs.Run.{Counts, Held}
+use Rattle.pt_plan.specs.TurnMake.{Makings, MakesSidecar}
+use Rattle.pt_plan.specs.TurnPlace.{Places, after_tuple, MakesTuple, FindsTuple, TellsDone}
 use Rattle.pt_plan.specs.TurnScan.{Scans, StartsInSite, EntersObject, IsTooDeep, PassesShorty, EntersDirectory, MeetsDeep, OpensFile, MeetsLimit, MeetsOther, EndsSite, EndsObject, LeavesDirectory, ReadsOn, IsTooLong, EndsFile, to_site}
-use Rattle.pt_plan.specs.TurnStart.{Starts, IsStore, HasNoPrefix, HasPrefix, HasNoStaging, HasNoRoot, HasRoot, MakesRoot, RenamesRoot, IsSame}
-use Rattle.pt_plan.specs.TurnWalk.{Walks, OpensRoot, LeadsOn, IsSkipped, IsPresent, IsNew, IsPast, IsDeep, EntersSite, PassesEntry, LeavesSite, EndsWalk, at_object, found_at, has_object, new_object as new_object_of}
+use Rattle.pt_plan.specs.TurnStart.{Starts, MakesRoot, IsSame}
+use Rattle.pt_plan.specs.TurnWalk.{Walks, OpensRoot, IsNew, IsPast, IsDeep, EntersSite, PassesEntry, LeavesSite, at_object, found_at, has_object, new_object as new_object_of}
 use Rattle.pt_plan.specs.World.{Answers, Calls}
 use Rattle.pt_plan.specs.declared.object.Object.{Object}
 use Rattle.pt_plan.specs.declared.phase.Phase.{Phase}
@@ -97,24 +98,14 @@ back object trail is_one = trail_first (to_site object trail) (trail_dropped (le
 
 -- ---- the start
 
-after_makes : (held : Held) (number : ℕ) (last : Bool) → TrailAt (phase.RootMake number) held → TrailAt (cond last phase.RootRename (phase.RootMake (number + 1))) held
-after_makes held number true at = record { is_one = at.is_one; none = at.none; entry = tt }
-after_makes held number false at = record { is_one = at.is_one; none = at.none; entry = tt }
-
-after_checks : (held : Held) (number : ℕ) (last : Bool) → TrailAt (phase.RootCheck number) held → TrailAt (cond last phase.OpenRoot (phase.RootCheck (number + 1))) held
-after_checks held number true at = record { is_one = at.is_one; none = at.none; entry = tt }
-after_checks held number false at = record { is_one = at.is_one; none = at.none; entry = tt }
-
-pub starts_keep : (job : Job) (prefix read : List ℕ) (here next : Phase) (held : Held) (calls : Calls) → Starts job here prefix read calls (Ok next) → TrailAt here held → TrailAt next held
-starts_keep job prefix read here next held calls (IsStore was entries is) at = record { is_one = at.is_one; none = at.none; entry = tt }
-starts_keep job prefix read here next held calls (HasNoPrefix was) at = record { is_one = at.is_one; none = at.none; entry = tt }
-starts_keep job prefix read here next held calls (HasPrefix was block good) at = record { is_one = at.is_one; none = at.none; entry = tt }
-starts_keep job prefix read here next held calls (HasNoStaging was) at = record { is_one = at.is_one; none = at.none; entry = tt }
-starts_keep job prefix read here next held calls (HasNoRoot was) at = record { is_one = at.is_one; none = at.none; entry = tt }
-starts_keep job prefix read here next held calls (HasRoot was) at = record { is_one = at.is_one; none = at.none; entry = tt }
-starts_keep job prefix read here next held calls (MakesRoot was number item is) at = after_makes held number (number == 5) at
-starts_keep job prefix read here next held calls (RenamesRoot was) at = record { is_one = at.is_one; none = at.none; entry = tt }
-starts_keep job prefix read here next held calls (IsSame was number path bytes is) at = after_checks held number (number == 2) at
+pub starts_keep : {job : Job} {prefix read : List ℕ} {here next : Phase} {held : Held} {calls : Calls} → Starts job here prefix read calls (Ok next) → TrailAt here held → TrailAt next held
+starts_keep {held} (MakesRoot was number item is) at =
+    either_phase (λ p. TrailAt p held) (number == 5) phase.RootRename (phase.RootMake (number + 1))
+    (λ last. record { is_one = at.is_one; none = at.none; entry = tt }) (λ more. record { is_one = at.is_one; none = at.none; entry = tt })
+starts_keep {held} (IsSame was number path bytes is) at =
+    either_phase (λ p. TrailAt p held) (number == 2) phase.OpenRoot (phase.RootCheck (number + 1))
+    (λ last. record { is_one = at.is_one; none = at.none; entry = tt }) (λ more. record { is_one = at.is_one; none = at.none; entry = tt })
+starts_keep turn at = record { is_one = at.is_one; none = at.none; entry = tt }
 
 -- ---- the walk
 
@@ -143,76 +134,58 @@ new_object : (job : Job) (held : Held) (object : Object) (index : Option ℕ) �
 new_object job held object None gathered is_one is = record { is_one = is_one; none = tt; entry = λ apart. absurd (let no : true ≡ false = sym gathered ∙ apart in cc) }
 new_object job held object (Some i) gathered is_one is = record { is_one = at_candidate job held.trail i is_one is; none = tt; entry = λ apart. candidate_there job held.trail i is }
 
-pub walks_keep : (job : Job) (old new : Option Reading) (prefix : List ℕ) (here next : Phase) (held after : Held) (calls : Calls) → Walks job prefix here held after calls (Ok next)
+pub walks_keep : {job : Job} (old new : Option Reading) {prefix : List ℕ} {here next : Phase} {held after : Held} {calls : Calls} → Walks job prefix here held after calls (Ok next)
     → Answers calls.asked old new → TrailAt here held → TrailAt next after
 unfolding Answers
-walks_keep job old new prefix here next held after calls (OpensRoot was items) answers at =
+walks_keep old new (OpensRoot was items) answers at =
     record { is_one = trail_entered items was.trail answers.1 (subst (λ (t : List Frame). are_outer t ≡ true) (sym at.none) refl); none = tt; entry = tt }
-walks_keep job old new prefix here next held after calls (LeadsOn was is) answers at = record { is_one = at.is_one; none = tt; entry = tt }
-walks_keep job old new prefix here next held after calls (IsSkipped was why is) answers at = record { is_one = at.is_one; none = tt; entry = tt }
-walks_keep job old new prefix here next held after calls (IsPresent was index id kind is) answers at = record { is_one = at.is_one; none = tt; entry = tt }
-walks_keep job old new prefix here next held after calls (IsNew was index id is) answers at = new_object job was (new_object_of job id index was.trail) index refl at.is_one (named_found job prefix was.trail index id is)
-walks_keep job old new prefix here next held after calls (IsPast was name e short last) answers at = record { is_one = trail_advanced was.trail (name, kind.Dir) at.is_one e; none = tt; entry = tt }
-walks_keep job old new prefix here next held after calls (IsDeep was name e short last deep) answers at = record { is_one = trail_advanced was.trail (name, kind.Dir) at.is_one e; none = tt; entry = tt }
-walks_keep job old new prefix here next held after calls (EntersSite was name items e short last deep) answers at =
+walks_keep {job} old new {prefix} (IsNew was index id is) answers at = new_object job was (new_object_of job id index was.trail) index refl at.is_one (named_found job prefix was.trail index id is)
+walks_keep old new (IsPast was name e short last) answers at = record { is_one = trail_advanced was.trail (name, kind.Dir) at.is_one e; none = tt; entry = tt }
+walks_keep old new (IsDeep was name e short last deep) answers at = record { is_one = trail_advanced was.trail (name, kind.Dir) at.is_one e; none = tt; entry = tt }
+walks_keep old new (EntersSite was name items e short last deep) answers at =
     record { is_one = trail_entered items was.trail answers.1 (outer_at was.trail at.is_one (ap is_dir_entry e)); none = tt; entry = tt }
-walks_keep job old new prefix here next held after calls (PassesEntry was item e apart) answers at = record { is_one = trail_advanced was.trail item at.is_one e; none = tt; entry = tt }
-walks_keep job old new prefix here next held after calls (LeavesSite was e long) answers at = record { is_one = trail_behind was.trail at.is_one; none = tt; entry = tt }
-walks_keep job old new prefix here next held after calls (EndsWalk was e short) answers at = record { is_one = at.is_one; none = tt; entry = tt }
+walks_keep old new (PassesEntry was item e apart) answers at = record { is_one = trail_advanced was.trail item at.is_one e; none = tt; entry = tt }
+walks_keep old new (LeavesSite was e long) answers at = record { is_one = trail_behind was.trail at.is_one; none = tt; entry = tt }
+walks_keep old new turn answers at = record { is_one = at.is_one; none = tt; entry = tt }
 
 -- ---- the scan
 
-dir_is : (trail : List Frame) (item : Item) → current_entry trail ≡ Some item → is_dir_entry (Some item) ≡ true → is_dir_entry (current_entry trail) ≡ true
-dir_is trail item e is = ap is_dir_entry e ∙ is
-
-pub scans_keep : (job : Job) (old new : Option Reading) (here next : Phase) (held after : Held) (calls : Calls) → Scans job here held after calls (Ok next)
+pub scans_keep : {job : Job} (old new : Option Reading) {here next : Phase} {held after : Held} {calls : Calls} → Scans job here held after calls (Ok next)
     → Answers calls.asked old new → TrailAt here held → TrailAt next after
 unfolding Answers
-scans_keep job old new here next held after calls (StartsInSite was object gathered) answers at = record { is_one = trail_first was.trail at.is_one; none = tt; entry = tt }
-scans_keep job old new here next held after calls (EntersObject was object items apart shallow) answers at =
+scans_keep old new (StartsInSite was object gathered) answers at = record { is_one = trail_first was.trail at.is_one; none = tt; entry = tt }
+scans_keep old new (EntersObject was object items apart shallow) answers at =
     record { is_one = trail_entered items was.trail answers.1 (outer_at was.trail at.is_one (at.entry apart)); none = tt; entry = tt }
-scans_keep job old new here next held after calls (IsTooDeep was object apart deep) answers at = record { is_one = back object was.trail at.is_one; none = tt; entry = tt }
-scans_keep job old new here next held after calls (PassesShorty was object item e passed) answers at = record { is_one = trail_advanced was.trail item at.is_one e; none = tt; entry = tt }
-scans_keep job old new here next held after calls (EntersDirectory was object name items e apart shallow) answers at =
-    record { is_one = trail_entered items was.trail answers.1 (outer_at was.trail at.is_one (dir_is was.trail (name, kind.Dir) e refl)); none = tt; entry = tt }
-scans_keep job old new here next held after calls (MeetsDeep was object name e apart deep) answers at = record { is_one = back object was.trail at.is_one; none = tt; entry = tt }
-scans_keep job old new here next held after calls (OpensFile was object name e room) answers at = record { is_one = at.is_one; none = tt; entry = ((name, kind.File), e) }
-scans_keep job old new here next held after calls (MeetsLimit was object name e room) answers at = record { is_one = back object was.trail at.is_one; none = tt; entry = tt }
-scans_keep job old new here next held after calls (MeetsOther was object name e) answers at = record { is_one = back object was.trail at.is_one; none = tt; entry = tt }
-scans_keep job old new here next held after calls (EndsSite was object e there) answers at = record { is_one = at.is_one; none = tt; entry = tt }
-scans_keep job old new here next held after calls (EndsObject was object e apart own) answers at = record { is_one = trail_parent was.trail at.is_one; none = tt; entry = tt }
-scans_keep job old new here next held after calls (LeavesDirectory was object e apart outside) answers at = record { is_one = trail_behind was.trail at.is_one; none = tt; entry = tt }
-scans_keep job old new here next held after calls (ReadsOn was object bytes byte block short) answers at = record { is_one = at.is_one; none = tt; entry = at.entry }
-scans_keep job old new here next held after calls (IsTooLong was object bytes byte block long) answers at = record { is_one = back object was.trail at.is_one; none = tt; entry = tt }
-scans_keep job old new here next held after calls (EndsFile was object bytes) answers at = record { is_one = trail_advanced was.trail at.entry.0 at.is_one at.entry.1; none = tt; entry = tt }
+scans_keep old new (IsTooDeep was object apart deep) answers at = record { is_one = back object was.trail at.is_one; none = tt; entry = tt }
+scans_keep old new (PassesShorty was object item e passed) answers at = record { is_one = trail_advanced was.trail item at.is_one e; none = tt; entry = tt }
+scans_keep old new (EntersDirectory was object name items e apart shallow) answers at =
+    record { is_one = trail_entered items was.trail answers.1 (outer_at was.trail at.is_one (ap is_dir_entry e)); none = tt; entry = tt }
+scans_keep old new (MeetsDeep was object name e apart deep) answers at = record { is_one = back object was.trail at.is_one; none = tt; entry = tt }
+scans_keep old new (OpensFile was object name e room) answers at = record { is_one = at.is_one; none = tt; entry = ((name, kind.File), e) }
+scans_keep old new (MeetsLimit was object name e room) answers at = record { is_one = back object was.trail at.is_one; none = tt; entry = tt }
+scans_keep old new (MeetsOther was object name e) answers at = record { is_one = back object was.trail at.is_one; none = tt; entry = tt }
+scans_keep old new (EndsSite was object e there) answers at = record { is_one = at.is_one; none = tt; entry = tt }
+scans_keep old new (EndsObject was object e apart own) answers at = record { is_one = trail_parent was.trail at.is_one; none = tt; entry = tt }
+scans_keep old new (LeavesDirectory was object e apart outside) answers at = record { is_one = trail_behind was.trail at.is_one; none = tt; entry = tt }
+scans_keep old new (ReadsOn was object bytes byte block short) answers at = record { is_one = at.is_one; none = tt; entry = at.entry }
+scans_keep old new (IsTooLong was object bytes byte block long) answers at = record { is_one = back object was.trail at.is_one; none = tt; entry = tt }
+scans_keep old new (EndsFile was object bytes) answers at = record { is_one = trail_advanced was.trail at.entry.0 at.is_one at.entry.1; none = tt; entry = tt }
 
 -- ---- making and placing
 
-after_sidecar : (held : Held) (object : Object) (flat : Bool) → is_trail held.trail ≡ true → TrailAt (cond flat (phase.Rename object) (phase.Tuples object 0)) held
-after_sidecar held object true is_one = record { is_one = is_one; none = tt; entry = tt }
-after_sidecar held object false is_one = record { is_one = is_one; none = tt; entry = tt }
+pub makes_keep : {job : Job} {here : Phase} {held after : Held} {calls : Calls} {next : Phase} → Makings job here held after calls (Ok next) → TrailAt here held → TrailAt next after
+makes_keep {job} {after} (MakesSidecar was object) at =
+    either_phase (λ p. TrailAt p after) (job.tuples.count == 0) (phase.Rename object) (phase.Tuples object 0)
+    (λ flat. record { is_one = at.is_one; none = tt; entry = tt }) (λ some. record { is_one = at.is_one; none = tt; entry = tt })
+makes_keep turn at = record { is_one = at.is_one; none = tt; entry = tt }
 
-pub makes_keep : (job : Job) (here : Phase) (held after : Held) (calls : Calls) (next : Phase) → Makings job here held after calls (Ok next) → TrailAt here held → TrailAt next after
-makes_keep job here held after calls next (MakesStaging was object) at = record { is_one = at.is_one; none = tt; entry = tt }
-makes_keep job here held after calls next (MakesDeclaration was object) at = record { is_one = at.is_one; none = tt; entry = tt }
-makes_keep job here held after calls next (MakesVersion was object) at = record { is_one = at.is_one; none = tt; entry = tt }
-makes_keep job here held after calls next (PassesRow was object position row is other) at = record { is_one = at.is_one; none = tt; entry = tt }
-makes_keep job here held after calls next (MakesFolder was object position row is stored more) at = record { is_one = at.is_one; none = tt; entry = tt }
-makes_keep job here held after calls next (OpensCopy was object position row is stored all) at = record { is_one = at.is_one; none = tt; entry = tt }
-makes_keep job here held after calls next (CopiesOn was object position left byte block fits) at = record { is_one = at.is_one; none = tt; entry = tt }
-makes_keep job here held after calls next (EndsCopy was object position row left is same) at = record { is_one = at.is_one; none = tt; entry = tt }
-makes_keep job here held after calls next (MakesVersionInventory was object) at = record { is_one = at.is_one; none = tt; entry = tt }
-makes_keep job here held after calls next (MakesVersionSidecar was object) at = record { is_one = at.is_one; none = tt; entry = tt }
-makes_keep job here held after calls next (MakesInventory was object) at = record { is_one = at.is_one; none = tt; entry = tt }
-makes_keep job here held after calls next (MakesSidecar was object) at = after_sidecar (with_fed was []) object (job.tuples.count == 0) at.is_one
+after_a_tuple : (job : Job) {held : Held} (object : Object) (number : ℕ) → is_trail held.trail ≡ true → TrailAt (after_tuple job object number) held
+after_a_tuple job {held} object number is_one =
+    either_phase (λ p. TrailAt p held) (nat_lt (number + 1) job.tuples.count) (phase.Tuples object (number + 1)) (phase.Rename object)
+    (λ more. record { is_one = is_one; none = tt; entry = tt }) (λ last. record { is_one = is_one; none = tt; entry = tt })
 
-after_a_tuple : (held : Held) (object : Object) (number : ℕ) (more : Bool) → is_trail held.trail ≡ true → TrailAt (cond more (phase.Tuples object (number + 1)) (phase.Rename object)) held
-after_a_tuple held object number true is_one = record { is_one = is_one; none = tt; entry = tt }
-after_a_tuple held object number false is_one = record { is_one = is_one; none = tt; entry = tt }
-
-pub places_keep : (job : Job) (counts : Counts) (here next : Phase) (held after : Held) (calls : Calls) → Places job counts here held after calls (Ok next) → TrailAt here held → TrailAt next after
-places_keep job counts here next held after calls (MakesTuple was object number) at = after_a_tuple was object number (nat_lt (number + 1) job.tuples.count) at.is_one
-places_keep job counts here next held after calls (FindsTuple was object number) at = after_a_tuple was object number (nat_lt (number + 1) job.tuples.count) at.is_one
-places_keep job counts here next held after calls (RenamesObject was object) at = record { is_one = at.is_one; none = tt; entry = tt }
-places_keep job counts here next held after calls (TellsDone was object) at = record { is_one = trail_first was.trail at.is_one; none = tt; entry = tt }
-places_keep job counts here next held after calls (TellsEnd was) at = record { is_one = at.is_one; none = tt; entry = tt }
+pub places_keep : {job : Job} {counts : Counts} {here next : Phase} {held after : Held} {calls : Calls} → Places job counts here held after calls (Ok next) → TrailAt here held → TrailAt next after
+places_keep {job} (MakesTuple was object number) at = after_a_tuple job object number at.is_one
+places_keep {job} (FindsTuple was object number) at = after_a_tuple job object number at.is_one
+places_keep (TellsDone was object) at = record { is_one = trail_first was.trail at.is_one; none = tt; entry = tt }
+places_keep turn at = record { is_one = at.is_one; none = tt; entry = tt }

@@ -1,10 +1,11 @@
 -- The pairtree of a store, as the source tells it.
-use Rattle.std.proofs.Common.{◌≡◌, ℕ, zero, suc, true, List, [], ◌∷◌, refl, ap, sym, drop}
+use Rattle.std.proofs.Common.{◌≡◌, ℕ, zero, suc, true, List, [], ◌∷◌, refl, ap, sym, subst, drop}
 use Rattle.std.specs.Prelude.{Option, None, Some, is_some, slice_get, unwrap_or}
 use Rattle.std.specs.Option.{option_and_then, option_map}
 use Rattle.std.proofs.lemmas.Bool.{and_parts}
 use Rattle.pt_tree.specs.Forest.{Forest, Node, none, as_dir, as_file, dir_at, file_at, is_proper, listing_at, listing_of}
 use Rattle.pt_tree.specs.Path.{Path}
+use Rattle.pt_tree.specs.Source.{Reading}
 use Rattle.pt_walk.proofs.Paths.{reads_below}
 use Rattle.pt_walk.specs.Sites.{sites}
 use Rattle.pt_plan.specs.Store.{is_store, pairtree_of, pairtree_root, sites_in_root, sites_of, version_file}
@@ -44,3 +45,7 @@ split_left zero (y ∷ xs) x rest e = (ap (λ (l : List _). slice_get l 0) (sym 
     head_of b l a m h = cc
 split_left (suc k) [] x rest e = absurd (cc)
 split_left (suc k) (y ∷ xs) x rest e = split_left k xs x rest e
+
+-- what holds of the source holds of it after a turn that left it so
+pub stays : {s new : Reading} (P : Reading → Type 0) → Some new ≡ Some s → P s → P new
+stays {s} {new} P same it = subst P (sym (some_same new s same)) it

@@ -1,6 +1,6 @@
 -- The turns that place an object, and that tell of it and of the end, keep what holds where the source tells.
-use Rattle.std.proofs.Common.{◌≡◌, ℕ, suc, ◌+◌, Bool, true, false, List, refl, sym, subst, cond}
-use Rattle.std.specs.Prelude.{None, Some, Ok, nat_lt}
+use Rattle.std.proofs.Common.{◌≡◌, ℕ, suc, ◌+◌, List, refl, subst}
+use Rattle.std.specs.Prelude.{Some, Ok, nat_lt}
 use Rattle.pt_tree.specs.Source.{Reading}
 use Rattle.pt_walk.specs.Trail.{sought}
 use Rattle.pt_walk.specs.declared.frame.Frame.{Frame}
@@ -8,33 +8,30 @@ use Rattle.pt_begun.specs.BegunSource.{HasStarted, HoldsNoObject, IsOnWay, IsSca
 use Rattle.pt_begun.specs.Past.{done_after}
 use Rattle.pt_plan.specs.Job.{Job}
 use Rattle.pt_plan.specs.Run.{Counts, Held}
-use Rattle.pt_plan.specs.TurnPlace.{Places, MakesTuple, FindsTuple, RenamesObject, TellsDone, TellsEnd, restarted}
+use Rattle.pt_plan.specs.TurnPlace.{Places, after_tuple, MakesTuple, FindsTuple, RenamesObject, TellsDone, TellsEnd, restarted}
 use Rattle.pt_plan.specs.World.{Answers, Calls}
 use Rattle.pt_plan.specs.declared.object.Object.{Object}
 use Rattle.pt_plan.specs.declared.phase.Phase.{Phase}
 use Rattle.pt_plan.specs.declared.phase.Phase.TheVariants as phase
+use Rattle.pt_begun.proofs.held.EitherPhase.{either_phase}
 use Rattle.pt_begun.proofs.source.InObject.{site_itself}
-use Rattle.pt_begun.proofs.source.InPairtree.{some_same}
+use Rattle.pt_begun.proofs.source.InPairtree.{stays}
 
-stays : (job : Job) (s new : Reading) (prefix : List ℕ) (object : Object) (held : Held) (count : ℕ) → Some new ≡ Some s → HasStarted s.tree prefix × IsScanned job s.tree prefix object held count
-    → HasStarted new.tree prefix × IsScanned job new.tree prefix object held count
-stays job s new prefix object held count same it = subst (λ (r : Reading). HasStarted r.tree prefix × IsScanned job r.tree prefix object held count) (sym (some_same new s same)) it
+after_a_tuple : (job : Job) {s new : Reading} (prefix : List ℕ) (object : Object) (held : Held) (count number : ℕ) → Some new ≡ Some s → HasStarted s.tree prefix × IsScanned job s.tree prefix object held count
+    → SourceAt job new prefix (done_after (phase.Tuples object number) held.trail (after_tuple job object number) count) (after_tuple job object number) held
+after_a_tuple job {new} prefix object held count number same at =
+    let next = λ (p : Phase). SourceAt job new prefix (done_after (phase.Tuples object number) held.trail p count) p held in
+    let it = stays (λ r. HasStarted r.tree prefix × IsScanned job r.tree prefix object held count) same at in
+    either_phase next (nat_lt (number + 1) job.tuples.count) (phase.Tuples object (number + 1)) (phase.Rename object) (λ more. it) (λ last. it)
 
-after_a_tuple : (job : Job) (s : Reading) (prefix : List ℕ) (object : Object) (held : Held) (count number : ℕ) (more : Bool) → HasStarted s.tree prefix × IsScanned job s.tree prefix object held count
-    → SourceAt job s prefix (done_after (phase.Tuples object number) held.trail (cond more (phase.Tuples object (number + 1)) (phase.Rename object)) count) (cond more (phase.Tuples object (number + 1)) (phase.Rename object)) held
-after_a_tuple job s prefix object held count number true it = it
-after_a_tuple job s prefix object held count number false it = it
-
-pub places_keep : (job : Job) (counts : Counts) (s new : Reading) (prefix : List ℕ) (count : ℕ) (here next : Phase) (held after : Held) (calls : Calls)
+pub places_keep : (job : Job) {counts : Counts} (s new : Reading) (prefix : List ℕ) (count : ℕ) {here next : Phase} {held after : Held} {calls : Calls}
     → Places job counts here held after calls (Ok next) → SourceAt job s prefix count here held
     → Answers calls.asked (Some s) (Some new) → SourceAt job new prefix (done_after here held.trail next count) next after
 unfolding Answers
-places_keep job counts s new prefix count here next held after calls (MakesTuple was object number) at answers =
-    after_a_tuple job new prefix object was count number (nat_lt (number + 1) job.tuples.count) (stays job s new prefix object was count answers at)
-places_keep job counts s new prefix count here next held after calls (FindsTuple was object number) at answers =
-    after_a_tuple job new prefix object was count number (nat_lt (number + 1) job.tuples.count) (stays job s new prefix object was count answers at)
-places_keep job counts s new prefix count here next held after calls (RenamesObject was object) at answers = stays job s new prefix object was count answers at
-places_keep job counts s new prefix count here next held after calls (TellsDone was object) at answers =
-    subst (λ (r : Reading). HoldsNoObject (restarted was) × HasStarted r.tree prefix × IsOnWay job r.tree (sought 0 was.trail) (suc count)) (sym (some_same new s answers))
+places_keep job s new prefix count (MakesTuple was object number) at answers = after_a_tuple job prefix object was count number answers at
+places_keep job s new prefix count (FindsTuple was object number) at answers = after_a_tuple job prefix object was count number answers at
+places_keep job s new prefix count (RenamesObject was object) at answers = stays (λ r. HasStarted r.tree prefix × IsScanned job r.tree prefix object was count) answers at
+places_keep job s new prefix count (TellsDone was object) at answers =
+    stays (λ r. HoldsNoObject (restarted was) × HasStarted r.tree prefix × IsOnWay job r.tree (sought 0 was.trail) (suc count)) answers
     (record { rows = refl; contents = refl }, at.0, subst (λ (t : List Frame). IsOnWay job s.tree (sought 0 t) (suc count)) (site_itself object was.trail at.1.at_site) at.1.stands.site.way)
-places_keep job counts s new prefix count here next held after calls (TellsEnd was) at answers = tt
+places_keep job s new prefix count (TellsEnd was) at answers = tt

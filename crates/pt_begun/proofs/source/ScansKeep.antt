@@ -10,7 +10,7 @@ use Rattle.pt_object.specs.declared.rows.Row.{Row}
 use Rattle.pt_tree.specs.Forest.{Forest, none, file, other, dir, Dir, File, file_at, is_proper, listing_at, listing_of}
 use Rattle.pt_tree.specs.Listing.{Item}
 use Rattle.pt_tree.specs.Path.{Path, joined}
-use Rattle.pt_tree.specs.Source.{Reading, IsListed, IsRead, after_next, after_open}
+use Rattle.pt_tree.specs.Source.{Reading, IsListed, IsRead}
 use Rattle.pt_tree.specs.declared.kind.Kind.TheVariants as kind
 use Rattle.pt_walk.proofs.ObjectSteps as step
 use Rattle.pt_walk.proofs.TrailSteps.{directory_there, file_there, path_grows}
@@ -26,12 +26,12 @@ use Rattle.pt_plan.specs.Job.{Job}
 use Rattle.pt_plan.specs.Run.{Held, with_fed, with_trail}
 use Rattle.pt_plan.specs.Store.{is_store, pairtree_of, pairtree_root}
 use Rattle.pt_plan.specs.TurnMake.{path_of_source}
-use Rattle.pt_plan.specs.TurnScan.{Scans, StartsInSite, EntersObject, IsTooDeep, PassesShorty, EntersDirectory, MeetsDeep, OpensFile, MeetsLimit, MeetsOther, EndsSite, EndsObject, LeavesDirectory, ReadsOn, IsTooLong, EndsFile, back_at_site, is_in_site, is_own_directory, is_passed, logical_path, none_listed, own_listings, to_site, with_directory, with_file}
+use Rattle.pt_plan.specs.TurnScan.{Scans, StartsInSite, EntersObject, IsTooDeep, PassesShorty, EntersDirectory, MeetsDeep, OpensFile, MeetsLimit, MeetsOther, EndsSite, EndsObject, LeavesDirectory, ReadsOn, IsTooLong, EndsFile, back_at_site, is_in_site, is_own_directory, is_passed, logical_path, none_listed, own_listings, to_site, with_directory}
 use Rattle.pt_plan.specs.World.{Answers, Calls}
 use Rattle.pt_plan.specs.declared.phase.Phase.{Phase}
 use Rattle.pt_plan.specs.declared.object.Object.{Object}
 use Rattle.pt_begun.proofs.source.InObject.{is_gathered, own_advanced, own_at_site, own_entered, path_in_object, path_length, scans_more, scans_same, site_itself, still_counted}
-use Rattle.pt_begun.proofs.source.InPairtree.{file_in_pairtree, listing_in, pairtree_proper, some_same}
+use Rattle.pt_begun.proofs.source.InPairtree.{file_in_pairtree, listing_in, pairtree_proper, some_same, stays}
 use Rattle.pt_begun.proofs.source.ReadsOn.{reads_block, reads_end, reads_first}
 use Rattle.pt_begun.proofs.source.ScanSteps.{left_behind, left_directory, left_file, left_none, left_shorty, moved_at_site, moved_behind, moved_in, moved_on, moved_out, below_site}
 
@@ -43,10 +43,10 @@ none_is (dir name inside after) = refl
 
 -- ---- the object is given up
 
-given_up : (job : Job) (source new : Forest) (prefix : List ℕ) (object : Object) (held : Held) (count : ℕ) → new ≡ source → HasStarted source prefix → IsInObject job source prefix object held.trail count
-    → HoldsNoObject (back_at_site object held) × HasStarted new prefix × IsOnWay job new (sought 0 (to_site object held.trail)) (suc count)
-given_up job source new prefix object held count same started it =
-    subst (λ (f : Forest). HoldsNoObject (back_at_site object held) × HasStarted f prefix × IsOnWay job f (sought 0 (to_site object held.trail)) (suc count)) (sym same)
+given_up : (job : Job) {s new : Reading} {prefix : List ℕ} (object : Object) (held : Held) {count : ℕ} → Some new ≡ Some s → HasStarted s.tree prefix → IsInObject job s.tree prefix object held.trail count
+    → HoldsNoObject (back_at_site object held) × HasStarted new.tree prefix × IsOnWay job new.tree (sought 0 (to_site object held.trail)) (suc count)
+given_up job {prefix} object held {count} same started it =
+    stays (λ r. HoldsNoObject (back_at_site object held) × HasStarted r.tree prefix × IsOnWay job r.tree (sought 0 (to_site object held.trail)) (suc count)) same
     (record { rows = refl; contents = refl }, started, it.site.way)
 
 -- ---- the scan goes on
@@ -301,41 +301,40 @@ ends_file job source prefix object held (frame ∷ frames) name read count prope
 
 -- ---- each turn
 
-to_scan : (job : Job) (source new : Forest) (prefix : List ℕ) (object : Object) (held : Held) (count : ℕ) → new ≡ source → HasStarted source prefix → IsScanning job source prefix object held count
-    → HasStarted new prefix × IsScanning job new prefix object held count
-to_scan job source new prefix object held count same started it = subst (λ (f : Forest). HasStarted f prefix × IsScanning job f prefix object held count) (sym same) (started, it)
+abbrev InScan : Job → List ℕ → Object → ℕ → Held → Reading → Type 0
+InScan job prefix object count held s = HasStarted s.tree prefix × IsScanning job s.tree prefix object held count
 
-to_make : (job : Job) (source new : Forest) (prefix : List ℕ) (object : Object) (held : Held) (count : ℕ) → new ≡ source → HasStarted source prefix → IsScanned job source prefix object held count
-    → HasStarted new prefix × IsScanned job new prefix object held count
-to_make job source new prefix object held count same started it = subst (λ (f : Forest). HasStarted f prefix × IsScanned job f prefix object held count) (sym same) (started, it)
+abbrev AllScanned : Job → List ℕ → Object → ℕ → Held → Reading → Type 0
+AllScanned job prefix object count held s = HasStarted s.tree prefix × IsScanned job s.tree prefix object held count
 
-tree_same : (new old : Reading) → Some new ≡ Some old → new.tree ≡ old.tree
-tree_same new old same = ap (λ (r : Reading). r.tree) (some_same new old same)
+abbrev InFile : Job → List ℕ → Object → ℕ → ℕ → Held → Reading → Type 0
+InFile job prefix object count bytes held s =
+    HasStarted s.tree prefix × IsScanning job s.tree prefix object held count × IsReadingFile job s.tree object held s.unread bytes
 
-pub scans_keep : (job : Job) (s new : Reading) (prefix : List ℕ) (count : ℕ) (here next : Phase) (held after : Held) (calls : Calls)
+pub scans_keep : (job : Job) (s new : Reading) (prefix : List ℕ) (count : ℕ) {here next : Phase} {held after : Held} {calls : Calls}
     → is_proper s.tree ≡ true → is_trail held.trail ≡ true → Scans job here held after calls (Ok next) → SourceAt job s prefix count here held
     → Answers calls.asked (Some s) (Some new) → SourceAt job new prefix (done_after here held.trail next count) next after
 unfolding Answers IsListed IsRead
-scans_keep job s new prefix count here next held after calls proper is_one (StartsInSite was object gathered) at answers =
-    to_scan job s.tree new.tree prefix object (with_trail was (sought 0 was.trail)) count (tree_same new s answers) at.1
-    (starts_in_site job s.tree prefix object was was.trail count gathered at.2 at.3 at.4 at.0.rows)
-scans_keep job s new prefix count here next held after calls proper is_one (EntersObject was object items apart shallow) at answers =
-    to_scan job s.tree new.tree prefix (with_directory object items) (with_trail was (entered items was.trail)) count (tree_same new s answers.2) at.1
-    (enters_object job s.tree prefix object was was.trail items count (pairtree_proper s.tree at.1.store proper) is_one apart shallow (sym (listing_in s.tree (names_to was.trail) at.1.store) ∙ answers.0 s refl) at.2 at.3 at.4 at.0.rows)
-scans_keep job s new prefix count here next held after calls proper is_one (IsTooDeep was object apart deep) at answers =
-    given_up job s.tree new.tree prefix object was count (tree_same new s answers) at.1 at.2
-scans_keep job s new prefix count here next held after calls proper is_one (PassesShorty was object item e passed) at answers =
-    to_scan job s.tree new.tree prefix object (with_trail was (advanced was.trail)) count (tree_same new s answers) at.0
-    (passes_shorty job s.tree prefix object was item count (pairtree_proper s.tree at.0.store proper) e passed at.1)
-scans_keep job s new prefix count here next held after calls proper is_one (EntersDirectory was object name items e apart shallow) at answers =
-    to_scan job s.tree new.tree prefix (with_directory object items) (with_trail was (entered items was.trail)) count (tree_same new s answers.2) at.0
-    (enters_directory job s.tree prefix object was was.trail name items count (pairtree_proper s.tree at.0.store proper) is_one e apart shallow (sym (listing_in s.tree (names_to was.trail) at.0.store) ∙ answers.0 s refl) at.1.stands at.1.inside at.1.scanned)
-scans_keep job s new prefix count here next held after calls proper is_one (MeetsDeep was object name e apart deep) at answers =
-    given_up job s.tree new.tree prefix object was count (tree_same new s answers) at.0 at.1.stands
-scans_keep job s new prefix count here next held after calls proper is_one (OpensFile was object name e room) at answers =
+scans_keep job s new prefix count {after} proper is_one (StartsInSite was object gathered) at answers =
+    stays (InScan job prefix object count after) answers
+    (at.1, starts_in_site job s.tree prefix object was was.trail count gathered at.2 at.3 at.4 at.0.rows)
+scans_keep job s new prefix count {after} proper is_one (EntersObject was object items apart shallow) at answers =
+    stays (InScan job prefix (with_directory object items) count after) answers.2
+    (at.1, enters_object job s.tree prefix object was was.trail items count (pairtree_proper s.tree at.1.store proper) is_one apart shallow (sym (listing_in s.tree (names_to was.trail) at.1.store) ∙ answers.0 s refl) at.2 at.3 at.4 at.0.rows)
+scans_keep job s new prefix count {after} proper is_one (IsTooDeep was object apart deep) at answers =
+    given_up job object was answers at.1 at.2
+scans_keep job s new prefix count {after} proper is_one (PassesShorty was object item e passed) at answers =
+    stays (InScan job prefix object count after) answers
+    (at.0, passes_shorty job s.tree prefix object was item count (pairtree_proper s.tree at.0.store proper) e passed at.1)
+scans_keep job s new prefix count {after} proper is_one (EntersDirectory was object name items e apart shallow) at answers =
+    stays (InScan job prefix (with_directory object items) count after) answers.2
+    (at.0, enters_directory job s.tree prefix object was was.trail name items count (pairtree_proper s.tree at.0.store proper) is_one e apart shallow (sym (listing_in s.tree (names_to was.trail) at.0.store) ∙ answers.0 s refl) at.1.stands at.1.inside at.1.scanned)
+scans_keep job s new prefix count {after} proper is_one (MeetsDeep was object name e apart deep) at answers =
+    given_up job object was answers at.0 at.1.stands
+scans_keep job s new prefix count {after} proper is_one (OpensFile was object name e room) at answers =
     let path = pairtree_root ∷ names_to was.trail in
     let top_proper = pairtree_proper s.tree at.0.store proper in
-    subst (λ (r : Reading). HasStarted r.tree prefix × IsScanning job r.tree prefix object (with_fed was []) count × IsReadingFile job r.tree object (with_fed was []) r.unread 0) (sym (some_same new (after_open path s) answers)) (
+    stays (InFile job prefix object count 0 after) answers (
       at.0,
       same_scan job s.tree prefix object was [] count at.1,
       record {
@@ -346,22 +345,20 @@ scans_keep job s new prefix count here next held after calls proper is_one (Open
         read = reads_first (bytes_at (pairtree_of s.tree) (names_to was.trail)) (file_at s.tree path) (opened s.tree was.trail name at.0.store top_proper at.1.stands.fits e);
       },
     )
-scans_keep job s new prefix count here next held after calls proper is_one (MeetsLimit was object name e room) at answers =
-    given_up job s.tree new.tree prefix object was count (tree_same new s answers) at.0 at.1.stands
-scans_keep job s new prefix count here next held after calls proper is_one (MeetsOther was object name e) at answers =
-    given_up job s.tree new.tree prefix object was count (tree_same new s answers) at.0 at.1.stands
-scans_keep job s new prefix count here next held after calls proper is_one (EndsSite was object e there) at answers =
-    to_make job s.tree new.tree prefix object was count (tree_same new s answers) at.0 (ends_site job s.tree prefix object was count e there at.1)
-scans_keep job s new prefix count here next held after calls proper is_one (EndsObject was object e apart own) at answers =
-    to_make job s.tree new.tree prefix object (with_trail was (parent was.trail)) count (tree_same new s answers) at.0
-    (ends_object job s.tree prefix object was was.trail count refl e apart own at.1.stands at.1.scanned)
-scans_keep job s new prefix count here next held after calls proper is_one (LeavesDirectory was object e apart outside) at answers =
-    to_scan job s.tree new.tree prefix object (with_trail was (advanced (parent was.trail))) count (tree_same new s answers) at.0
-    (leaves_directory job s.tree prefix object was count e apart outside at.1)
-scans_keep job s new prefix count here next held after calls proper is_one (ReadsOn was object bytes byte block short) at answers =
+scans_keep job s new prefix count {after} proper is_one (MeetsLimit was object name e room) at answers =
+    given_up job object was answers at.0 at.1.stands
+scans_keep job s new prefix count {after} proper is_one (MeetsOther was object name e) at answers =
+    given_up job object was answers at.0 at.1.stands
+scans_keep job s new prefix count {after} proper is_one (EndsSite was object e there) at answers =
+    stays (AllScanned job prefix object count after) answers (at.0, ends_site job s.tree prefix object was count e there at.1)
+scans_keep job s new prefix count {after} proper is_one (EndsObject was object e apart own) at answers =
+    stays (AllScanned job prefix object count after) answers (at.0, ends_object job s.tree prefix object was was.trail count refl e apart own at.1.stands at.1.scanned)
+scans_keep job s new prefix count {after} proper is_one (LeavesDirectory was object e apart outside) at answers =
+    stays (InScan job prefix object count after) answers
+    (at.0, leaves_directory job s.tree prefix object was count e apart outside at.1)
+scans_keep job s new prefix count {after} proper is_one (ReadsOn was object bytes byte block short) at answers =
     let whole = bytes_at (pairtree_of s.tree) (names_to was.trail) in
-    subst (λ (r : Reading). HasStarted r.tree prefix × IsScanning job r.tree prefix object (with_fed was (was.fed ++ byte ∷ block)) count × IsReadingFile job r.tree object (with_fed was (was.fed ++ byte ∷ block)) r.unread (bytes + length (byte ∷ block)))
-    (sym (some_same new (after_next s) answers.1)) (
+    stays (InFile job prefix object count (bytes + length (byte ∷ block)) after) answers.1 (
       at.0,
       same_scan job s.tree prefix object was (was.fed ++ byte ∷ block) count at.1,
       record {
@@ -372,11 +369,10 @@ scans_keep job s new prefix count here next held after calls proper is_one (Read
         read = reads_block 8192 whole bytes was.fed (byte ∷ block) s.unread at.2.read (answers.0 s refl);
       },
     )
-scans_keep job s new prefix count here next held after calls proper is_one (IsTooLong was object bytes byte block long) at answers =
-    given_up job s.tree new.tree prefix object was count (ap (λ (r : Reading). r.tree) (some_same new (after_next s) answers.1)) at.0 at.1.stands
-scans_keep job s new prefix count here next held after calls proper is_one (EndsFile was object bytes) at answers =
+scans_keep job s new prefix count {after} proper is_one (IsTooLong was object bytes byte block long) at answers =
+    given_up job object was answers.1 at.0 at.1.stands
+scans_keep job s new prefix count {after} proper is_one (EndsFile was object bytes) at answers =
     let whole = bytes_at (pairtree_of s.tree) (names_to was.trail) in
     let all = reads_end 8192 whole bytes was.fed s.unread (omega arith) at.2.read (answers.0 s refl) in
     let it = ends_file job s.tree prefix object was was.trail at.2.name bytes count (pairtree_proper s.tree at.0.store proper) at.2.file at.2.room at.2.short all.all all.length_is at.1.stands at.1.inside at.1.scanned in
-    to_scan job s.tree new.tree prefix object (with_file job object was bytes) count (ap (λ (r : Reading). r.tree) (some_same new (after_next s) answers.1)) at.0
-    (record { stands = it.0; inside = it.1; scanned = it.2 })
+    stays (InScan job prefix object count after) answers.1 (at.0, record { stands = it.0; inside = it.1; scanned = it.2 })

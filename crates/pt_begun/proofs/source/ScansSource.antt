@@ -27,7 +27,7 @@ use Rattle.pt_plan.specs.declared.phase.Phase.{Phase}
 use Rattle.pt_plan.specs.declared.phase.Phase.TheVariants as phase
 use Rattle.pt_begun.specs.BegunHeld.{HeldAt}
 use Rattle.pt_begun.specs.BegunSource.{AreHeldThere, HasRoom, HasStarted, IsScanning, IsWithinBound, SourcePart, left_of, object_at}
-use Rattle.pt_begun.specs.Past.{Past, past_after, with_bytes}
+use Rattle.pt_begun.specs.Past.{bytes_after, Past, past_after, with_bytes}
 use Rattle.pt_begun.specs.SourceLaws.{ScanningKeepsSource}
 use Rattle.pt_begun.proofs.bounds.Bounds.{IsOne}
 use Rattle.pt_begun.proofs.source.InObject.{path_in_object, site_entered, site_itself}
@@ -35,7 +35,8 @@ use Rattle.pt_begun.proofs.source.InPairtree.{listing_in, pairtree_proper}
 use Rattle.pt_begun.proofs.source.ReadsOn.{reads_end}
 use Rattle.pt_begun.proofs.bounds.Rooms.{directory_scanned, entries_advanced, entries_dropped, entries_parent, entries_sought, records_held, room_at, room_moved}
 use Rattle.pt_begun.proofs.source.ScanSteps.{moved_behind, moved_on, moved_out}
-use Rattle.pt_begun.proofs.held.ScansHold.{here_behind, scans_hold}
+use Rattle.pt_begun.proofs.held.ScansHold.{here_behind}
+use Rattle.pt_begun.proofs.held.TrailKeeps as trail
 use Rattle.pt_begun.proofs.source.ScansKeep.{below_site_of, scans_keep, some_around}
 use Rattle.pt_begun.proofs.source.SourceKeeps.{BesideAt, with_beside}
 use Rattle.pt_begun.proofs.held.WithBytes.{rows_push}
@@ -132,53 +133,53 @@ moved_beside job source bytes object held t same less there room = record {
   few = room_moved job source object held (with_trail held t) same less room;
 }
 
-scans_beside : (job : Job) (past : Past) (s : Reading) (prefix : List ℕ) (here next : Phase) (held after : Held) (calls : Calls) → Scans job here held after calls (Ok next) → (new : Reading) → Answers calls.asked (Some s) (Some new) → HeldAt job past here held
-    → SourcePart job past here prefix held s → BesideAt job s.tree (past_after here next held past).bytes next after
+scans_beside : (job : Job) (past : Past) (s new : Reading) (prefix : List ℕ) {here next : Phase} {held after : Held} {calls : Calls} → Scans job here held after calls (Ok next) → Answers calls.asked (Some s) (Some new) → HeldAt job past here held
+    → SourcePart job past here prefix held s → BesideAt job s.tree (bytes_after here next held past.bytes) next after
 unfolding Answers IsListed IsRead
-scans_beside job past s prefix here next held after calls (StartsInSite was object gathered) new answers at part =
+scans_beside job past s new prefix {after} (StartsInSite was object gathered) answers at part =
     record {
       bytes_are = none_there s.tree object (to_site object (sought 0 was.trail)) past.bytes was.rows at.rows.rows;
-      few = room_in_site job s.tree prefix object was was.trail past.count gathered at.ends.1 part.at.1 (scans_hold job past (Some s) (Some s) here next held after calls (StartsInSite was object gathered) refl at).trail.is_one (scans_keep job s s prefix past.count here next held after calls part.proper at.trail.is_one (StartsInSite was object gathered) part.at refl).1;
+      few = room_in_site job s.tree prefix object was was.trail past.count gathered at.ends.1 part.at.1 (trail.scans_keep {job = job} (Some s) (Some s) (StartsInSite was object gathered) refl at.trail).is_one (scans_keep job s s prefix past.count part.proper at.trail.is_one (StartsInSite was object gathered) part.at refl).1;
     }
-scans_beside job past s prefix here next held after calls (EntersObject was object items apart shallow) new answers at part =
+scans_beside job past s new prefix {after} (EntersObject was object items apart shallow) answers at part =
     record {
       bytes_are = none_there s.tree (with_directory object items) (to_site object (entered items was.trail)) past.bytes was.rows at.rows.rows;
-      few = room_in_directory job s.tree prefix object was items was.trail past.count apart at.ends.1 part.at.1 (scans_hold job past (Some s) (Some s) here next held after calls (EntersObject was object items apart shallow) (answers.0, answers.1, refl) at).trail.is_one
-          (scans_keep job s s prefix past.count here next held after calls part.proper at.trail.is_one (EntersObject was object items apart shallow) part.at (answers.0, answers.1, refl)).1;
+      few = room_in_directory job s.tree prefix object was items was.trail past.count apart at.ends.1 part.at.1 (trail.scans_keep {job = job} (Some s) (Some s) (EntersObject was object items apart shallow) (answers.0, answers.1, refl) at.trail).is_one
+          (scans_keep job s s prefix past.count part.proper at.trail.is_one (EntersObject was object items apart shallow) part.at (answers.0, answers.1, refl)).1;
     }
-scans_beside job past s prefix here next held after calls (IsTooDeep was object apart deep) new answers at part =
+scans_beside job past s new prefix {after} (IsTooDeep was object apart deep) answers at part =
     record { bytes_are = tt; few = early_room job s.tree object was part.few }
-scans_beside job past s prefix here next held after calls (PassesShorty was object item e passed) new answers at part =
+scans_beside job past s new prefix {after} (PassesShorty was object item e passed) answers at part =
     moved_beside job s.tree past.bytes object was (advanced was.trail) (moved_on job s.tree prefix object was.trail past.count part.at.1.inside part.at.1.stands).same (same_entries was.trail) part.bytes part.few
-scans_beside job past s prefix here next held after calls (EntersDirectory was object name items e apart shallow) new answers at part =
+scans_beside job past s new prefix {after} (EntersDirectory was object name items e apart shallow) answers at part =
     record {
       bytes_are = still_there s.tree object (to_site object was.trail) (to_site object (entered items was.trail)) past.bytes was.rows (ap (object_at s.tree object) (sym (site_entered object items was.trail part.at.1.stands.within))) part.bytes;
       few = room_below job s.tree prefix object was items name past.count (pairtree_proper s.tree part.at.0.store part.proper) at.trail.is_one e apart shallow (sym (listing_in s.tree (names_to was.trail) part.at.0.store) ∙ answers.0 s refl) part.at.0
-          (scans_hold job past (Some s) (Some s) here next held after calls (EntersDirectory was object name items e apart shallow) (answers.0, answers.1, refl) at).trail.is_one part.at.1 (scans_keep job s s prefix past.count here next held after calls part.proper at.trail.is_one (EntersDirectory was object name items e apart shallow) part.at (answers.0, answers.1, refl)).1;
+          (trail.scans_keep {job = job} (Some s) (Some s) (EntersDirectory was object name items e apart shallow) (answers.0, answers.1, refl) at.trail).is_one part.at.1 (scans_keep job s s prefix past.count part.proper at.trail.is_one (EntersDirectory was object name items e apart shallow) part.at (answers.0, answers.1, refl)).1;
     }
-scans_beside job past s prefix here next held after calls (MeetsDeep was object name e apart deep) new answers at part =
+scans_beside job past s new prefix {after} (MeetsDeep was object name e apart deep) answers at part =
     record { bytes_are = tt; few = given_room job s.tree object was part.few }
-scans_beside job past s prefix here next held after calls (OpensFile was object name e room) new answers at part =
+scans_beside job past s new prefix {after} (OpensFile was object name e room) answers at part =
     record { bytes_are = part.bytes; few = part.few }
-scans_beside job past s prefix here next held after calls (MeetsLimit was object name e room) new answers at part =
+scans_beside job past s new prefix {after} (MeetsLimit was object name e room) answers at part =
     record { bytes_are = tt; few = given_room job s.tree object was part.few }
-scans_beside job past s prefix here next held after calls (MeetsOther was object name e) new answers at part =
+scans_beside job past s new prefix {after} (MeetsOther was object name e) answers at part =
     record { bytes_are = tt; few = given_room job s.tree object was part.few }
-scans_beside job past s prefix here next held after calls (EndsSite was object e there) new answers at part =
+scans_beside job past s new prefix {after} (EndsSite was object e there) answers at part =
     record { bytes_are = part.bytes; few = made_room job s.tree prefix past object was was.trail past.count at part.at.1 (omega arith) part.few }
-scans_beside job past s prefix here next held after calls (EndsObject was object e apart own) new answers at part =
+scans_beside job past s new prefix {after} (EndsObject was object e apart own) answers at part =
     record {
       bytes_are = still_there s.tree object (to_site object was.trail) (to_site object (parent was.trail)) past.bytes was.rows (moved_out job s.tree prefix object was.trail past.count (below_site_of object was.trail apart part.at.1.stands.within) part.at.1.stands).same part.bytes;
       few = made_room job s.tree prefix past object was (parent was.trail) past.count at part.at.1 (entries_parent was.trail) part.few;
     }
-scans_beside job past s prefix here next held after calls (LeavesDirectory was object e apart outside) new answers at part =
+scans_beside job past s new prefix {after} (LeavesDirectory was object e apart outside) answers at part =
     let below = below_site_of object was.trail apart part.at.1.stands.within in
     moved_beside job s.tree past.bytes object was (advanced (parent was.trail)) (moved_behind job s.tree prefix object was.trail past.count below (some_around object was.trail outside below) part.at.1.stands).same (behind_parent was.trail) part.bytes part.few
-scans_beside job past s prefix here next held after calls (ReadsOn was object bytes byte block short) new answers at part =
+scans_beside job past s new prefix {after} (ReadsOn was object bytes byte block short) answers at part =
     record { bytes_are = part.bytes; few = part.few }
-scans_beside job past s prefix here next held after calls (IsTooLong was object bytes byte block long) new answers at part =
+scans_beside job past s new prefix {after} (IsTooLong was object bytes byte block long) answers at part =
     record { bytes_are = tt; few = given_room job s.tree object was part.few }
-scans_beside job past s prefix here next held after calls (EndsFile was object bytes) new answers at part =
+scans_beside job past s new prefix {after} (EndsFile was object bytes) answers at part =
     let whole = (reads_end 8192 (bytes_at (pairtree_of s.tree) (names_to was.trail)) bytes was.fed s.unread (omega arith) part.at.2.read (answers.0 s refl)).all in
     let same = (moved_on job s.tree prefix object was.trail past.count part.at.1.inside part.at.1.stands).same in
     record {
@@ -189,5 +190,5 @@ scans_beside job past s prefix here next held after calls (EndsFile was object b
 
 pub scans_source : ScanningKeepsSource
 scans_source job past s new prefix here next held after calls turn answers at part =
-    with_beside job (past_after here next held past) next prefix after calls.asked s new answers part.proper (scans_keep job s new prefix past.count here next held after calls part.proper at.trail.is_one turn part.at answers)
-    (scans_beside job past s prefix here next held after calls turn new answers at part)
+    with_beside (past_after here next held past) calls.asked s new answers part.proper (scans_keep job s new prefix past.count part.proper at.trail.is_one turn part.at answers)
+    (scans_beside job past s new prefix turn answers at part)

@@ -1,5 +1,5 @@
 -- Each turn that goes on keeps what holds where the source tells: the turns of the start and of the walk, and those that make and place an object.
-use Rattle.std.proofs.Common.{◌≡◌, ◌≤◌, ℕ, ◌+◌, ◌-◌, ◌==◌, Bool, true, false, List, [], ◌++◌, refl, ap, sym, ◌∙◌, subst, arith, cond, length}
+use Rattle.std.proofs.Common.{◌≡◌, ◌≤◌, ℕ, ◌+◌, ◌-◌, ◌==◌, true, List, [], ◌++◌, refl, ap, sym, ◌∙◌, subst, arith, length}
 use Rattle.std.specs.Prelude.{Option, None, Some, Ok, nat_lt, slice_get, take}
 use Rattle.std.specs.Option.{ForSome, option_map}
 use Rattle.pt_object.specs.FilePaths.{part_in_order, row_paths}
@@ -8,27 +8,27 @@ use Rattle.pt_tree.specs.Forest.{Forest, is_proper}
 use Rattle.pt_tree.specs.Path.{Path}
 use Rattle.pt_tree.specs.Source.{Reading, IsRead, after_next, after_open}
 use Rattle.pt_walk.specs.Left.{bytes_at}
-use Rattle.pt_walk.specs.Trail.{advanced, entered, entries_held, parent}
+use Rattle.pt_walk.specs.Trail.{advanced, entries_held, parent}
 use Rattle.pt_walk.specs.declared.frame.Frame.{Frame}
-use Rattle.pt_plan.specs.Bound.{bound}
 use Rattle.pt_plan.specs.Job.{Job}
-use Rattle.pt_plan.specs.Run.{Held, with_fed, with_trail}
+use Rattle.pt_plan.specs.Run.{Counts, Held}
 use Rattle.pt_plan.specs.Store.{pairtree_of}
-use Rattle.pt_plan.specs.TurnMake.{MakesStaging, MakesDeclaration, MakesVersion, PassesRow, MakesFolder, OpensCopy, CopiesOn, EndsCopy, MakesVersionInventory, MakesVersionSidecar, MakesInventory, MakesSidecar, path_of_source}
-use Rattle.pt_plan.specs.TurnPlace.{MakesTuple, FindsTuple, RenamesObject, TellsDone, TellsEnd, restarted}
+use Rattle.pt_plan.specs.TurnMake.{Makings, EndsCopy, MakesSidecar, path_of_source}
+use Rattle.pt_plan.specs.TurnPlace.{Places, after_tuple, MakesTuple, FindsTuple, RenamesObject, TellsDone, TellsEnd, restarted}
 use Rattle.pt_plan.specs.TurnScan.{to_site}
-use Rattle.pt_plan.specs.TurnStart.{Starts, IsStore, HasNoPrefix, HasPrefix, HasNoStaging, HasNoRoot, HasRoot, MakesRoot, RenamesRoot, IsSame}
-use Rattle.pt_plan.specs.TurnWalk.{OpensRoot, LeadsOn, IsSkipped, IsPresent, IsNew, IsPast, IsDeep, EntersSite, PassesEntry, LeavesSite, EndsWalk, at_object}
+use Rattle.pt_plan.specs.TurnStart.{Starts, MakesRoot, IsSame}
+use Rattle.pt_plan.specs.TurnWalk.{Walks, OpensRoot, IsNew, IsPast, IsDeep, EntersSite, PassesEntry, LeavesSite, at_object}
 use Rattle.pt_plan.specs.World.{Answers, Asked, AsksNothing, Lists, Opens, Reads, OpensAndReads, Calls}
 use Rattle.pt_plan.specs.declared.object.Object.{Object}
 use Rattle.pt_plan.specs.declared.phase.Phase.{Phase}
 use Rattle.pt_plan.specs.declared.phase.Phase.TheVariants as phase
 use Rattle.pt_plan.specs.declared.phase.Position.{Position}
-use Rattle.pt_begun.specs.BegunHeld.{HoldsNoRows}
+use Rattle.pt_begun.specs.BegunHeld.{HeldAt}
 use Rattle.pt_begun.specs.BegunSource.{AreHeldThere, BytesAt, FewAt, IsCopyingFile, IsWithinBound, SourceAt, SourcePart}
-use Rattle.pt_begun.specs.Past.{Past, past_after, with_bytes_of}
+use Rattle.pt_begun.specs.Past.{Past, bytes_after, past_after, with_bytes_of}
 use Rattle.pt_begun.specs.SourceLaws.{MakingKeepsSource, PlacingKeepsSource, StartingKeepsSource, WalkingKeepsSource}
-use Rattle.pt_begun.proofs.held.HeldKeeps.{walks_hold}
+use Rattle.pt_begun.proofs.held.EitherPhase.{either_phase}
+use Rattle.pt_begun.proofs.held.TrailKeeps as trail
 use Rattle.pt_begun.proofs.source.InObject.{site_itself}
 use Rattle.pt_begun.proofs.source.InPairtree.{some_same}
 use Rattle.pt_begun.proofs.source.MakesKeep.{makes_keep}
@@ -53,44 +53,32 @@ pub record BesideAt (job : Job) (source : Forest) (bytes : Path → List ℕ) (h
   pub bytes_are : BytesAt source bytes here held
   pub few : FewAt job source here held
 
-pub with_beside : (job : Job) (past : Past) (here : Phase) (prefix : List ℕ) (held : Held) (asked : Asked) (s new : Reading) → Answers asked (Some s) (Some new) → is_proper s.tree ≡ true → SourceAt job new prefix past.count here held
-    → BesideAt job s.tree past.bytes here held → SourcePart job past here prefix held new
-with_beside job past here prefix held asked s new answers proper at beside =
-    let same = tree_kept asked s new answers in
-    let moved = subst (λ (f : Forest). BesideAt job f past.bytes here held) (sym same) beside in
-    record { proper = ap is_proper same ∙ proper; at = at; bytes = moved.bytes_are; few = moved.few }
+module _ {job : Job} (past : Past) {here : Phase} {prefix : List ℕ} {held : Held} (asked : Asked) (s new : Reading) where
+  pub with_beside : Answers asked (Some s) (Some new) → is_proper s.tree ≡ true → SourceAt job new prefix past.count here held → BesideAt job s.tree past.bytes here held → SourcePart job past here prefix held new
+  with_beside answers proper at beside =
+      let same = tree_kept asked s new answers in
+      let moved = subst (λ (f : Forest). BesideAt job f past.bytes here held) (sym same) beside in
+      record { proper = ap is_proper same ∙ proper; at = at; bytes = moved.bytes_are; few = moved.few }
 
 -- ---- the start
 
-either_phase : (job : Job) (source : Forest) (bytes : Path → List ℕ) (held : Held) (p q : Phase) (this : Bool) → BesideAt job source bytes p held → BesideAt job source bytes q held → BesideAt job source bytes (cond this p q) held
-either_phase job source bytes held p q true one two = one
-either_phase job source bytes held p q false one two = two
-
-starts_beside : (job : Job) (source : Forest) (known : Path → List ℕ) (prefix read : List ℕ) (here next : Phase) (held : Held) (calls : Calls) → Starts job here prefix read calls (Ok next) → FewAt job source here held → BesideAt job source known next held
-starts_beside job source known prefix read here next held calls (IsStore was entries is) few = record { bytes_are = tt; few = few }
-starts_beside job source known prefix read here next held calls (HasNoPrefix was) few = record { bytes_are = tt; few = few }
-starts_beside job source known prefix read here next held calls (HasPrefix was block good) few = record { bytes_are = tt; few = few }
-starts_beside job source known prefix read here next held calls (HasNoStaging was) few = record { bytes_are = tt; few = few }
-starts_beside job source known prefix read here next held calls (HasNoRoot was) few = record { bytes_are = tt; few = few }
-starts_beside job source known prefix read here next held calls (HasRoot was) few = record { bytes_are = tt; few = few }
-starts_beside job source known prefix read here next held calls (MakesRoot was number item is) few = either_phase job source known held phase.RootRename (phase.RootMake (number + 1)) (number == 5) (record { bytes_are = tt; few = few }) (record { bytes_are = tt; few = few })
-starts_beside job source known prefix read here next held calls (RenamesRoot was) few = record { bytes_are = tt; few = few }
-starts_beside job source known prefix read here next held calls (IsSame was number path bytes is) few = either_phase job source known held phase.OpenRoot (phase.RootCheck (number + 1)) (number == 2) (record { bytes_are = tt; few = few }) (record { bytes_are = tt; few = few })
+starts_beside : {job : Job} (source : Forest) (bytes : Path → List ℕ) {prefix read : List ℕ} {here next : Phase} {held : Held} {calls : Calls} → Starts job here prefix read calls (Ok next) → FewAt job source here held → BesideAt job source bytes next held
+starts_beside {job} source bytes {held} (MakesRoot was number item is) few =
+    either_phase (λ p. BesideAt job source bytes p held) (number == 5) phase.RootRename (phase.RootMake (number + 1)) (λ last. record { bytes_are = tt; few = few }) (λ more. record { bytes_are = tt; few = few })
+starts_beside {job} source bytes {held} (IsSame was number path read is) few =
+    either_phase (λ p. BesideAt job source bytes p held) (number == 2) phase.OpenRoot (phase.RootCheck (number + 1)) (λ last. record { bytes_are = tt; few = few }) (λ more. record { bytes_are = tt; few = few })
+starts_beside source bytes turn few = record { bytes_are = tt; few = few }
 
 pub starts_source : StartingKeepsSource
 starts_source job past s new prefix read here next held calls turn answers at part =
-    with_beside job (past_after here next held past) next read held calls.asked s new answers part.proper (starts_keep job s new prefix read past.count here next held calls turn part.at answers)
-    (starts_beside job s.tree (past_after here next held past).bytes prefix read here next held calls turn part.few)
+    let after = past_after here next held past in
+    with_beside after calls.asked s new answers part.proper (starts_keep job s new past.count held turn part.at answers) (starts_beside s.tree after.bytes turn part.few)
 
 -- ---- the walk
 
 -- with the trail moved so that it lists no more
 fewer : (job : Job) (source : Forest) (held new : Held) → new.rows ≡ held.rows → new.contents ≡ held.contents → entries_held new.trail ≤ entries_held held.trail → IsWithinBound job source held → IsWithinBound job source new
 fewer job source held new rows contents less few = let one = ap length rows in let two = ap length contents in omega (arith, one, two, less, few)
-
--- at a site that was just listed
-listed_now : (job : Job) (source : Forest) (held : Held) (t : List Frame) → HoldsNoRows held → entries_held t ≤ bound job source → IsWithinBound job source (with_trail held t)
-listed_now job source held t none room = let one = ap length none.rows in let two = ap length none.contents in omega (arith, one, two, room)
 
 object_sought : (index : Option ℕ) (t : List Frame) → entries_held (at_object index t) ≡ entries_held t
 object_sought None t = refl
@@ -99,75 +87,66 @@ object_sought (Some index) t = entries_sought index t
 behind_parent : (t : List Frame) → entries_held (advanced (parent t)) ≤ entries_held t
 behind_parent t = let one = entries_advanced (parent t) in let two = entries_parent t in omega (arith, one, two)
 
+-- at a site nothing is held but its listings
+within_at_site : (job : Job) (past : Past) (s : Reading) (prefix : List ℕ) (here : Phase) (held after : Held) (calls : Calls) → Walks job prefix here held after calls (Ok phase.Judge) → Answers calls.asked (Some s) (Some s)
+    → HeldAt job past here held → SourcePart job past here prefix held s → IsWithinBound job s.tree after
+within_at_site job past s prefix here held after calls turn answers at part =
+    let one = (trail.walks_keep (Some s) (Some s) turn answers at.trail).is_one in
+    let there = walks_keep job s s past.count part.proper at.trail.is_one turn part.at answers in
+    let room = room_at_site job s.tree after.trail past.count one there.2 in
+    let rows = ap length there.0.rows in
+    let contents = ap length there.0.contents in
+    omega (arith, rows, contents, room)
+
+module _ (job : Job) (past : Past) (s new : Reading) (prefix : List ℕ) where
+  walks_beside : (here next : Phase) (held after : Held) (calls : Calls) → Walks job prefix here held after calls (Ok next) → Answers calls.asked (Some s) (Some new) → HeldAt job past here held
+      → SourcePart job past here prefix held s → BesideAt job s.tree (bytes_after here next held past.bytes) next after
+  unfolding Answers
+  walks_beside here next held after calls (OpensRoot was items) answers at part =
+      record { bytes_are = tt; few = within_at_site job past s prefix here held after calls (OpensRoot was items) (answers.0, answers.1, refl) at part }
+  walks_beside here next held after calls (IsNew was index id is) answers at part =
+      record { bytes_are = tt; few = fewer job s.tree was after refl refl (let same = object_sought index was.trail in omega (arith, same)) part.few }
+  walks_beside here next held after calls (IsPast was name e short last) answers at part =
+      record { bytes_are = tt; few = fewer job s.tree was after refl refl (let same = entries_advanced was.trail in omega (arith, same)) part.few }
+  walks_beside here next held after calls (IsDeep was name e short last deep) answers at part =
+      record { bytes_are = tt; few = fewer job s.tree was after refl refl (let same = entries_advanced was.trail in omega (arith, same)) part.few }
+  walks_beside here next held after calls (EntersSite was name items e short last deep) answers at part =
+      record { bytes_are = tt; few = within_at_site job past s prefix here held after calls (EntersSite was name items e short last deep) (answers.0, answers.1, refl) at part }
+  walks_beside here next held after calls (PassesEntry was item e apart) answers at part =
+      record { bytes_are = tt; few = fewer job s.tree was after refl refl (let same = entries_advanced was.trail in omega (arith, same)) part.few }
+  walks_beside here next held after calls (LeavesSite was e long) answers at part =
+      record { bytes_are = tt; few = fewer job s.tree was after refl refl (behind_parent was.trail) part.few }
+  walks_beside here next held after calls turn answers at part = record { bytes_are = tt; few = part.few }
+
 pub walks_source : WalkingKeepsSource
-unfolding Answers
-walks_source job past s new prefix here next held after calls (OpensRoot was items) answers at part =
-    with_beside job (past_after here next held past) next prefix after calls.asked s new answers part.proper (walks_keep job s new prefix past.count here next held after calls part.proper at.trail.is_one (OpensRoot was items) part.at answers)
-    (record { bytes_are = tt; few = listed_now job s.tree was (entered items was.trail) at.rows (room_at_site job s.tree (entered items was.trail) past.count (walks_hold job past (Some s) (Some s) prefix here next held after calls (OpensRoot was items) (answers.0, answers.1, refl) at).trail.is_one (walks_keep job s s prefix past.count here next held after calls part.proper at.trail.is_one (OpensRoot was items) part.at (answers.0, answers.1, refl)).2) })
-walks_source job past s new prefix here next held after calls (LeadsOn was is) answers at part =
-    with_beside job (past_after here next held past) next prefix after calls.asked s new answers part.proper (walks_keep job s new prefix past.count here next held after calls part.proper at.trail.is_one (LeadsOn was is) part.at answers)
-    (record { bytes_are = tt; few = part.few })
-walks_source job past s new prefix here next held after calls (IsSkipped was why is) answers at part =
-    with_beside job (past_after here next held past) next prefix after calls.asked s new answers part.proper (walks_keep job s new prefix past.count here next held after calls part.proper at.trail.is_one (IsSkipped was why is) part.at answers)
-    (record { bytes_are = tt; few = part.few })
-walks_source job past s new prefix here next held after calls (IsPresent was index id kind is) answers at part =
-    with_beside job (past_after here next held past) next prefix after calls.asked s new answers part.proper (walks_keep job s new prefix past.count here next held after calls part.proper at.trail.is_one (IsPresent was index id kind is) part.at answers)
-    (record { bytes_are = tt; few = part.few })
-walks_source job past s new prefix here next held after calls (IsNew was index id is) answers at part =
-    with_beside job (past_after here next held past) next prefix after calls.asked s new answers part.proper (walks_keep job s new prefix past.count here next held after calls part.proper at.trail.is_one (IsNew was index id is) part.at answers)
-    (record { bytes_are = tt; few = fewer job s.tree was (with_trail was (at_object index was.trail)) refl refl (let same = object_sought index was.trail in omega (arith, same)) part.few })
-walks_source job past s new prefix here next held after calls (IsPast was name e short last) answers at part =
-    with_beside job (past_after here next held past) next prefix after calls.asked s new answers part.proper (walks_keep job s new prefix past.count here next held after calls part.proper at.trail.is_one (IsPast was name e short last) part.at answers)
-    (record { bytes_are = tt; few = fewer job s.tree was (with_trail was (advanced was.trail)) refl refl (let same = entries_advanced was.trail in omega (arith, same)) part.few })
-walks_source job past s new prefix here next held after calls (IsDeep was name e short last deep) answers at part =
-    with_beside job (past_after here next held past) next prefix after calls.asked s new answers part.proper (walks_keep job s new prefix past.count here next held after calls part.proper at.trail.is_one (IsDeep was name e short last deep) part.at answers)
-    (record { bytes_are = tt; few = fewer job s.tree was (with_trail was (advanced was.trail)) refl refl (let same = entries_advanced was.trail in omega (arith, same)) part.few })
-walks_source job past s new prefix here next held after calls (EntersSite was name items e short last deep) answers at part =
-    with_beside job (past_after here next held past) next prefix after calls.asked s new answers part.proper (walks_keep job s new prefix past.count here next held after calls part.proper at.trail.is_one (EntersSite was name items e short last deep) part.at answers)
-    (record { bytes_are = tt; few = listed_now job s.tree was (entered items was.trail) at.rows (room_at_site job s.tree (entered items was.trail) past.count (walks_hold job past (Some s) (Some s) prefix here next held after calls (EntersSite was name items e short last deep) (answers.0, answers.1, refl) at).trail.is_one (walks_keep job s s prefix past.count here next held after calls part.proper at.trail.is_one (EntersSite was name items e short last deep) part.at (answers.0, answers.1, refl)).2) })
-walks_source job past s new prefix here next held after calls (PassesEntry was item e apart) answers at part =
-    with_beside job (past_after here next held past) next prefix after calls.asked s new answers part.proper (walks_keep job s new prefix past.count here next held after calls part.proper at.trail.is_one (PassesEntry was item e apart) part.at answers)
-    (record { bytes_are = tt; few = fewer job s.tree was (with_trail was (advanced was.trail)) refl refl (let same = entries_advanced was.trail in omega (arith, same)) part.few })
-walks_source job past s new prefix here next held after calls (LeavesSite was e long) answers at part =
-    with_beside job (past_after here next held past) next prefix after calls.asked s new answers part.proper (walks_keep job s new prefix past.count here next held after calls part.proper at.trail.is_one (LeavesSite was e long) part.at answers)
-    (record { bytes_are = tt; few = fewer job s.tree was (with_trail was (advanced (parent was.trail))) refl refl (behind_parent was.trail) part.few })
-walks_source job past s new prefix here next held after calls (EndsWalk was e short) answers at part =
-    with_beside job (past_after here next held past) next prefix after calls.asked s new answers part.proper (walks_keep job s new prefix past.count here next held after calls part.proper at.trail.is_one (EndsWalk was e short) part.at answers)
-    (record { bytes_are = tt; few = part.few })
+walks_source job past s new prefix here next held after calls turn answers at part =
+    with_beside (past_after here next held past) calls.asked s new answers part.proper (walks_keep job s new past.count part.proper at.trail.is_one turn part.at answers)
+    (walks_beside job past s new prefix here next held after calls turn answers at part)
 
 -- ---- an object at its place
 
-tuple_or_rename : (job : Job) (source : Forest) (bytes : Path → List ℕ) (object : Object) (held : Held) (number : ℕ) (more : Bool) → AreHeldThere source object (to_site object held.trail) bytes held.rows → IsWithinBound job source held
-    → BesideAt job source bytes (cond more (phase.Tuples object (number + 1)) (phase.Rename object)) held
-tuple_or_rename job source bytes object held number true there few = record { bytes_are = there; few = few }
-tuple_or_rename job source bytes object held number false there few = record { bytes_are = there; few = few }
+after_a_tuple : (job : Job) (source : Forest) (bytes : Path → List ℕ) (object : Object) (held : Held) (number : ℕ) → AreHeldThere source object (to_site object held.trail) bytes held.rows → IsWithinBound job source held
+    → BesideAt job source bytes (after_tuple job object number) held
+after_a_tuple job source bytes object held number there few =
+    either_phase (λ p. BesideAt job source bytes p held) (nat_lt (number + 1) job.tuples.count) (phase.Tuples object (number + 1)) (phase.Rename object)
+    (λ more. record { bytes_are = there; few = few }) (λ last. record { bytes_are = there; few = few })
 
 at_site_again : (job : Job) (source : Forest) (held : Held) → IsWithinBound job source held → IsWithinBound job source (restarted held)
 at_site_again job source held few = let same = entries_sought 0 held.trail in omega (arith, same, few)
 
+places_beside : {job : Job} {counts : Counts} (past : Past) (s : Reading) {prefix : List ℕ} {here next : Phase} {held after : Held} {calls : Calls} → Places job counts here held after calls (Ok next)
+    → SourcePart job past here prefix held s → BesideAt job s.tree (bytes_after here next held past.bytes) next after
+places_beside {job} past s (MakesTuple was object number) part = after_a_tuple job s.tree past.bytes object was number part.bytes part.few
+places_beside {job} past s (FindsTuple was object number) part = after_a_tuple job s.tree past.bytes object was number part.bytes part.few
+places_beside past s (RenamesObject was object) part = record { bytes_are = part.bytes; few = part.few }
+places_beside {job} past s (TellsDone was object) part = record { bytes_are = tt; few = at_site_again job s.tree was part.few }
+places_beside past s (TellsEnd was) part = record { bytes_are = tt; few = tt }
+
 pub places_source : PlacingKeepsSource
-places_source job counts past s new prefix here next held after calls (MakesTuple was object number) answers at part =
-    with_beside job (past_after here next held past) next prefix after calls.asked s new answers part.proper (places_keep job counts s new prefix past.count here next held after calls (MakesTuple was object number) part.at answers)
-    (tuple_or_rename job s.tree past.bytes object was number (nat_lt (number + 1) job.tuples.count) part.bytes part.few)
-places_source job counts past s new prefix here next held after calls (FindsTuple was object number) answers at part =
-    with_beside job (past_after here next held past) next prefix after calls.asked s new answers part.proper (places_keep job counts s new prefix past.count here next held after calls (FindsTuple was object number) part.at answers)
-    (tuple_or_rename job s.tree past.bytes object was number (nat_lt (number + 1) job.tuples.count) part.bytes part.few)
-places_source job counts past s new prefix here next held after calls (RenamesObject was object) answers at part =
-    with_beside job (past_after here next held past) next prefix after calls.asked s new answers part.proper (places_keep job counts s new prefix past.count here next held after calls (RenamesObject was object) part.at answers)
-    (record { bytes_are = part.bytes; few = part.few })
-places_source job counts past s new prefix here next held after calls (TellsDone was object) answers at part =
-    with_beside job (past_after here next held past) next prefix after calls.asked s new answers part.proper (places_keep job counts s new prefix past.count here next held after calls (TellsDone was object) part.at answers)
-    (record { bytes_are = tt; few = at_site_again job s.tree was part.few })
-places_source job counts past s new prefix here next held after calls (TellsEnd was) answers at part =
-    with_beside job (past_after here next held past) next prefix after calls.asked s new answers part.proper (places_keep job counts s new prefix past.count here next held after calls (TellsEnd was) part.at answers)
-    (record { bytes_are = tt; few = tt })
+places_source job counts past s new prefix here next held after calls turn answers at part =
+    with_beside (past_after here next held past) calls.asked s new answers part.proper (places_keep job s new prefix past.count turn part.at answers) (places_beside past s turn part)
 
 -- ---- an object that is made
-
-after_sidecar : (job : Job) (source : Forest) (bytes : Path → List ℕ) (object : Object) (held : Held) (flat : Bool) → AreHeldThere source object (to_site object held.trail) bytes held.rows → IsWithinBound job source held
-    → BesideAt job source bytes (cond flat (phase.Rename object) (phase.Tuples object 0)) held
-after_sidecar job source bytes object held true there few = record { bytes_are = there; few = few }
-after_sidecar job source bytes object held false there few = record { bytes_are = there; few = few }
 
 -- what was read of a file a second time is what the source holds there
 read_again : (job : Job) (s : Reading) (bytes : Path → List ℕ) (object : Object) (held : Held) (n left : ℕ) (row : Row) → slice_get held.rows n ≡ Some row → part_in_order (row_paths held.rows) ≡ true → to_site object held.trail ≡ held.trail
@@ -185,41 +164,20 @@ copied_whole s object held position left row is ended it =
     (reads_end 8192 (bytes_at (pairtree_of s.tree) (path_of_source object held.trail ++ it.row.path)) (it.row.length - left) held.fed s.unread (omega arith) it.read (ended s refl)).all
     ∙ ap (λ (r : Row). bytes_at (pairtree_of s.tree) (path_of_source object held.trail ++ r.path)) same
 
-pub makes_source : MakingKeepsSource
+makes_beside : {job : Job} (past : Past) (s new : Reading) {prefix : List ℕ} {here : Phase} {held after : Held} {calls : Calls} {next : Phase} → Makings job here held after calls (Ok next) → Answers calls.asked (Some s) (Some new)
+    → HeldAt job past here held → SourcePart job past here prefix held s → BesideAt job s.tree (bytes_after here next held past.bytes) next after
 unfolding Answers IsRead
-makes_source job past s new prefix here held after calls next (MakesStaging was object) answers at part =
-    with_beside job (past_after here next held past) next prefix after calls.asked s new answers part.proper (makes_keep job s new prefix past.count here held after calls next part.proper (MakesStaging was object) part.at answers)
-    (record { bytes_are = part.bytes; few = part.few })
-makes_source job past s new prefix here held after calls next (MakesDeclaration was object) answers at part =
-    with_beside job (past_after here next held past) next prefix after calls.asked s new answers part.proper (makes_keep job s new prefix past.count here held after calls next part.proper (MakesDeclaration was object) part.at answers)
-    (record { bytes_are = part.bytes; few = part.few })
-makes_source job past s new prefix here held after calls next (MakesVersion was object) answers at part =
-    with_beside job (past_after here next held past) next prefix after calls.asked s new answers part.proper (makes_keep job s new prefix past.count here held after calls next part.proper (MakesVersion was object) part.at answers)
-    (record { bytes_are = part.bytes; few = part.few })
-makes_source job past s new prefix here held after calls next (PassesRow was object position row is other) answers at part =
-    with_beside job (past_after here next held past) next prefix after calls.asked s new answers part.proper (makes_keep job s new prefix past.count here held after calls next part.proper (PassesRow was object position row is other) part.at answers)
-    (record { bytes_are = part.bytes; few = part.few })
-makes_source job past s new prefix here held after calls next (MakesFolder was object position row is stored more) answers at part =
-    with_beside job (past_after here next held past) next prefix after calls.asked s new answers part.proper (makes_keep job s new prefix past.count here held after calls next part.proper (MakesFolder was object position row is stored more) part.at answers)
-    (record { bytes_are = part.bytes; few = part.few })
-makes_source job past s new prefix here held after calls next (OpensCopy was object position row is stored all) answers at part =
-    with_beside job (past_after here next held past) next prefix after calls.asked s new answers part.proper (makes_keep job s new prefix past.count here held after calls next part.proper (OpensCopy was object position row is stored all) part.at answers)
-    (record { bytes_are = part.bytes; few = part.few })
-makes_source job past s new prefix here held after calls next (CopiesOn was object position left byte block fits) answers at part =
-    with_beside job (past_after here next held past) next prefix after calls.asked s new answers part.proper (makes_keep job s new prefix past.count here held after calls next part.proper (CopiesOn was object position left byte block fits) part.at answers)
-    (record { bytes_are = part.bytes; few = part.few })
-makes_source job past s new prefix here held after calls next (EndsCopy was object position row left is same) answers at part =
-    with_beside job (past_after here next held past) next prefix after calls.asked s new answers part.proper (makes_keep job s new prefix past.count here held after calls next part.proper (EndsCopy was object position row left is same) part.at answers)
-    (record { bytes_are = read_again job s past.bytes object was position.row left row is at.rows.order (site_itself object was.trail at.ends.1) (copied_whole s object was position left row is answers.0 part.at.2) part.bytes; few = part.few })
-makes_source job past s new prefix here held after calls next (MakesVersionInventory was object) answers at part =
-    with_beside job (past_after here next held past) next prefix after calls.asked s new answers part.proper (makes_keep job s new prefix past.count here held after calls next part.proper (MakesVersionInventory was object) part.at answers)
-    (record { bytes_are = part.bytes; few = part.few })
-makes_source job past s new prefix here held after calls next (MakesVersionSidecar was object) answers at part =
-    with_beside job (past_after here next held past) next prefix after calls.asked s new answers part.proper (makes_keep job s new prefix past.count here held after calls next part.proper (MakesVersionSidecar was object) part.at answers)
-    (record { bytes_are = part.bytes; few = part.few })
-makes_source job past s new prefix here held after calls next (MakesInventory was object) answers at part =
-    with_beside job (past_after here next held past) next prefix after calls.asked s new answers part.proper (makes_keep job s new prefix past.count here held after calls next part.proper (MakesInventory was object) part.at answers)
-    (record { bytes_are = part.bytes; few = part.few })
-makes_source job past s new prefix here held after calls next (MakesSidecar was object) answers at part =
-    with_beside job (past_after here next held past) next prefix after calls.asked s new answers part.proper (makes_keep job s new prefix past.count here held after calls next part.proper (MakesSidecar was object) part.at answers)
-    (after_sidecar job s.tree past.bytes object (with_fed was []) (job.tuples.count == 0) part.bytes part.few)
+makes_beside {job} past s new (EndsCopy was object position row left is same) answers at part = record {
+  bytes_are =
+      read_again job s past.bytes object was position.row left row is at.rows.order (site_itself object was.trail at.ends.1)
+      (copied_whole s object was position left row is answers.0 part.at.2) part.bytes;
+  few = part.few;
+}
+makes_beside {job} past s new {after} (MakesSidecar was object) answers at part =
+    either_phase (λ p. BesideAt job s.tree past.bytes p after) (job.tuples.count == 0) (phase.Rename object) (phase.Tuples object 0)
+    (λ flat. record { bytes_are = part.bytes; few = part.few }) (λ some. record { bytes_are = part.bytes; few = part.few })
+makes_beside past s new turn answers at part = record { bytes_are = part.bytes; few = part.few }
+
+pub makes_source : MakingKeepsSource
+makes_source job past s new prefix here held after calls next turn answers at part =
+    with_beside (past_after here next held past) calls.asked s new answers part.proper (makes_keep job s new prefix past.count part.proper turn part.at answers) (makes_beside past s new turn answers at part)

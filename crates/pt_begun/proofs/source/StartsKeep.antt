@@ -1,5 +1,5 @@
 -- The turns of the start keep what holds where the source tells.
-use Rattle.std.proofs.Common.{inl, inr, ◌≡◌, ◌≤◌, ℕ, ◌+◌, ◌==◌, ◌&&◌, Bool, true, false, List, [], ◌∷◌, refl, ap, sym, ◌∙◌, subst, cond, length, arith, take}
+use Rattle.std.proofs.Common.{inl, inr, ◌≡◌, ◌≤◌, ℕ, ◌+◌, ◌==◌, ◌&&◌, Bool, true, false, List, [], ◌∷◌, refl, ap, sym, ◌∙◌, cond, length, arith, take}
 use Rattle.std.specs.Prelude.{Option, None, Some, Ok, is_none, is_some, nat_lt, min}
 use Rattle.std.specs.Option.{option_and_then, option_map}
 use Rattle.std.specs.Str.{bytes_eq, is_utf8}
@@ -8,7 +8,7 @@ use Rattle.std.proofs.lemmas.List.{length-take, take_all}
 use Rattle.pt_name.specs.Prefix.{prefix_refusal, without_line_ends}
 use Rattle.pt_name.specs.declared.prefix.PrefixFault.TheVariants as fault
 use Rattle.pt_tree.specs.Forest.{Forest, Node, File, Dir, Other, none, file, other, dir, as_dir, as_file, find, kind_of, listing_of, node_at}
-use Rattle.pt_tree.specs.Source.{Reading, IsListed, IsRead, after_next, after_open}
+use Rattle.pt_tree.specs.Source.{Reading, IsListed, IsRead, after_open}
 use Rattle.pt_tree.specs.declared.kind.Kind.{Kind}
 use Rattle.pt_tree.specs.declared.kind.Kind.TheVariants as kind
 use Rattle.pt_begun.specs.BegunSource.{HasStarted, HoldsNothing, SourceAt}
@@ -16,11 +16,12 @@ use Rattle.pt_begun.specs.Past.{done_after}
 use Rattle.pt_plan.specs.Job.{Job}
 use Rattle.pt_plan.specs.Run.{Held}
 use Rattle.pt_plan.specs.Store.{is_prefix, is_store, pairtree_root, prefix_file, prefix_in, version_file}
-use Rattle.pt_plan.specs.TurnStart.{Starts, IsStore, HasNoPrefix, HasPrefix, HasNoStaging, HasNoRoot, HasRoot, MakesRoot, RenamesRoot, IsSame, is_dir_kind, is_file_kind, kind_in, lists_store}
+use Rattle.pt_plan.specs.TurnStart.{Starts, IsStore, HasNoPrefix, HasPrefix, MakesRoot, IsSame, is_dir_kind, is_file_kind, kind_in, lists_store}
 use Rattle.pt_plan.specs.World.{Answers, Calls}
 use Rattle.pt_plan.specs.declared.phase.Phase.{Phase}
 use Rattle.pt_plan.specs.declared.phase.Phase.TheVariants as phase
-use Rattle.pt_begun.proofs.source.InPairtree.{some_same}
+use Rattle.pt_begun.proofs.held.EitherPhase.{either_phase}
+use Rattle.pt_begun.proofs.source.InPairtree.{some_same, stays}
 
 -- ---- the top
 
@@ -87,41 +88,29 @@ good_prefix (Some (File bytes)) block is read good =
 -- ---- the later turns
 
 -- what holds at each phase of the start but the first two
-abbrev Started : Job → Reading → List ℕ → ℕ → Held → Type 0
-Started job s prefix count held = HoldsNothing held × (count ≡ 0) × HasStarted s.tree prefix
+abbrev Started : List ℕ → ℕ → Held → Reading → Type 0
+Started prefix count held s = HoldsNothing held × (count ≡ 0) × HasStarted s.tree prefix
 
-goes_on : (job : Job) (s new : Reading) (prefix : List ℕ) (count : ℕ) (held : Held) → Started job s prefix count held → Some new ≡ Some s → Started job new prefix count held
-goes_on job s new prefix count held at same = subst (λ (r : Reading). Started job r prefix count held) (sym (some_same new s same)) at
-
-after_makes : (job : Job) (s : Reading) (prefix : List ℕ) (count number : ℕ) (held : Held) (last : Bool) → Started job s prefix count held
-    → SourceAt job s prefix (done_after (phase.RootMake number) held.trail (cond last phase.RootRename (phase.RootMake (number + 1))) count) (cond last phase.RootRename (phase.RootMake (number + 1))) held
-after_makes job s prefix count number held true at = at
-after_makes job s prefix count number held false at = at
-
-after_checks : (job : Job) (s : Reading) (prefix : List ℕ) (count number : ℕ) (held : Held) (last : Bool) → Started job s prefix count held
-    → SourceAt job s prefix (done_after (phase.RootCheck number) held.trail (cond last phase.OpenRoot (phase.RootCheck (number + 1))) count) (cond last phase.OpenRoot (phase.RootCheck (number + 1))) held
-after_checks job s prefix count number held true at = at
-after_checks job s prefix count number held false at = at
-
-pub starts_keep : (job : Job) (s new : Reading) (prefix read : List ℕ) (count : ℕ) (here next : Phase) (held : Held) (calls : Calls)
+pub starts_keep : (job : Job) (s new : Reading) {prefix read : List ℕ} (count : ℕ) {here next : Phase} (held : Held) {calls : Calls}
     → Starts job here prefix read calls (Ok next) → SourceAt job s prefix count here held → Answers calls.asked (Some s) (Some new) → SourceAt job new read (done_after here held.trail next count) next held
 unfolding Answers IsListed IsRead
-starts_keep job s new prefix read count here next held calls (IsStore was entries is) at answers =
-    let same : new ≡ s = some_same new s answers.2 in
+starts_keep job s new {prefix} count held (IsStore was entries is) at answers =
     let listed : entries ≡ listing_of s.tree = sym (some_same (listing_of s.tree) entries (answers.0 s refl)) in
     let store : is_store s.tree ≡ true = sym (store_listed s.tree) ∙ ap lists_store (sym listed) ∙ is in
-    subst (λ (r : Reading). HoldsNothing held × (count ≡ 0) × (is_store r.tree ≡ true) × (kind_in entries prefix_file ≡ option_map kind_of (find r.tree prefix_file)) × (prefix ≡ [])) (sym same)
+    stays (λ r. HoldsNothing held × (count ≡ 0) × (is_store r.tree ≡ true) × (kind_in entries prefix_file ≡ option_map kind_of (find r.tree prefix_file)) × (prefix ≡ [])) answers.2
     (at.0, at.1, store, ap (λ l. kind_in l prefix_file) listed ∙ kind_listed s.tree prefix_file, at.2)
-starts_keep job s new prefix read count here next held calls (HasNoPrefix was) at answers =
+starts_keep job s new {prefix} count held (HasNoPrefix was) at answers =
     let none_there = no_prefix (find s.tree prefix_file) at.3 in
-    goes_on job s new prefix count held (at.0, at.1, record { store = at.2; good = none_there.0; read = at.4 ∙ sym none_there.1 }) answers
-starts_keep job s new prefix read count here next held calls (HasPrefix was block good) at answers =
+    stays (Started prefix count held) answers (at.0, at.1, record { store = at.2; good = none_there.0; read = at.4 ∙ sym none_there.1 })
+starts_keep job s new count held (HasPrefix was block good) at answers =
     let it = good_prefix (find s.tree prefix_file) block at.3 (answers.0 (after_open (prefix_file ∷ []) s) refl) good in
-    subst (λ (r : Reading). Started job r (without_line_ends block) count held) (sym (some_same new (after_next (after_open (prefix_file ∷ []) s)) answers.1))
-    (at.0, at.1, record { store = at.2; good = it.0; read = sym it.1 })
-starts_keep job s new prefix read count here next held calls (HasNoStaging was) at answers = goes_on job s new prefix count held at answers
-starts_keep job s new prefix read count here next held calls (HasNoRoot was) at answers = goes_on job s new prefix count held at answers
-starts_keep job s new prefix read count here next held calls (HasRoot was) at answers = goes_on job s new prefix count held at answers
-starts_keep job s new prefix read count here next held calls (MakesRoot was number item is) at answers = after_makes job new prefix count number held (number == 5) (goes_on job s new prefix count held at answers)
-starts_keep job s new prefix read count here next held calls (RenamesRoot was) at answers = goes_on job s new prefix count held at answers
-starts_keep job s new prefix read count here next held calls (IsSame was number path bytes is) at answers = after_checks job new prefix count number held (number == 2) (goes_on job s new prefix count held at answers)
+    stays (Started (without_line_ends block) count held) answers.1 (at.0, at.1, record { store = at.2; good = it.0; read = sym it.1 })
+starts_keep job s new {prefix} count held (MakesRoot was number item is) at answers =
+    let next = λ (p : Phase). SourceAt job new prefix (done_after (phase.RootMake number) held.trail p count) p held in
+    let it = stays (Started prefix count held) answers at in
+    either_phase next (number == 5) phase.RootRename (phase.RootMake (number + 1)) (λ last. it) (λ more. it)
+starts_keep job s new {prefix} count held (IsSame was number path bytes is) at answers =
+    let next = λ (p : Phase). SourceAt job new prefix (done_after (phase.RootCheck number) held.trail p count) p held in
+    let it = stays (Started prefix count held) answers at in
+    either_phase next (number == 2) phase.OpenRoot (phase.RootCheck (number + 1)) (λ last. it) (λ more. it)
+starts_keep job s new {prefix} count held turn at answers = stays (Started prefix count held) answers at

@@ -19,12 +19,12 @@ use Rattle.pt_begun.specs.Past.{done_after, is_shorty_there}
 use Rattle.pt_plan.specs.Job.{Job}
 use Rattle.pt_plan.specs.Store.{is_store, pairtree_of, sites_of}
 use Rattle.pt_plan.specs.Run.{Held, with_trail}
-use Rattle.pt_plan.specs.TurnWalk.{Walks, OpensRoot, LeadsOn, IsSkipped, IsPresent, IsNew, IsPast, IsDeep, EntersSite, PassesEntry, LeavesSite, EndsWalk, at_object, new_object}
+use Rattle.pt_plan.specs.TurnWalk.{Walks, OpensRoot, IsNew, IsPast, IsDeep, EntersSite, PassesEntry, LeavesSite, EndsWalk, new_object}
 use Rattle.pt_plan.specs.World.{Answers, Calls}
 use Rattle.pt_plan.specs.declared.phase.Phase.{Phase}
 use Rattle.pt_plan.specs.declared.phase.Phase.TheVariants as phase
 use Rattle.pt_begun.proofs.source.NewObject.{new_object_there}
-use Rattle.pt_begun.proofs.source.InPairtree.{listing_in, pairtree_proper, sites_there, some_same, split_left}
+use Rattle.pt_begun.proofs.source.InPairtree.{listing_in, pairtree_proper, sites_there, some_same, split_left, stays}
 
 -- ---- the first site
 
@@ -198,61 +198,45 @@ none_at_end trail count e = ap (λ (o : Option Item). cond (is_shorty_there o) (
 
 -- ---- each turn
 
-judged : (job : Job) (s new : Reading) (prefix : List ℕ) (held : Held) (count : ℕ) → HoldsNoObject held × HasStarted s.tree prefix × IsToJudge job s.tree held.trail count → Some new ≡ Some s
-    → HoldsNoObject held × HasStarted new.tree prefix × IsOnWay job new.tree held.trail (suc count)
-judged job s new prefix held count at same =
-    subst (λ (r : Reading). HoldsNoObject held × HasStarted r.tree prefix × IsOnWay job r.tree held.trail (suc count)) (sym (some_same new s same)) (at.0, at.1, at.2.way)
+abbrev AtWalk : Job → List ℕ → Held → ℕ → Reading → Type 0
+AtWalk job prefix held count s = HoldsNoObject held × HasStarted s.tree prefix × IsOnWay job s.tree held.trail count
 
-walked : (job : Job) (s new : Reading) (prefix : List ℕ) (held : Held) (trail : List Frame) (count : ℕ) → HoldsNoObject held → HasStarted s.tree prefix → Some new ≡ Some s → IsOnWay job s.tree trail count
-    → HoldsNoObject (with_trail held trail) × HasStarted new.tree prefix × IsOnWay job new.tree trail count
-walked job s new prefix held trail count none started same way =
-    subst (λ (r : Reading). HoldsNoObject (with_trail held trail) × HasStarted r.tree prefix × IsOnWay job r.tree trail count) (sym (some_same new s same))
-    (record { rows = none.rows; contents = none.contents }, started, way)
+-- the trail moves on, and so many items are done
+walked : (job : Job) {s new : Reading} {prefix : List ℕ} (held : Held) (trail : List Frame) (n : ℕ) {count : ℕ} → n ≡ count → Some new ≡ Some s → HoldsNoObject held → HasStarted s.tree prefix → IsOnWay job s.tree trail count
+    → AtWalk job prefix (with_trail held trail) n new
+walked job {s} {prefix} held trail n done same none started way =
+    stays (AtWalk job prefix (with_trail held trail) n) same
+    (record { rows = none.rows; contents = none.contents }, started, subst (λ (k : ℕ). IsOnWay job s.tree trail k) (sym done) way)
 
--- with the number of items that are done
-at_walk : (job : Job) (new : Reading) (prefix : List ℕ) (held : Held) (count n : ℕ) {trail : List Frame} → n ≡ count → HoldsNoObject (with_trail held trail) × HasStarted new.tree prefix × IsOnWay job new.tree trail count
-    → HoldsNoObject (with_trail held trail) × HasStarted new.tree prefix × IsOnWay job new.tree trail n
-at_walk job new prefix held count n {trail} same at = subst (λ (k : ℕ). HoldsNoObject (with_trail held trail) × HasStarted new.tree prefix × IsOnWay job new.tree trail k) (sym same) at
+-- a site is entered
+at_site : (job : Job) {s new : Reading} {prefix : List ℕ} (held : Held) (trail : List Frame) {count : ℕ} → Some new ≡ Some s → held.rows ≡ [] → held.contents ≡ [] → HasStarted s.tree prefix → IsToJudge job s.tree trail count
+    → HoldsNoObject (with_trail held trail) × HasStarted new.tree prefix × IsToJudge job new.tree trail count
+at_site job {prefix} held trail {count} same rows contents started site =
+    stays (λ r. HoldsNoObject (with_trail held trail) × HasStarted r.tree prefix × IsToJudge job r.tree trail count) same (record { rows = rows; contents = contents }, started, site)
 
-pub walks_keep : (job : Job) (s new : Reading) (prefix : List ℕ) (count : ℕ) (here next : Phase) (held after : Held) (calls : Calls)
+pub walks_keep : (job : Job) (s new : Reading) {prefix : List ℕ} (count : ℕ) {here next : Phase} {held after : Held} {calls : Calls}
     → is_proper s.tree ≡ true → is_trail held.trail ≡ true → Walks job prefix here held after calls (Ok next) → SourceAt job s prefix count here held
     → Answers calls.asked (Some s) (Some new) → SourceAt job new prefix (done_after here held.trail next count) next after
 unfolding Answers IsListed
-walks_keep job s new prefix count here next held after calls proper is_one (OpensRoot was items) at answers =
-    let same : new ≡ s = some_same new s answers.2 in
-    let store = at.2.store in
-    let listed : listing_at (pairtree_of s.tree) [] ≡ Some items = sym (listing_in s.tree [] store) ∙ answers.0 s refl in
-    subst (λ (r : Reading). HoldsNoObject (with_trail was (entered items was.trail)) × HasStarted r.tree prefix × IsToJudge job r.tree (entered items was.trail) count) (sym same)
-    (record { rows = at.0.rows; contents = at.0.contents }, at.2, opens_root job s.tree was.trail items count store at.0.trail at.1 listed)
-walks_keep job s new prefix count here next held after calls proper is_one (LeadsOn was is) at answers = judged job s new prefix was count at answers
-walks_keep job s new prefix count here next held after calls proper is_one (IsSkipped was why is) at answers = judged job s new prefix was count at answers
-walks_keep job s new prefix count here next held after calls proper is_one (IsPresent was index id kind is) at answers = judged job s new prefix was count at answers
-walks_keep job s new prefix count here next held after calls proper is_one (IsNew was index id is) at answers =
-    let same : new ≡ s = some_same new s answers in
+walks_keep job s new count {after} proper is_one (OpensRoot was items) at answers =
+    let listed : listing_at (pairtree_of s.tree) [] ≡ Some items = sym (listing_in s.tree [] at.2.store) ∙ answers.0 s refl in
+    at_site job was after.trail answers.2 at.0.rows at.0.contents at.2 (opens_root job s.tree was.trail items count at.2.store at.0.trail at.1 listed)
+walks_keep job s new {prefix} count {after} proper is_one (IsNew was index id is) at answers =
     let object = new_object job id index was.trail in
     let it = new_object_there job s.tree prefix was.trail index id count (pairtree_proper s.tree at.1.store proper) is at.2 in
-    subst (λ (r : Reading). HoldsNoObject (with_trail was (at_object index was.trail)) × HasStarted r.tree prefix × IsInObject job r.tree prefix object (at_object index was.trail) count × (length (at_object index was.trail) ≡ length was.trail) × (object.empty ≡ 0)) (sym same)
+    stays (λ r. HoldsNoObject after × HasStarted r.tree prefix × IsInObject job r.tree prefix object after.trail count × (length after.trail ≡ length was.trail) × (object.empty ≡ 0)) answers
     (record { rows = at.0.rows; contents = at.0.contents }, at.1, it.stands, it.at_site, refl)
-walks_keep job s new prefix count here next held after calls proper is_one (IsPast was name e short last) at answers =
-    at_walk job new prefix was _ _ (done_at_shorty was.trail name count e short)
-    (walked job s new prefix was (advanced was.trail) (suc count) at.0 at.1 answers
-    (passes_past job s.tree was.trail name count (pairtree_proper s.tree at.1.store proper) e short last at.2))
-walks_keep job s new prefix count here next held after calls proper is_one (IsDeep was name e short last deep) at answers =
-    at_walk job new prefix was _ _ (done_at_shorty was.trail name count e short)
-    (walked job s new prefix was (advanced was.trail) (suc count) at.0 at.1 answers
-    (passes_deep job s.tree was.trail name count (pairtree_proper s.tree at.1.store proper) is_one e short last deep at.2))
-walks_keep job s new prefix count here next held after calls proper is_one (EntersSite was name items e short last deep) at answers =
-    let same : new ≡ s = some_same new s answers.2 in
+walks_keep job s new count {after} proper is_one (IsPast was name e short last) at answers =
+    walked job was after.trail _ (done_at_shorty was.trail name count e short) answers at.0 at.1 (passes_past job s.tree was.trail name count (pairtree_proper s.tree at.1.store proper) e short last at.2)
+walks_keep job s new count {after} proper is_one (IsDeep was name e short last deep) at answers =
+    walked job was after.trail _ (done_at_shorty was.trail name count e short) answers at.0 at.1 (passes_deep job s.tree was.trail name count (pairtree_proper s.tree at.1.store proper) is_one e short last deep at.2)
+walks_keep job s new count {after} proper is_one (EntersSite was name items e short last deep) at answers =
     let listed : listing_at (pairtree_of s.tree) (names_to was.trail) ≡ Some items = sym (listing_in s.tree (names_to was.trail) at.1.store) ∙ answers.0 s refl in
-    subst (λ (r : Reading). HoldsNoObject (with_trail was (entered items was.trail)) × HasStarted r.tree prefix × IsToJudge job r.tree (entered items was.trail) count) (sym same)
-    (record { rows = at.0.rows; contents = at.0.contents }, at.1, enters_site job s.tree was.trail name items count (pairtree_proper s.tree at.1.store proper) is_one e short last deep listed at.2)
-walks_keep job s new prefix count here next held after calls proper is_one (PassesEntry was item e apart) at answers =
-    at_walk job new prefix was _ _ (none_at_entry was.trail item count e apart)
-    (walked job s new prefix was (advanced was.trail) count at.0 at.1 answers
-    (passes_entry job s.tree was.trail item count (pairtree_proper s.tree at.1.store proper) e apart at.2))
-walks_keep job s new prefix count here next held after calls proper is_one (LeavesSite was e long) at answers =
-    at_walk job new prefix was _ _ (none_at_end was.trail count e)
-    (walked job s new prefix was (advanced (parent was.trail)) count at.0 at.1 answers (leaves_site job s.tree was.trail count e long at.2))
-walks_keep job s new prefix count here next held after calls proper is_one (EndsWalk was e short) at answers =
-    subst (λ (r : Reading). HoldsNoObject was × HasStarted r.tree prefix × (drop count (sites_of job.limits.depth r.tree) ≡ [])) (sym (some_same new s answers))
-    (at.0, at.1, ends_walk job s.tree was.trail count e short at.2)
+    at_site job was after.trail answers.2 at.0.rows at.0.contents at.1 (enters_site job s.tree was.trail name items count (pairtree_proper s.tree at.1.store proper) is_one e short last deep listed at.2)
+walks_keep job s new count {after} proper is_one (PassesEntry was item e apart) at answers =
+    walked job was after.trail _ (none_at_entry was.trail item count e apart) answers at.0 at.1 (passes_entry job s.tree was.trail item count (pairtree_proper s.tree at.1.store proper) e apart at.2)
+walks_keep job s new count {after} proper is_one (LeavesSite was e long) at answers =
+    walked job was after.trail _ (none_at_end was.trail count e) answers at.0 at.1 (leaves_site job s.tree was.trail count e long at.2)
+walks_keep job s new {prefix} count proper is_one (EndsWalk was e short) at answers =
+    stays (λ r. HoldsNoObject was × HasStarted r.tree prefix × (drop count (sites_of job.limits.depth r.tree) ≡ [])) answers (at.0, at.1, ends_walk job s.tree was.trail count e short at.2)
+walks_keep job s new {prefix} count {after} proper is_one judged at answers = stays (AtWalk job prefix after (suc count)) answers (at.0, at.1, at.2.way)
