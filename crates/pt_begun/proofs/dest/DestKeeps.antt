@@ -7,7 +7,7 @@ use Rattle.pt_object.specs.Root.{base, base_where}
 use Rattle.pt_tree.specs.Dest.{Writing, IsKindAt}
 use Rattle.pt_tree.specs.Path.{Path, rest_below}
 use Rattle.pt_tree.specs.Tree.{Entry, Folder, IsTree, Tree, kind_of_entry}
-use Rattle.pt_begun.specs.BegunDest.{DestAt, IsBetweenObjects, IsMakingObject, root_now, root_on_way}
+use Rattle.pt_begun.specs.BegunDest.{DestAt, DestPart, IsBetweenObjects, IsMakingObject, root_now, root_on_way}
 use Rattle.pt_plan.specs.Carried.{Carried, entry_of_objects, folder_where, is_on_the_way}
 use Rattle.pt_begun.specs.DestLaws.{ScanningKeepsDest, WalkingKeepsDest}
 use Rattle.pt_begun.specs.Past.{Past, past_after}
@@ -51,148 +51,65 @@ no_folders job start placed place =
 
 -- ---- from phase to phase
 
-between : (job : Job) (start : Tree) (placed later : List Carried) (old new : Writing) → later ≡ placed → Some new ≡ Some old → IsBetweenObjects job start placed old → IsBetweenObjects job start later new
-between job start placed later old new same_placed same it =
-    subst (λ (w : Writing). IsBetweenObjects job start later w) (sym (some_same new old same)) (subst (λ (l : List Carried). IsBetweenObjects job start l old) (sym same_placed) it)
-
-making : (job : Job) (start : Tree) (placed later : List Carried) (object : Object) (old new : Writing) → later ≡ placed → Some new ≡ Some old → IsMakingObject job start placed object [] 0 old → IsMakingObject job start later object [] 0 new
-making job start placed later object old new same_placed same it =
-    subst (λ (w : Writing). IsMakingObject job start later object [] 0 w) (sym (some_same new old same)) (subst (λ (l : List Carried). IsMakingObject job start l object [] 0 old) (sym same_placed) it)
-
 -- the object is given up
-given_up : (job : Job) (start : Tree) (placed later : List Carried) (object : Object) (old new : Writing) → later ≡ placed → Some new ≡ Some old → IsMakingObject job start placed object [] 0 old → IsBetweenObjects job start later new
-given_up job start placed later object old new same_placed same it =
-    between job start placed later old new same_placed same (record { root = it.root; came = it.came; tree = it.tree ∙ ap (with_root start) (no_folders job start placed object.place) })
+given_up : {job : Job} {start : Tree} {placed : List Carried} {object : Object} {now : Writing} → IsMakingObject job start placed object [] 0 now → IsBetweenObjects job start placed now
+given_up {job} {start} {placed} {object} it = record { root = it.root; came = it.came; tree = it.tree ∙ ap (with_root start) (no_folders job start placed object.place) }
 
 pub no_kind : (here : Option Entry) → option_map kind_of_entry here ≡ None → here ≡ None
 no_kind None is = refl
 no_kind (Some entry) is = absurd (cc)
 
 -- nothing stands at the place of a new object
-new_making : (job : Job) (start : Tree) (placed : List Carried) (object : Object) (old : Writing) → option_map kind_of_entry (old.tree (in_root object.place)) ≡ None → IsBetweenObjects job start placed old → IsMakingObject job start placed object [] 0 old
-new_making job start placed object old is it = record {
+new_making : (job : Job) (start : Tree) (placed : List Carried) (object : Object) (now : Writing) → option_map kind_of_entry (now.tree (in_root object.place)) ≡ None → IsBetweenObjects job start placed now → IsMakingObject job start placed object [] 0 now
+new_making job start placed object now is it = record {
   root = it.root;
   came = it.came;
-  free = sym (ap (λ (t : Tree). t (in_root object.place)) it.tree) ∙ no_kind (old.tree (in_root object.place)) is;
+  free = sym (ap (λ (t : Tree). t (in_root object.place)) it.tree) ∙ no_kind (now.tree (in_root object.place)) is;
   tree = it.tree ∙ ap (with_root start) (sym (no_folders job start placed object.place));
 }
 
-pub walks_keep : (job : Job) (start : Tree) (past later : Past) (old new : Writing) (prefix : List ℕ) (here next : Phase) (held after : Held) (calls : Calls)
-    → later.placed ≡ past.placed → Walks job prefix here held after calls (Ok next) → DestAt job start past here held old → Changes calls.change (Some old) (Some new) → DestAt job start later next after new
-unfolding Changes IsKindAt
-walks_keep job start past later old new prefix here next held after calls placed (OpensRoot was items) at change = between job start past.placed later.placed old new placed change at
-walks_keep job start past later old new prefix here next held after calls placed (LeadsOn was is) at change = between job start past.placed later.placed old new placed change at
-walks_keep job start past later old new prefix here next held after calls placed (IsSkipped was why is) at change = between job start past.placed later.placed old new placed change at
-walks_keep job start past later old new prefix here next held after calls placed (IsPresent was index id kind is) at change = between job start past.placed later.placed old new placed change.1 at
-walks_keep job start past later old new prefix here next held after calls placed (IsNew was index id is) at change =
-    let object = new_object job id index was.trail in
-    making job start past.placed later.placed object old new placed change.1 (new_making job start past.placed object old (change.0 old refl) at)
-walks_keep job start past later old new prefix here next held after calls placed (IsPast was name e short last) at change = between job start past.placed later.placed old new placed change at
-walks_keep job start past later old new prefix here next held after calls placed (IsDeep was name e short last deep) at change = between job start past.placed later.placed old new placed change at
-walks_keep job start past later old new prefix here next held after calls placed (EntersSite was name items e short last deep) at change = between job start past.placed later.placed old new placed change at
-walks_keep job start past later old new prefix here next held after calls placed (PassesEntry was item e apart) at change = between job start past.placed later.placed old new placed change at
-walks_keep job start past later old new prefix here next held after calls placed (LeavesSite was e long) at change = between job start past.placed later.placed old new placed change at
-walks_keep job start past later old new prefix here next held after calls placed (EndsWalk was e short) at change = between job start past.placed later.placed old new placed change at
-
 -- with one more directory counted
-counted : (job : Job) (start : Tree) (placed : List Carried) (object : Object) (empty : ℕ) (now : Writing) → IsMakingObject job start placed object [] 0 now → IsMakingObject job start placed (record object { empty = empty }) [] 0 now
-counted job start placed object empty now it = record { root = it.root; came = it.came; free = it.free; tree = it.tree }
+counted : {job : Job} {start : Tree} {placed : List Carried} (object : Object) (empty : ℕ) {now : Writing} → IsMakingObject job start placed object [] 0 now → IsMakingObject job start placed (record object { empty = empty }) [] 0 now
+counted object empty it = record { root = it.root; came = it.came; free = it.free; tree = it.tree }
 
-pub scans_keep : (job : Job) (start : Tree) (past later : Past) (old new : Writing) (here next : Phase) (held after : Held) (calls : Calls)
-    → later.placed ≡ past.placed → Scans job here held after calls (Ok next) → DestAt job start past here held old → Changes calls.change (Some old) (Some new) → DestAt job start later next after new
+-- ---- no turn of the walk or the scan changes the destination
+
+walks_same : {job : Job} {prefix : List ℕ} (old new : Writing) {here next : Phase} {held after : Held} {calls : Calls} → Walks job prefix here held after calls (Ok next) → Changes calls.change (Some old) (Some new) → Some new ≡ Some old
 unfolding Changes
-scans_keep job start past later old new here next held after calls placed (StartsInSite was object gathered) at change = making job start past.placed later.placed object old new placed change at
-scans_keep job start past later old new here next held after calls placed (EntersObject was object items apart shallow) at change = counted job start later.placed object (object.empty + none_listed items) new (making job start past.placed later.placed object old new placed change at)
-scans_keep job start past later old new here next held after calls placed (IsTooDeep was object apart deep) at change = given_up job start past.placed later.placed object old new placed change at
-scans_keep job start past later old new here next held after calls placed (PassesShorty was object item e passed) at change = making job start past.placed later.placed object old new placed change at
-scans_keep job start past later old new here next held after calls placed (EntersDirectory was object name items e apart shallow) at change = counted job start later.placed object (object.empty + none_listed items) new (making job start past.placed later.placed object old new placed change at)
-scans_keep job start past later old new here next held after calls placed (MeetsDeep was object name e apart deep) at change = given_up job start past.placed later.placed object old new placed change at
-scans_keep job start past later old new here next held after calls placed (OpensFile was object name e room) at change = making job start past.placed later.placed object old new placed change at
-scans_keep job start past later old new here next held after calls placed (MeetsLimit was object name e room) at change = given_up job start past.placed later.placed object old new placed change at
-scans_keep job start past later old new here next held after calls placed (MeetsOther was object name e) at change = given_up job start past.placed later.placed object old new placed change at
-scans_keep job start past later old new here next held after calls placed (EndsSite was object e there) at change = making job start past.placed later.placed object old new placed change at
-scans_keep job start past later old new here next held after calls placed (EndsObject was object e apart own) at change = making job start past.placed later.placed object old new placed change at
-scans_keep job start past later old new here next held after calls placed (LeavesDirectory was object e apart outside) at change = making job start past.placed later.placed object old new placed change at
-scans_keep job start past later old new here next held after calls placed (ReadsOn was object bytes byte block short) at change = making job start past.placed later.placed object old new placed change at
-scans_keep job start past later old new here next held after calls placed (IsTooLong was object bytes byte block long) at change = given_up job start past.placed later.placed object old new placed change at
-scans_keep job start past later old new here next held after calls placed (EndsFile was object bytes) at change = making job start past.placed later.placed object old new placed change at
+walks_same old new (IsPresent was index id kind is) change = change.1
+walks_same old new (IsNew was index id is) change = change.1
+walks_same old new turn change = change
 
--- ---- the laws
-
--- neither changes the destination
-same_walking : (job : Job) (prefix : List ℕ) (old new : Writing) (here next : Phase) (held after : Held) (calls : Calls) → Walks job prefix here held after calls (Ok next) → Changes calls.change (Some old) (Some new) → new ≡ old
+scans_same : {job : Job} (old new : Writing) {here next : Phase} {held after : Held} {calls : Calls} → Scans job here held after calls (Ok next) → Changes calls.change (Some old) (Some new) → Some new ≡ Some old
 unfolding Changes
-same_walking job prefix old new here next held after calls (OpensRoot was items) change = some_same new old change
-same_walking job prefix old new here next held after calls (LeadsOn was is) change = some_same new old change
-same_walking job prefix old new here next held after calls (IsSkipped was why is) change = some_same new old change
-same_walking job prefix old new here next held after calls (IsPresent was index id kind is) change = some_same new old change.1
-same_walking job prefix old new here next held after calls (IsNew was index id is) change = some_same new old change.1
-same_walking job prefix old new here next held after calls (IsPast was name e short last) change = some_same new old change
-same_walking job prefix old new here next held after calls (IsDeep was name e short last deep) change = some_same new old change
-same_walking job prefix old new here next held after calls (EntersSite was name items e short last deep) change = some_same new old change
-same_walking job prefix old new here next held after calls (PassesEntry was item e apart) change = some_same new old change
-same_walking job prefix old new here next held after calls (LeavesSite was e long) change = some_same new old change
-same_walking job prefix old new here next held after calls (EndsWalk was e short) change = some_same new old change
+scans_same old new (StartsInSite was object gathered) change = change
+scans_same old new turn change = change
 
-same_scanning : (job : Job) (old new : Writing) (here next : Phase) (held after : Held) (calls : Calls) → Scans job here held after calls (Ok next) → Changes calls.change (Some old) (Some new) → new ≡ old
-unfolding Changes
-same_scanning job old new here next held after calls (StartsInSite was object gathered) change = some_same new old change
-same_scanning job old new here next held after calls (EntersObject was object items apart shallow) change = some_same new old change
-same_scanning job old new here next held after calls (IsTooDeep was object apart deep) change = some_same new old change
-same_scanning job old new here next held after calls (PassesShorty was object item e passed) change = some_same new old change
-same_scanning job old new here next held after calls (EntersDirectory was object name items e apart shallow) change = some_same new old change
-same_scanning job old new here next held after calls (MeetsDeep was object name e apart deep) change = some_same new old change
-same_scanning job old new here next held after calls (OpensFile was object name e room) change = some_same new old change
-same_scanning job old new here next held after calls (MeetsLimit was object name e room) change = some_same new old change
-same_scanning job old new here next held after calls (MeetsOther was object name e) change = some_same new old change
-same_scanning job old new here next held after calls (EndsSite was object e there) change = some_same new old change
-same_scanning job old new here next held after calls (EndsObject was object e apart own) change = some_same new old change
-same_scanning job old new here next held after calls (LeavesDirectory was object e apart outside) change = some_same new old change
-same_scanning job old new here next held after calls (ReadsOn was object bytes byte block short) change = some_same new old change
-same_scanning job old new here next held after calls (IsTooLong was object bytes byte block long) change = some_same new old change
-same_scanning job old new here next held after calls (EndsFile was object bytes) change = some_same new old change
+-- ---- so what holds of it goes on to hold
 
--- nor the objects placed
-walking_places : (job : Job) (prefix : List ℕ) (past : Past) (here next : Phase) (held after : Held) (calls : Calls) → Walks job prefix here held after calls (Ok next) → (past_after here next held past).placed ≡ past.placed
-walking_places job prefix past here next held after calls (OpensRoot was items) = refl
-walking_places job prefix past here next held after calls (LeadsOn was is) = refl
-walking_places job prefix past here next held after calls (IsSkipped was why is) = refl
-walking_places job prefix past here next held after calls (IsPresent was index id kind is) = refl
-walking_places job prefix past here next held after calls (IsNew was index id is) = refl
-walking_places job prefix past here next held after calls (IsPast was name e short last) = refl
-walking_places job prefix past here next held after calls (IsDeep was name e short last deep) = refl
-walking_places job prefix past here next held after calls (EntersSite was name items e short last deep) = refl
-walking_places job prefix past here next held after calls (PassesEntry was item e apart) = refl
-walking_places job prefix past here next held after calls (LeavesSite was e long) = refl
-walking_places job prefix past here next held after calls (EndsWalk was e short) = refl
+walks_keep : {job : Job} (start : Tree) (past : Past) (old new : Writing) {prefix : List ℕ} {here next : Phase} {held after : Held} {calls : Calls} → Walks job prefix here held after calls (Ok next)
+    → Changes calls.change (Some old) (Some new) → DestAt job start past here held old → DestAt job start (past_after here next held past) next after old
+unfolding Changes IsKindAt
+walks_keep {job} start past old new (IsNew was index id is) change at = new_making job start past.placed (new_object job id index was.trail) old (change.0 old refl) at
+walks_keep start past old new turn change at = at
 
-scanning_places : (job : Job) (past : Past) (here next : Phase) (held after : Held) (calls : Calls) → Scans job here held after calls (Ok next) → (past_after here next held past).placed ≡ past.placed
-scanning_places job past here next held after calls (StartsInSite was object gathered) = refl
-scanning_places job past here next held after calls (EntersObject was object items apart shallow) = refl
-scanning_places job past here next held after calls (IsTooDeep was object apart deep) = refl
-scanning_places job past here next held after calls (PassesShorty was object item e passed) = refl
-scanning_places job past here next held after calls (EntersDirectory was object name items e apart shallow) = refl
-scanning_places job past here next held after calls (MeetsDeep was object name e apart deep) = refl
-scanning_places job past here next held after calls (OpensFile was object name e room) = refl
-scanning_places job past here next held after calls (MeetsLimit was object name e room) = refl
-scanning_places job past here next held after calls (MeetsOther was object name e) = refl
-scanning_places job past here next held after calls (EndsSite was object e there) = refl
-scanning_places job past here next held after calls (EndsObject was object e apart own) = refl
-scanning_places job past here next held after calls (LeavesDirectory was object e apart outside) = refl
-scanning_places job past here next held after calls (ReadsOn was object bytes byte block short) = refl
-scanning_places job past here next held after calls (IsTooLong was object bytes byte block long) = refl
-scanning_places job past here next held after calls (EndsFile was object bytes) = refl
+scans_keep : {job : Job} (start : Tree) (past : Past) (old : Writing) {here next : Phase} {held after : Held} {calls : Calls} → Scans job here held after calls (Ok next)
+    → DestAt job start past here held old → DestAt job start (past_after here next held past) next after old
+scans_keep start past old (EntersObject was object items apart shallow) at = counted object (object.empty + none_listed items) at
+scans_keep start past old (IsTooDeep was object apart deep) at = given_up at
+scans_keep start past old (EntersDirectory was object name items e apart shallow) at = counted object (object.empty + none_listed items) at
+scans_keep start past old (MeetsDeep was object name e apart deep) at = given_up at
+scans_keep start past old (MeetsLimit was object name e room) at = given_up at
+scans_keep start past old (MeetsOther was object name e) at = given_up at
+scans_keep start past old (IsTooLong was object bytes byte block long) at = given_up at
+scans_keep start past old turn at = at
 
 pub walks_dest : WalkingKeepsDest
-walks_dest job past start old new prefix here next held after calls turn change at part = record {
-  started = part.started;
-  tree = subst (λ (w : Writing). IsTree w.tree) (sym (same_walking job prefix old new here next held after calls turn change)) part.tree;
-  at = walks_keep job start past (past_after here next held past) old new prefix here next held after calls (walking_places job prefix past here next held after calls turn) turn part.at change;
-}
+walks_dest job past start old new prefix here next held after calls turn change at part =
+    subst (DestPart job (past_after here next held past) next after start) (sym (some_same new old (walks_same old new turn change)))
+    (record { started = part.started; tree = part.tree; at = walks_keep start past old new turn change part.at })
 
 pub scans_dest : ScanningKeepsDest
-scans_dest job past start old new here next held after calls turn change at part = record {
-  started = part.started;
-  tree = subst (λ (w : Writing). IsTree w.tree) (sym (same_scanning job old new here next held after calls turn change)) part.tree;
-  at = scans_keep job start past (past_after here next held past) old new here next held after calls (scanning_places job past here next held after calls turn) turn part.at change;
-}
+scans_dest job past start old new here next held after calls turn change at part =
+    subst (DestPart job (past_after here next held past) next after start) (sym (some_same new old (scans_same old new turn change)))
+    (record { started = part.started; tree = part.tree; at = scans_keep start past old turn part.at })

@@ -24,6 +24,7 @@ use Rattle.pt_plan.specs.Roots.{root_in, storage_root, with_root}
 use Rattle.pt_plan.specs.Run.{Held}
 use Rattle.pt_plan.specs.TurnStart.{IsStore, HasNoPrefix, HasPrefix, HasNoStaging, HasNoRoot, HasRoot, MakesRoot, RenamesRoot, IsSame}
 use Rattle.pt_plan.specs.World.{Changes, after_make}
+use Rattle.pt_plan.specs.declared.phase.Phase.{Phase}
 use Rattle.pt_plan.specs.declared.phase.Phase.TheVariants as phase
 use Rattle.pt_begun.specs.BegunDest.{DestPart, HasRootFiles, IsMakingRoot, root_now}
 use Rattle.pt_begun.specs.DestLaws.{StartingKeepsDest}
@@ -140,22 +141,21 @@ checked_next job past start held old new number path bytes line last is layout f
         subst (λ (w : Writing). DestPart job (past_after (phase.RootCheck number) (phase.RootCheck (number + 1)) held past) (phase.RootCheck (number + 1)) held start w) (sym change)
         (record { started = part.started; tree = part.tree; at = record { free = part.at.free; top = part.at.top; files = files; tree = part.at.tree } })
 
+-- with the destination as it was
+unchanged : {job : Job} {past : Past} {here : Phase} {held : Held} {start : Tree} {old new : Writing} → Some new ≡ Some old → DestPart job past here held start old → DestPart job past here held start new
+unchanged {job} {past} {here} {held} {start} {old} {new} same part = subst (DestPart job past here held start) (sym (some_same new old same)) part
+
 pub starts_dest : StartingKeepsDest
 unfolding Changes IsKindAt IsPeeked
-starts_dest job past start old new prefix read here next held calls layout (IsStore was entries is) change at part = subst (λ (w : Writing). DestPart job (past_after here next held past) next held start w) (sym (some_same new old change)) (record { started = part.started; tree = part.tree; at = part.at })
-starts_dest job past start old new prefix read here next held calls layout (HasNoPrefix was) change at part = subst (λ (w : Writing). DestPart job (past_after here next held past) next held start w) (sym (some_same new old change)) (record { started = part.started; tree = part.tree; at = part.at })
-starts_dest job past start old new prefix read here next held calls layout (HasPrefix was block good) change at part = subst (λ (w : Writing). DestPart job (past_after here next held past) next held start w) (sym (some_same new old change)) (record { started = part.started; tree = part.tree; at = part.at })
 starts_dest job past start old new prefix read here next held calls layout (HasNoStaging was) change at part =
     let none = sym (ap (λ (t : Tree). t staging) part.at.tree) ∙ no_kind (old.tree staging) (change.0 old refl) in
-    subst (λ (w : Writing). DestPart job (past_after here next held past) next held start w) (sym (some_same new old change.1)) (record { started = part.started; tree = part.tree; at = (part.at, free_below start (codes "staging") part.started none) })
+    unchanged change.1 (record { started = part.started; tree = part.tree; at = (part.at, free_below start (codes "staging") part.started none) })
 starts_dest job past start old new prefix read here next held calls layout (HasNoRoot was) change at part =
     let none = sym (ap (λ (t : Tree). t storage_root) part.at.0.tree) ∙ no_kind (old.tree storage_root) (change.0 old refl) in
-    subst (λ (w : Writing). DestPart job (past_after here next held past) next held start w) (sym (some_same new old change.1))
-    (record { started = part.started; tree = part.tree; at = record { free = part.at.1; root = free_below start (codes "ocfl") part.started none; tree = part.at.0.tree } })
+    unchanged change.1 (record { started = part.started; tree = part.tree; at = record { free = part.at.1; root = free_below start (codes "ocfl") part.started none; tree = part.at.0.tree } })
 starts_dest job past start old new prefix read here next held calls layout (HasRoot was) change at part =
     let folder = sym (ap (λ (t : Tree). t storage_root) part.at.0.tree) ∙ folder_kind (old.tree storage_root) (change.0 old refl) in
-    subst (λ (w : Writing). DestPart job (past_after here next held past) next held start w) (sym (some_same new old change.1))
-    (record { started = part.started; tree = part.tree; at = record { free = part.at.1; top = folder; files = λ k d h. absurd (omega (arith, h)); tree = part.at.0.tree } })
+    unchanged change.1 (record { started = part.started; tree = part.tree; at = record { free = part.at.1; top = folder; files = λ k d h. absurd (omega (arith, h)); tree = part.at.0.tree } })
 starts_dest job past start old new prefix read here next held calls layout (MakesRoot was number item is) change at part = made_next job past start held old new number item None (number == 5) refl (some_same new (after_make item old) change) is part
 starts_dest job past start old new prefix read here next held calls layout (RenamesRoot was) change at part =
     let is = some_same new (after_rename staging storage_root old) change in
@@ -166,3 +166,4 @@ starts_dest job past start old new prefix read here next held calls layout (Rena
       at = record { root = record { free = part.at.free; root = inl part.at.root }; came = refl; tree = moved_root job start old part.started part.at };
     })
 starts_dest job past start old new prefix read here next held calls layout (IsSame was number path bytes is) change at part = checked_next job past start held old new number path bytes None (number == 2) refl layout is (change.1 old refl) (some_same new old change.2) part
+starts_dest job past start old new prefix read here next held calls layout turn change at part = unchanged change (record { started = part.started; tree = part.tree; at = part.at })
