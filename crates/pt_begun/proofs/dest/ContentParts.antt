@@ -79,16 +79,16 @@ pub folder_next : (job : Job) (object : Object) (rows : List Row) (contents : Li
 folder_next job object rows contents bytes position row it more =
     let one = distinct_here rows contents position row it in
     next_content job object rows bytes position (MakeFolder (codes "content" ∷ take position.directories row.path))
-    (next_folder (contents_of rows bytes) position (stored_at row, bytes row.path) (codes "content" ∷ take position.directories row.path) (content_is rows bytes position.stored row one)
-    (folder_at (codes "content") row.path position.directories more) (new_folders rows bytes position row one it.at))
+    (next_folder (contents_of rows bytes) position _ _ (content_is rows bytes position.stored row one)
+    (folder_at _ row.path position.directories more) (new_folders rows bytes position row one it.at))
 
 pub folder_made : (job : Job) (object : Object) (rows : List Row) (contents : List Content) (bytes : Path → List ℕ) (position : Position) (row : Row) → IsHere rows contents position row → position.directories < length row.path
     → made_before job object rows bytes (part.Content (with_folder position)) ≡ made_before job object rows bytes (part.Content position) ++ MakeFolder (in_content (take position.directories row.path)) ∷ []
 folder_made job object rows contents bytes position row it more =
     let one = distinct_here rows contents position row it in
     after_content job object rows bytes position (with_folder position) (MakeFolder (codes "content" ∷ take position.directories row.path))
-    (with_next_folder (contents_of rows bytes) position (stored_at row, bytes row.path) (codes "content" ∷ take position.directories row.path) (content_is rows bytes position.stored row one)
-    (folder_at (codes "content") row.path position.directories more) (new_folders rows bytes position row one it.at))
+    (with_next_folder (contents_of rows bytes) position _ _ (content_is rows bytes position.stored row one)
+    (folder_at _ row.path position.directories more) (new_folders rows bytes position row one it.at))
 
 all_stand : (row : Row) (directories : ℕ) → length row.path ≤ directories → length (folders_above (stored_at row)) ≤ directories
 all_stand row directories stand = let many = folders_many (codes "content") row.path in omega (arith, many, stand)
@@ -97,7 +97,7 @@ pub file_next : (job : Job) (object : Object) (rows : List Row) (contents : List
     → IsNext (script_of_object job object rows bytes) (made_before job object rows bytes (part.Content position)) (MakeFile (in_content row.path) (bytes row.path))
 file_next job object rows contents bytes position row it stand =
     next_content job object rows bytes position (MakeFile (stored_at row) (bytes row.path))
-    (next_file (contents_of rows bytes) position (stored_at row, bytes row.path) (content_is rows bytes position.stored row (distinct_here rows contents position row it)) (all_stand row position.directories stand))
+    (next_file (contents_of rows bytes) position _ (content_is rows bytes position.stored row (distinct_here rows contents position row it)) (all_stand row position.directories stand))
 
 -- ---- the file is made
 
@@ -110,7 +110,7 @@ standing_made rows bytes stored row is order None end =
 standing_made rows bytes stored row is order (Some next) there =
     let files = contents_of rows bytes in
     let k = suc (shared (parent row.path) (parent next.path)) in
-    let parts = parted (distinct rows) stored row next is there (order_distinct [] rows order) in
+    let parts = parted _ stored row next is there (order_distinct [] rows order) in
     let number : standing row.path (slice_get (map content_of_row (distinct rows)) (suc stored)) ≡ k = ap (standing row.path) (get_map content_of_row (distinct rows) (suc stored) next there) in
     let within : list_all (λ folder. leads folder (stored_at row)) (take k (folders_above (stored_at next))) ≡ true =
     ap (λ n. list_all (λ folder. leads folder (stored_at row)) (take n (folders_above (stored_at next)))) (sym (shared_in_content row.path next.path parts)) ∙ within_shared (stored_at row) (stored_at next) in
@@ -123,7 +123,7 @@ standing_made rows bytes stored row is order (Some next) there =
     last_leads : (files : List File) (n : ℕ) (file : File) (folder : Path) → slice_get files n ≡ Some file → leads folder file.0 ≡ true → leads_to (take (suc n) files) folder ≡ true
     last_leads files n file folder is on =
         ap (λ (l : List File). leads_to l folder) (take_one n files file is) ∙ list_any-append (λ (f : File). leads folder f.0) (take n files) (file ∷ [])
-        ∙ or_right (leads_to (take n files) folder) (leads folder file.0 || false) (ap (λ b. b || false) on)
+        ∙ or_right (leads_to (take n files) folder) _ (ap (λ b. b || false) on)
 
     parted : (l : List Row) (n : ℕ) (a b : Row) → slice_get l n ≡ Some a → slice_get l (suc n) ≡ Some b → part_in_order (row_paths l) ≡ true → parts_before a.path b.path ≡ true
     parted [] n a b one two order = absurd (cc)
@@ -132,8 +132,8 @@ standing_made rows bytes stored row is order (Some next) there =
         let first : x ≡ a = some_same x a one in
         let second : y ≡ b = some_same y b two in
         ap (λ (r : Row). parts_before r.path b.path) (sym first) ∙ ap (λ (r : Row). parts_before x.path r.path) (sym second)
-        ∙ (and_parts (parts_before x.path y.path) (list_all (parts_before x.path) (row_paths l)) (and_parts (list_all (parts_before x.path) (row_paths (y ∷ l))) (part_in_order (row_paths (y ∷ l))) order).0).0
-    parted (x ∷ l) (suc n) a b one two order = parted l n a b one two (and_parts (list_all (parts_before x.path) (row_paths l)) (part_in_order (row_paths l)) order).1
+        ∙ (and_parts _ _ (and_parts _ _ order).0).0
+    parted (x ∷ l) (suc n) a b one two order = parted l n a b one two (and_parts _ _ order).1
 
 pub file_made : (job : Job) (object : Object) (rows : List Row) (contents : List Content) (bytes : Path → List ℕ) (position : Position) (row : Row) → IsHere rows contents position row → length row.path ≤ position.directories
     → made_before job object rows bytes (part.Content (behind_stored contents position row.path)) ≡ made_before job object rows bytes (part.Content position) ++ MakeFile (in_content row.path) (bytes row.path) ∷ []
@@ -146,14 +146,14 @@ file_made job object rows contents bytes position row it stand =
     ∙ ap (λ n. folders_before (take (suc position.stored) (contents_of rows bytes)) (standing row.path (slice_get (map content_of_row (distinct rows)) n)) (slice_get (contents_of rows bytes) (suc position.stored))) add
     ∙ standing_made rows bytes position.stored row one it.order (slice_get (distinct rows) (suc position.stored)) refl in
     after_content job object rows bytes position next (MakeFile (stored_at row) (bytes row.path))
-    (with_next_file (contents_of rows bytes) position (stored_at row, bytes row.path) next.row next.directories (content_is rows bytes position.stored row one) (all_stand row position.directories stand) none)
+    (with_next_file (contents_of rows bytes) position _ next.row next.directories (content_is rows bytes position.stored row one) (all_stand row position.directories stand) none)
 
 -- ---- with other bytes of that file
 
 same_contents : (bytes : Path → List ℕ) (path : Path) (read : List ℕ) (some : List Row) → list_all (λ earlier. parts_before earlier path) (row_paths some) ≡ true → map (content bytes) some ≡ map (content (with_bytes path read bytes)) some
 same_contents bytes path read [] before = refl
 same_contents bytes path read (row ∷ some) before =
-    let parts = and_parts (parts_before row.path path) (list_all (λ earlier. parts_before earlier path) (row_paths some)) before in
+    let parts = and_parts _ _ before in
     λ i. content_file (row.path, earlier_held path read bytes row.path parts.0 i) ∷ same_contents bytes path read some parts.1 i
 
 fronts_same : (rows : List Row) (bytes : Path → List ℕ) (read : List ℕ) (n : ℕ) (row : Row) → part_in_order (row_paths rows) ≡ true → slice_get (distinct rows) n ≡ Some row → take n (contents_of rows bytes) ≡ take n (contents_of rows (with_bytes row.path read bytes))

@@ -37,8 +37,8 @@ or_other here entry other is = ap (λ (o : Option Entry). option_or o other) is
 -- something stands at the root's top
 root_top : (job : Job) (start : Tree) (placed : List Carried) → (entry : Entry) × (root_now job start placed [] ≡ Some entry)
 root_top job start placed =
-    let top = top_stands job.tuples (root_in start) (root_in start []) refl in
-    (top.0, or_other (base job.tuples (root_in start) []) top.0 (option_or (entry_of_objects job placed []) (folder_where (is_on_the_way job placed []))) top.1)
+    let top = top_stands job.tuples (root_in start) _ refl in
+    (top.0, or_other _ top.0 (option_or (entry_of_objects job placed []) (folder_where (is_on_the_way job placed []))) top.1)
 
 no_folder : (root : Tree) (top : Entry) → root [] ≡ Some top → (path : Path) → option_or (root path) (folder_where (is_some (rest_below path []))) ≡ root path
 no_folder root top is [] = or_other (root []) top (Some Folder) is ∙ sym is
@@ -64,7 +64,7 @@ new_making : (job : Job) (start : Tree) (placed : List Carried) (object : Object
 new_making job start placed object now is it = record {
   root = it.root;
   came = it.came;
-  free = sym (ap (λ (t : Tree). t (in_root object.place)) it.tree) ∙ no_kind (now.tree (in_root object.place)) is;
+  free = sym (ap (λ (t : Tree). t (in_root object.place)) it.tree) ∙ no_kind _ is;
   tree = it.tree ∙ ap (with_root start) (sym (no_folders job start placed object.place));
 }
 
@@ -90,7 +90,7 @@ scans_same old new turn change = change
 walks_keep : {job : Job} (start : Tree) (past : Past) (old new : Writing) {prefix : List ℕ} {here next : Phase} {held after : Held} {calls : Calls} → Walks job prefix here held after calls (Ok next)
     → Changes calls.change (Some old) (Some new) → DestAt job start past here held old → DestAt job start (past_after here next held past) next after old
 unfolding Changes IsKindAt
-walks_keep {job} start past old new (IsNew was index id is) change at = new_making job start past.placed (new_object job id index was.trail) old (change.0 old refl) at
+walks_keep {job} start past old new (IsNew was index id is) change at = new_making job start past.placed _ old (change.0 old refl) at
 walks_keep start past old new turn change at = at
 
 scans_keep : {job : Job} (start : Tree) (past : Past) (old : Writing) {here next : Phase} {held after : Held} {calls : Calls} → Scans job here held after calls (Ok next)

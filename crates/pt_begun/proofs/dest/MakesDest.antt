@@ -59,7 +59,7 @@ pub item_may : (job : Job) (start : Tree) (placed : List Carried) (object : Obje
 item_may job start placed object rows bytes front item now tree order next it =
     let root = root_on_way job start placed object.place 0 in
     subst (λ (t : Tree). CanMake t (item_path item)) (sym it.tree)
-    (next_may (script_of_object job object rows bytes) front item (with_root start root) (script_may job start root object rows bytes tree it.root.free order) next)
+    (next_may _ front item (with_root start root) (script_may job start root object rows bytes tree it.root.free order) next)
 
 -- with it
 pub with_item : (job : Job) (start : Tree) (placed : List Carried) (object : Object) (front : List Item) (item : Item) (old new : Writing) → new.tree ≡ done item old.tree → IsMakingObject job start placed object front 0 old → IsMakingObject job start placed object (front ++ item ∷ []) 0 new
@@ -81,12 +81,12 @@ part_made : (job : Job) (past : Past) (start : Tree) (object : Object) (here : P
     → DestPart job past (phase.Make object here) held start old → DestPart job (past_after (phase.Make object here) (phase.Make object next) held past) (phase.Make object next) after start new
 part_made job past start object here held after old new item line next at rows change is more part =
     let tree_is : new.tree ≡ done item old.tree = ap (λ (w : Writing). w.tree) change ∙ tree_made item old in
-    let may = item_may job start past.placed object held.rows past.bytes (made_before job object held.rows past.bytes here) item old part.started at.rows.order is part.at in
+    let may = item_may job start past.placed object held.rows past.bytes _ item old part.started at.rows.order is part.at in
     record {
       started = part.started;
-      tree = subst IsTree (sym tree_is) (tree_put old.tree (item_path item) (item_entry item) part.tree may);
-      at = said job start past.placed object (made_before job object held.rows past.bytes here ++ item ∷ []) (made_before job object after.rows past.bytes next) new (more ∙ ap (λ (l : List Row). made_before job object l past.bytes next) (sym rows))
-          (with_item job start past.placed object (made_before job object held.rows past.bytes here) item old new tree_is part.at);
+      tree = subst IsTree (sym tree_is) (tree_put old.tree _ (item_entry item) part.tree may);
+      at = said job start past.placed object _ _ new (more ∙ ap (λ (l : List Row). made_before job object l past.bytes next) (sym rows))
+          (with_item job start past.placed object _ item old new tree_is part.at);
     }
 
 -- ---- the position
@@ -110,11 +110,11 @@ opened : (job : Job) (past : Past) (start : Tree) (object : Object) (position : 
 opened job past start object position held old new line row at is stored all change part =
     let front = made_before job object held.rows past.bytes (a_part.Content position) in
     let next = file_next job object held.rows held.contents past.bytes position row (is_here job past object position held row at is stored) (ltb-false position.directories (length row.path) all) in
-    let may = item_may job start past.placed object held.rows past.bytes front (MakeFile (in_content row.path) (past.bytes row.path)) old part.started at.rows.order next part.at in
+    let may = item_may job start past.placed object held.rows past.bytes front _ old part.started at.rows.order next part.at in
     let tree_is : new.tree ≡ done (MakeFile (in_content row.path) []) old.tree = ap (λ (w : Writing). w.tree) change in
     record {
       started = part.started;
-      tree = subst IsTree (sym tree_is) (tree_put old.tree (in_content row.path) (Bytes []) part.tree may);
+      tree = subst IsTree (sym tree_is) (tree_put old.tree _ (Bytes []) part.tree may);
       at = record {
         writes = record { row = row; is_row = is; writing = ap (λ (w : Writing). w.writing) change };
         making = with_item job start past.placed object front (MakeFile (in_content row.path) []) old new tree_is part.at;
@@ -194,8 +194,8 @@ finished job past start object held old new line flat is at change part =
     let front = made_before job object held.rows past.bytes a_part.Sidecar in
     let tree_is : new.tree ≡ done item old.tree = ap (λ (w : Writing). w.tree) change ∙ tree_made item old in
     let may = item_may job start past.placed object held.rows past.bytes front item old part.started at.rows.order (next_fourth job object held.rows past.bytes) part.at in
-    let tree = subst IsTree (sym tree_is) (tree_put old.tree (item_path item) (item_entry item) part.tree may) in
-    let all = said job start past.placed object (front ++ item ∷ []) (script_of_object job object held.rows past.bytes) new (sym (after_fourth job object held.rows past.bytes)) (with_item job start past.placed object front item old new tree_is part.at) in
+    let tree = subst IsTree (sym tree_is) (tree_put old.tree _ (item_entry item) part.tree may) in
+    let all = said job start past.placed object _ _ new (sym (after_fourth job object held.rows past.bytes)) (with_item job start past.placed object front item old new tree_is part.at) in
     let folders = no_folders_yet job start past.placed object.place part.started part.at.root in
     by flat is tree all folders
   where
@@ -214,31 +214,31 @@ finished job past start object held old new line flat is at change part =
 
 pub makes_dest : MakingKeepsDest
 unfolding Changes
-makes_dest job past start old new here held after calls next (MakesStaging was object) change at dest = part_made job past start object a_part.Staging was was old new (MakeFolder staging) None a_part.Declaration at refl (some_same new (after_make (MakeFolder staging) old) change) (next_staging job object was.rows past.bytes) refl dest
-makes_dest job past start old new here held after calls next (MakesDeclaration was object) change at dest = part_made job past start object a_part.Declaration was was old new (MakeFile (staging ++ object_declaration_name ∷ []) object_declaration_bytes) None a_part.Version at refl (some_same new (after_make (MakeFile (staging ++ object_declaration_name ∷ []) object_declaration_bytes) old) change) (next_declaration job object was.rows past.bytes) refl dest
+makes_dest job past start old new here held after calls next (MakesStaging was object) change at dest = part_made job past start object a_part.Staging was was old new _ None a_part.Declaration at refl (some_same new (after_make (MakeFolder staging) old) change) (next_staging job object was.rows past.bytes) refl dest
+makes_dest job past start old new here held after calls next (MakesDeclaration was object) change at dest = part_made job past start object a_part.Declaration was was old new _ None a_part.Version at refl (some_same new (after_make (MakeFile (staging ++ object_declaration_name ∷ []) object_declaration_bytes) old) change) (next_declaration job object was.rows past.bytes) refl dest
 makes_dest job past start old new here held after calls next (MakesVersion was object) change at dest =
-    part_made job past start object a_part.Version was was old new (MakeFolder (in_version [])) None (content_at was.rows (record { row = 0; stored = 0; directories = 0 })) at refl (some_same new (after_make (MakeFolder (in_version [])) old) change) (next_version job object was.rows past.bytes)
+    part_made job past start object a_part.Version was was old new _ None _ at refl (some_same new (after_make (MakeFolder (in_version [])) old) change) (next_version job object was.rows past.bytes)
     (sym (made_first job object was.rows past.bytes) ∙ sym (made_at job object was.rows past.bytes (record { row = 0; stored = 0; directories = 0 }) refl)) dest
 makes_dest job past start old new here held after calls next (PassesRow was object position row is other) change at dest =
     let same : made_before job object was.rows past.bytes (a_part.Content position) ≡ made_before job object was.rows past.bytes (content_at was.rows (behind position)) =
     sym (made_at job object was.rows past.bytes (behind position) (stored_passed was.rows was.contents position row at.rows.contents at.rows.order is other at.numbers)) in
     subst (λ (w : Writing). DestPart job (past_after here next was past) next was start w) (sym (some_same new old change))
-    (record { started = dest.started; tree = dest.tree; at = said job start past.placed object (made_before job object was.rows past.bytes (a_part.Content position)) (made_before job object was.rows past.bytes (content_at was.rows (behind position))) old same dest.at })
+    (record { started = dest.started; tree = dest.tree; at = said job start past.placed object _ _ old same dest.at })
 makes_dest job past start old new here held after calls next (MakesFolder was object position row is stored more) change at dest =
     let one = is_here job past object position was row at is stored in
     let less = ltb-true position.directories (length row.path) more in
-    part_made job past start object (a_part.Content position) was was old new (MakeFolder (in_content (take position.directories row.path))) None (a_part.Content (with_folder position)) at refl (some_same new (after_make (MakeFolder (in_content (take position.directories row.path))) old) change)
+    part_made job past start object _ was was old new _ None _ at refl (some_same new (after_make (MakeFolder (in_content (take position.directories row.path))) old) change)
     (folder_next job object was.rows was.contents past.bytes position row one less) (sym (folder_made job object was.rows was.contents past.bytes position row one less)) dest
 makes_dest job past start old new here held after calls next (OpensCopy was object position row is stored all) change at dest = opened job past start object position was old new None row at is stored all (some_same new (after_create (in_content row.path) old) change) dest
-makes_dest job past start old new here held after calls next (CopiesOn was object position left byte block fits) change at dest = copied job past start object position left (left - length (byte ∷ block)) was old new None (byte ∷ block) (some_same new (after_append (byte ∷ block) old) change) dest
+makes_dest job past start old new here held after calls next (CopiesOn was object position left byte block fits) change at dest = copied job past start object position left _ was old new None (byte ∷ block) (some_same new (after_append (byte ∷ block) old) change) dest
 makes_dest job past start old new here held after calls next (EndsCopy was object position row left is same) change at dest = closed job past start object position left was old new None row at is (some_same new (after_finish old) change) dest
 makes_dest job past start old new here held after calls next (MakesVersionInventory was object) change at dest =
-    part_made job past start object a_part.VersionInventory was (with_fed was (text_of_inventory job object was.rows)) old new (inventory_file job object was.rows (in_version [])) None a_part.VersionSidecar at refl (some_same new (after_make (inventory_file job object was.rows (in_version [])) old) change)
+    part_made job past start object a_part.VersionInventory was _ old new _ None a_part.VersionSidecar at refl (some_same new (after_make (inventory_file job object was.rows (in_version [])) old) change)
     (next_first job object was.rows past.bytes) (sym (after_first job object was.rows past.bytes)) dest
 makes_dest job past start old new here held after calls next (MakesVersionSidecar was object) change at dest =
-    part_made job past start object a_part.VersionSidecar was (with_fed was (text_of_inventory job object was.rows)) old new (sidecar_file job object was.rows (in_version [])) None a_part.Inventory at refl (some_same new (after_make (sidecar_file job object was.rows (in_version [])) old) change)
+    part_made job past start object a_part.VersionSidecar was _ old new _ None a_part.Inventory at refl (some_same new (after_make (sidecar_file job object was.rows (in_version [])) old) change)
     (next_second job object was.rows past.bytes) (sym (after_second job object was.rows past.bytes)) dest
 makes_dest job past start old new here held after calls next (MakesInventory was object) change at dest =
-    part_made job past start object a_part.Inventory was (with_fed was (text_of_inventory job object was.rows)) old new (inventory_file job object was.rows staging) None a_part.Sidecar at refl (some_same new (after_make (inventory_file job object was.rows staging) old) change)
+    part_made job past start object a_part.Inventory was _ old new _ None a_part.Sidecar at refl (some_same new (after_make (inventory_file job object was.rows staging) old) change)
     (next_third job object was.rows past.bytes) (sym (after_third job object was.rows past.bytes)) dest
-makes_dest job past start old new here held after calls next (MakesSidecar was object) change at dest = finished job past start object was old new None (job.tuples.count == 0) refl at (some_same new (after_make (sidecar_file job object was.rows staging) old) change) dest
+makes_dest job past start old new here held after calls next (MakesSidecar was object) change at dest = finished job past start object was old new None _ refl at (some_same new (after_make (sidecar_file job object was.rows staging) old) change) dest

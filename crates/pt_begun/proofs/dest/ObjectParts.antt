@@ -113,7 +113,7 @@ module _ (job : Job) (object : Object) (rows : List Row) (bytes : Path → List 
   script = script_of_object job object rows bytes
 
   pub next_staging : IsNext script (made_before job object rows bytes part.Staging) (MakeFolder staging)
-  next_staging = next_in staging all_items [] (MakeFolder []) (record { rest = drop 1 all_items; is = refl })
+  next_staging = next_in staging all_items [] _ (record { rest = drop 1 all_items; is = refl })
 
   pub next_declaration : IsNext script (made_before job object rows bytes part.Declaration) (MakeFile (staging ++ object_declaration_name ∷ []) object_declaration_bytes)
   next_declaration = next_in staging all_items (take 1 all_items) (MakeFile (object_declaration_name ∷ []) object_declaration_bytes) (record { rest = drop 2 all_items; is = refl })
@@ -123,9 +123,9 @@ module _ (job : Job) (object : Object) (rows : List Row) (bytes : Path → List 
 
   pub next_content : (position : Position) (item : Item) → IsNext contents (contents_before (contents_of rows bytes) position) item → IsNext script (made_before job object rows bytes (part.Content position)) (item_in staging (item_in version_folder item))
   next_content position item next =
-      next_in staging all_items (first_three ++ map (item_in version_folder) (contents_before (contents_of rows bytes) position)) (item_in version_folder item)
-      (next_within first_three in_version_folder (map (item_in version_folder) (contents_before (contents_of rows bytes) position)) last_four (item_in version_folder item)
-      (next_in version_folder contents (contents_before (contents_of rows bytes) position) item next))
+      next_in staging all_items _ _
+      (next_within first_three in_version_folder _ last_four _
+      (next_in version_folder contents _ item next))
 
   -- of the last four
   last_next : (here : Part) (front : List Item) (item : Item) (rest : List Item) → made_before job object rows bytes here ≡ map (item_in staging) front → upto_contents ++ last_four ≡ front ++ item ∷ rest → IsNext script (made_before job object rows bytes here) (item_in staging item)
@@ -181,14 +181,14 @@ module _ (job : Job) (object : Object) (rows : List Row) (bytes : Path → List 
 
   -- what is made before any part is a front of the script
   pub front_made : (here : Part) → IsFront script (made_before job object rows bytes here)
-  front_made part.Staging = front_next script (made_before job object rows bytes part.Staging) (MakeFolder staging) next_staging
-  front_made part.Declaration = front_next script (made_before job object rows bytes part.Declaration) (MakeFile (staging ++ object_declaration_name ∷ []) object_declaration_bytes) next_declaration
-  front_made part.Version = front_next script (made_before job object rows bytes part.Version) (MakeFolder (in_version [])) next_version
+  front_made part.Staging = front_next script _ _ next_staging
+  front_made part.Declaration = front_next script _ _ next_declaration
+  front_made part.Version = front_next script _ _ next_version
   front_made (part.Content position) =
-      front_in staging all_items (first_three ++ map (item_in version_folder) (contents_before (contents_of rows bytes) position))
-      (front_within first_three in_version_folder (map (item_in version_folder) (contents_before (contents_of rows bytes) position)) last_four
-      (front_in version_folder contents (contents_before (contents_of rows bytes) position) (contents_front (contents_of rows bytes) position)))
-  front_made part.VersionInventory = front_next script (made_before job object rows bytes part.VersionInventory) (inventory_file job object rows (in_version [])) next_first
-  front_made part.VersionSidecar = front_next script (made_before job object rows bytes part.VersionSidecar) (sidecar_file job object rows (in_version [])) next_second
-  front_made part.Inventory = front_next script (made_before job object rows bytes part.Inventory) (inventory_file job object rows staging) next_third
-  front_made part.Sidecar = front_next script (made_before job object rows bytes part.Sidecar) (sidecar_file job object rows staging) next_fourth
+      front_in staging all_items _
+      (front_within first_three in_version_folder _ last_four
+      (front_in version_folder contents _ (contents_front (contents_of rows bytes) position)))
+  front_made part.VersionInventory = front_next script _ _ next_first
+  front_made part.VersionSidecar = front_next script _ _ next_second
+  front_made part.Inventory = front_next script _ _ next_third
+  front_made part.Sidecar = front_next script _ _ next_fourth

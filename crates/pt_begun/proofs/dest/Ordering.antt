@@ -39,29 +39,29 @@ parts_differ p q true same h = absurd (true≢false (sym h ∙ ap (λ (r : Path)
 pub order_push : (paths : List Path) (path : Path) → part_in_order paths ≡ true → list_all (λ earlier. parts_before earlier path) paths ≡ true → part_in_order (paths ++ path ∷ []) ≡ true
 order_push [] path order behind = refl
 order_push (p ∷ paths) path order behind =
-    let parts = and_parts (list_all (parts_before p) paths) (part_in_order paths) order in
-    let first = and_parts (parts_before p path) (list_all (λ earlier. parts_before earlier path) paths) behind in
-    and_from (list_all (parts_before p) (paths ++ path ∷ [])) (part_in_order (paths ++ path ∷ []))
-    (list_all-append (parts_before p) paths (path ∷ []) ∙ and_from (list_all (parts_before p) paths) (parts_before p path && true) parts.0 (and_from (parts_before p path) true first.0 refl))
+    let parts = and_parts _ _ order in
+    let first = and_parts _ _ behind in
+    and_from _ _
+    (list_all-append (parts_before p) paths (path ∷ []) ∙ and_from _ _ parts.0 (and_from _ true first.0 refl))
     (order_push paths path parts.1 first.1)
 
 -- the first ones of paths in order are
 pub order_front : (paths others : List Path) → part_in_order (paths ++ others) ≡ true → part_in_order paths ≡ true
 order_front [] others order = refl
 order_front (p ∷ paths) others order =
-    let parts = and_parts (list_all (parts_before p) (paths ++ others)) (part_in_order (paths ++ others)) order in
-    let all = and_parts (list_all (parts_before p) paths) (list_all (parts_before p) others) (sym (list_all-append (parts_before p) paths others) ∙ parts.0) in
-    and_from (list_all (parts_before p) paths) (part_in_order paths) all.0 (order_front paths others parts.1)
+    let parts = and_parts _ _ order in
+    let all = and_parts _ _ (sym (list_all-append (parts_before p) paths others) ∙ parts.0) in
+    and_from _ _ all.0 (order_front paths others parts.1)
 
 -- and the path between parts from those behind it
 pub order_behind : (paths : List Path) (path : Path) (others : List Path) → part_in_order (paths ++ path ∷ others) ≡ true → list_all (parts_before path) others ≡ true
-order_behind [] path others order = (and_parts (list_all (parts_before path) others) (part_in_order others) order).0
-order_behind (p ∷ paths) path others order = order_behind paths path others (and_parts (list_all (parts_before p) (paths ++ path ∷ others)) (part_in_order (paths ++ path ∷ others)) order).1
+order_behind [] path others order = (and_parts _ _ order).0
+order_behind (p ∷ paths) path others order = order_behind paths path others (and_parts _ _ order).1
 
 -- those before a path part from it
 pub order_before : (paths : List Path) (path : Path) (others : List Path) → part_in_order (paths ++ path ∷ others) ≡ true → list_all (λ earlier. parts_before earlier path) paths ≡ true
 order_before [] path others order = refl
 order_before (p ∷ paths) path others order =
-    let parts = and_parts (list_all (parts_before p) (paths ++ path ∷ others)) (part_in_order (paths ++ path ∷ others)) order in
-    let all = and_parts (list_all (parts_before p) paths) (parts_before p path && list_all (parts_before p) others) (sym (list_all-append (parts_before p) paths (path ∷ others)) ∙ parts.0) in
-    and_from (parts_before p path) (list_all (λ earlier. parts_before earlier path) paths) (and_parts (parts_before p path) (list_all (parts_before p) others) all.1).0 (order_before paths path others parts.1)
+    let parts = and_parts _ _ order in
+    let all = and_parts _ _ (sym (list_all-append (parts_before p) paths (path ∷ others)) ∙ parts.0) in
+    and_from _ _ (and_parts _ _ all.1).0 (order_before paths path others parts.1)

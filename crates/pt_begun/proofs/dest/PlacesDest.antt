@@ -71,7 +71,7 @@ pub place_long : (job : Job) (object : Object) → IsObject job object → lengt
 place_long job object it = ap length it.place ∙ long_place job.tuples object.id
 
 parent_in_root : (front : Path) (name : List ℕ) → parent (storage_root ++ (front ++ name ∷ [])) ≡ storage_root ++ front
-parent_in_root front name = parent-push (storage_root ++ front) name
+parent_in_root front name = parent-push _ name
 
 -- a folder is above each tuple directory
 pub tuple_parent : (job : Job) (past : Past) (start : Tree) (object : Object) (held : Held) (number : ℕ) (now : Writing) → number < job.tuples.count → HeldAt job past (phase.Tuples object number) held → DestPart job past (phase.Tuples object number) held start now
@@ -144,8 +144,8 @@ tuple_made job past start object held number old new line at none change part =
     ∙ put_beside start inside root p Folder
     ∙ ap (λ (t : Tree). in_place (with_root start t) staging inside) grown
     ∙ sym (whole job past start (root_on_way job start past.placed place (suc number)) object held part.started part.at.0.root.free at.rows) in
-    let tree = subst IsTree (sym tree_is) (tree_put old.tree (tuple_folder object number) Folder part.tree (record { absent = none; in_folder = tuple_parent job past start object held number old few at part })) in
-    next_tuple job past start object held number new line (nat_lt (number + 1) job.tuples.count) refl few part.started tree
+    let tree = subst IsTree (sym tree_is) (tree_put old.tree _ Folder part.tree (record { absent = none; in_folder = tuple_parent job past start object held number old few at part })) in
+    next_tuple job past start object held number new line _ refl few part.started tree
     (record { root = part.at.0.root; came = part.at.0.came; free = part.at.0.free; tree = now }, made_folders job start past.placed place number name.0 name.1 absent part.at.1)
 
 tuple_found : (job : Job) (past : Past) (start : Tree) (object : Object) (held : Held) (number : ℕ) (old new : Writing) (line : Option Line) → HeldAt job past (phase.Tuples object number) held → old.tree (tuple_folder object number) ≡ Some Folder → new ≡ old
@@ -163,7 +163,7 @@ tuple_found job past start object held number old new line at folder change part
     let tree_is : new.tree ≡ old.tree = ap (λ (w : Writing). w.tree) change in
     let now : new.tree ≡ made (script_of_object job object held.rows past.bytes) (with_root start (root_on_way job start past.placed place (suc number))) =
     tree_is ∙ part.at.0.tree ∙ ap (λ (t : Tree). made (script_of_object job object held.rows past.bytes) (with_root start t)) same in
-    next_tuple job past start object held number new line (nat_lt (number + 1) job.tuples.count) refl few part.started (subst IsTree (sym tree_is) part.tree)
+    next_tuple job past start object held number new line _ refl few part.started (subst IsTree (sym tree_is) part.tree)
     (record { root = part.at.0.root; came = part.at.0.came; free = part.at.0.free; tree = now }, found_folders job start past.placed place number name.0 name.1 found part.at.1)
 
 -- ---- the object comes to its place
@@ -210,7 +210,7 @@ root_grown job past start object held now at part =
     let place : object.place ≡ place_of_carried job carried = at.ends.0.place in
     let top : is_some (root_now job start past.placed []) ≡ true = ap is_some (top_folder job start past.placed part.started part.at.0.root) in
     let free : with_objects job past.placed bottom (place_of_carried job carried) ≡ None = ap (root_now job start past.placed) (sym place) ∙ part.at.0.free in
-    let none : bottom (place_of_carried job carried) ≡ None = or_none (bottom (place_of_carried job carried)) (option_or (entry_of_objects job past.placed (place_of_carried job carried)) (folder_where (is_on_the_way job past.placed (place_of_carried job carried)))) free in
+    let none : bottom (place_of_carried job carried) ≡ None = or_none _ (option_or (entry_of_objects job past.placed (place_of_carried job carried)) (folder_where (is_on_the_way job past.placed (place_of_carried job carried)))) free in
     let way : root_on_way job start past.placed object.place count ≡ with_folders (tuple_folders job carried) (root_now job start past.placed) =
     ap (λ (p : Path). root_on_way job start past.placed p count) all
     ∙ whole_way job start past.placed front name.0 count (ap (take count) (sym all)) top
@@ -236,7 +236,7 @@ renamed job past start object held old new line at change part =
     let tree_is : new.tree ≡ moved old.tree staging (in_root object.place) = ap (λ (w : Writing). w.tree) change in
     record {
       started = part.started;
-      tree = subst IsTree (sym tree_is) (tree_moved old.tree staging (in_root object.place) part.tree (object_may_move job past start object held old at part));
+      tree = subst IsTree (sym tree_is) (tree_moved old.tree staging _ part.tree (object_may_move job past start object held old at part));
       at = record {
         root = part.at.0.root;
         came = came_there job past start object held old at part;
@@ -256,9 +256,9 @@ held_so job start placed now it = subst (IsKept job start) (sym it.tree) (Holdin
 pub places_dest : PlacingKeepsDest
 unfolding Changes IsKindAt
 places_dest job counts past start old new here next held after calls (MakesTuple was object number) change at part =
-    tuple_made job past start object was number old new None at (no_kind (old.tree (tuple_folder object number)) (change.0 old refl)) (some_same new (after_mkdir (tuple_folder object number) old) change.1) part
+    tuple_made job past start object was number old new None at (no_kind _ (change.0 old refl)) (some_same new (after_mkdir (tuple_folder object number) old) change.1) part
 places_dest job counts past start old new here next held after calls (FindsTuple was object number) change at part =
-    tuple_found job past start object was number old new None at (folder_kind (old.tree (tuple_folder object number)) (change.0 old refl)) (some_same new old change.1) part
+    tuple_found job past start object was number old new None at (folder_kind _ (change.0 old refl)) (some_same new old change.1) part
 places_dest job counts past start old new here next held after calls (RenamesObject was object) change at part = renamed job past start object was old new None at (some_same new (after_rename staging (in_root object.place) old) change) part
 places_dest job counts past start old new here next held after calls (TellsDone was object) change at part =
     subst (λ (w : Writing). DestPart job (past_after here next was past) next (restarted was) start w) (sym (some_same new old change)) (record { started = part.started; tree = part.tree; at = record { root = part.at.root; came = part.at.came; tree = part.at.tree } })

@@ -146,7 +146,7 @@ proper_prefix b x q = by (leads q b) refl
     by : (t : Bool) → leads q b ≡ t → t ≡ (leads q (b ++ x ∷ []) && not (leads (b ++ x ∷ []) q))
     by true on =
         let one : leads q (b ++ x ∷ []) ≡ true = leads-on q b (x ∷ []) on in
-        let two : leads (b ++ x ∷ []) q ≡ false = false_from_ne_true (leads (b ++ x ∷ []) q) (λ h. true≢false (sym (leads_through (b ++ x ∷ []) q b h on) ∙ leads-longer b [] x)) in
+        let two : leads (b ++ x ∷ []) q ≡ false = false_from_ne_true _ (λ h. true≢false (sym (leads_through (b ++ x ∷ []) q b h on) ∙ leads-longer b [] x)) in
         sym (ap (λ t. t && not (leads (b ++ x ∷ []) q)) one ∙ ap not two)
     by false off = sym (ap (λ t. t && not (leads (b ++ x ∷ []) q)) (leads-push q b x ∙ ap (λ t. t || same_path q (b ++ x ∷ [])) off) ∙ last (same_path q (b ++ x ∷ [])) refl)
       where
@@ -218,10 +218,10 @@ part_way job start placed place n less top = λ i q. at q i
 nothing_held : (files : List File) (p rest : Path) → leads_to files p ≡ false → (held_at files (p ++ rest) ≡ None) × (leads_to files (p ++ rest) ≡ false)
 nothing_held [] p rest off = (refl, refl)
 nothing_held (file ∷ files) p rest off =
-    let parts = or_parts (leads p file.0) (leads_to files p) off in
+    let parts = or_parts _ _ off in
     let later = nothing_held files p rest parts.1 in
-    let apart : leads (p ++ rest) file.0 ≡ false = false_from_ne_true (leads (p ++ rest) file.0) (λ h. true≢false (sym (leads_through p (p ++ rest) file.0 (leads-on p p rest (leads-itself p)) h) ∙ parts.0)) in
-    let other : same_path (p ++ rest) file.0 ≡ false = false_from_ne_true (same_path (p ++ rest) file.0) (λ h. true≢false (sym (ap (leads (p ++ rest)) (sym (is_same (p ++ rest) file.0 h)) ∙ leads-itself (p ++ rest)) ∙ apart)) in (
+    let apart : leads (p ++ rest) file.0 ≡ false = false_from_ne_true _ (λ h. true≢false (sym (leads_through p (p ++ rest) file.0 (leads-on p p rest (leads-itself p)) h) ∙ parts.0)) in
+    let other : same_path (p ++ rest) file.0 ≡ false = false_from_ne_true _ (λ h. true≢false (sym (ap (leads (p ++ rest)) (sym (is_same (p ++ rest) file.0 h)) ∙ leads-itself (p ++ rest)) ∙ apart)) in (
       ap (λ t. cond t (Some file.1) (held_at files (p ++ rest))) other ∙ later.0,
       ap (λ t. t || leads_to files (p ++ rest)) apart ∙ later.1,
     )

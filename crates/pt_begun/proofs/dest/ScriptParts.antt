@@ -59,7 +59,7 @@ one_kept test x others passes = ap (λ t. cond t (x ∷ filter test others) (fil
 none_kept : {X : Type 0} → (test : X → Bool) (xs : List X) → list_all (λ x. not (test x)) xs ≡ true → filter test xs ≡ []
 none_kept test [] h = refl
 none_kept test (x ∷ xs) h =
-    let parts = and_parts (not (test x)) (list_all (λ x. not (test x)) xs) h in
+    let parts = and_parts _ _ h in
     ap (λ t. cond t (x ∷ filter test xs) (filter test xs)) (off (test x) parts.0) ∙ none_kept test xs parts.1
   where
     off : (t : Bool) → not t ≡ true → t ≡ false

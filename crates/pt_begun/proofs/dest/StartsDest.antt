@@ -99,7 +99,7 @@ root_stands job start tree files = tree.above storage_root (codes "0=ocfl_1.1") 
 
 own_root : (job : Job) (start : Tree) → IsTree start → HasRootFiles job (root_in start) 3 → start ≡ with_root start (root_now job start [])
 own_root job start tree files =
-    sym (root_is_its_own start) ∙ ap (with_root start) (sym (no_objects job (base job.tuples (root_in start)) ∙ base_stays job (root_in start) (ap is_some (root_stands job start tree files))))
+    sym (root_is_its_own start) ∙ ap (with_root start) (sym (no_objects job (base job.tuples (root_in start)) ∙ base_stays job _ (ap is_some (root_stands job start tree files))))
 
 -- ---- each turn
 
@@ -108,7 +108,7 @@ made_next : (job : Job) (past : Past) (start : Tree) (held : Held) (old new : Wr
 made_next job past start held old new number item line last is change item_is part =
     let can = root_item_made job start number item old part.started item_is part.at in
     let tree_is : new.tree ≡ done item old.tree = ap (λ (w : Writing). w.tree) change ∙ tree_made item old in
-    let tree = subst IsTree (sym tree_is) (tree_put old.tree (item_path item) (item_entry item) part.tree can) in
+    let tree = subst IsTree (sym tree_is) (tree_put old.tree _ (item_entry item) part.tree can) in
     let now : new.tree ≡ made (take (suc number) (root_script job.tuples)) start =
     tree_is ∙ ap (done item) part.at.tree ∙ sym (made_more (root_script job.tuples) number item start item_is) in
     by last is tree now
@@ -126,7 +126,7 @@ checked_next : (job : Job) (past : Past) (start : Tree) (held : Held) (old new :
     → option_map (take 8192) (bytes_of (old.tree (storage_root ++ path))) ≡ Some bytes → new ≡ old → DestPart job past (phase.RootCheck number) held start old
     → DestPart job (past_after (phase.RootCheck number) (cond last phase.OpenRoot (phase.RootCheck (number + 1))) held past) (cond last phase.OpenRoot (phase.RootCheck (number + 1))) held start new
 checked_next job past start held old new number path bytes line last is layout file read change part =
-    let stands = peeked_whole (old.tree (storage_root ++ path)) bytes read (file_short job.tuples number path bytes layout file) in
+    let stands = peeked_whole _ bytes read (file_short job.tuples number path bytes layout file) in
     let here : root_in start path ≡ Some (Bytes bytes) = sym (ap (λ (t : Tree). t (storage_root ++ path)) part.at.tree) ∙ stands in
     by last is (one_more_file job (root_in start) number path bytes file here part.at.files)
   where
@@ -148,13 +148,13 @@ unchanged {job} {past} {here} {held} {start} {old} {new} same part = subst (Dest
 pub starts_dest : StartingKeepsDest
 unfolding Changes IsKindAt IsPeeked
 starts_dest job past start old new prefix read here next held calls layout (HasNoStaging was) change at part =
-    let none = sym (ap (λ (t : Tree). t staging) part.at.tree) ∙ no_kind (old.tree staging) (change.0 old refl) in
+    let none = sym (ap (λ (t : Tree). t staging) part.at.tree) ∙ no_kind _ (change.0 old refl) in
     unchanged change.1 (record { started = part.started; tree = part.tree; at = (part.at, free_below start (codes "staging") part.started none) })
 starts_dest job past start old new prefix read here next held calls layout (HasNoRoot was) change at part =
-    let none = sym (ap (λ (t : Tree). t storage_root) part.at.0.tree) ∙ no_kind (old.tree storage_root) (change.0 old refl) in
+    let none = sym (ap (λ (t : Tree). t storage_root) part.at.0.tree) ∙ no_kind _ (change.0 old refl) in
     unchanged change.1 (record { started = part.started; tree = part.tree; at = record { free = part.at.1; root = free_below start (codes "ocfl") part.started none; tree = part.at.0.tree } })
 starts_dest job past start old new prefix read here next held calls layout (HasRoot was) change at part =
-    let folder = sym (ap (λ (t : Tree). t storage_root) part.at.0.tree) ∙ folder_kind (old.tree storage_root) (change.0 old refl) in
+    let folder = sym (ap (λ (t : Tree). t storage_root) part.at.0.tree) ∙ folder_kind _ (change.0 old refl) in
     unchanged change.1 (record { started = part.started; tree = part.tree; at = record { free = part.at.1; top = folder; files = λ k d h. absurd (omega (arith, h)); tree = part.at.0.tree } })
 starts_dest job past start old new prefix read here next held calls layout (MakesRoot was number item is) change at part = made_next job past start held old new number item None (number == 5) refl (some_same new (after_make item old) change) is part
 starts_dest job past start old new prefix read here next held calls layout (RenamesRoot was) change at part =

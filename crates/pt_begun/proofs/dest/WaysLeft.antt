@@ -66,8 +66,8 @@ pub ways_left : (job : Job) (b now : Tree) (objects some : List Carried) → IsT
     → ((p : Path) → is_on_the_way job some p ≡ true → is_on_the_way job objects p ≡ true) → list_all (is_way_free job b) some ≡ true
 ways_left job b now objects [] tree is within = refl
 ways_left job b now objects (object ∷ others) tree is within =
-    and_from (is_way_free job b object) (list_all (is_way_free job b) others) (sym (way_with_objects job objects b object) ∙ free)
-    (ways_left job b now objects others tree is (λ p on. within p (or_right (is_some (rest_below p (place_of_carried job object))) (is_on_the_way job others p) on)))
+    and_from _ _ (sym (way_with_objects job objects b object) ∙ free)
+    (ways_left job b now objects others tree is (λ p on. within p (or_right (is_some (rest_below p (place_of_carried job object))) _ on)))
   where
     place : Path
     place = place_of_carried job object

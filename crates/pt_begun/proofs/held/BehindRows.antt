@@ -23,12 +23,12 @@ none_before directory items = all_true (λ (item : Item). list_all (λ path. par
 none_outer : (frames : List Frame) → outer_behind [] frames ≡ true
 none_outer [] = refl
 none_outer (frame ∷ frames) =
-    and_from (come_behind [] (names_to frames) (drop (frame.place + 1) frame.listing)) (outer_behind [] frames) (none_before (names_to frames) (drop (frame.place + 1) frame.listing)) (none_outer frames)
+    and_from _ _ (none_before (names_to frames) (drop (frame.place + 1) frame.listing)) (none_outer frames)
 
 pub behind_none : (frames : List Frame) → all_behind [] frames ≡ true
 behind_none [] = refl
 behind_none (frame ∷ frames) =
-    and_from (come_behind [] (names_to frames) (drop frame.place frame.listing)) (outer_behind [] frames) (none_before (names_to frames) (drop frame.place frame.listing)) (none_outer frames)
+    and_from _ _ (none_before (names_to frames) (drop frame.place frame.listing)) (none_outer frames)
 
 -- ---- the place moves on
 
@@ -41,8 +41,8 @@ one_later earlier directory place items h =
 pub behind_advanced : (earlier : List Path) (frames : List Frame) → all_behind earlier frames ≡ true → all_behind earlier (advanced frames) ≡ true
 behind_advanced earlier [] h = h
 behind_advanced earlier (frame ∷ frames) h =
-    let parts = and_parts (come_behind earlier (names_to frames) (drop frame.place frame.listing)) (outer_behind earlier frames) h in
-    and_from (come_behind earlier (names_to frames) (drop (frame.place + 1) frame.listing)) (outer_behind earlier frames) (one_later earlier (names_to frames) frame.place frame.listing parts.0) parts.1
+    let parts = and_parts _ _ h in
+    and_from _ _ (one_later earlier (names_to frames) frame.place frame.listing parts.0) parts.1
 
 -- ---- a directory is entered
 
@@ -56,21 +56,21 @@ below_directory earlier directory items h =
 pub behind_here : (earlier : List Path) (frame : Frame) (frames : List Frame) (item : Item) → entry_at frame ≡ Some item → all_behind earlier (frame ∷ frames) ≡ true → list_all (λ path. parts_before path (names_to (frame ∷ frames))) earlier ≡ true
 behind_here earlier frame frames item e h =
     let test = λ (item : Item). list_all (λ path. parts_before path (names_to frames ++ item.0 ∷ [])) earlier in
-    let parts = and_parts (come_behind earlier (names_to frames) (drop frame.place frame.listing)) (outer_behind earlier frames) h in
+    let parts = and_parts _ _ h in
     ap (λ (q : Path). list_all (λ path. parts_before path q) earlier) (path_grows frame frames item e) ∙ first_passes test frame.place frame.listing item e parts.0
 
 pub behind_entered : (earlier : List Path) (frame : Frame) (frames : List Frame) (item : Item) (items : List Item) → entry_at frame ≡ Some item → all_behind earlier (frame ∷ frames) ≡ true → all_behind earlier (entered items (frame ∷ frames)) ≡ true
 behind_entered earlier frame frames item items e h =
-    let parts = and_parts (come_behind earlier (names_to frames) (drop frame.place frame.listing)) (outer_behind earlier frames) h in
-    and_from (come_behind earlier (names_to (frame ∷ frames)) items) (outer_behind earlier (frame ∷ frames))
+    let parts = and_parts _ _ h in
+    and_from _ _
     (below_directory earlier (names_to (frame ∷ frames)) items (behind_here earlier frame frames item e h))
-    (and_from (come_behind earlier (names_to frames) (drop (frame.place + 1) frame.listing)) (outer_behind earlier frames) (one_later earlier (names_to frames) frame.place frame.listing parts.0) parts.1)
+    (and_from _ _ (one_later earlier (names_to frames) frame.place frame.listing parts.0) parts.1)
 
 -- ---- and left
 
 pub behind_left : (earlier : List Path) (frame : Frame) (frames : List Frame) → all_behind earlier (frame ∷ frames) ≡ true → all_behind earlier (advanced frames) ≡ true
 behind_left earlier frame [] h = refl
-behind_left earlier frame (outer ∷ frames) h = (and_parts (come_behind earlier (names_to (outer ∷ frames)) (drop frame.place frame.listing)) (outer_behind earlier (outer ∷ frames)) h).1
+behind_left earlier frame (outer ∷ frames) h = (and_parts _ _ h).1
 
 -- ---- a row more
 
@@ -84,20 +84,20 @@ later_rise (x ∷ items) zero item rise is =
     all_follow : (x : Item) (items : List Item) → names_rise (x ∷ items) ≡ true → list_all (λ (other : Item). is_before x.0 other.0) items ≡ true
     all_follow x [] rise = refl
     all_follow x (y ∷ items) rise =
-        let parts = and_parts (is_before x.0 y.0) (names_rise (y ∷ items)) rise in
-        and_from (is_before x.0 y.0) (list_all (λ (other : Item). is_before x.0 other.0) items) parts.0
+        let parts = and_parts _ _ rise in
+        and_from _ _ parts.0
         (all_then (λ (other : Item). is_before y.0 other.0) (λ (other : Item). is_before x.0 other.0) (λ other h. before-trans x.0 y.0 other.0 parts.0 h) items (all_follow y items parts.1))
 later_rise (x ∷ []) (suc place) item rise is = absurd (cc)
-later_rise (x ∷ y ∷ items) (suc place) item rise is = later_rise (y ∷ items) place item (and_parts (is_before x.0 y.0) (names_rise (y ∷ items)) rise).1 is
+later_rise (x ∷ y ∷ items) (suc place) item rise is = later_rise (y ∷ items) place item (and_parts _ _ rise).1 is
 
 -- what stands at or below a place comes before the entries behind it
 before_later : (frame : Frame) (frames : List Frame) (item : Item) (more : Path) → is_frame frame ≡ true → entry_at frame ≡ Some item → come_behind ((names_to frames ++ item.0 ∷ more) ∷ []) (names_to frames) (drop (frame.place + 1) frame.listing) ≡ true
 before_later frame frames item more is e =
-    let rise = (and_parts (names_rise frame.listing) _ is).0 in
+    let rise = (and_parts _ _ is).0 in
     let next : frame.place + 1 ≡ suc frame.place = omega arith in
     ap (λ n. come_behind ((names_to frames ++ item.0 ∷ more) ∷ []) (names_to frames) (drop n frame.listing)) next
     ∙ all_then (λ (other : Item). is_before item.0 other.0) (λ (other : Item). parts_before (names_to frames ++ item.0 ∷ more) (names_to frames ++ other.0 ∷ []) && true)
-    (λ other h. and_from (parts_before (names_to frames ++ item.0 ∷ more) (names_to frames ++ other.0 ∷ [])) true (parts_at (names_to frames) item.0 other.0 more h) refl)
+    (λ other h. and_from _ true (parts_at (names_to frames) item.0 other.0 more h) refl)
     (drop (suc frame.place) frame.listing) (later_rise frame.listing frame.place item rise e)
 
 dir_item : (o : Option Item) → is_dir_entry o ≡ true → (item : Item) × (o ≡ Some item)
@@ -108,12 +108,12 @@ dir_item (Some item) is = (item, refl)
 before_outer : (frames : List Frame) (here more : Path) → are_outer frames ≡ true → here ≡ names_to frames ++ more → outer_behind (here ∷ []) frames ≡ true
 before_outer [] here more outer is = refl
 before_outer (frame ∷ frames) here more outer is =
-    let first = and_parts (is_frame frame) (is_dir_entry (entry_at frame) && are_outer frames) outer in
-    let second = and_parts (is_dir_entry (entry_at frame)) (are_outer frames) first.1 in
-    let entry = dir_item (entry_at frame) second.0 in
+    let first = and_parts _ _ outer in
+    let second = and_parts _ _ first.1 in
+    let entry = dir_item _ second.0 in
     let item = entry.0 in
     let here_is : here ≡ names_to frames ++ item.0 ∷ more = is ∙ ap (λ (p : Path). p ++ more) (path_grows frame frames item entry.1) ∙ append_assoc (names_to frames) (item.0 ∷ []) more in
-    and_from (come_behind (here ∷ []) (names_to frames) (drop (frame.place + 1) frame.listing)) (outer_behind (here ∷ []) frames)
+    and_from _ _
     (ap (λ (p : Path). come_behind (p ∷ []) (names_to frames) (drop (frame.place + 1) frame.listing)) here_is ∙ before_later frame frames item more first.0 entry.1)
     (before_outer frames here (item.0 ∷ more) second.1 here_is)
 
@@ -121,30 +121,30 @@ both_come : (earlier : List Path) (path directory : Path) (items : List Item) �
 both_come earlier path directory [] h g = refl
 both_come earlier path directory (item ∷ items) h g =
     let test = λ (p : Path). parts_before p (directory ++ item.0 ∷ []) in
-    let first = and_parts (list_all test earlier) (come_behind earlier directory items) h in
-    let second = and_parts (test path && true) (come_behind (path ∷ []) directory items) g in
-    and_from (list_all test (earlier ++ path ∷ [])) (come_behind (earlier ++ path ∷ []) directory items)
-    (list_all-append test earlier (path ∷ []) ∙ and_from (list_all test earlier) (test path && true) first.0 second.0)
+    let first = and_parts _ _ h in
+    let second = and_parts _ _ g in
+    and_from _ _
+    (list_all-append test earlier (path ∷ []) ∙ and_from _ _ first.0 second.0)
     (both_come earlier path directory items first.1 second.1)
 
 both_outer : (earlier : List Path) (path : Path) (frames : List Frame) → outer_behind earlier frames ≡ true → outer_behind (path ∷ []) frames ≡ true → outer_behind (earlier ++ path ∷ []) frames ≡ true
 both_outer earlier path [] h g = refl
 both_outer earlier path (frame ∷ frames) h g =
     let items = drop (frame.place + 1) frame.listing in
-    let first = and_parts (come_behind earlier (names_to frames) items) (outer_behind earlier frames) h in
-    let second = and_parts (come_behind (path ∷ []) (names_to frames) items) (outer_behind (path ∷ []) frames) g in
-    and_from (come_behind (earlier ++ path ∷ []) (names_to frames) items) (outer_behind (earlier ++ path ∷ []) frames)
+    let first = and_parts _ _ h in
+    let second = and_parts _ _ g in
+    and_from _ _
     (both_come earlier path (names_to frames) items first.0 second.0) (both_outer earlier path frames first.1 second.1)
 
 -- the file at the place is the last row, and the place moves on
 pub behind_noted : (earlier : List Path) (frame : Frame) (frames : List Frame) (item : Item) → is_trail (frame ∷ frames) ≡ true → entry_at frame ≡ Some item → all_behind earlier (frame ∷ frames) ≡ true
     → all_behind (earlier ++ names_to (frame ∷ frames) ∷ []) (advanced (frame ∷ frames)) ≡ true
 behind_noted earlier frame frames item is_one e h =
-    let one = and_parts (is_frame frame) (are_outer frames) is_one in
+    let one = and_parts _ _ is_one in
     let here : names_to (frame ∷ frames) ≡ names_to frames ++ item.0 ∷ [] = path_grows frame frames item e in
     let items = drop (frame.place + 1) frame.listing in
-    let parts = and_parts (come_behind earlier (names_to frames) (drop frame.place frame.listing)) (outer_behind earlier frames) h in
+    let parts = and_parts _ _ h in
     subst (λ (p : Path). all_behind (earlier ++ p ∷ []) (advanced (frame ∷ frames)) ≡ true) (sym here)
-    (and_from (come_behind (earlier ++ (names_to frames ++ item.0 ∷ []) ∷ []) (names_to frames) items) (outer_behind (earlier ++ (names_to frames ++ item.0 ∷ []) ∷ []) frames)
+    (and_from _ _
     (both_come earlier (names_to frames ++ item.0 ∷ []) (names_to frames) items (one_later earlier (names_to frames) frame.place frame.listing parts.0) (before_later frame frames item [] one.0 e))
-    (both_outer earlier (names_to frames ++ item.0 ∷ []) frames parts.1 (before_outer frames (names_to frames ++ item.0 ∷ []) (item.0 ∷ []) one.1 refl)))
+    (both_outer earlier (names_to frames ++ item.0 ∷ []) frames parts.1 (before_outer frames _ (item.0 ∷ []) one.1 refl)))

@@ -58,24 +58,24 @@ distinct_around rows n row is =
 pub all_distinct : (test : Path → Bool) (earlier rows : List Row) → list_all test (row_paths rows) ≡ true → list_all test (row_paths (distinct_after earlier rows)) ≡ true
 all_distinct test earlier [] h = refl
 all_distinct test earlier (row ∷ rows) h =
-    let parts = and_parts (test row.path) (list_all test (row_paths rows)) h in
+    let parts = and_parts _ _ h in
     by (is_known earlier row) (all_distinct test (earlier ++ row ∷ []) rows parts.1)
   where
     by : (t : Bool) → list_all test (row_paths (distinct_after (earlier ++ row ∷ []) rows)) ≡ true
         → list_all test (row_paths (cond t (distinct_after (earlier ++ row ∷ []) rows) (row ∷ distinct_after (earlier ++ row ∷ []) rows))) ≡ true
     by true later = later
-    by false later = and_from (test row.path) (list_all test (row_paths (distinct_after (earlier ++ row ∷ []) rows))) (and_parts (test row.path) (list_all test (row_paths rows)) h).0 later
+    by false later = and_from _ _ (and_parts _ _ h).0 later
 
 pub order_distinct : (earlier rows : List Row) → part_in_order (row_paths rows) ≡ true → part_in_order (row_paths (distinct_after earlier rows)) ≡ true
 order_distinct earlier [] h = refl
 order_distinct earlier (row ∷ rows) h =
-    let parts = and_parts (list_all (parts_before row.path) (row_paths rows)) (part_in_order (row_paths rows)) h in
+    let parts = and_parts _ _ h in
     by (is_known earlier row) (order_distinct (earlier ++ row ∷ []) rows parts.1) (all_distinct (parts_before row.path) (earlier ++ row ∷ []) rows parts.0)
   where
     by : (t : Bool) → part_in_order (row_paths (distinct_after (earlier ++ row ∷ []) rows)) ≡ true → list_all (parts_before row.path) (row_paths (distinct_after (earlier ++ row ∷ []) rows)) ≡ true
         → part_in_order (row_paths (cond t (distinct_after (earlier ++ row ∷ []) rows) (row ∷ distinct_after (earlier ++ row ∷ []) rows))) ≡ true
     by true later first = later
-    by false later first = and_from (list_all (parts_before row.path) (row_paths (distinct_after (earlier ++ row ∷ []) rows))) (part_in_order (row_paths (distinct_after (earlier ++ row ∷ []) rows))) first later
+    by false later first = and_from _ _ first later
 
 -- the first of the others
 pub get_behind : {X : Type 0} → (front others : List X) → slice_get (front ++ others) (length front) ≡ slice_get others 0
@@ -118,7 +118,7 @@ stored_where_new rows contents n stored row contents_are stored_is order is know
     none_is : (others : List Row) → list_all (parts_before row.path) (row_paths others) ≡ true → is_stored (map content_of_row others) 0 row.path ≡ false
     none_is [] behind = refl
     none_is (other ∷ others) behind =
-        differs (same_path other.path row.path) refl (and_parts (parts_before row.path other.path) (list_all (parts_before row.path) (row_paths others)) behind).0
+        differs (same_path other.path row.path) refl (and_parts _ _ behind).0
       where
         differs : (t : Bool) → same_path other.path row.path ≡ t → parts_before row.path other.path ≡ true → t ≡ false
         differs t same h = parts_differ row.path other.path t (swapped row.path other.path ∙ same) h

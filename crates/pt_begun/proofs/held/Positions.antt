@@ -51,7 +51,7 @@ beyond_shared (a ∷ []) (b ∷ next ∷ q) h = by (bytes_eq a b) refl h
     by true same h = absurd (false≢true h)
     by false differ h =
         let back = bytes_eq-sym a b false differ in
-        and_from (not (leads (b ∷ []) (a ∷ []))) (list_all (λ folder. not (leads folder (a ∷ []))) (map (λ folder. b ∷ folder) (folders_above (next ∷ q))))
+        and_from _ _
         (ap (λ t. not (is_some (cond t (rest_below [] []) None))) back)
         (all_map (λ folder. b ∷ folder) (λ folder. not (leads folder (a ∷ []))) (folders_above (next ∷ q)) ∙ other_way a b [] (folders_above (next ∷ q)) back)
 beyond_shared (a ∷ more ∷ p) (b ∷ next ∷ q) h = by (bytes_eq a b) refl (λ g. beyond_shared (more ∷ p) (next ∷ q) g) h
@@ -70,7 +70,7 @@ beyond_shared (a ∷ more ∷ p) (b ∷ next ∷ q) h = by (bytes_eq a b) refl (
         (λ folder g. ap (λ t. not (is_some (cond t (rest_below folder (more ∷ p)) None))) (bytes_eq-sym a b true same) ∙ g) (drop k (folders_above (next ∷ q))) (later h)
     by false differ later h =
         let back = bytes_eq-sym a b false differ in
-        and_from (not (leads (b ∷ []) (a ∷ more ∷ p))) (list_all (λ folder. not (leads folder (a ∷ more ∷ p))) (map (λ folder. b ∷ folder) (folders_above (next ∷ q))))
+        and_from _ _
         (ap (λ t. not (is_some (cond t (rest_below [] (more ∷ p)) None))) back)
         (all_map (λ folder. b ∷ folder) (λ folder. not (leads folder (a ∷ more ∷ p))) (folders_above (next ∷ q)) ∙ other_way a b (more ∷ p) (folders_above (next ∷ q)) back)
 
@@ -87,7 +87,7 @@ within_shared (a ∷ more ∷ p) (b ∷ next ∷ q) = by (bytes_eq a b) refl (wi
     by true same later =
         let k = shared (parent (more ∷ p)) (parent (next ∷ q)) in
         let back = bytes_eq-sym a b true same in
-        and_from (leads (b ∷ []) (a ∷ more ∷ p)) (list_all (λ folder. leads folder (a ∷ more ∷ p)) (take k (map (λ folder. b ∷ folder) (folders_above (next ∷ q)))))
+        and_from _ _
         (ap (λ t. is_some (cond t (rest_below [] (more ∷ p)) None)) back)
         (ap (list_all (λ folder. leads folder (a ∷ more ∷ p))) (take_map (λ folder. b ∷ folder) k (folders_above (next ∷ q)))
         ∙ all_map (λ folder. b ∷ folder) (λ folder. leads folder (a ∷ more ∷ p)) (take k (folders_above (next ∷ q)))
@@ -135,14 +135,14 @@ stored_at row = codes "content" ∷ row.path
 pub contents_in_order : (rows : List Row) → part_in_order (row_paths rows) ≡ true → part_in_order (map stored_at rows) ≡ true
 contents_in_order [] order = refl
 contents_in_order (row ∷ rows) order =
-    let parts = and_parts (list_all (parts_before row.path) (row_paths rows)) (part_in_order (row_paths rows)) order in
-    and_from (list_all (parts_before (stored_at row)) (map stored_at rows)) (part_in_order (map stored_at rows)) (each rows parts.0) (contents_in_order rows parts.1)
+    let parts = and_parts _ _ order in
+    and_from _ _ (each rows parts.0) (contents_in_order rows parts.1)
   where
     each : (others : List Row) → list_all (parts_before row.path) (row_paths others) ≡ true → list_all (parts_before (stored_at row)) (map stored_at others) ≡ true
     each [] h = refl
     each (other ∷ others) h =
-        let parts = and_parts (parts_before row.path other.path) (list_all (parts_before row.path) (row_paths others)) h in
-        and_from (parts_before (stored_at row) (stored_at other)) (list_all (parts_before (stored_at row)) (map stored_at others)) parts.0 (each others parts.1)
+        let parts = and_parts _ _ h in
+        and_from _ _ parts.0 (each others parts.1)
 
 pub shared_in_content : (p q : Path) → parts_before p q ≡ true → shared (parent (codes "content" ∷ p)) (parent (codes "content" ∷ q)) ≡ suc (shared (parent p) (parent q))
 shared_in_content [] q parts = absurd (false≢true parts)
@@ -163,7 +163,7 @@ new_after rows stored row order is (Some next) there =
     take_one (suc stored) paths (stored_at next) later ∙ ap (λ (l : List Path). l ++ stored_at next ∷ []) front ∙ append_assoc (take stored paths) (stored_at row ∷ []) (stored_at next ∷ []) in
     let in_order : part_in_order (take stored paths ++ stored_at row ∷ stored_at next ∷ []) ≡ true =
     ap part_in_order (sym two) ∙ order_front (take (suc (suc stored)) paths) (drop (suc (suc stored)) paths) (ap part_in_order (take-append-drop (suc (suc stored)) paths) ∙ contents_in_order rows order) in
-    let parts : parts_before row.path next.path ≡ true = (and_parts (parts_before (stored_at row) (stored_at next)) true (order_behind (take stored paths) (stored_at row) (stored_at next ∷ []) in_order)).0 in
+    let parts : parts_before row.path next.path ≡ true = (and_parts _ true (order_behind (take stored paths) (stored_at row) (stored_at next ∷ []) in_order)).0 in
     subst (λ (o : Option Path). AreNewFrom (take (suc stored) paths) (standing row.path (slice_get (map content_of_row rows) (suc stored))) o) (sym later)
     (subst (λ (o : Option Content). list_all (λ folder. not (is_above_one (take (suc stored) paths) folder)) (drop (standing row.path o) (folders_above (stored_at next))) ≡ true) (sym (get_map content_of_row rows (suc stored) next there))
     (subst (λ (l : List Path). list_all (λ folder. not (is_above_one l folder)) (drop (suc (shared (parent row.path) (parent next.path))) (folders_above (stored_at next))) ≡ true) (sym front)

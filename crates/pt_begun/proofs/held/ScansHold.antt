@@ -81,7 +81,7 @@ one_less n some = omega (arith, some)
 -- the object's own listings have the innermost one, and those around it
 own_front : (object : Object) (frame : Frame) (frames : List Frame) → 0 < own_listings object (frame ∷ frames)
     → take (own_listings object (frame ∷ frames)) (frame ∷ frames) ≡ frame ∷ take (own_listings object (frame ∷ frames) - 1) frames
-own_front object frame frames some = ap (λ n. take n (frame ∷ frames)) (one_less (own_listings object (frame ∷ frames)) some)
+own_front object frame frames some = ap (λ n. take n (frame ∷ frames)) (one_less _ some)
 
 all_entered : (earlier : List Path) (object : Object) (t : List Frame) (item : Item) (items : List Item) → current_entry t ≡ Some item → EndsInObject object t → all_behind earlier (take (own_listings object t) t) ≡ true
     → all_behind earlier (take (own_listings object (entered items t)) (entered items t)) ≡ true
@@ -118,7 +118,7 @@ ends_left object t apart outside ends =
 
 -- at the end of the object's own directory the trail ends at its site
 at_site_again : (object : Object) (t : List Frame) → is_own_directory object t ≡ true → length (parent t) ≡ object.site
-at_site_again object t own = eqb-true (length (parent t)) object.site (and_parts (not object.gathered) (length (parent t) == object.site) own).1
+at_site_again object t own = eqb-true (length (parent t)) object.site (and_parts _ _ own).1
 
 -- ---- a file is noted
 
@@ -142,17 +142,17 @@ first_ones : (n : ℕ) (t : List Frame) → is_trail t ≡ true → is_trail (ta
 first_ones zero t is_one = refl
 first_ones (suc n) [] is_one = refl
 first_ones (suc n) (frame ∷ frames) is_one =
-    let parts = and_parts (is_frame frame) (are_outer frames) is_one in
-    and_from (is_frame frame) (are_outer (take n frames)) parts.0 (outer_ones n frames parts.1)
+    let parts = and_parts _ _ is_one in
+    and_from _ _ parts.0 (outer_ones n frames parts.1)
   where
     outer_ones : (n : ℕ) (t : List Frame) → are_outer t ≡ true → are_outer (take n t) ≡ true
     outer_ones zero t outer = refl
     outer_ones (suc n) [] outer = refl
     outer_ones (suc n) (frame ∷ frames) outer =
-        let first = and_parts (is_frame frame) (is_dir_entry (entry_at frame) && are_outer frames) outer in
-        let second = and_parts (is_dir_entry (entry_at frame)) (are_outer frames) first.1 in
-        and_from (is_frame frame) (is_dir_entry (entry_at frame) && are_outer (take n frames)) first.0
-        (and_from (is_dir_entry (entry_at frame)) (are_outer (take n frames)) second.0 (outer_ones n frames second.1))
+        let first = and_parts _ _ outer in
+        let second = and_parts _ _ first.1 in
+        and_from _ _ first.0
+        (and_from _ _ second.0 (outer_ones n frames second.1))
 
 all_noted : (earlier : List Path) (object : Object) (t : List Frame) (item : Item) → is_trail t ≡ true → current_entry t ≡ Some item → EndsInObject object t → all_behind earlier (take (own_listings object t) t) ≡ true
     → all_behind (earlier ++ logical_path object t ∷ []) (take (own_listings object (advanced t)) (advanced t)) ≡ true
@@ -236,7 +236,7 @@ scans_rest {job} past {after} (PassesShorty was object item e passed) at = recor
 scans_rest {job} past {after} (EntersDirectory was object name items e apart shallow) at = record {
   ends = (counted job object items at.ends.0, counted_ends object items after.trail (ends_entered object items was.trail at.ends.1));
   rows = moved_rows job past.bytes was after.trail at.rows;
-  behind = all_entered (row_paths was.rows) object was.trail (name, kind.Dir) items e at.ends.1 at.behind;
+  behind = all_entered (row_paths was.rows) object was.trail _ items e at.ends.1 at.behind;
   numbers = tt;
 }
 scans_rest past (MeetsDeep was object name e apart deep) at = no_object_rest object was

@@ -30,41 +30,41 @@ use Rattle.pt_plan.specs.declared.phase.Phase.TheVariants as phase
 outer_is_trail : (trail : List Frame) → are_outer trail ≡ true → is_trail trail ≡ true
 outer_is_trail [] outer = refl
 outer_is_trail (frame ∷ frames) outer =
-    let parts = and_parts (is_frame frame) (is_dir_entry (entry_at frame) && are_outer frames) outer in
-    and_from (is_frame frame) (are_outer frames) parts.0 (and_parts (is_dir_entry (entry_at frame)) (are_outer frames) parts.1).1
+    let parts = and_parts (is_frame frame) _ outer in
+    and_from _ (are_outer frames) parts.0 (and_parts (is_dir_entry (entry_at frame)) _ parts.1).1
 
 first_frame : (items : List Item) → names_rise items ≡ true → is_frame (record { listing = items; place = 0 }) ≡ true
-first_frame items rise = and_from (names_rise items) (nat_le 0 (length items)) rise (le-leb 0 (length items) (omega arith))
+first_frame items rise = and_from _ _ rise (le-leb 0 (length items) (omega arith))
 
 -- a listing is entered
 trail_entered : (items : List Item) (trail : List Frame) → names_rise items ≡ true → are_outer trail ≡ true → is_trail (entered items trail) ≡ true
-trail_entered items trail rise outer = and_from (is_frame (record { listing = items; place = 0 })) (are_outer trail) (first_frame items rise) outer
+trail_entered items trail rise outer = and_from _ _ (first_frame items rise) outer
 
 -- from a directory
 outer_at : (trail : List Frame) → is_trail trail ≡ true → is_dir_entry (current_entry trail) ≡ true → are_outer trail ≡ true
 outer_at [] is_one there = refl
 outer_at (frame ∷ frames) is_one there =
-    let parts = and_parts (is_frame frame) (are_outer frames) is_one in
-    and_from (is_frame frame) (is_dir_entry (entry_at frame) && are_outer frames) parts.0 (and_from (is_dir_entry (entry_at frame)) (are_outer frames) there parts.1)
+    let parts = and_parts _ _ is_one in
+    and_from _ _ parts.0 (and_from _ _ there parts.1)
 
 -- the place moves to the next entry
 trail_advanced : (trail : List Frame) (item : Item) → is_trail trail ≡ true → current_entry trail ≡ Some item → is_trail (advanced trail) ≡ true
 trail_advanced [] item is_one e = absurd (cc)
 trail_advanced (frame ∷ frames) item is_one e =
-    let parts = and_parts (is_frame frame) (are_outer frames) is_one in
-    let rise = (and_parts (names_rise frame.listing) (nat_le frame.place (length frame.listing)) parts.0).0 in
+    let parts = and_parts _ _ is_one in
+    let rise = (and_parts _ _ parts.0).0 in
     let within = slice_get_within frame.listing frame.place item e in
-    and_from (is_frame (record { listing = frame.listing; place = frame.place + 1 })) (are_outer frames)
-    (and_from (names_rise frame.listing) (nat_le (frame.place + 1) (length frame.listing)) rise (le-leb (frame.place + 1) (length frame.listing) (omega (arith, within)))) parts.1
+    and_from _ _
+    (and_from _ _ rise (le-leb (frame.place + 1) (length frame.listing) (omega (arith, within)))) parts.1
 
 -- or to any other
 trail_sought : (place : ℕ) (trail : List Frame) → is_trail trail ≡ true → ((frame : Frame) (frames : List Frame) → trail ≡ frame ∷ frames → place ≤ length frame.listing) → is_trail (sought place trail) ≡ true
 trail_sought place [] is_one within = refl
 trail_sought place (frame ∷ frames) is_one within =
-    let parts = and_parts (is_frame frame) (are_outer frames) is_one in
-    let rise = (and_parts (names_rise frame.listing) (nat_le frame.place (length frame.listing)) parts.0).0 in
-    and_from (is_frame (record { listing = frame.listing; place = place })) (are_outer frames)
-    (and_from (names_rise frame.listing) (nat_le place (length frame.listing)) rise (le-leb place (length frame.listing) (within frame frames refl))) parts.1
+    let parts = and_parts _ _ is_one in
+    let rise = (and_parts _ _ parts.0).0 in
+    and_from _ _
+    (and_from _ _ rise (le-leb place (length frame.listing) (within frame frames refl))) parts.1
 
 trail_first : (trail : List Frame) → is_trail trail ≡ true → is_trail (sought 0 trail) ≡ true
 trail_first trail is_one = trail_sought 0 trail is_one (λ frame frames e. omega arith)
@@ -72,16 +72,16 @@ trail_first trail is_one = trail_sought 0 trail is_one (λ frame frames e. omega
 -- the innermost listing is left
 trail_parent : (trail : List Frame) → is_trail trail ≡ true → is_trail (parent trail) ≡ true
 trail_parent [] is_one = refl
-trail_parent (frame ∷ frames) is_one = outer_is_trail frames (and_parts (is_frame frame) (are_outer frames) is_one).1
+trail_parent (frame ∷ frames) is_one = outer_is_trail frames (and_parts _ _ is_one).1
 
 -- and the place behind it is moved to
 trail_behind : (trail : List Frame) → is_trail trail ≡ true → is_trail (advanced (parent trail)) ≡ true
 trail_behind [] is_one = refl
 trail_behind (frame ∷ []) is_one = refl
 trail_behind (frame ∷ outer ∷ frames) is_one =
-    let rest = (and_parts (is_frame frame) (are_outer (outer ∷ frames)) is_one).1 in
-    let parts = and_parts (is_frame outer) (is_dir_entry (entry_at outer) && are_outer frames) rest in
-    let entry = some_entry (entry_at outer) (and_parts (is_dir_entry (entry_at outer)) (are_outer frames) parts.1).0 in
+    let rest = (and_parts _ _ is_one).1 in
+    let parts = and_parts _ _ rest in
+    let entry = some_entry (entry_at outer) (and_parts _ _ parts.1).0 in
     trail_advanced (outer ∷ frames) entry.0 (outer_is_trail (outer ∷ frames) rest) entry.1
   where
     some_entry : (o : Option Item) → is_dir_entry o ≡ true → (item : Item) × (o ≡ Some item)
@@ -139,9 +139,9 @@ pub walks_keep : {job : Job} (old new : Option Reading) {prefix : List ℕ} {her
 unfolding Answers
 walks_keep old new (OpensRoot was items) answers at =
     record { is_one = trail_entered items was.trail answers.1 (subst (λ (t : List Frame). are_outer t ≡ true) (sym at.none) refl); none = tt; entry = tt }
-walks_keep {job} old new {prefix} (IsNew was index id is) answers at = new_object job was (new_object_of job id index was.trail) index refl at.is_one (named_found job prefix was.trail index id is)
-walks_keep old new (IsPast was name e short last) answers at = record { is_one = trail_advanced was.trail (name, kind.Dir) at.is_one e; none = tt; entry = tt }
-walks_keep old new (IsDeep was name e short last deep) answers at = record { is_one = trail_advanced was.trail (name, kind.Dir) at.is_one e; none = tt; entry = tt }
+walks_keep {job} old new {prefix} (IsNew was index id is) answers at = new_object job was _ index refl at.is_one (named_found job prefix was.trail index id is)
+walks_keep old new (IsPast was name e short last) answers at = record { is_one = trail_advanced was.trail _ at.is_one e; none = tt; entry = tt }
+walks_keep old new (IsDeep was name e short last deep) answers at = record { is_one = trail_advanced was.trail _ at.is_one e; none = tt; entry = tt }
 walks_keep old new (EntersSite was name items e short last deep) answers at =
     record { is_one = trail_entered items was.trail answers.1 (outer_at was.trail at.is_one (ap is_dir_entry e)); none = tt; entry = tt }
 walks_keep old new (PassesEntry was item e apart) answers at = record { is_one = trail_advanced was.trail item at.is_one e; none = tt; entry = tt }

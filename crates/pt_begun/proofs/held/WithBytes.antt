@@ -19,11 +19,11 @@ EachRow P bytes rows = All (λ row. P (bytes row.path) row) rows
 
 -- what is held at a path is as it was, where the path isn't the new one
 pub earlier_held : (path : Path) (read : List ℕ) (bytes : Path → List ℕ) (earlier : Path) → parts_before earlier path ≡ true → bytes earlier ≡ with_bytes path read bytes earlier
-earlier_held path read bytes earlier parts = sym (ap (λ t. cond t read (bytes earlier)) (parts_differ earlier path (same_path earlier path) refl parts))
+earlier_held path read bytes earlier parts = sym (ap (λ t. cond t read (bytes earlier)) (parts_differ earlier path _ refl parts))
 
 later_held : (path : Path) (read : List ℕ) (bytes : Path → List ℕ) (later : Path) → parts_before path later ≡ true → bytes later ≡ with_bytes path read bytes later
 later_held path read bytes later parts =
-    sym (ap (λ t. cond t read (bytes later)) (same_path-sym later path ∙ parts_differ path later (same_path path later) refl parts))
+    sym (ap (λ t. cond t read (bytes later)) (same_path-sym later path ∙ parts_differ path later _ refl parts))
 
 pub now_held : (path : Path) (read : List ℕ) (bytes : Path → List ℕ) → read ≡ with_bytes path read bytes path
 now_held path read bytes = sym (ap (λ t. cond t read (bytes path)) (path_itself path))
@@ -36,7 +36,7 @@ all_still : (P : List ℕ → Row → Type 0) (bytes : Path → List ℕ) (path 
     → EachRow P bytes rows → EachRow P (with_bytes path read bytes) rows
 all_still P bytes path read [] behind all = λ k d h. absurd (omega (arith, h))
 all_still P bytes path read (row ∷ rows) behind all =
-    let parts = and_parts (parts_before row.path path) (list_all (λ earlier. parts_before earlier path) (row_paths rows)) behind in
+    let parts = and_parts _ _ behind in
     All-cons (λ r. P (with_bytes path read bytes r.path) r) row rows
     (subst (λ b. P b row) (earlier_held path read bytes row.path parts.0) (all 0 row (omega arith)))
     (all_still P bytes path read rows parts.1 (rest_of (λ r. P (bytes r.path) r) row rows all))
@@ -45,7 +45,7 @@ all_still P bytes path read (row ∷ rows) behind all =
 all_later : (P : List ℕ → Row → Type 0) (bytes : Path → List ℕ) (path : Path) (read : List ℕ) (rows : List Row) → list_all (parts_before path) (row_paths rows) ≡ true → EachRow P bytes rows → EachRow P (with_bytes path read bytes) rows
 all_later P bytes path read [] after all = λ k d h. absurd (omega (arith, h))
 all_later P bytes path read (row ∷ rows) after all =
-    let parts = and_parts (parts_before path row.path) (list_all (parts_before path) (row_paths rows)) after in
+    let parts = and_parts _ _ after in
     All-cons (λ r. P (with_bytes path read bytes r.path) r) row rows
     (subst (λ b. P b row) (later_held path read bytes row.path parts.0) (all 0 row (omega arith)))
     (all_later P bytes path read rows parts.1 (rest_of (λ r. P (bytes r.path) r) row rows all))
@@ -58,17 +58,17 @@ rows_push P bytes path read row is new rows behind all =
     (subst (λ p. P (with_bytes path read bytes p) row) (sym is) (subst (λ b. P b row) (now_held path read bytes) new))
 
 comes_before : (path : Path) (front : List Row) (row : Row) (others : List Row) → list_all (parts_before path) (row_paths (front ++ row ∷ others)) ≡ true → parts_before path row.path ≡ true
-comes_before path [] row others h = (and_parts (parts_before path row.path) (list_all (parts_before path) (row_paths others)) h).0
-comes_before path (r ∷ front) row others h = comes_before path front row others (and_parts (parts_before path r.path) (list_all (parts_before path) (row_paths (front ++ row ∷ others))) h).1
+comes_before path [] row others h = (and_parts _ _ h).0
+comes_before path (r ∷ front) row others h = comes_before path front row others (and_parts _ _ h).1
 
 -- it is of all rows around one whose file was read anew
 all_around : (P : List ℕ → Row → Type 0) (bytes : Path → List ℕ) (read : List ℕ) (front : List Row) (row : Row) (others : List Row) → part_in_order (row_paths (front ++ row ∷ others)) ≡ true → P read row
     → EachRow P bytes (front ++ row ∷ others) → EachRow P (with_bytes row.path read bytes) (front ++ row ∷ others)
 all_around P bytes read [] row others order new all =
     All-cons (λ r. P (with_bytes row.path read bytes r.path) r) row others (subst (λ b. P b row) (now_held row.path read bytes) new)
-    (all_later P bytes row.path read others (and_parts (list_all (parts_before row.path) (row_paths others)) (part_in_order (row_paths others)) order).0 (rest_of (λ r. P (bytes r.path) r) row others all))
+    (all_later P bytes row.path read others (and_parts _ _ order).0 (rest_of (λ r. P (bytes r.path) r) row others all))
 all_around P bytes read (first ∷ front) row others order new all =
-    let parts = and_parts (list_all (parts_before first.path) (row_paths (front ++ row ∷ others))) (part_in_order (row_paths (front ++ row ∷ others))) order in
+    let parts = and_parts _ _ order in
     All-cons (λ r. P (with_bytes row.path read bytes r.path) r) first (front ++ row ∷ others)
     (subst (λ b. P b first) (earlier_held row.path read bytes first.path (comes_before first.path front row others parts.0)) (all 0 first (omega arith)))
     (all_around P bytes read front row others parts.1 new (rest_of (λ r. P (bytes r.path) r) first (front ++ row ∷ others) all))

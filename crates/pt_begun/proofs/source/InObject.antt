@@ -128,7 +128,7 @@ own_here false n site same = omega (arith, same)
 
 pub own_at_site : (object : Object) (trail : List Frame) → length trail ≡ object.site → own_listings object trail ≡ cond object.gathered 1 0
 unfolding own_at
-own_at_site object trail same = own_here object.gathered (length trail) object.site same
+own_at_site object trail same = own_here object.gathered _ object.site same
 
 -- an entry that isn't passed over isn't a shorty of a gathered site
 not_passed : (g : Bool) (n site k : ℕ) (item : Item) → site ≤ n → own_at g n site ≡ suc k → (n == site) && is_shorty item ≡ false → walk.is_passed g k item ≡ false
@@ -151,7 +151,7 @@ gathered_here false n site same some = absurd (omega (arith, same, some))
 
 pub is_gathered : (object : Object) (trail : List Frame) → length trail ≡ object.site → 0 < own_listings object trail → object.gathered ≡ true
 unfolding own_at
-is_gathered object trail same some = gathered_here object.gathered (length trail) object.site same some
+is_gathered object trail same some = gathered_here object.gathered _ object.site same some
 
 -- ---- the path of an entry is the object's and the logical one
 

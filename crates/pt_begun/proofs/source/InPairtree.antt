@@ -20,7 +20,7 @@ some_same x y e = cc
 -- the directory of the pairtree stands at the top
 pub pairtree_there : (source : Forest) → is_store source ≡ true → dir_at source (pairtree_root ∷ []) ≡ Some (pairtree_of source)
 pairtree_there source store =
-    some_of (dir_at source (pairtree_root ∷ [])) (and_parts (is_some (file_at source (version_file ∷ []))) (is_some (dir_at source (pairtree_root ∷ []))) store).1
+    some_of _ (and_parts _ _ store).1
 
 pub sites_there : (depth : ℕ) (source : Forest) → is_store source ≡ true → sites_of depth source ≡ sites depth (pairtree_of source)
 sites_there depth source store = ap (sites_in_root depth) (pairtree_there source store)

@@ -75,7 +75,7 @@ module _ (job : Job) (s : Reading) (prefix : List ℕ) (object : Object) (held :
         row = it.row;
         is_row = it.is_row;
         within = omega (arith, within);
-        read = subst (λ (n : ℕ). IsReading bytes n (held.fed ++ block) (after_next s).unread) more (reads_block 8192 bytes (it.row.length - left) held.fed block s.unread it.read (read s refl));
+        read = subst (λ (n : ℕ). IsReading bytes n (held.fed ++ block) (after_next s).unread) more (reads_block 8192 bytes _ held.fed block s.unread it.read (read s refl));
       }
 
 fed_stays : (job : Job) {s new : Reading} (prefix : List ℕ) (object : Object) (held : Held) (count : ℕ) {fed : List ℕ} → Some new ≡ Some s → Scanned job prefix object count held s → Scanned job prefix object count (with_fed held fed) new

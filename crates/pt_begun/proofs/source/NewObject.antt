@@ -115,9 +115,9 @@ named_there job source prefix frame frames (Some i) id proper fits is reads =
     let name = entry.0 in
     let object : PairtreeObject = record { at = site ++ name ∷ []; gathered = false; inside = inside_at top (site ++ name ∷ []) } in
     let next = step.enters false top 0 there frames name (inside_at top (site ++ name ∷ [])) proper fits entry.1 refl refl in
-    let held = encapsulated_is site (entries_from i inside) name (inside_at top (site ++ name ∷ [])) (entries_left false top 2 (entered (listing_of (inside_at top (site ++ name ∷ []))) (there ∷ frames))) next in
+    let held = encapsulated_is site (entries_from i inside) name (inside_at top (site ++ name ∷ [])) _ next in
     let path : site ++ name ∷ [] ≡ names_to (there ∷ frames) = sym (path_grows there frames (name, kind.Dir) entry.1) in
-    ap (verdict_by_finding job prefix site inside) (found_there job top frame frames (finding.Candidate i) proper fits is)
+    ap (verdict_by_finding job prefix site inside) (found_there job top frame frames _ proper fits is)
     ∙ ap (verdict_on_candidate job prefix site) held
     ∙ identified job prefix object (reading_of (concat site)) id reads
     ∙ ap (λ (p : Path). Named id (record { at = p; gathered = false; inside = inside_at top p })) path
@@ -140,8 +140,8 @@ nameless_there job source prefix frame frames (Some i) why proper fits is reads 
     let name = entry.0 in
     let object : PairtreeObject = record { at = site ++ name ∷ []; gathered = false; inside = inside_at top (site ++ name ∷ []) } in
     let next = step.enters false top 0 there frames name (inside_at top (site ++ name ∷ [])) proper fits entry.1 refl refl in
-    let held = encapsulated_is site (entries_from i inside) name (inside_at top (site ++ name ∷ [])) (entries_left false top 2 (entered (listing_of (inside_at top (site ++ name ∷ []))) (there ∷ frames))) next in
-    ap (verdict_by_finding job prefix site inside) (found_there job top frame frames (finding.Candidate i) proper fits is)
+    let held = encapsulated_is site (entries_from i inside) name (inside_at top (site ++ name ∷ [])) _ next in
+    ap (verdict_by_finding job prefix site inside) (found_there job top frame frames _ proper fits is)
     ∙ ap (verdict_on_candidate job prefix site) held
     ∙ unidentified job prefix object (reading_of (concat site)) why reads
 
@@ -162,9 +162,9 @@ by_found : (job : Job) (source : Forest) (prefix : List ℕ) (frame : Frame) (fr
 by_found job source prefix frame frames finding.Interior proper fits is =
     ap (verdict_by_finding job prefix (names_to frames) (inside_at (pairtree_of source) (names_to frames))) (found_there job (pairtree_of source) frame frames finding.Interior proper fits is)
 by_found job source prefix frame frames (finding.Skip why) proper fits is =
-    ap (verdict_by_finding job prefix (names_to frames) (inside_at (pairtree_of source) (names_to frames))) (found_there job (pairtree_of source) frame frames (finding.Skip why) proper fits is)
-by_found job source prefix frame frames (finding.Candidate i) proper fits is = by_identifier job source prefix frame frames (Some i) (identifier_at job prefix (names_to frames)) proper fits is refl
-by_found job source prefix frame frames finding.Gathered proper fits is = by_identifier job source prefix frame frames None (identifier_at job prefix (names_to frames)) proper fits is refl
+    ap (verdict_by_finding job prefix (names_to frames) (inside_at (pairtree_of source) (names_to frames))) (found_there job (pairtree_of source) frame frames _ proper fits is)
+by_found job source prefix frame frames (finding.Candidate i) proper fits is = by_identifier job source prefix frame frames (Some i) _ proper fits is refl
+by_found job source prefix frame frames finding.Gathered proper fits is = by_identifier job source prefix frame frames None _ proper fits is refl
 
 -- as far as it is of the share
 ours_there : (job : Job) (source : Forest) (t : List Frame) (what : VerdictOn (Option ℕ)) → ours job.share (verdict_there job source t what) ≡ verdict_there job source t (ours job.share what)
@@ -207,7 +207,7 @@ named_identifier own index (Ok i) id is = cc
 named_identifier own index (Err why) id is = absurd (cc)
 
 pub named_found : (job : Job) (prefix : List ℕ) (t : List Frame) (index : Option ℕ) (id : List ℕ) → judged_at job prefix t ≡ Named id index → found_at (form_of job) t ≡ has_object index
-named_found job prefix t index id is = by (found_at (form_of job) t) (ours_named job.share (judged_by_finding job prefix (trail_path t) (found_at (form_of job) t)) id index is)
+named_found job prefix t index id is = by (found_at (form_of job) t) (ours_named job.share _ id index is)
   where
     by : (what : Finding) → judged_by_finding job prefix (trail_path t) what ≡ Named id index → what ≡ has_object index
     by finding.Interior h = absurd (cc)
@@ -232,9 +232,9 @@ some_at_top [] is nothing = absurd (cc)
 some_at_top (x ∷ l) is nothing = absurd (cc)
 
 some_found : (form : Form) (items : List Item) (where_it_stands : At) → found items where_it_stands form ≡ finding.Gathered → non_shorties items ≡ [] → ⊥
-some_found form items at.Root is = some_at_top (non_shorties items) is
-some_found form items at.Pair is = some_below form items (non_shorties items) is
-some_found form items at.Last is = some_below form items (non_shorties items) is
+some_found form items at.Root is = some_at_top _ is
+some_found form items at.Pair is = some_below form items _ is
+some_found form items at.Last is = some_below form items _ is
 
 either_left : (short : Bool) (x : ℕ × Kind) (l m : List (ℕ × Kind)) (name : List ℕ) (inside after : Forest) → ((l ≡ [] → ⊥) → emptiness (without_shorties after) ≡ 0)
     → (cond short l (x ∷ m) ≡ [] → ⊥) → emptiness (cond short (without_shorties after) (dir name inside (without_shorties after))) ≡ 0

@@ -38,13 +38,13 @@ pub moved_in : (job : Job) (source : Forest) (prefix : List ℕ) (object : Objec
     → IsInObject job source prefix object trail count → Moved job source prefix object trail (entered items trail) count
 moved_in job source prefix object items trail count listed it =
     let within = it.within in
-    moved_by job source prefix object trail (entered items trail) count (omega (arith, within)) (fits_entered (pairtree_of source) trail items it.fits listed) (site_entered object items trail it.within) it
+    moved_by job source prefix object trail _ count (omega (arith, within)) (fits_entered (pairtree_of source) trail items it.fits listed) (site_entered object items trail it.within) it
 
 pub moved_out : (job : Job) (source : Forest) (prefix : List ℕ) (object : Object) (trail : List Frame) (count : ℕ) → object.site < length trail
     → IsInObject job source prefix object trail count → Moved job source prefix object trail (parent trail) count
 moved_out job source prefix object [] count inside it = absurd (omega (arith, inside))
 moved_out job source prefix object (frame ∷ frames) count inside it =
-    moved_by job source prefix object (frame ∷ frames) frames count (omega (arith, inside)) (fits_moved (pairtree_of source) (frame ∷ frames) 0 it.fits).2 (site_parent object (frame ∷ frames) inside) it
+    moved_by job source prefix object _ frames count (omega (arith, inside)) (fits_moved (pairtree_of source) (frame ∷ frames) 0 it.fits).2 (site_parent object (frame ∷ frames) inside) it
 
 -- in the site of a gathered object
 pub moved_at_site : (job : Job) (source : Forest) (prefix : List ℕ) (object : Object) (trail : List Frame) (place count : ℕ) → object.gathered ≡ true → length trail ≡ object.site
@@ -74,21 +74,21 @@ advances : (job : Job) (source : Forest) (prefix : List ℕ) (object : Object) (
     → IsInObject job source prefix object (frame ∷ frames) count → Moved job source prefix object (frame ∷ frames) (advanced (frame ∷ frames)) count
 advances job source prefix object frame frames count true is inside it =
     let same = eqb-true (length (frame ∷ frames)) object.site is in
-    moved_at_site job source prefix object (frame ∷ frames) (frame.place + 1) count (is_gathered object (frame ∷ frames) same inside) same it
+    moved_at_site job source prefix object _ (frame.place + 1) count (is_gathered object (frame ∷ frames) same inside) same it
 advances job source prefix object frame frames count false is inside it =
     let below : object.site < length (frame ∷ frames) = below_site (length (frame ∷ frames)) object.site is it.within in
-    moved_by job source prefix object (frame ∷ frames) (advanced (frame ∷ frames)) count it.within (fits_moved (pairtree_of source) (frame ∷ frames) 0 it.fits).1 (site_advanced object (frame ∷ frames) below) it
+    moved_by job source prefix object _ _ count it.within (fits_moved (pairtree_of source) (frame ∷ frames) 0 it.fits).1 (site_advanced object (frame ∷ frames) below) it
 
 pub moved_on : (job : Job) (source : Forest) (prefix : List ℕ) (object : Object) (trail : List Frame) (count : ℕ) → 0 < own_listings object trail
     → IsInObject job source prefix object trail count → Moved job source prefix object trail (advanced trail) count
 moved_on job source prefix object [] count inside it = absurd (let some = it.some in let within = it.within in omega (arith, some, within))
-moved_on job source prefix object (frame ∷ frames) count inside it = advances job source prefix object frame frames count (length (frame ∷ frames) == object.site) refl inside it
+moved_on job source prefix object (frame ∷ frames) count inside it = advances job source prefix object frame frames count _ refl inside it
 
 pub moved_behind : (job : Job) (source : Forest) (prefix : List ℕ) (object : Object) (trail : List Frame) (count : ℕ) → object.site < length trail → 0 < own_listings object (parent trail)
     → IsInObject job source prefix object trail count → Moved job source prefix object trail (advanced (parent trail)) count
 moved_behind job source prefix object trail count below inside it =
     let out = moved_out job source prefix object trail count below it in
-    moved_twice job source prefix object trail (parent trail) (advanced (parent trail)) count out (moved_on job source prefix object (parent trail) count inside out.stands)
+    moved_twice job source prefix object trail _ _ count out (moved_on job source prefix object _ count inside out.stands)
 
 -- ---- what is left
 
@@ -102,7 +102,7 @@ left_shorty source object [] item proper fits e passed inside = absurd (cc)
 left_shorty source object (frame ∷ frames) item proper fits e passed inside =
     let top = pairtree_of source in
     let trail = frame ∷ frames in
-    let tests = and_parts (is_in_site object trail) (is_shorty item) passed in
+    let tests = and_parts _ _ passed in
     let same = eqb-true (length trail) object.site tests.0 in
     let gathered = is_gathered object trail same inside in
     let own : own_listings object trail ≡ 1 = own_at_site object trail same ∙ ap (λ b. cond b 1 0) gathered in
@@ -120,11 +120,11 @@ left_directory source object frame frames name items inside proper fits within s
     let top = pairtree_of source in
     let trail = frame ∷ frames in
     let k = own_listings object trail - 1 in
-    let own : own_listings object trail ≡ suc k = one_less (own_listings object trail) some in
+    let own : own_listings object trail ≡ suc k = one_less _ some in
     let own' : own_listings object (entered items trail) ≡ suc (suc k) = own_entered object items trail within ∙ ap (λ (n : ℕ). suc n) own in
     ap (λ (n : ℕ). entries_left object.gathered top n trail) own
     ∙ step.enters object.gathered top k frame frames name inside proper fits e (passed_not object trail k (name, kind.Dir) within own apart) is
-    ∙ ap (λ (p : Path). (p, Dir inside) ∷ entries_left object.gathered top (suc (suc k)) (entered (listing_of inside) trail)) (logical_is object frame frames k (name, kind.Dir) e own)
+    ∙ ap (λ (p : Path). (p, Dir inside) ∷ entries_left object.gathered top (suc (suc k)) (entered (listing_of inside) trail)) (logical_is object frame frames k _ e own)
     ∙ ap (λ (l : List Item). (logical_path object trail, Dir inside) ∷ entries_left object.gathered top (suc (suc k)) (entered l trail)) items_are
     ∙ ap (λ (n : ℕ). (logical_path object trail, Dir inside) ∷ entries_left object.gathered top n (entered items trail)) (sym own')
 
@@ -136,11 +136,11 @@ left_file source object frame frames name proper fits some e =
     let top = pairtree_of source in
     let trail = frame ∷ frames in
     let k = own_listings object trail - 1 in
-    let own : own_listings object trail ≡ suc k = one_less (own_listings object trail) some in
+    let own : own_listings object trail ≡ suc k = one_less _ some in
     let here : names_to trail ≡ names_to frames ++ name ∷ [] = path_grows frame frames (name, kind.File) e in
     ap (λ (n : ℕ). entries_left object.gathered top n trail) own
     ∙ step.reads object.gathered top k frame frames name proper fits e
-    ∙ ap (λ (p : Path). (p, File (bytes_at top (names_to frames ++ name ∷ []))) ∷ entries_left object.gathered top (suc k) (advanced trail)) (logical_is object frame frames k (name, kind.File) e own)
+    ∙ ap (λ (p : Path). (p, File (bytes_at top (names_to frames ++ name ∷ []))) ∷ entries_left object.gathered top (suc k) (advanced trail)) (logical_is object frame frames k _ e own)
     ∙ ap (λ (p : Path). (logical_path object trail, File (bytes_at top p)) ∷ entries_left object.gathered top (suc k) (advanced trail)) (sym here)
     ∙ ap (λ (n : ℕ). (logical_path object trail, File (bytes_at top (names_to trail))) ∷ entries_left object.gathered top n (advanced trail)) (sym own)
 
@@ -152,7 +152,7 @@ left_behind source object (frame ∷ []) fits e first below some = absurd (omega
 left_behind source object (frame ∷ outer ∷ frames) fits e first below some =
     let top = pairtree_of source in
     let k = own_listings object (outer ∷ frames) - 1 in
-    let own : own_listings object (outer ∷ frames) ≡ suc k = one_less (own_listings object (outer ∷ frames)) some in
+    let own : own_listings object (outer ∷ frames) ≡ suc k = one_less _ some in
     let whole : own_listings object (frame ∷ outer ∷ frames) ≡ suc (suc k) = own_parent object frame (outer ∷ frames) (omega (arith, below)) ∙ ap (λ (n : ℕ). suc n) own in
     ap (λ (n : ℕ). entries_left object.gathered top n (frame ∷ outer ∷ frames)) whole
     ∙ step.leaves object.gathered top k frame outer frames fits e

@@ -30,8 +30,8 @@ inside_proper top path (Some f) is proper = (reads_below top f path [] is).1 pro
 
 pub entries_there : (gathered : Bool) (top : Forest) (site own : Path) → is_proper top ≡ true
     → AreThere (inside_at top (cond gathered site own)) [] (entries (cond gathered (without_shorties (inside_at top site)) (inside_at top own)))
-entries_there true top site own proper = gathered_there (inside_at top site) [] (inside_proper top site (dir_at top site) refl proper)
-entries_there false top site own proper = all_there (inside_at top own) [] (inside_proper top own (dir_at top own) refl proper)
+entries_there true top site own proper = gathered_there (inside_at top site) [] (inside_proper top site _ refl proper)
+entries_there false top site own proper = all_there (inside_at top own) [] (inside_proper top own _ refl proper)
 
 -- what stands in a directory stands in the tree
 pub file_in : (top : Forest) (at : Path) (o : Option Forest) → dir_at top at ≡ o → (front left : List Entry) (k : ℕ) (path : Path) (bytes : List ℕ) → AreThere (unwrap_or o none) [] (front ++ left) → slice_get (files front) k ≡ Some (path, bytes) → file_at top (at ++ path) ≡ Some bytes
@@ -53,8 +53,8 @@ row_file job source object site rows empty left n row proper scanned is =
     let at = path_of_source object site in
     let one = get_map_back (row_of_file job.algorithm) (files scanned.front) n row (sym (ap (λ (l : List Row). slice_get l n) scanned.rows_are) ∙ is) in
     let file = one.0 in
-    let there = subst (AreThere (inside_at top at) []) scanned.all (entries_there object.gathered top (trail_path site) (names_to site) proper) in
-    let stands = file_in top at (dir_at top at) refl scanned.front left n file.0 file.1 there one.1 in
+    let there = subst (AreThere (inside_at top at) []) scanned.all (entries_there object.gathered top _ (names_to site) proper) in
+    let stands = file_in top at _ refl scanned.front left n file.0 file.1 there one.1 in
     let same : file.0 ≡ row.path = ap (λ (r : Row). r.path) one.2 in
     let stood : file_at top (at ++ row.path) ≡ Some file.1 = sym (ap (λ (p : Path). file_at top (at ++ p)) same) ∙ stands in
     record {

@@ -60,7 +60,7 @@ scans_on job source prefix object held trail count stands same inside left it = 
   inside = inside;
   scanned =
       subst (λ (o : PairtreeObject). HasScanned job o held.rows object.empty (left_of source object trail)) same
-      (scans_same job (object_at source object (to_site object held.trail)) held.rows object.empty (left_of source object held.trail) (left_of source object trail) left it.scanned);
+      (scans_same job _ held.rows object.empty _ _ left it.scanned);
 }
 
 -- there is no cause against a directory that isn't too deep
@@ -87,15 +87,15 @@ enters_directory job source prefix object held (frame ∷ frames) name items cou
     let items_are : listing_of in_it ≡ items = some_same (listing_of in_it) items (sym (ap (option_map listing_of) there) ∙ ap (listing_at top) (sym here) ∙ listed) in
     let left = left_directory source object frame frames name items in_it proper stands.fits stands.within inside e apart refl items_are in
     let object_is = object_at source object (to_site object trail) in
-    let none_cause = no_cause_dir job object_is.at (logical_path object trail) (names_to trail) held.rows trail in_it (path_in_object object trail) (path_length frame frames (name, kind.Dir) is_one e) shallow in
+    let none_cause = no_cause_dir job object_is.at (logical_path object trail) _ held.rows trail in_it (path_in_object object trail) (path_length frame frames _ is_one e) shallow in
     let empty_is : none_listed items ≡ emptiness in_it = ap none_listed (sym items_are) ∙ none_is in_it in
     let more : object.empty + none_listed items ≡ object.empty + (emptiness in_it + 0) = omega (arith, empty_is) in
     let step_in = moved_in job source prefix object items trail count listed stands in
     let grown = own_entered object items trail stands.within in
-    let next = scans_more job object_is held.rows object.empty (object.empty + none_listed items) (logical_path object trail, Dir in_it) (left_of source object (entered items trail)) none_cause more
-    (scans_same job object_is held.rows object.empty (left_of source object trail) ((logical_path object trail, Dir in_it) ∷ left_of source object (entered items trail)) left scanned) in
+    let next = scans_more job object_is held.rows object.empty _ _ _ none_cause more
+    (scans_same job object_is held.rows object.empty _ _ left scanned) in
     record {
-      stands = still_counted job source prefix object (object.empty + none_listed items) (entered items trail) count step_in.stands;
+      stands = still_counted job source prefix object (object.empty + none_listed items) _ count step_in.stands;
       inside = omega (arith, grown);
       scanned =
           subst (λ (o : PairtreeObject). HasScanned job o held.rows (object.empty + none_listed items) (left_of source object (entered items trail))) step_in.same
@@ -119,7 +119,7 @@ enters_object job source prefix object held (frame ∷ frames) items count prope
     let top = pairtree_of source in
     let trail = frame ∷ frames in
     let site = site_itself object trail at_site in
-    let entry = dir_entry (entry_at frame) (sym (ap (λ (t : List Frame). is_dir_entry (current_entry t)) site) ∙ stands.site.leads apart) in
+    let entry = dir_entry _ (sym (ap (λ (t : List Frame). is_dir_entry (current_entry t)) site) ∙ stands.site.leads apart) in
     let name = entry.0 in
     let e = entry.1 in
     let path = names_to frames ++ name ∷ [] in
@@ -132,7 +132,7 @@ enters_object job source prefix object held (frame ∷ frames) items count prope
     let inside_is : object_is.inside ≡ in_it =
     ap (λ (t : List Frame). inside_object source object t) site ∙ ap (λ b. cond b (without_shorties (inside_at top (names_to frames))) (inside_at top (names_to trail))) apart ∙ ap (inside_at top) here in
     let at_is : object_is.at ≡ names_to trail = ap (path_of_source object) site ∙ ap (λ b. cond b (names_to frames) (names_to trail)) apart in
-    let long = path_length frame frames (name, kind.Dir) is_one e in
+    let long = path_length frame frames _ is_one e in
     let left : left_of source object (entered items trail) ≡ entries in_it =
     ap (λ (n : ℕ). entries_left object.gathered top n (entered items trail)) own
     ∙ ap (λ b. entries_left b top 1 (entered items trail)) apart
@@ -150,7 +150,7 @@ enters_object job source prefix object held (frame ∷ frames) items count prope
       empty_is = omega (arith, empty, empty_is, emptier);
     } in
     record {
-      stands = still_counted job source prefix object (object.empty + none_listed items) (entered items trail) count step_in.stands;
+      stands = still_counted job source prefix object (object.empty + none_listed items) _ count step_in.stands;
       inside = omega (arith, own);
       scanned = subst (λ (o : PairtreeObject). HasScanned job o held.rows (object.empty + none_listed items) (left_of source object (entered items trail))) step_in.same first;
     }
@@ -200,7 +200,7 @@ own_around false n m site apart is within = let less = below_site m site apart w
 
 pub some_around : (object : Object) (trail : List Frame) → is_own_directory object trail ≡ false → object.site < length trail → 0 < own_listings object (parent trail)
 some_around object [] apart below = absurd (omega (arith, below))
-some_around object (frame ∷ frames) apart below = own_around object.gathered (suc (length frames)) (length frames) object.site apart refl (omega (arith, below))
+some_around object (frame ∷ frames) apart below = own_around object.gathered _ _ object.site apart refl (omega (arith, below))
 
 leaves_directory : (job : Job) (source : Forest) (prefix : List ℕ) (object : Object) (held : Held) (count : ℕ) → current_entry held.trail ≡ None → is_in_site object held.trail ≡ false → is_own_directory object held.trail ≡ false
     → IsScanning job source prefix object held count → IsScanning job source prefix object (with_trail held (advanced (parent held.trail))) count
@@ -208,7 +208,7 @@ leaves_directory job source prefix object held count e apart outside it =
     let below = below_site_of object held.trail apart it.stands.within in
     let around = some_around object held.trail outside below in
     let moved = moved_behind job source prefix object held.trail count below around it.stands in
-    scans_on job source prefix object held (advanced (parent held.trail)) count moved.stands moved.same (own_advanced object (parent held.trail) around)
+    scans_on job source prefix object held _ count moved.stands moved.same (own_advanced object (parent held.trail) around)
     (left_behind source object held.trail it.stands.fits e it.stands.some below around) it
 
 ends_site : (job : Job) (source : Forest) (prefix : List ℕ) (object : Object) (held : Held) (count : ℕ) → current_entry held.trail ≡ None → is_in_site object held.trail ≡ true
@@ -220,7 +220,7 @@ ends_site job source prefix object held count e here it =
     record {
       stands = it.stands;
       at_site = same;
-      scanned = scans_same job (object_at source object (to_site object held.trail)) held.rows object.empty (left_of source object held.trail) [] (left_none source object held.trail it.stands.fits e own) it.scanned;
+      scanned = scans_same job _ held.rows object.empty _ [] (left_none source object held.trail it.stands.fits e own) it.scanned;
     }
 
 own_one : (g : Bool) (n m site : ℕ) → not g && (m == site) ≡ true → n ≡ suc m → cond g (n - site + 1) (n - site) ≡ 1
@@ -234,22 +234,22 @@ ends_object job source prefix object held [] count is e apart own stands scanned
 ends_object job source prefix object held (frame ∷ frames) count is e apart own stands scanned =
     let trail = frame ∷ frames in
     let below = below_site_of object trail apart stands.within in
-    let same = eqb-true (length frames) object.site (and_parts (not object.gathered) (length frames == object.site) own).1 in
-    let one = own_one object.gathered (suc (length frames)) (length frames) object.site own refl in
+    let same = eqb-true (length frames) object.site (and_parts _ _ own).1 in
+    let one = own_one object.gathered _ _ object.site own refl in
     let moved = moved_out job source prefix object trail count below stands in
     record {
       stands = moved.stands;
       at_site = same;
       scanned =
           subst (λ (o : PairtreeObject). HasScanned job o held.rows object.empty []) moved.same
-          (scans_same job (object_at source object (to_site object trail)) held.rows object.empty (left_of source object trail) [] (left_none source object trail stands.fits e one) scanned);
+          (scans_same job _ held.rows object.empty _ [] (left_none source object trail stands.fits e one) scanned);
     }
 
 passes_shorty : (job : Job) (source : Forest) (prefix : List ℕ) (object : Object) (held : Held) (item : Item) (count : ℕ) → is_proper (pairtree_of source) ≡ true → current_entry held.trail ≡ Some item → is_passed object held.trail item ≡ true
     → IsScanning job source prefix object held count → IsScanning job source prefix object (with_trail held (advanced held.trail)) count
 passes_shorty job source prefix object held item count proper e passed it =
     let moved = moved_on job source prefix object held.trail count it.inside it.stands in
-    scans_on job source prefix object held (advanced held.trail) count moved.stands moved.same (own_advanced object held.trail it.inside)
+    scans_on job source prefix object held _ count moved.stands moved.same (own_advanced object held.trail it.inside)
     (left_shorty source object held.trail item proper it.stands.fits e passed it.inside) it
 
 -- ---- a file
@@ -270,7 +270,7 @@ pub no_cause_file : (job : Job) (at path : Path) (rows : List Row) (bytes : List
     → entry_cause job.limits (length at) (length rows) (path, File bytes) ≡ None
 no_cause_file job at path rows bytes room short =
     ap (λ b. cond b (Some cause.Limit) None)
-    (or_from (nat_le job.limits.files (length rows) || nat_lt job.limits.path_bytes (length (joined path))) (nat_lt job.limits.file_bytes (length bytes)) room (le-ltb job.limits.file_bytes (length bytes) short))
+    (or_from _ _ room (le-ltb job.limits.file_bytes (length bytes) short))
 
 ends_file : (job : Job) (source : Forest) (prefix : List ℕ) (object : Object) (held : Held) (trail : List Frame) (name : List ℕ) (read count : ℕ) → is_proper (pairtree_of source) ≡ true → current_entry trail ≡ Some (name, kind.File)
     → nat_le job.limits.files (length held.rows) || nat_lt job.limits.path_bytes (length (joined (logical_path object trail))) ≡ false → read ≤ job.limits.file_bytes
@@ -287,8 +287,8 @@ ends_file job source prefix object held (frame ∷ frames) name read count prope
     let object_is = object_at source object (to_site object trail) in
     let left = left_file source object frame frames name proper stands.fits inside e in
     let none_cause = no_cause_file job object_is.at (logical_path object trail) held.rows bytes room (omega (arith, short, long)) in
-    let next = scans_more job object_is held.rows object.empty object.empty (logical_path object trail, File bytes) (left_of source object (advanced trail)) none_cause (omega arith)
-    (scans_same job object_is held.rows object.empty (left_of source object trail) ((logical_path object trail, File bytes) ∷ left_of source object (advanced trail)) left scanned) in
+    let next = scans_more job object_is held.rows object.empty object.empty _ _ none_cause (omega arith)
+    (scans_same job object_is held.rows object.empty _ _ left scanned) in
     let row_is : row_of (logical_path object trail) (digest_of job.algorithm bytes) (length bytes) ≡ row_of (logical_path object trail) (digest_of job.algorithm held.fed) read =
     ap (λ (b : List ℕ). row_of (logical_path object trail) (digest_of job.algorithm b) (length bytes)) (sym whole)
     ∙ ap (λ (n : ℕ). row_of (logical_path object trail) (digest_of job.algorithm held.fed) n) (sym long) in
@@ -342,7 +342,7 @@ scans_keep job s new prefix count {after} proper is_one (OpensFile was object na
         file = e;
         room = room;
         short = omega arith;
-        read = reads_first (bytes_at (pairtree_of s.tree) (names_to was.trail)) (file_at s.tree path) (opened s.tree was.trail name at.0.store top_proper at.1.stands.fits e);
+        read = reads_first _ _ (opened s.tree was.trail name at.0.store top_proper at.1.stands.fits e);
       },
     )
 scans_keep job s new prefix count {after} proper is_one (MeetsLimit was object name e room) at answers =
@@ -366,7 +366,7 @@ scans_keep job s new prefix count {after} proper is_one (ReadsOn was object byte
         file = at.2.file;
         room = at.2.room;
         short = ltb-false job.limits.file_bytes (bytes + length (byte ∷ block)) short;
-        read = reads_block 8192 whole bytes was.fed (byte ∷ block) s.unread at.2.read (answers.0 s refl);
+        read = reads_block 8192 whole bytes was.fed _ s.unread at.2.read (answers.0 s refl);
       },
     )
 scans_keep job s new prefix count {after} proper is_one (IsTooLong was object bytes byte block long) at answers =

@@ -81,7 +81,7 @@ early_room job source object held few = back_room job source object held (length
 made_room : (job : Job) (source : Forest) (prefix : List ℕ) (past : Past) (object : Object) (held : Held) (t : List Frame) (count : ℕ) → HeldAt job past (phase.Scan object) held → IsScanning job source prefix object held count → entries_held t ≤ entries_held held.trail
     → HasRoom job source object held → IsWithinBound job source (with_trail held t)
 made_room job source prefix past object held t count at it less room =
-    let records = records_held job (object_at source object (to_site object held.trail)) held object.empty (left_of source object held.trail) at.rows.contents it.scanned in
+    let records = records_held job _ held object.empty _ at.rows.contents it.scanned in
     omega (arith, less, records, room)
 
 -- at the object's own directory, or in its site
@@ -90,7 +90,7 @@ room_in_site : (job : Job) (source : Forest) (prefix : List ℕ) (object : Objec
 room_in_site job source prefix object held [] count gathered same started is_one it = absurd (let some = it.stands.some in omega (arith, some, same))
 room_in_site job source prefix object held (frame ∷ frames) count gathered same started is_one it =
     let t = sought 0 (frame ∷ frames) in
-    room_at job source prefix object (with_trail held t) count [] started it is_one
+    room_at job source prefix object _ count [] started it is_one
     (sym (append-nil (names_to frames))
     ∙ ap (λ (p : Path). p ++ []) (sym (ap (path_of_source object) (site_itself object t same) ∙ ap (λ b. cond b (names_to frames) (names_to t)) gathered)))
     (record { index = 0; is = refl })
@@ -99,7 +99,7 @@ room_in_directory : (job : Job) (source : Forest) (prefix : List ℕ) (object : 
     → IsScanning job source prefix (with_directory object items) (with_trail held (entered items t)) count → HasRoom job source (with_directory object items) (with_trail held (entered items t))
 room_in_directory job source prefix object held items t count apart same started is_one it =
     let within : object.site ≤ length t = omega (arith, same) in
-    room_at job source prefix (with_directory object items) (with_trail held (entered items t)) count [] started it is_one
+    room_at job source prefix _ _ count [] started it is_one
     (sym (append-nil (names_to t))
     ∙ ap (λ (p : Path). p ++ []) (sym (ap (path_of_source object) (site_entered object items t within ∙ site_itself object t same) ∙ ap (λ b. cond b (trail_path t) (names_to t)) apart)))
     (record { index = 0; is = refl })
@@ -112,7 +112,7 @@ room_below : (job : Job) (source : Forest) (prefix : List ℕ) (object : Object)
 room_below job source prefix object held items name count proper is_one e apart shallow listing started one_later before it =
     let t = held.trail in
     let same : to_site object (entered items t) ≡ to_site object t = site_entered object items t before.stands.within in
-    room_at job source prefix (with_directory object items) (with_trail held (entered items t)) count (logical_path object t) started it one_later
+    room_at job source prefix _ _ count _ started it one_later
     (path_in_object object t ∙ ap (λ (s : List Frame). path_of_source object s ++ logical_path object t) (sym same))
     (subst (λ (s : List Frame). IsOne (logical_path object t) ([] ∷ dirs (scanned job.limits (object_at source object s)))) (sym same)
     (directory_scanned job source object held.rows object.empty t name items proper is_one e apart shallow listing before.stands.fits before.stands.within before.inside before.scanned))
@@ -180,7 +180,7 @@ scans_beside job past s new prefix {after} (ReadsOn was object bytes byte block 
 scans_beside job past s new prefix {after} (IsTooLong was object bytes byte block long) answers at part =
     record { bytes_are = tt; few = given_room job s.tree object was part.few }
 scans_beside job past s new prefix {after} (EndsFile was object bytes) answers at part =
-    let whole = (reads_end 8192 (bytes_at (pairtree_of s.tree) (names_to was.trail)) bytes was.fed s.unread (omega arith) part.at.2.read (answers.0 s refl)).all in
+    let whole = (reads_end 8192 _ bytes was.fed s.unread (omega arith) part.at.2.read (answers.0 s refl)).all in
     let same = (moved_on job s.tree prefix object was.trail past.count part.at.1.inside part.at.1.stands).same in
     record {
       bytes_are = still_there s.tree object (to_site object was.trail) (to_site object (advanced was.trail)) (with_bytes (logical_path object was.trail) was.fed past.bytes) (with_file job object was bytes).rows same

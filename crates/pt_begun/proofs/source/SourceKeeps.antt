@@ -161,7 +161,7 @@ copied_whole : (s : Reading) (object : Object) (held : Held) (position : Positio
     → held.fed ≡ bytes_at (pairtree_of s.tree) (path_of_source object held.trail ++ row.path)
 copied_whole s object held position left row is ended it =
     let same : it.row ≡ row = some_same it.row row (sym it.is_row ∙ is) in
-    (reads_end 8192 (bytes_at (pairtree_of s.tree) (path_of_source object held.trail ++ it.row.path)) (it.row.length - left) held.fed s.unread (omega arith) it.read (ended s refl)).all
+    (reads_end 8192 _ _ held.fed s.unread (omega arith) it.read (ended s refl)).all
     ∙ ap (λ (r : Row). bytes_at (pairtree_of s.tree) (path_of_source object held.trail ++ r.path)) same
 
 makes_beside : {job : Job} (past : Past) (s new : Reading) {prefix : List ℕ} {here : Phase} {held after : Held} {calls : Calls} {next : Phase} → Makings job here held after calls (Ok next) → Answers calls.asked (Some s) (Some new)

@@ -32,9 +32,9 @@ either_kind false node l o e = e
 -- the kind that is listed is that of what stands there
 kind_listed : (f : Forest) (name : List ℕ) → kind_in (listing_of f) name ≡ option_map kind_of (find f name)
 kind_listed none name = refl
-kind_listed (file n bytes after) name = either_kind (bytes_eq n name) (File bytes) (kind_in (listing_of after) name) (find after name) (kind_listed after name)
-kind_listed (other n after) name = either_kind (bytes_eq n name) Other (kind_in (listing_of after) name) (find after name) (kind_listed after name)
-kind_listed (dir n inside after) name = either_kind (bytes_eq n name) (Dir inside) (kind_in (listing_of after) name) (find after name) (kind_listed after name)
+kind_listed (file n bytes after) name = either_kind (bytes_eq n name) (File bytes) _ (find after name) (kind_listed after name)
+kind_listed (other n after) name = either_kind (bytes_eq n name) Other _ (find after name) (kind_listed after name)
+kind_listed (dir n inside after) name = either_kind (bytes_eq n name) (Dir inside) _ (find after name) (kind_listed after name)
 
 file_kind : (o : Option Node) → is_file_kind (option_map kind_of o) ≡ is_some (option_and_then as_file (option_and_then (λ node. node_at node []) o))
 file_kind None = refl
