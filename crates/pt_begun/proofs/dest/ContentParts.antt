@@ -79,7 +79,7 @@ pub folder_next : (job : Job) (object : Object) (rows : List Row) (contents : Li
 folder_next job object rows contents bytes position row it more =
     let one = distinct_here rows contents position row it in
     next_content job object rows bytes position (MakeFolder (codes "content" ∷ take position.directories row.path))
-    (next_folder (contents_of rows bytes) position _ _ (content_is rows bytes position.stored row one)
+    (next_folder _ position _ _ (content_is rows bytes position.stored row one)
     (folder_at _ row.path position.directories more) (new_folders rows bytes position row one it.at))
 
 pub folder_made : (job : Job) (object : Object) (rows : List Row) (contents : List Content) (bytes : Path → List ℕ) (position : Position) (row : Row) → IsHere rows contents position row → position.directories < length row.path
@@ -87,7 +87,7 @@ pub folder_made : (job : Job) (object : Object) (rows : List Row) (contents : Li
 folder_made job object rows contents bytes position row it more =
     let one = distinct_here rows contents position row it in
     after_content job object rows bytes position (with_folder position) (MakeFolder (codes "content" ∷ take position.directories row.path))
-    (with_next_folder (contents_of rows bytes) position _ _ (content_is rows bytes position.stored row one)
+    (with_next_folder _ position _ _ (content_is rows bytes position.stored row one)
     (folder_at _ row.path position.directories more) (new_folders rows bytes position row one it.at))
 
 all_stand : (row : Row) (directories : ℕ) → length row.path ≤ directories → length (folders_above (stored_at row)) ≤ directories
@@ -97,7 +97,7 @@ pub file_next : (job : Job) (object : Object) (rows : List Row) (contents : List
     → IsNext (script_of_object job object rows bytes) (made_before job object rows bytes (part.Content position)) (MakeFile (in_content row.path) (bytes row.path))
 file_next job object rows contents bytes position row it stand =
     next_content job object rows bytes position (MakeFile (stored_at row) (bytes row.path))
-    (next_file (contents_of rows bytes) position _ (content_is rows bytes position.stored row (distinct_here rows contents position row it)) (all_stand row position.directories stand))
+    (next_file _ position _ (content_is rows bytes position.stored row (distinct_here rows contents position row it)) (all_stand row position.directories stand))
 
 -- ---- the file is made
 
@@ -118,12 +118,12 @@ standing_made rows bytes stored row is order (Some next) there =
     all_then (λ folder. leads folder (stored_at row)) (λ folder. leads_to (take (suc stored) files) folder) (λ folder h. last_leads files stored (stored_at row, bytes row.path) folder (content_is rows bytes stored row is) h) (take k (folders_above (stored_at next))) within in
     ap (λ n. folders_before (take (suc stored) files) n (slice_get files (suc stored))) number
     ∙ ap (folders_before (take (suc stored) files) k) (content_is rows bytes (suc stored) next there)
-    ∙ no_folders_before (take (suc stored) files) k (Some (stored_at next, bytes next.path)) (λ file same. ap (λ (f : File). list_all (λ folder. leads_to (take (suc stored) files) folder) (take k (folders_above f.0))) (sym (some_same (stored_at next, bytes next.path) file same)) ∙ all)
+    ∙ no_folders_before _ k _ (λ file same. ap (λ (f : File). list_all (λ folder. leads_to (take (suc stored) files) folder) (take k (folders_above f.0))) (sym (some_same (stored_at next, bytes next.path) file same)) ∙ all)
   where
     last_leads : (files : List File) (n : ℕ) (file : File) (folder : Path) → slice_get files n ≡ Some file → leads folder file.0 ≡ true → leads_to (take (suc n) files) folder ≡ true
     last_leads files n file folder is on =
         ap (λ (l : List File). leads_to l folder) (take_one n files file is) ∙ list_any-append (λ (f : File). leads folder f.0) (take n files) (file ∷ [])
-        ∙ or_right (leads_to (take n files) folder) _ (ap (λ b. b || false) on)
+        ∙ or_right _ _ (ap (λ b. b || false) on)
 
     parted : (l : List Row) (n : ℕ) (a b : Row) → slice_get l n ≡ Some a → slice_get l (suc n) ≡ Some b → part_in_order (row_paths l) ≡ true → parts_before a.path b.path ≡ true
     parted [] n a b one two order = absurd (cc)
@@ -144,9 +144,9 @@ file_made job object rows contents bytes position row it stand =
     let none : folders_before (take (suc position.stored) (contents_of rows bytes)) next.directories (slice_get (contents_of rows bytes) (suc position.stored)) ≡ [] =
     ap (λ (l : List Content). folders_before (take (suc position.stored) (contents_of rows bytes)) (standing row.path (slice_get l (position.stored + 1))) (slice_get (contents_of rows bytes) (suc position.stored))) it.are
     ∙ ap (λ n. folders_before (take (suc position.stored) (contents_of rows bytes)) (standing row.path (slice_get (map content_of_row (distinct rows)) n)) (slice_get (contents_of rows bytes) (suc position.stored))) add
-    ∙ standing_made rows bytes position.stored row one it.order (slice_get (distinct rows) (suc position.stored)) refl in
-    after_content job object rows bytes position next (MakeFile (stored_at row) (bytes row.path))
-    (with_next_file (contents_of rows bytes) position _ next.row next.directories (content_is rows bytes position.stored row one) (all_stand row position.directories stand) none)
+    ∙ standing_made rows bytes position.stored row one it.order _ refl in
+    after_content job object rows bytes position next _
+    (with_next_file _ position _ next.row next.directories (content_is rows bytes position.stored row one) (all_stand row position.directories stand) none)
 
 -- ---- with other bytes of that file
 
@@ -159,9 +159,9 @@ same_contents bytes path read (row ∷ some) before =
 fronts_same : (rows : List Row) (bytes : Path → List ℕ) (read : List ℕ) (n : ℕ) (row : Row) → part_in_order (row_paths rows) ≡ true → slice_get (distinct rows) n ≡ Some row → take n (contents_of rows bytes) ≡ take n (contents_of rows (with_bytes row.path read bytes))
 fronts_same rows bytes read n row order is =
     let some = distinct rows in
-    let before = order_before (row_paths (take n some)) row.path (row_paths (drop (suc n) some))
+    let before = order_before _ row.path _
     (sym (ap part_in_order (ap row_paths (split_at n some row is) ∙ map-append (λ (r : Row). r.path) (take n some) (row ∷ drop (suc n) some))) ∙ order_distinct [] rows order) in
-    ap (take n) (files_as bytes some) ∙ take_map (content bytes) n some ∙ same_contents bytes row.path read (take n some) before ∙ sym (take_map (content (with_bytes row.path read bytes)) n some) ∙ ap (take n) (sym (files_as (with_bytes row.path read bytes) some))
+    ap (take n) (files_as bytes some) ∙ take_map (content bytes) n some ∙ same_contents bytes row.path read (take n some) before ∙ sym (take_map (content (with_bytes row.path read bytes)) n some) ∙ ap (take n) (sym (files_as _ some))
 
 -- what is made before it doesn't tell its bytes
 made_same : (job : Job) (object : Object) (rows : List Row) (contents : List Content) (bytes : Path → List ℕ) (read : List ℕ) (position : Position) (row : Row) → IsHere rows contents position row

@@ -38,7 +38,7 @@ or_other here entry other is = ap (λ (o : Option Entry). option_or o other) is
 root_top : (job : Job) (start : Tree) (placed : List Carried) → (entry : Entry) × (root_now job start placed [] ≡ Some entry)
 root_top job start placed =
     let top = top_stands job.tuples (root_in start) _ refl in
-    (top.0, or_other _ top.0 (option_or (entry_of_objects job placed []) (folder_where (is_on_the_way job placed []))) top.1)
+    (top.0, or_other _ top.0 _ top.1)
 
 no_folder : (root : Tree) (top : Entry) → root [] ≡ Some top → (path : Path) → option_or (root path) (folder_where (is_some (rest_below path []))) ≡ root path
 no_folder root top is [] = or_other (root []) top (Some Folder) is ∙ sym is
@@ -95,9 +95,9 @@ walks_keep start past old new turn change at = at
 
 scans_keep : {job : Job} (start : Tree) (past : Past) (old : Writing) {here next : Phase} {held after : Held} {calls : Calls} → Scans job here held after calls (Ok next)
     → DestAt job start past here held old → DestAt job start (past_after here next held past) next after old
-scans_keep start past old (EntersObject was object items apart shallow) at = counted object (object.empty + none_listed items) at
+scans_keep start past old (EntersObject was object items apart shallow) at = counted object _ at
 scans_keep start past old (IsTooDeep was object apart deep) at = given_up at
-scans_keep start past old (EntersDirectory was object name items e apart shallow) at = counted object (object.empty + none_listed items) at
+scans_keep start past old (EntersDirectory was object name items e apart shallow) at = counted object _ at
 scans_keep start past old (MeetsDeep was object name e apart deep) at = given_up at
 scans_keep start past old (MeetsLimit was object name e room) at = given_up at
 scans_keep start past old (MeetsOther was object name e) at = given_up at

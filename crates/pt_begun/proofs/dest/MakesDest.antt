@@ -59,7 +59,7 @@ pub item_may : (job : Job) (start : Tree) (placed : List Carried) (object : Obje
 item_may job start placed object rows bytes front item now tree order next it =
     let root = root_on_way job start placed object.place 0 in
     subst (λ (t : Tree). CanMake t (item_path item)) (sym it.tree)
-    (next_may _ front item (with_root start root) (script_may job start root object rows bytes tree it.root.free order) next)
+    (next_may _ front item _ (script_may job start root object rows bytes tree it.root.free order) next)
 
 -- with it
 pub with_item : (job : Job) (start : Tree) (placed : List Carried) (object : Object) (front : List Item) (item : Item) (old new : Writing) → new.tree ≡ done item old.tree → IsMakingObject job start placed object front 0 old → IsMakingObject job start placed object (front ++ item ∷ []) 0 new
@@ -117,7 +117,7 @@ opened job past start object position held old new line row at is stored all cha
       tree = subst IsTree (sym tree_is) (tree_put old.tree _ (Bytes []) part.tree may);
       at = record {
         writes = record { row = row; is_row = is; writing = ap (λ (w : Writing). w.writing) change };
-        making = with_item job start past.placed object front (MakeFile (in_content row.path) []) old new tree_is part.at;
+        making = with_item job start past.placed object front _ old new tree_is part.at;
       };
     }
 
@@ -139,9 +139,9 @@ copied job past start object position left more held old new line piece change p
           came = part.at.making.came;
           free = part.at.making.free;
           tree = tree_is
-              ∙ ap (λ (t : Tree). added t path piece) (part.at.making.tree ∙ made_in_turn front (MakeFile path held.fed ∷ []) root)
+              ∙ ap (λ (t : Tree). added t path piece) (part.at.making.tree ∙ made_in_turn front _ root)
               ∙ piece_makes_more (made front root) path held.fed piece
-              ∙ sym (made_in_turn front (MakeFile path (held.fed ++ piece) ∷ []) root);
+              ∙ sym (made_in_turn front _ root);
         };
       };
     }

@@ -71,7 +71,7 @@ module _ (job : Job) (object : Object) (rows : List Row) (bytes : Path → List 
 
   -- what is made before each of the last four
   pub before_first : made_before job object rows bytes part.VersionInventory ≡ map (item_in staging) upto_contents
-  before_first = ap (map (item_in staging)) (front_is (3 + length contents) upto_contents last_four refl (sym many))
+  before_first = ap (map (item_in staging)) (front_is _ upto_contents last_four refl (sym many))
 
   abbrev with_first : List Item
   with_first = upto_contents ++ version_inventory ∷ []
@@ -80,7 +80,7 @@ module _ (job : Job) (object : Object) (rows : List Row) (bytes : Path → List 
   before_second =
       let long = longer upto_contents version_inventory in
       let all = many in
-      ap (map (item_in staging)) (front_is (4 + length contents) with_first (version_sidecar ∷ own_inventory ∷ own_sidecar ∷ []) (shift upto_contents version_inventory (version_sidecar ∷ own_inventory ∷ own_sidecar ∷ [])) (omega (arith, long, all)))
+      ap (map (item_in staging)) (front_is _ with_first (version_sidecar ∷ own_inventory ∷ own_sidecar ∷ []) (shift upto_contents version_inventory (version_sidecar ∷ own_inventory ∷ own_sidecar ∷ [])) (omega (arith, long, all)))
 
   abbrev with_second : List Item
   with_second = with_first ++ version_sidecar ∷ []
@@ -91,7 +91,7 @@ module _ (job : Job) (object : Object) (rows : List Row) (bytes : Path → List 
       let two = longer with_first version_sidecar in
       let all = many in
       ap (map (item_in staging))
-      (front_is (5 + length contents) with_second (own_inventory ∷ own_sidecar ∷ [])
+      (front_is _ with_second _
       (shift upto_contents version_inventory (version_sidecar ∷ own_inventory ∷ own_sidecar ∷ []) ∙ shift with_first version_sidecar (own_inventory ∷ own_sidecar ∷ [])) (omega (arith, one, two, all)))
 
   abbrev with_third : List Item
@@ -104,7 +104,7 @@ module _ (job : Job) (object : Object) (rows : List Row) (bytes : Path → List 
       let three = longer with_second own_inventory in
       let all = many in
       ap (map (item_in staging))
-      (front_is (6 + length contents) with_third (own_sidecar ∷ [])
+      (front_is _ with_third (own_sidecar ∷ [])
       (shift upto_contents version_inventory (version_sidecar ∷ own_inventory ∷ own_sidecar ∷ []) ∙ shift with_first version_sidecar (own_inventory ∷ own_sidecar ∷ []) ∙ shift with_second own_inventory (own_sidecar ∷ [])) (omega (arith, one, two, three, all)))
 
   -- ---- the next item at each part
@@ -116,10 +116,10 @@ module _ (job : Job) (object : Object) (rows : List Row) (bytes : Path → List 
   next_staging = next_in staging all_items [] _ (record { rest = drop 1 all_items; is = refl })
 
   pub next_declaration : IsNext script (made_before job object rows bytes part.Declaration) (MakeFile (staging ++ object_declaration_name ∷ []) object_declaration_bytes)
-  next_declaration = next_in staging all_items (take 1 all_items) (MakeFile (object_declaration_name ∷ []) object_declaration_bytes) (record { rest = drop 2 all_items; is = refl })
+  next_declaration = next_in staging all_items (take 1 all_items) _ (record { rest = drop 2 all_items; is = refl })
 
   pub next_version : IsNext script (made_before job object rows bytes part.Version) (MakeFolder (in_version []))
-  next_version = next_in staging all_items (take 2 all_items) (MakeFolder version_folder) (record { rest = drop 3 all_items; is = refl })
+  next_version = next_in staging all_items (take 2 all_items) _ (record { rest = drop 3 all_items; is = refl })
 
   pub next_content : (position : Position) (item : Item) → IsNext contents (contents_before (contents_of rows bytes) position) item → IsNext script (made_before job object rows bytes (part.Content position)) (item_in staging (item_in version_folder item))
   next_content position item next =
@@ -177,7 +177,7 @@ module _ (job : Job) (object : Object) (rows : List Row) (bytes : Path → List 
 
   -- once all contents are made the version's inventory is next
   pub at_inventory : (position : Position) → position.stored ≡ length (contents_of rows bytes) → made_before job object rows bytes part.VersionInventory ≡ made_before job object rows bytes (part.Content position)
-  at_inventory position all = before_first ∙ ap (λ l. map (item_in staging) (first_three ++ map (item_in version_folder) l)) (sym (all_contents (contents_of rows bytes) position all))
+  at_inventory position all = before_first ∙ ap (λ l. map (item_in staging) (first_three ++ map (item_in version_folder) l)) (sym (all_contents _ position all))
 
   -- what is made before any part is a front of the script
   pub front_made : (here : Part) → IsFront script (made_before job object rows bytes here)
@@ -187,7 +187,7 @@ module _ (job : Job) (object : Object) (rows : List Row) (bytes : Path → List 
   front_made (part.Content position) =
       front_in staging all_items _
       (front_within first_three in_version_folder _ last_four
-      (front_in version_folder contents _ (contents_front (contents_of rows bytes) position)))
+      (front_in version_folder contents _ (contents_front _ position)))
   front_made part.VersionInventory = front_next script _ _ next_first
   front_made part.VersionSidecar = front_next script _ _ next_second
   front_made part.Inventory = front_next script _ _ next_third

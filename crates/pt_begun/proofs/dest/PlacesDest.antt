@@ -57,7 +57,7 @@ whole job past start root object held tree free rows =
 -- the destination holds it beside the root
 stands_so : (job : Job) (past : Past) (start : Tree) (object : Object) (held : Held) (n : ℕ) (now : Writing) → IsTree start → AreRows job past.bytes held → IsMakingObject job start past.placed object (script_of_object job object held.rows past.bytes) n now
     → now.tree ≡ in_place (with_root start (root_on_way job start past.placed object.place n)) staging (object_made job object held.rows past.bytes)
-stands_so job past start object held n now tree rows it = it.tree ∙ whole job past start (root_on_way job start past.placed object.place n) object held tree it.root.free rows
+stands_so job past start object held n now tree rows it = it.tree ∙ whole job past start _ object held tree it.root.free rows
 
 -- at a path of the root it has what the root has
 pub at_root : (job : Job) (past : Past) (start : Tree) (object : Object) (held : Held) (n : ℕ) (now : Writing) (path : Path) → IsTree start → AreRows job past.bytes held → IsMakingObject job start past.placed object (script_of_object job object held.rows past.bytes) n now
@@ -80,8 +80,8 @@ tuple_parent job past start object held number now few at part =
     let long = place_long job object at.ends.0 in
     let more : number + 1 ≡ suc number = omega arith in
     let name = name_of_place object.place number (omega (arith, few, long)) in
-    ap now.tree (ap (λ n. parent (storage_root ++ take n object.place)) more ∙ ap (λ (p : Path). parent (storage_root ++ p)) name.1 ∙ parent_in_root (take number object.place) name.0)
-    ∙ at_root job past start object held number now (take number object.place) part.started at.rows part.at.0
+    ap now.tree (ap (λ n. parent (storage_root ++ take n object.place)) more ∙ ap (λ (p : Path). parent (storage_root ++ p)) name.1 ∙ parent_in_root _ name.0)
+    ∙ at_root job past start object held number now _ part.started at.rows part.at.0
     ∙ part.at.1 number (omega arith)
 
 -- each of the first folders is one, and so is the next
@@ -143,7 +143,7 @@ tuple_made job past start object held number old new line at none change part =
     ∙ ap (λ (t : Tree). put t (storage_root ++ p) Folder) (stands_so job past start object held number old part.started at.rows part.at.0)
     ∙ put_beside start inside root p Folder
     ∙ ap (λ (t : Tree). in_place (with_root start t) staging inside) grown
-    ∙ sym (whole job past start (root_on_way job start past.placed place (suc number)) object held part.started part.at.0.root.free at.rows) in
+    ∙ sym (whole job past start _ object held part.started part.at.0.root.free at.rows) in
     let tree = subst IsTree (sym tree_is) (tree_put old.tree _ Folder part.tree (record { absent = none; in_folder = tuple_parent job past start object held number old few at part })) in
     next_tuple job past start object held number new line _ refl few part.started tree
     (record { root = part.at.0.root; came = part.at.0.came; free = part.at.0.free; tree = now }, made_folders job start past.placed place number name.0 name.1 absent part.at.1)
@@ -190,8 +190,8 @@ object_may_move job past start object held now at part =
       stands = ap is_some (ap (λ (t : Tree). t staging) (stands_so job past start object held count now part.started at.rows part.at.0) ∙ ap (λ (t : Tree). t []) same.0 ∙ top_of_object job (object_held object held.rows past.bytes));
       target = record {
         absent = at_root job past start object held count now object.place part.started at.rows part.at.0 ∙ place_absent job past start object held now at part;
-        in_folder = ap (λ (p : Path). now.tree (parent (storage_root ++ p))) (sym all ∙ name.1) ∙ ap now.tree (parent_in_root (take count object.place) name.0)
-            ∙ at_root job past start object held count now (take count object.place) part.started at.rows part.at.0 ∙ part.at.1 count (omega arith);
+        in_folder = ap (λ (p : Path). now.tree (parent (storage_root ++ p))) (sym all ∙ name.1) ∙ ap now.tree (parent_in_root _ name.0)
+            ∙ at_root job past start object held count now _ part.started at.rows part.at.0 ∙ part.at.1 count (omega arith);
       };
       apart = refl;
     }
@@ -219,12 +219,12 @@ root_grown job past start object held now at part =
     ap (λ (t : Tree). in_place t object.place (object_made job object held.rows past.bytes)) way
     ∙ ap (λ (p : Path). in_place (with_folders (tuple_folders job carried) (root_now job start past.placed)) p (object_made job object held.rows past.bytes)) place
     ∙ ap (λ (t : Tree). in_place (with_folders (tuple_folders job carried) (root_now job start past.placed)) (place_of_carried job carried) t) same.0
-    ∙ sym (λ i q. grown_at job past.placed carried bottom (base_top job (root_in start)) free (λ rest. base_gaps job start (place_of_carried job carried) rest part.started none) q i)
+    ∙ sym (λ i q. grown_at job past.placed carried bottom (base_top job (root_in start)) free (λ rest. base_gaps job start _ rest part.started none) q i)
 
 came_there : (job : Job) (past : Past) (start : Tree) (object : Object) (held : Held) (now : Writing) → HeldAt job past (phase.Rename object) held → DestPart job past (phase.Rename object) held start now
     → CameToFreePlaces job start (past.placed ++ object_held object held.rows past.bytes ∷ [])
 came_there job past start object held now at part =
-    one_comes job past.placed (object_held object held.rows past.bytes) (base job.tuples (root_in start)) part.at.0.came
+    one_comes job past.placed _ _ part.at.0.came
     (ap are_apart (paths_held held.rows past.bytes) ∙ in_order_apart (row_paths held.rows) at.rows.order)
     (ap is_none (ap (root_now job start past.placed) (sym at.ends.0.place) ∙ part.at.0.free))
 

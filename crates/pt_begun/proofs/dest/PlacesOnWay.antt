@@ -99,7 +99,7 @@ way_made job start placed place n name more none =
 
         by : (s : Bool) → same_path q p ≡ s → cond s (Some Folder) (option_or (root q) (folder_where (leads q (take n place)))) ≡ option_or (root q) (folder_where (leads q (take n place) || s))
         by true same =
-            let here : root q ≡ None = ap root (is_same q p same) ∙ or_none (root p) (folder_where (leads p (take n place))) none in
+            let here : root q ≡ None = ap root (is_same q p same) ∙ or_none (root p) _ none in
             sym (ap (λ (o : Option Entry). option_or o (folder_where (leads q (take n place) || true))) here ∙ ap folder_where (or_true (leads q (take n place))))
         by false other = ap (λ b. option_or (root q) (folder_where b)) (sym (or_false (leads q (take n place))))
 
@@ -148,7 +148,7 @@ proper_prefix b x q = by (leads q b) refl
         let one : leads q (b ++ x ∷ []) ≡ true = leads-on q b (x ∷ []) on in
         let two : leads (b ++ x ∷ []) q ≡ false = false_from_ne_true _ (λ h. true≢false (sym (leads_through (b ++ x ∷ []) q b h on) ∙ leads-longer b [] x)) in
         sym (ap (λ t. t && not (leads (b ++ x ∷ []) q)) one ∙ ap not two)
-    by false off = sym (ap (λ t. t && not (leads (b ++ x ∷ []) q)) (leads-push q b x ∙ ap (λ t. t || same_path q (b ++ x ∷ [])) off) ∙ last (same_path q (b ++ x ∷ [])) refl)
+    by false off = sym (ap (λ t. t && not (leads (b ++ x ∷ []) q)) (leads-push q b x ∙ ap (λ t. t || same_path q (b ++ x ∷ [])) off) ∙ last _ refl)
       where
         last : (s : Bool) → same_path q (b ++ x ∷ []) ≡ s → (s && not (leads (b ++ x ∷ []) q)) ≡ false
         last true same = ap (λ (r : Path). not (leads (b ++ x ∷ []) r)) (is_same q (b ++ x ∷ []) same) ∙ ap not (leads-itself (b ++ x ∷ []))
@@ -186,7 +186,7 @@ first_folders (x ∷ y ∷ p) (suc n) m q less =
         and_none : (b : Bool) → (b && false) ≡ false
         and_none true = refl
         and_none false = refl
-    one_under (folder ∷ folders) = ap (λ b. (bytes_eq m x && same_path q folder) || b) (one_under folders) ∙ spread (bytes_eq m x) (same_path q folder) (is_one q folders)
+    one_under (folder ∷ folders) = ap (λ b. (bytes_eq m x && same_path q folder) || b) (one_under folders) ∙ spread (bytes_eq m x) _ (is_one q folders)
       where
         spread : (a b d : Bool) → ((a && b) || (a && d)) ≡ (a && (b || d))
         spread true b d = refl

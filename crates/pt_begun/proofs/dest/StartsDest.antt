@@ -90,7 +90,7 @@ one_more_file : (job : Job) (root : Tree) (number : ℕ) (path : Path) (bytes : 
 one_more_file job root number path bytes is same files =
     let next : number + 1 ≡ suc number = omega arith in
     subst (λ (n : ℕ). HasRootFiles job root n) (sym next)
-    (subst (λ (l : List File). All (λ file. root file.0 ≡ Some (Bytes file.1)) l) (sym (take_one number (root_files_of job.tuples) (path, bytes) is))
+    (subst (λ (l : List File). All (λ file. root file.0 ≡ Some (Bytes file.1)) l) (sym (take_one number _ (path, bytes) is))
     (All-push (λ (file : File). root file.0 ≡ Some (Bytes file.1)) (take number (root_files_of job.tuples)) (path, bytes) files same))
 
 -- it has a top

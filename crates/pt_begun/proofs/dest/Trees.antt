@@ -113,7 +113,7 @@ tree_moved t from to tree can = record {
             ap is_some (ap t (append_assoc from more (n ∷ []))) ∙ ap (λ o. is_some (moved_at t from o (rest_below from (q ++ n ∷ [])) (q ++ n ∷ []))) (sym rest_is) ∙ some in
             ap (λ o. moved_at t from o (rest_below from q) q) here ∙ tree.above (from ++ more) n there
         under None off =
-            let same : to ≡ q ++ n ∷ [] = is_same to (q ++ n ∷ []) (only (leads to q) (same_path to (q ++ n ∷ [])) (ap is_some off) (sym (leads-push to q n) ∙ ap is_some on)) in
+            let same : to ≡ q ++ n ∷ [] = is_same to (q ++ n ∷ []) (only (leads to q) _ (ap is_some off) (sym (leads-push to q n) ∙ ap is_some on)) in
             let folder : t q ≡ Some Folder = ap t (sym (parent-push q n) ∙ ap parent (sym same)) ∙ can.target.in_folder in
             stays q off (none_or from q (λ at. not_from q at (ap (leads q) same ∙ leads-on q q (n ∷ []) (leads-itself q)))) folder
           where

@@ -67,7 +67,7 @@ pub ways_left : (job : Job) (b now : Tree) (objects some : List Carried) → IsT
 ways_left job b now objects [] tree is within = refl
 ways_left job b now objects (object ∷ others) tree is within =
     and_from _ _ (sym (way_with_objects job objects b object) ∙ free)
-    (ways_left job b now objects others tree is (λ p on. within p (or_right (is_some (rest_below p (place_of_carried job object))) _ on)))
+    (ways_left job b now objects others tree is (λ p on. within p (or_right _ _ on)))
   where
     place : Path
     place = place_of_carried job object
@@ -79,4 +79,4 @@ ways_left job b now objects (object ∷ others) tree is within =
     stands = ap (λ (t : Tree). is_some (t place)) is ∙ way_stands job objects b place own
 
     free : is_way_free job (with_objects job objects b) object ≡ true
-    free = all_true (λ folder. is_folder_or_free (with_objects job objects b folder)) (folders_above place) (λ q one. let above = is_above q place one in ap is_folder_or_free (sym (ap (λ (t : Tree). t q) is) ∙ in_root now tree q place above.on above.short stands))
+    free = all_true (λ folder. is_folder_or_free (with_objects job objects b folder)) _ (λ q one. let above = is_above q place one in ap is_folder_or_free (sym (ap (λ (t : Tree). t q) is) ∙ in_root now tree q place above.on above.short stands))

@@ -63,7 +63,7 @@ pub behind_entered : (earlier : List Path) (frame : Frame) (frames : List Frame)
 behind_entered earlier frame frames item items e h =
     let parts = and_parts _ _ h in
     and_from _ _
-    (below_directory earlier (names_to (frame ∷ frames)) items (behind_here earlier frame frames item e h))
+    (below_directory earlier _ items (behind_here earlier frame frames item e h))
     (and_from _ _ (one_later earlier (names_to frames) frame.place frame.listing parts.0) parts.1)
 
 -- ---- and left
@@ -146,5 +146,5 @@ behind_noted earlier frame frames item is_one e h =
     let parts = and_parts _ _ h in
     subst (λ (p : Path). all_behind (earlier ++ p ∷ []) (advanced (frame ∷ frames)) ≡ true) (sym here)
     (and_from _ _
-    (both_come earlier (names_to frames ++ item.0 ∷ []) (names_to frames) items (one_later earlier (names_to frames) frame.place frame.listing parts.0) (before_later frame frames item [] one.0 e))
-    (both_outer earlier (names_to frames ++ item.0 ∷ []) frames parts.1 (before_outer frames _ (item.0 ∷ []) one.1 refl)))
+    (both_come earlier _ (names_to frames) items (one_later earlier (names_to frames) frame.place frame.listing parts.0) (before_later frame frames item [] one.0 e))
+    (both_outer earlier _ frames parts.1 (before_outer frames _ (item.0 ∷ []) one.1 refl)))

@@ -31,7 +31,7 @@ unless_then false row rows = refl
 pub distinct_in_turn : (earlier front rows : List Row) → distinct_after earlier (front ++ rows) ≡ distinct_after earlier front ++ distinct_after (earlier ++ front) rows
 distinct_in_turn earlier [] rows = ap (λ (l : List Row). distinct_after l rows) (sym (append-nil earlier))
 distinct_in_turn earlier (row ∷ front) rows =
-    by (is_known earlier row) (distinct_in_turn (earlier ++ row ∷ []) front rows ∙ ap (λ (l : List Row). distinct_after (earlier ++ row ∷ []) front ++ distinct_after l rows) (append_assoc earlier (row ∷ []) front))
+    by (is_known earlier row) (distinct_in_turn _ front rows ∙ ap (λ (l : List Row). distinct_after (earlier ++ row ∷ []) front ++ distinct_after l rows) (append_assoc earlier (row ∷ []) front))
   where
     by : (t : Bool) → distinct_after (earlier ++ row ∷ []) (front ++ rows) ≡ distinct_after (earlier ++ row ∷ []) front ++ distinct_after (earlier ++ row ∷ front) rows
         → cond t (distinct_after (earlier ++ row ∷ []) (front ++ rows)) (row ∷ distinct_after (earlier ++ row ∷ []) (front ++ rows))
@@ -52,7 +52,7 @@ pub distinct_around : (rows : List Row) (n : ℕ) (row : Row) → slice_get rows
 distinct_around rows n row is =
     ap distinct (split_at n rows row is)
     ∙ distinct_in_turn [] (take n rows) (row ∷ drop (suc n) rows)
-    ∙ ap (λ l. distinct (take n rows) ++ l) (unless_then (is_known (take n rows) row) row (distinct_after (take n rows ++ row ∷ []) (drop (suc n) rows)))
+    ∙ ap (λ l. distinct (take n rows) ++ l) (unless_then _ row (distinct_after (take n rows ++ row ∷ []) (drop (suc n) rows)))
 
 -- what holds of rows holds of the distinct ones
 pub all_distinct : (test : Path → Bool) (earlier rows : List Row) → list_all test (row_paths rows) ≡ true → list_all test (row_paths (distinct_after earlier rows)) ≡ true
@@ -70,7 +70,7 @@ pub order_distinct : (earlier rows : List Row) → part_in_order (row_paths rows
 order_distinct earlier [] h = refl
 order_distinct earlier (row ∷ rows) h =
     let parts = and_parts _ _ h in
-    by (is_known earlier row) (order_distinct (earlier ++ row ∷ []) rows parts.1) (all_distinct (parts_before row.path) (earlier ++ row ∷ []) rows parts.0)
+    by (is_known earlier row) (order_distinct _ rows parts.1) (all_distinct _ _ rows parts.0)
   where
     by : (t : Bool) → part_in_order (row_paths (distinct_after (earlier ++ row ∷ []) rows)) ≡ true → list_all (parts_before row.path) (row_paths (distinct_after (earlier ++ row ∷ []) rows)) ≡ true
         → part_in_order (row_paths (cond t (distinct_after (earlier ++ row ∷ []) rows) (row ∷ distinct_after (earlier ++ row ∷ []) rows))) ≡ true
@@ -97,7 +97,7 @@ get_map_none f (y ∷ xs) (suc n) is = get_map_none f xs n is
 -- the paths of rows behind a row, which come behind its own
 paths_behind : (rows : List Row) (n : ℕ) (row : Row) → slice_get rows n ≡ Some row → part_in_order (row_paths rows) ≡ true → list_all (parts_before row.path) (row_paths (drop (suc n) rows)) ≡ true
 paths_behind rows n row is order =
-    order_behind (row_paths (take n rows)) row.path (row_paths (drop (suc n) rows))
+    order_behind (row_paths (take n rows)) row.path _
     (sym (ap part_in_order (ap row_paths (split_at n rows row is) ∙ map-append (λ (r : Row). r.path) (take n rows) (row ∷ drop (suc n) rows))) ∙ order)
 
 -- the next content is the row's exactly where its digest isn't known
@@ -118,7 +118,7 @@ stored_where_new rows contents n stored row contents_are stored_is order is know
     none_is : (others : List Row) → list_all (parts_before row.path) (row_paths others) ≡ true → is_stored (map content_of_row others) 0 row.path ≡ false
     none_is [] behind = refl
     none_is (other ∷ others) behind =
-        differs (same_path other.path row.path) refl (and_parts _ _ behind).0
+        differs _ refl (and_parts _ _ behind).0
       where
         differs : (t : Bool) → same_path other.path row.path ≡ t → parts_before row.path other.path ≡ true → t ≡ false
         differs t same h = parts_differ row.path other.path t (swapped row.path other.path ∙ same) h
@@ -127,5 +127,5 @@ stored_where_new rows contents n stored row contents_are stored_is order is know
             swapped = same_path-sym
 
     by : (t : Bool) → is_stored (map content_of_row (distinct (take n rows) ++ (unless_known t row ++ later))) (length (distinct (take n rows))) row.path ≡ cond t false true
-    by true = at_end (distinct (take n rows)) later ∙ none_is later (all_distinct (parts_before row.path) (take n rows ++ row ∷ []) (drop (suc n) rows) (paths_behind rows n row is order))
+    by true = at_end (distinct (take n rows)) later ∙ none_is later (all_distinct _ _ (drop (suc n) rows) (paths_behind rows n row is order))
     by false = at_end (distinct (take n rows)) (row ∷ later) ∙ path_itself row.path

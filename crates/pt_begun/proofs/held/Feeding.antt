@@ -27,8 +27,8 @@ fed_content job object rows position held = fed_part (nat_lt position.row (lengt
 
 -- only where an object is made is anything said of the hasher
 pub starts_feed : {job : Job} {here next : Phase} {prefix read : List ℕ} (held : Held) {calls : Calls} → Starts job here prefix read calls (Ok next) → FedAt job next held
-starts_feed {job} held (MakesRoot was number item is) = either_phase (λ p. FedAt job p held) (number == 5) phase.RootRename (phase.RootMake (number + 1)) (λ last. tt) (λ more. tt)
-starts_feed {job} held (IsSame was number path bytes is) = either_phase (λ p. FedAt job p held) (number == 2) phase.OpenRoot (phase.RootCheck (number + 1)) (λ last. tt) (λ more. tt)
+starts_feed {job} held (MakesRoot was number item is) = either_phase (λ p. FedAt job p held) (number == 5) phase.RootRename _ (λ last. tt) (λ more. tt)
+starts_feed {job} held (IsSame was number path bytes is) = either_phase (λ p. FedAt job p held) (number == 2) phase.OpenRoot _ (λ last. tt) (λ more. tt)
 starts_feed held turn = tt
 
 pub walks_feed : {job : Job} {here : Phase} {prefix : List ℕ} {held after : Held} {calls : Calls} {next : Phase} → Walks job prefix here held after calls (Ok next) → FedAt job next after

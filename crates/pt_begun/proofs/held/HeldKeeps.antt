@@ -41,11 +41,11 @@ starts_rest : {job : Job} (past : Past) {prefix read : List ℕ} {here next : Ph
 starts_rest past (HasNoRoot was) at = record { ends = tt; rows = at.rows; behind = tt; numbers = omega arith }
 starts_rest past (HasRoot was) at = record { ends = tt; rows = at.rows; behind = tt; numbers = omega arith }
 starts_rest {job} past {held} (MakesRoot was number item is) at =
-    either_phase (λ p. RestAt job past.bytes p held) (number == 5) phase.RootRename (phase.RootMake (number + 1))
+    either_phase (λ p. RestAt job past.bytes p held) (number == 5) phase.RootRename _
     (λ last. record { ends = tt; rows = at.rows; behind = tt; numbers = tt })
     (λ more. record { ends = tt; rows = at.rows; behind = tt; numbers = one_more number 5 more at.numbers })
 starts_rest {job} past {held} (IsSame was number path bytes is) at =
-    either_phase (λ p. RestAt job past.bytes p held) (number == 2) phase.OpenRoot (phase.RootCheck (number + 1))
+    either_phase (λ p. RestAt job past.bytes p held) (number == 2) phase.OpenRoot _
     (λ last. record { ends = tt; rows = at.rows; behind = tt; numbers = tt })
     (λ more. record { ends = tt; rows = at.rows; behind = tt; numbers = one_more number 2 more at.numbers })
 starts_rest past turn at = record { ends = tt; rows = at.rows; behind = tt; numbers = tt }
@@ -83,7 +83,7 @@ walks_hold job past old new prefix here next held after calls turn answers at = 
 
 after_a_tuple : (job : Job) (bytes : Path → List ℕ) (held : Held) (object : Object) (number : ℕ) → IsObject job object × (length held.trail ≡ object.site) → AreRows job bytes held → RestAt job bytes (after_tuple job object number) held
 after_a_tuple job bytes held object number ends rows =
-    either_phase (λ p. RestAt job bytes p held) (nat_lt (number + 1) job.tuples.count) (phase.Tuples object (number + 1)) (phase.Rename object)
+    either_phase (λ p. RestAt job bytes p held) _ _ _
     (λ more. record { ends = ends; rows = rows; behind = tt; numbers = ltb-true (number + 1) job.tuples.count more })
     (λ last. record { ends = ends; rows = rows; behind = tt; numbers = tt })
 

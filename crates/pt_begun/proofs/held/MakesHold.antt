@@ -58,13 +58,13 @@ makes_rest {job} past (MakesVersion was object) at = record {
   ends = at.ends;
   rows = at.rows;
   behind = tt;
-  numbers = numbers_at job object was (record { row = 0; stored = 0; directories = 0 }) (nat_lt 0 (length was.rows)) (λ some. at_first was.rows some);
+  numbers = numbers_at job object was _ _ (λ some. at_first was.rows some);
 }
 makes_rest {job} past (PassesRow was object position row is other) at = record {
   ends = at.ends;
   rows = at.rows;
   behind = tt;
-  numbers = numbers_at job object was (behind position) (nat_lt (position.row + 1) (length was.rows)) (λ more. at_passed was.rows was.contents position row at.rows.contents at.rows.order is other more at.numbers);
+  numbers = numbers_at job object was (behind position) _ (λ more. at_passed was.rows was.contents position row at.rows.contents at.rows.order is other more at.numbers);
 }
 makes_rest past (MakesFolder was object position row is stored more) at = record { ends = at.ends; rows = at.rows; behind = tt; numbers = at_folder was.rows position at.numbers }
 makes_rest {job} past (OpensCopy was object position row is stored all) at = record {
@@ -75,7 +75,7 @@ makes_rest {job} past (OpensCopy was object position row is stored all) at = rec
 }
 makes_rest {job} past (CopiesOn was object position left byte block fits) at = record {
   ends = at.ends;
-  rows = fed_rows job past.bytes was (was.fed ++ byte ∷ block) at.rows;
+  rows = fed_rows job past.bytes was _ at.rows;
   behind = tt;
   numbers = record { at = at.numbers.at; row = at.numbers.row; is_row = at.numbers.is_row; next = at.numbers.next; stand = at.numbers.stand };
 }
@@ -83,14 +83,14 @@ makes_rest {job} past (EndsCopy was object position row left is same) at = recor
   ends = at.ends;
   rows = rows_copied job past.bytes was position.row left row is same at.rows;
   behind = tt;
-  numbers = numbers_at job object (with_fed was []) (behind_stored was.contents position row.path) (nat_lt (position.row + 1) (length was.rows)) (λ more. at_stored was.rows was.contents position row at.rows.contents at.rows.order is (its_next was position row is at.numbers) more at.numbers.at);
+  numbers = numbers_at job object (with_fed was []) _ _ (λ more. at_stored was.rows was.contents position row at.rows.contents at.rows.order is (its_next was position row is at.numbers) more at.numbers.at);
 }
-makes_rest {job} past (MakesVersionInventory was object) at = record { ends = at.ends; rows = fed_rows job past.bytes was (text_of_inventory job object was.rows) at.rows; behind = tt; numbers = tt }
-makes_rest {job} past (MakesVersionSidecar was object) at = record { ends = at.ends; rows = fed_rows job past.bytes was (text_of_inventory job object was.rows) at.rows; behind = tt; numbers = tt }
-makes_rest {job} past (MakesInventory was object) at = record { ends = at.ends; rows = fed_rows job past.bytes was (text_of_inventory job object was.rows) at.rows; behind = tt; numbers = tt }
+makes_rest {job} past (MakesVersionInventory was object) at = record { ends = at.ends; rows = fed_rows job past.bytes was _ at.rows; behind = tt; numbers = tt }
+makes_rest {job} past (MakesVersionSidecar was object) at = record { ends = at.ends; rows = fed_rows job past.bytes was _ at.rows; behind = tt; numbers = tt }
+makes_rest {job} past (MakesInventory was object) at = record { ends = at.ends; rows = fed_rows job past.bytes was _ at.rows; behind = tt; numbers = tt }
 makes_rest {job} past {after} (MakesSidecar was object) at =
     let rows = fed_rows job past.bytes was [] at.rows in
-    either_phase (λ p. RestAt job past.bytes p after) (job.tuples.count == 0) (phase.Rename object) (phase.Tuples object 0)
+    either_phase (λ p. RestAt job past.bytes p after) _ _ _
     (λ flat. record { ends = at.ends; rows = rows; behind = tt; numbers = tt })
     (λ some. record { ends = at.ends; rows = rows; behind = tt; numbers = above_none job.tuples.count some })
 makes_rest past turn at = record { ends = at.ends; rows = at.rows; behind = tt; numbers = tt }

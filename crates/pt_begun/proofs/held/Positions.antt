@@ -53,7 +53,7 @@ beyond_shared (a ∷ []) (b ∷ next ∷ q) h = by (bytes_eq a b) refl h
         let back = bytes_eq-sym a b false differ in
         and_from _ _
         (ap (λ t. not (is_some (cond t (rest_below [] []) None))) back)
-        (all_map (λ folder. b ∷ folder) (λ folder. not (leads folder (a ∷ []))) (folders_above (next ∷ q)) ∙ other_way a b [] (folders_above (next ∷ q)) back)
+        (all_map (λ folder. b ∷ folder) (λ folder. not (leads folder (a ∷ []))) (folders_above (next ∷ q)) ∙ other_way a b [] _ back)
 beyond_shared (a ∷ more ∷ p) (b ∷ next ∷ q) h = by (bytes_eq a b) refl (λ g. beyond_shared (more ∷ p) (next ∷ q) g) h
   where
     below : Path
@@ -72,7 +72,7 @@ beyond_shared (a ∷ more ∷ p) (b ∷ next ∷ q) h = by (bytes_eq a b) refl (
         let back = bytes_eq-sym a b false differ in
         and_from _ _
         (ap (λ t. not (is_some (cond t (rest_below [] (more ∷ p)) None))) back)
-        (all_map (λ folder. b ∷ folder) (λ folder. not (leads folder (a ∷ more ∷ p))) (folders_above (next ∷ q)) ∙ other_way a b (more ∷ p) (folders_above (next ∷ q)) back)
+        (all_map (λ folder. b ∷ folder) (λ folder. not (leads folder (a ∷ more ∷ p))) (folders_above (next ∷ q)) ∙ other_way a b (more ∷ p) _ back)
 
 -- those within what it shares with the first one do
 pub within_shared : (p q : Path) → list_all (λ folder. leads folder p) (take (shared (parent p) (parent q)) (folders_above q)) ≡ true
@@ -114,7 +114,7 @@ last_tells earlier last next folder order on =
     let files = map as_file earlier in
     let same : paths_of (files ++ (last, []) ∷ (next, []) ∷ []) ≡ earlier ++ last ∷ next ∷ [] =
     ap paths_of (sym (map-append as_file earlier (last ∷ next ∷ []))) ∙ paths_back (earlier ++ last ∷ next ∷ []) in
-    above_as_leads (earlier ++ last ∷ []) folder
+    above_as_leads _ folder
     ∙ ap (λ (l : List File). leads_to l folder) (map-append as_file earlier (last ∷ []))
     ∙ last_file_tells_folders files (last, []) (next, []) folder (ap part_in_order same ∙ order) on
 
@@ -163,7 +163,7 @@ new_after rows stored row order is (Some next) there =
     take_one (suc stored) paths (stored_at next) later ∙ ap (λ (l : List Path). l ++ stored_at next ∷ []) front ∙ append_assoc (take stored paths) (stored_at row ∷ []) (stored_at next ∷ []) in
     let in_order : part_in_order (take stored paths ++ stored_at row ∷ stored_at next ∷ []) ≡ true =
     ap part_in_order (sym two) ∙ order_front (take (suc (suc stored)) paths) (drop (suc (suc stored)) paths) (ap part_in_order (take-append-drop (suc (suc stored)) paths) ∙ contents_in_order rows order) in
-    let parts : parts_before row.path next.path ≡ true = (and_parts _ true (order_behind (take stored paths) (stored_at row) (stored_at next ∷ []) in_order)).0 in
+    let parts : parts_before row.path next.path ≡ true = (and_parts _ true (order_behind (take stored paths) (stored_at row) _ in_order)).0 in
     subst (λ (o : Option Path). AreNewFrom (take (suc stored) paths) (standing row.path (slice_get (map content_of_row rows) (suc stored))) o) (sym later)
     (subst (λ (o : Option Content). list_all (λ folder. not (is_above_one (take (suc stored) paths) folder)) (drop (standing row.path o) (folders_above (stored_at next))) ≡ true) (sym (get_map content_of_row rows (suc stored) next there))
     (subst (λ (l : List Path). list_all (λ folder. not (is_above_one l folder)) (drop (suc (shared (parent row.path) (parent next.path))) (folders_above (stored_at next))) ≡ true) (sym front)
@@ -207,14 +207,14 @@ more_folders : (earlier : List Path) (number : ℕ) (next : Option Path) → Are
 more_folders earlier number None new = tt
 more_folders earlier number (Some path) new =
     let more : number + 1 ≡ suc number = omega arith in
-    ap (λ n. list_all (λ folder. not (is_above_one earlier folder)) (drop n (folders_above path))) more ∙ all_drop_more (λ folder. not (is_above_one earlier folder)) number (folders_above path) new
+    ap (λ n. list_all (λ folder. not (is_above_one earlier folder)) (drop n (folders_above path))) more ∙ all_drop_more (λ folder. not (is_above_one earlier folder)) number _ new
 
 -- one folder more stands
 pub at_folder : (rows : List Row) (position : Position) → IsAtRow rows position → IsAtRow rows (with_folder position)
 at_folder rows position at = record {
   within = at.within;
   stored = at.stored;
-  new = more_folders (take position.stored (content_paths rows)) position.directories (slice_get (content_paths rows) position.stored) at.new;
+  new = more_folders _ position.directories _ at.new;
 }
 
 -- so many contents are stored behind a row whose content is stored already
@@ -257,7 +257,7 @@ at_stored rows contents position row contents_are order is stored more at = reco
   stored = stored_more rows contents position row contents_are order is stored at;
   new = subst (λ (n : ℕ). AreNewFrom (take n (content_paths rows)) (standing row.path (slice_get contents n)) (slice_get (content_paths rows) n)) (sym (add_one position.stored))
       (subst (λ (l : List Content). AreNewFrom (take (suc position.stored) (content_paths rows)) (standing row.path (slice_get l (suc position.stored))) (slice_get (content_paths rows) (suc position.stored))) (sym contents_are)
-      (new_after (distinct rows) position.stored row (order_distinct [] rows order) (its_content rows contents position row contents_are order is stored at) (slice_get (distinct rows) (suc position.stored)) refl));
+      (new_after (distinct rows) position.stored row (order_distinct [] rows order) (its_content rows contents position row contents_are order is stored at) _ refl));
 }
   where
     add_one : (n : ℕ) → n + 1 ≡ suc n

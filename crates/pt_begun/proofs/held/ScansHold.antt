@@ -73,7 +73,7 @@ ends_advanced object t it = record {
 
 all_advanced : (earlier : List Path) (object : Object) (t : List Frame) → all_behind earlier (take (own_listings object t) t) ≡ true → all_behind earlier (take (own_listings object (advanced t)) (advanced t)) ≡ true
 all_advanced earlier object t it =
-    ap (all_behind earlier) (ap (λ n. take n (advanced t)) (own_same object t) ∙ take_advanced (own_listings object t) t) ∙ behind_advanced earlier (take (own_listings object t) t) it
+    ap (all_behind earlier) (ap (λ n. take n (advanced t)) (own_same object t) ∙ take_advanced _ t) ∙ behind_advanced earlier (take (own_listings object t) t) it
 
 one_less : (n : ℕ) → 0 < n → n ≡ suc (n - 1)
 one_less n some = omega (arith, some)
@@ -104,7 +104,7 @@ all_left : (earlier : List Path) (object : Object) (t : List Frame) → object.s
 all_left earlier object [] below it = absurd (omega (arith, below))
 all_left earlier object (frame ∷ frames) below it =
     let own = own_parent object frame frames (omega (arith, below)) in
-    ap (all_behind earlier) (ap (λ n. take n (advanced frames)) (own_same object frames) ∙ take_advanced (own_listings object frames) frames)
+    ap (all_behind earlier) (ap (λ n. take n (advanced frames)) (own_same object frames) ∙ take_advanced _ frames)
     ∙ behind_left earlier frame (take (own_listings object frames) frames) (sym (ap (λ n. all_behind earlier (take n (frame ∷ frames))) own) ∙ it)
 
 shorter : (t : List Frame) (site : ℕ) → site < length t → site ≤ length (parent t)
@@ -170,9 +170,9 @@ rows_noted : (job : Job) (bytes : Path → List ℕ) (object : Object) (held : H
 rows_noted job bytes object held item read e ends behind rows =
     let path = logical_path object held.trail in
     let row = row_of path (digest_of job.algorithm held.fed) read in
-    let last = here_behind (row_paths held.rows) object held.trail item e ends behind in
+    let last = here_behind _ object held.trail item e ends behind in
     record {
-      order = ap part_in_order (map-append (λ (r : Row). r.path) held.rows (row ∷ [])) ∙ order_push (row_paths held.rows) path rows.order last;
+      order = ap part_in_order (map-append (λ (r : Row). r.path) held.rows (row ∷ [])) ∙ order_push _ path rows.order last;
       digests = rows_push (λ b r. digest_of job.algorithm b ≡ r.digest) bytes path held.fed row refl refl held.rows last rows.digests;
       contents = contents_push held.rows held.contents row rows.contents;
     }
@@ -181,7 +181,7 @@ behind_file : (job : Job) (object : Object) (held : Held) (item : Item) (read : 
 behind_file job object held item read is_one e ends behind =
     let row = row_of (logical_path object held.trail) (digest_of job.algorithm held.fed) read in
     ap (λ (l : List Path). all_behind l (take (own_listings object (advanced held.trail)) (advanced held.trail))) (map-append (λ (r : Row). r.path) held.rows (row ∷ []))
-    ∙ all_noted (row_paths held.rows) object held.trail item is_one e ends behind
+    ∙ all_noted _ object held.trail item is_one e ends behind
 
 -- ---- each turn
 
@@ -230,13 +230,13 @@ scans_rest past (IsTooDeep was object apart deep) at = no_object_rest object was
 scans_rest {job} past {after} (PassesShorty was object item e passed) at = record {
   ends = (at.ends.0, ends_advanced object was.trail at.ends.1);
   rows = moved_rows job past.bytes was after.trail at.rows;
-  behind = all_advanced (row_paths was.rows) object was.trail at.behind;
+  behind = all_advanced _ object was.trail at.behind;
   numbers = tt;
 }
 scans_rest {job} past {after} (EntersDirectory was object name items e apart shallow) at = record {
   ends = (counted job object items at.ends.0, counted_ends object items after.trail (ends_entered object items was.trail at.ends.1));
   rows = moved_rows job past.bytes was after.trail at.rows;
-  behind = all_entered (row_paths was.rows) object was.trail _ items e at.ends.1 at.behind;
+  behind = all_entered _ object was.trail _ items e at.ends.1 at.behind;
   numbers = tt;
 }
 scans_rest past (MeetsDeep was object name e apart deep) at = no_object_rest object was
@@ -249,7 +249,7 @@ scans_rest {job} past (EndsObject was object e apart own) at =
 scans_rest {job} past {after} (LeavesDirectory was object e apart outside) at = record {
   ends = (at.ends.0, ends_left object was.trail apart outside at.ends.1);
   rows = moved_rows job past.bytes was after.trail at.rows;
-  behind = all_left (row_paths was.rows) object was.trail (below_site_of object was.trail apart at.ends.1.within) at.behind;
+  behind = all_left _ object was.trail (below_site_of object was.trail apart at.ends.1.within) at.behind;
   numbers = tt;
 }
 scans_rest {job} past {after} (ReadsOn was object bytes byte block short) at = record { ends = at.ends; rows = fed_rows job past.bytes was after.fed at.rows; behind = at.behind; numbers = tt }

@@ -31,7 +31,7 @@ outer_is_trail : (trail : List Frame) → are_outer trail ≡ true → is_trail 
 outer_is_trail [] outer = refl
 outer_is_trail (frame ∷ frames) outer =
     let parts = and_parts (is_frame frame) _ outer in
-    and_from _ (are_outer frames) parts.0 (and_parts (is_dir_entry (entry_at frame)) _ parts.1).1
+    and_from _ (are_outer frames) parts.0 (and_parts _ _ parts.1).1
 
 first_frame : (items : List Item) → names_rise items ≡ true → is_frame (record { listing = items; place = 0 }) ≡ true
 first_frame items rise = and_from _ _ rise (le-leb 0 (length items) (omega arith))
@@ -64,7 +64,7 @@ trail_sought place (frame ∷ frames) is_one within =
     let parts = and_parts _ _ is_one in
     let rise = (and_parts _ _ parts.0).0 in
     and_from _ _
-    (and_from _ _ rise (le-leb place (length frame.listing) (within frame frames refl))) parts.1
+    (and_from _ _ rise (le-leb place _ (within frame frames refl))) parts.1
 
 trail_first : (trail : List Frame) → is_trail trail ≡ true → is_trail (sought 0 trail) ≡ true
 trail_first trail is_one = trail_sought 0 trail is_one (λ frame frames e. omega arith)
@@ -100,10 +100,10 @@ back object trail is_one = trail_first (to_site object trail) (trail_dropped (le
 
 pub starts_keep : {job : Job} {prefix read : List ℕ} {here next : Phase} {held : Held} {calls : Calls} → Starts job here prefix read calls (Ok next) → TrailAt here held → TrailAt next held
 starts_keep {held} (MakesRoot was number item is) at =
-    either_phase (λ p. TrailAt p held) (number == 5) phase.RootRename (phase.RootMake (number + 1))
+    either_phase (λ p. TrailAt p held) (number == 5) phase.RootRename _
     (λ last. record { is_one = at.is_one; none = at.none; entry = tt }) (λ more. record { is_one = at.is_one; none = at.none; entry = tt })
 starts_keep {held} (IsSame was number path bytes is) at =
-    either_phase (λ p. TrailAt p held) (number == 2) phase.OpenRoot (phase.RootCheck (number + 1))
+    either_phase (λ p. TrailAt p held) (number == 2) phase.OpenRoot _
     (λ last. record { is_one = at.is_one; none = at.none; entry = tt }) (λ more. record { is_one = at.is_one; none = at.none; entry = tt })
 starts_keep turn at = record { is_one = at.is_one; none = at.none; entry = tt }
 

@@ -69,9 +69,9 @@ all_around P bytes read [] row others order new all =
     (all_later P bytes row.path read others (and_parts _ _ order).0 (rest_of (λ r. P (bytes r.path) r) row others all))
 all_around P bytes read (first ∷ front) row others order new all =
     let parts = and_parts _ _ order in
-    All-cons (λ r. P (with_bytes row.path read bytes r.path) r) first (front ++ row ∷ others)
+    All-cons (λ r. P (with_bytes row.path read bytes r.path) r) first _
     (subst (λ b. P b first) (earlier_held row.path read bytes first.path (comes_before first.path front row others parts.0)) (all 0 first (omega arith)))
-    (all_around P bytes read front row others parts.1 new (rest_of (λ r. P (bytes r.path) r) first (front ++ row ∷ others) all))
+    (all_around P bytes read front row others parts.1 new (rest_of (λ r. P (bytes r.path) r) first _ all))
 
 -- so where the row is one of them
 pub rows_again : (P : List ℕ → Row → Type 0) (bytes : Path → List ℕ) (read : List ℕ) (rows : List Row) (n : ℕ) (row : Row) → slice_get rows n ≡ Some row → part_in_order (row_paths rows) ≡ true → P read row

@@ -78,8 +78,8 @@ all_there (other n after) base proper =
 all_there (dir n inside after) base proper =
     let parts = proper_dir n inside after proper in (
       record { name = n; rest = []; path = refl; stands = ap (option_and_then (λ node. node_at node [])) (first_found n (Dir inside) (find after n)) },
-      both_there (dir n inside after) base (entries_in (base ++ n ∷ []) inside) (entries_in base after)
-          (inner n inside (dir n inside after) base (first_found n (Dir inside) (find after n)) (entries_in (base ++ n ∷ []) inside) (all_there inside (base ++ n ∷ []) parts.3))
+      both_there _ base _ _
+          (inner n inside _ base (first_found n (Dir inside) (find after n)) (entries_in (base ++ n ∷ []) inside) (all_there inside (base ++ n ∷ []) parts.3))
           (lifted n (Dir inside) after _ base (λ m. refl) parts.1 parts.2 (entries_in base after) (all_there after base parts.2)),
     )
 
@@ -100,7 +100,7 @@ gathered_there (dir n inside after) base proper =
     let parts = proper_dir n inside after proper in
     by (is_short n)
     (record { name = n; rest = []; path = refl; stands = ap (option_and_then (λ node. node_at node [])) (first_found n (Dir inside) (find after n)) })
-    (inner n inside (dir n inside after) base (first_found n (Dir inside) (find after n)) (entries_in (base ++ n ∷ []) inside) (all_there inside (base ++ n ∷ []) parts.3))
+    (inner n inside _ base (first_found n (Dir inside) (find after n)) (entries_in (base ++ n ∷ []) inside) (all_there inside (base ++ n ∷ []) parts.3))
     (lifted n (Dir inside) after _ base (λ m. refl) parts.1 parts.2 (entries_in base (without_shorties after)) (gathered_there after base parts.2))
   where
     by : (short : Bool) → IsThere (dir n inside after) base (base ++ n ∷ [], Dir inside) → AreThere (dir n inside after) base (entries_in (base ++ n ∷ []) inside) → AreThere (dir n inside after) base (entries_in base (without_shorties after))

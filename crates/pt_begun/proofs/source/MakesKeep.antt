@@ -54,7 +54,7 @@ module _ (job : Job) (s : Reading) (prefix : List ℕ) (object : Object) (held :
       let file = file_of_row position.row row proper is it in
       let path = path_of_source object held.trail ++ row.path in
       let there = file_at s.tree (pairtree_root ∷ path) in
-      let bytes = bytes_at (pairtree_of s.tree) path in
+      let bytes = bytes_at _ path in
       let none_read : row.length - row.length ≡ 0 = omega arith in
       let opened : there ≡ Some bytes = file_in_pairtree s.tree path it.0.store ∙ file.stands ∙ ap (λ (b : List ℕ). Some b) (sym file.here) in
       record {
@@ -69,7 +69,7 @@ module _ (job : Job) (s : Reading) (prefix : List ℕ) (object : Object) (held :
   copies_on position left block fits read it =
       let few = ltb-false left (length block) fits in
       let within = it.within in
-      let bytes = bytes_at (pairtree_of s.tree) (path_of_source object held.trail ++ it.row.path) in
+      let bytes = bytes_at _ (path_of_source object held.trail ++ it.row.path) in
       let more : it.row.length - left + length block ≡ it.row.length - (left - length block) = omega (arith, few, within) in
       record {
         row = it.row;
@@ -99,5 +99,5 @@ makes_keep job s new prefix count proper (MakesInventory was object) at answers 
 makes_keep job s new prefix count proper (MakesSidecar was object) at answers =
     let next = λ (p : Phase). SourceAt job new prefix (done_after (phase.Make object part.Sidecar) was.trail p count) p (with_fed was []) in
     let it = fed_stays job prefix object was count answers at in
-    either_phase next (job.tuples.count == 0) (phase.Rename object) (phase.Tuples object 0) (λ flat. it) (λ some. it)
+    either_phase next _ (phase.Rename object) (phase.Tuples object 0) (λ flat. it) (λ some. it)
 makes_keep job s new prefix count {after} {next} proper turn at answers = stays (λ r. SourceAt job r prefix count next after) answers at

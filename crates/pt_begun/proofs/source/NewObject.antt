@@ -47,7 +47,7 @@ by_tests true false read id object e = ap (λ (x : List ℕ). Named x object) (o
 
 identified : (job : Job) (prefix : List ℕ) (object : PairtreeObject) (read : Option (List ℕ)) (id : List ℕ) → identifier_by job prefix read ≡ Ok id → verdict_by_reading job prefix object read ≡ Named id object
 identified job prefix object None id e = absurd (cc)
-identified job prefix object (Some read) id e = by_tests (is_utf8 read) (is_reserved job (prefix ++ read)) (prefix ++ read) id object e
+identified job prefix object (Some read) id e = by_tests (is_utf8 read) _ (prefix ++ read) id object e
 
 -- without one the object is passed over
 by_refusals : (utf8 reserved : Bool) (read : List ℕ) (object : PairtreeObject) (why : Cause) → cond utf8 (cond reserved (Err cause.Reserved) (Ok read)) (Err cause.Utf8) ≡ Err why
@@ -67,7 +67,7 @@ unidentified job prefix object None why e = let same : cause.Name ≡ why = err_
   where
     err_is : (a b : Cause) → ◌≡◌ {A = Result (List ℕ) Cause} (Err a) (Err b) → a ≡ b
     err_is a b same = cc
-unidentified job prefix object (Some read) why e = by_refusals (is_utf8 read) (is_reserved job (prefix ++ read)) (prefix ++ read) object why e
+unidentified job prefix object (Some read) why e = by_refusals (is_utf8 read) _ (prefix ++ read) object why e
 
 -- ---- the entry that encapsulates an object
 
@@ -105,7 +105,7 @@ named_there job source prefix frame frames None id proper fits is reads =
     let site = names_to frames in
     let inside = inside_at top site in
     ap (verdict_by_finding job prefix site inside) (found_there job top frame frames finding.Gathered proper fits is)
-    ∙ identified job prefix (gathered_from site inside) (reading_of (concat site)) id reads
+    ∙ identified job prefix _ _ id reads
 named_there job source prefix frame frames (Some i) id proper fits is reads =
     let top = pairtree_of source in
     let site = names_to frames in
@@ -115,11 +115,11 @@ named_there job source prefix frame frames (Some i) id proper fits is reads =
     let name = entry.0 in
     let object : PairtreeObject = record { at = site ++ name ∷ []; gathered = false; inside = inside_at top (site ++ name ∷ []) } in
     let next = step.enters false top 0 there frames name (inside_at top (site ++ name ∷ [])) proper fits entry.1 refl refl in
-    let held = encapsulated_is site (entries_from i inside) name (inside_at top (site ++ name ∷ [])) _ next in
+    let held = encapsulated_is site _ name _ _ next in
     let path : site ++ name ∷ [] ≡ names_to (there ∷ frames) = sym (path_grows there frames (name, kind.Dir) entry.1) in
     ap (verdict_by_finding job prefix site inside) (found_there job top frame frames _ proper fits is)
     ∙ ap (verdict_on_candidate job prefix site) held
-    ∙ identified job prefix object (reading_of (concat site)) id reads
+    ∙ identified job prefix object _ id reads
     ∙ ap (λ (p : Path). Named id (record { at = p; gathered = false; inside = inside_at top p })) path
 
 -- it is passed over
@@ -129,8 +129,8 @@ pub nameless_there : (job : Job) (source : Forest) (prefix : List ℕ) (frame : 
 nameless_there job source prefix frame frames None why proper fits is reads =
     let site = names_to frames in
     let inside = inside_at (pairtree_of source) site in
-    ap (verdict_by_finding job prefix site inside) (found_there job (pairtree_of source) frame frames finding.Gathered proper fits is)
-    ∙ unidentified job prefix (gathered_from site inside) (reading_of (concat site)) why reads
+    ap (verdict_by_finding job prefix site inside) (found_there job _ frame frames finding.Gathered proper fits is)
+    ∙ unidentified job prefix _ _ why reads
 nameless_there job source prefix frame frames (Some i) why proper fits is reads =
     let top = pairtree_of source in
     let site = names_to frames in
@@ -140,10 +140,10 @@ nameless_there job source prefix frame frames (Some i) why proper fits is reads 
     let name = entry.0 in
     let object : PairtreeObject = record { at = site ++ name ∷ []; gathered = false; inside = inside_at top (site ++ name ∷ []) } in
     let next = step.enters false top 0 there frames name (inside_at top (site ++ name ∷ [])) proper fits entry.1 refl refl in
-    let held = encapsulated_is site (entries_from i inside) name (inside_at top (site ++ name ∷ [])) _ next in
+    let held = encapsulated_is site _ name _ _ next in
     ap (verdict_by_finding job prefix site inside) (found_there job top frame frames _ proper fits is)
     ∙ ap (verdict_on_candidate job prefix site) held
-    ∙ unidentified job prefix object (reading_of (concat site)) why reads
+    ∙ unidentified job prefix object _ why reads
 
 -- what an item comes to whose site is judged to be this where the trail stands
 abbrev pub verdict_there : Job → Forest → List Frame → VerdictOn (Option ℕ) → Verdict
@@ -160,9 +160,9 @@ by_identifier job source prefix frame frames index (Err why) proper fits is read
 by_found : (job : Job) (source : Forest) (prefix : List ℕ) (frame : Frame) (frames : List Frame) (what : Finding) → is_proper (pairtree_of source) ≡ true → Fits (pairtree_of source) (frame ∷ frames) → found_at (form_of job) (frame ∷ frames) ≡ what
     → verdict_by_visit job prefix (names_to frames) (Listed (inside_at (pairtree_of source) (names_to frames))) ≡ verdict_there job source (frame ∷ frames) (judged_by_finding job prefix (names_to frames) what)
 by_found job source prefix frame frames finding.Interior proper fits is =
-    ap (verdict_by_finding job prefix (names_to frames) (inside_at (pairtree_of source) (names_to frames))) (found_there job (pairtree_of source) frame frames finding.Interior proper fits is)
+    ap (verdict_by_finding job prefix (names_to frames) (inside_at (pairtree_of source) (names_to frames))) (found_there job _ frame frames finding.Interior proper fits is)
 by_found job source prefix frame frames (finding.Skip why) proper fits is =
-    ap (verdict_by_finding job prefix (names_to frames) (inside_at (pairtree_of source) (names_to frames))) (found_there job (pairtree_of source) frame frames _ proper fits is)
+    ap (verdict_by_finding job prefix (names_to frames) (inside_at (pairtree_of source) (names_to frames))) (found_there job _ frame frames _ proper fits is)
 by_found job source prefix frame frames (finding.Candidate i) proper fits is = by_identifier job source prefix frame frames (Some i) _ proper fits is refl
 by_found job source prefix frame frames finding.Gathered proper fits is = by_identifier job source prefix frame frames None _ proper fits is refl
 
@@ -212,8 +212,8 @@ named_found job prefix t index id is = by (found_at (form_of job) t) (ours_named
     by : (what : Finding) → judged_by_finding job prefix (trail_path t) what ≡ Named id index → what ≡ has_object index
     by finding.Interior h = absurd (cc)
     by (finding.Skip why) h = absurd (cc)
-    by (finding.Candidate i) h = ap has_object (named_identifier (Some i) index (identifier_at job prefix (trail_path t)) id h)
-    by finding.Gathered h = ap has_object (named_identifier None index (identifier_at job prefix (trail_path t)) id h)
+    by (finding.Candidate i) h = ap has_object (named_identifier (Some i) index _ id h)
+    by finding.Gathered h = ap has_object (named_identifier None index _ id h)
 
 -- an object that is encapsulated stands at a directory
 leads_there : (job : Job) (frame : Frame) (frames : List Frame) (index : Option ℕ) → found_at (form_of job) (frame ∷ frames) ≡ has_object index
@@ -246,7 +246,7 @@ some_left i none some = absurd (some refl)
 some_left i (file name bytes after) some = refl
 some_left i (other name after) some = refl
 some_left i (dir name inside after) some =
-    either_left (is_short name) (i, kind.Dir) (non_shorties_from (i + 1) (listing_of after)) (non_shorties_from (i + 1) (listing_of after)) name inside after (some_left (i + 1) after) some
+    either_left (is_short name) (i, kind.Dir) _ _ name inside after (some_left (i + 1) after) some
 
 filled_there : (job : Job) (source : Forest) (frame : Frame) (frames : List Frame) (index : Option ℕ) (id : List ℕ) → is_proper (pairtree_of source) ≡ true → Fits (pairtree_of source) (frame ∷ frames) → found_at (form_of job) (frame ∷ frames) ≡ has_object index
     → is_none index ≡ true → emptiness (inside_object source (new_object job id index (frame ∷ frames)) (at_object index (frame ∷ frames))) ≡ 0

@@ -22,7 +22,7 @@ after_a_tuple : (job : Job) {s new : Reading} (prefix : List ℕ) (object : Obje
 after_a_tuple job {new} prefix object held count number same at =
     let next = λ (p : Phase). SourceAt job new prefix (done_after (phase.Tuples object number) held.trail p count) p held in
     let it = stays (λ r. HasStarted r.tree prefix × IsScanned job r.tree prefix object held count) same at in
-    either_phase next (nat_lt (number + 1) job.tuples.count) (phase.Tuples object (number + 1)) (phase.Rename object) (λ more. it) (λ last. it)
+    either_phase next _ (phase.Tuples object (number + 1)) (phase.Rename object) (λ more. it) (λ last. it)
 
 pub places_keep : (job : Job) {counts : Counts} (s new : Reading) (prefix : List ℕ) (count : ℕ) {here next : Phase} {held after : Held} {calls : Calls}
     → Places job counts here held after calls (Ok next) → SourceAt job s prefix count here held

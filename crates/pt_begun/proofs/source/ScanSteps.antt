@@ -76,7 +76,7 @@ advances job source prefix object frame frames count true is inside it =
     let same = eqb-true (length (frame ∷ frames)) object.site is in
     moved_at_site job source prefix object _ (frame.place + 1) count (is_gathered object (frame ∷ frames) same inside) same it
 advances job source prefix object frame frames count false is inside it =
-    let below : object.site < length (frame ∷ frames) = below_site (length (frame ∷ frames)) object.site is it.within in
+    let below : object.site < length (frame ∷ frames) = below_site _ object.site is it.within in
     moved_by job source prefix object _ _ count it.within (fits_moved (pairtree_of source) (frame ∷ frames) 0 it.fits).1 (site_advanced object (frame ∷ frames) below) it
 
 pub moved_on : (job : Job) (source : Forest) (prefix : List ℕ) (object : Object) (trail : List Frame) (count : ℕ) → 0 < own_listings object trail

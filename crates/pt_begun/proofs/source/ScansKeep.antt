@@ -87,7 +87,7 @@ enters_directory job source prefix object held (frame ∷ frames) name items cou
     let items_are : listing_of in_it ≡ items = some_same (listing_of in_it) items (sym (ap (option_map listing_of) there) ∙ ap (listing_at top) (sym here) ∙ listed) in
     let left = left_directory source object frame frames name items in_it proper stands.fits stands.within inside e apart refl items_are in
     let object_is = object_at source object (to_site object trail) in
-    let none_cause = no_cause_dir job object_is.at (logical_path object trail) _ held.rows trail in_it (path_in_object object trail) (path_length frame frames _ is_one e) shallow in
+    let none_cause = no_cause_dir job object_is.at _ _ held.rows trail in_it (path_in_object object trail) (path_length frame frames _ is_one e) shallow in
     let empty_is : none_listed items ≡ emptiness in_it = ap none_listed (sym items_are) ∙ none_is in_it in
     let more : object.empty + none_listed items ≡ object.empty + (emptiness in_it + 0) = omega (arith, empty_is) in
     let step_in = moved_in job source prefix object items trail count listed stands in
@@ -95,7 +95,7 @@ enters_directory job source prefix object held (frame ∷ frames) name items cou
     let next = scans_more job object_is held.rows object.empty _ _ _ none_cause more
     (scans_same job object_is held.rows object.empty _ _ left scanned) in
     record {
-      stands = still_counted job source prefix object (object.empty + none_listed items) _ count step_in.stands;
+      stands = still_counted job source prefix object _ _ count step_in.stands;
       inside = omega (arith, grown);
       scanned =
           subst (λ (o : PairtreeObject). HasScanned job o held.rows (object.empty + none_listed items) (left_of source object (entered items trail))) step_in.same
@@ -150,7 +150,7 @@ enters_object job source prefix object held (frame ∷ frames) items count prope
       empty_is = omega (arith, empty, empty_is, emptier);
     } in
     record {
-      stands = still_counted job source prefix object (object.empty + none_listed items) _ count step_in.stands;
+      stands = still_counted job source prefix object _ _ count step_in.stands;
       inside = omega (arith, own);
       scanned = subst (λ (o : PairtreeObject). HasScanned job o held.rows (object.empty + none_listed items) (left_of source object (entered items trail))) step_in.same first;
     }
@@ -260,7 +260,7 @@ opened source [] name store proper fits e = absurd (cc)
 opened source (frame ∷ frames) name store proper fits e =
     let top = pairtree_of source in
     let here : names_to (frame ∷ frames) ≡ names_to frames ++ name ∷ [] = path_grows frame frames (name, kind.File) e in
-    file_in_pairtree source (names_to (frame ∷ frames)) store ∙ ap (file_at top) here ∙ file_there top frame frames name proper fits e ∙ ap (λ (p : Path). Some (bytes_at top p)) (sym here)
+    file_in_pairtree source _ store ∙ ap (file_at top) here ∙ file_there top frame frames name proper fits e ∙ ap (λ (p : Path). Some (bytes_at top p)) (sym here)
 
 same_scan : (job : Job) (source : Forest) (prefix : List ℕ) (object : Object) (held : Held) (fed : List ℕ) (count : ℕ) → IsScanning job source prefix object held count → IsScanning job source prefix object (with_fed held fed) count
 same_scan job source prefix object held fed count it = record { stands = it.stands; inside = it.inside; scanned = it.scanned }

@@ -59,8 +59,8 @@ one_more_there : (job : Job) (source : Forest) (object : Object) (held : Held) (
 one_more_there job source object held item read bytes past count e at whole there =
     let path = logical_path object held.trail in
     rows_push (λ b r. b ≡ bytes_at (pairtree_of source) (path_of_source object (to_site object held.trail) ++ r.path)) bytes path held.fed
-    (row_of path (digest_of job.algorithm held.fed) read) refl (whole ∙ ap (bytes_at (pairtree_of source)) (path_in_object object held.trail))
-    held.rows (here_behind (row_paths held.rows) object held.trail item e at.ends.1 at.behind) there
+    _ refl (whole ∙ ap (bytes_at (pairtree_of source)) (path_in_object object held.trail))
+    held.rows (here_behind _ object held.trail item e at.ends.1 at.behind) there
 
 -- ---- how much is held
 
@@ -72,7 +72,7 @@ back_room job source object held others few =
     omega (arith, one, two, few)
 
 given_room : (job : Job) (source : Forest) (object : Object) (held : Held) → HasRoom job source object held → IsWithinBound job source (back_at_site object held)
-given_room job source object held room = back_room job source object held (records_of job (files (scanned job.limits (object_at source object (to_site object held.trail))))) room
+given_room job source object held room = back_room job source object held _ room
 
 early_room : (job : Job) (source : Forest) (object : Object) (held : Held) → IsWithinBound job source held → IsWithinBound job source (back_at_site object held)
 early_room job source object held few = back_room job source object held (length held.rows + length held.contents) (omega (arith, few))
@@ -150,11 +150,11 @@ scans_beside job past s new prefix {after} (EntersObject was object items apart 
 scans_beside job past s new prefix {after} (IsTooDeep was object apart deep) answers at part =
     record { bytes_are = tt; few = early_room job s.tree object was part.few }
 scans_beside job past s new prefix {after} (PassesShorty was object item e passed) answers at part =
-    moved_beside job s.tree past.bytes object was (advanced was.trail) (moved_on job s.tree prefix object was.trail past.count part.at.1.inside part.at.1.stands).same (same_entries was.trail) part.bytes part.few
+    moved_beside job s.tree past.bytes object was _ (moved_on job s.tree prefix object was.trail past.count part.at.1.inside part.at.1.stands).same (same_entries was.trail) part.bytes part.few
 scans_beside job past s new prefix {after} (EntersDirectory was object name items e apart shallow) answers at part =
     record {
       bytes_are = still_there s.tree object (to_site object was.trail) (to_site object (entered items was.trail)) past.bytes was.rows (ap (object_at s.tree object) (sym (site_entered object items was.trail part.at.1.stands.within))) part.bytes;
-      few = room_below job s.tree prefix object was items name past.count (pairtree_proper s.tree part.at.0.store part.proper) at.trail.is_one e apart shallow (sym (listing_in s.tree (names_to was.trail) part.at.0.store) ∙ answers.0 s refl) part.at.0
+      few = room_below job s.tree prefix object was items name past.count (pairtree_proper s.tree part.at.0.store part.proper) at.trail.is_one e apart shallow (sym (listing_in s.tree _ part.at.0.store) ∙ answers.0 s refl) part.at.0
           (trail.scans_keep {job = job} (Some s) (Some s) (EntersDirectory was object name items e apart shallow) (answers.0, answers.1, refl) at.trail).is_one part.at.1 (scans_keep job s s prefix past.count part.proper at.trail.is_one (EntersDirectory was object name items e apart shallow) part.at (answers.0, answers.1, refl)).1;
     }
 scans_beside job past s new prefix {after} (MeetsDeep was object name e apart deep) answers at part =
@@ -174,7 +174,7 @@ scans_beside job past s new prefix {after} (EndsObject was object e apart own) a
     }
 scans_beside job past s new prefix {after} (LeavesDirectory was object e apart outside) answers at part =
     let below = below_site_of object was.trail apart part.at.1.stands.within in
-    moved_beside job s.tree past.bytes object was (advanced (parent was.trail)) (moved_behind job s.tree prefix object was.trail past.count below (some_around object was.trail outside below) part.at.1.stands).same (behind_parent was.trail) part.bytes part.few
+    moved_beside job s.tree past.bytes object was _ (moved_behind job s.tree prefix object was.trail past.count below (some_around object was.trail outside below) part.at.1.stands).same (behind_parent was.trail) part.bytes part.few
 scans_beside job past s new prefix {after} (ReadsOn was object bytes byte block short) answers at part =
     record { bytes_are = part.bytes; few = part.few }
 scans_beside job past s new prefix {after} (IsTooLong was object bytes byte block long) answers at part =
@@ -183,7 +183,7 @@ scans_beside job past s new prefix {after} (EndsFile was object bytes) answers a
     let whole = (reads_end 8192 _ bytes was.fed s.unread (omega arith) part.at.2.read (answers.0 s refl)).all in
     let same = (moved_on job s.tree prefix object was.trail past.count part.at.1.inside part.at.1.stands).same in
     record {
-      bytes_are = still_there s.tree object (to_site object was.trail) (to_site object (advanced was.trail)) (with_bytes (logical_path object was.trail) was.fed past.bytes) (with_file job object was bytes).rows same
+      bytes_are = still_there s.tree object (to_site object was.trail) (to_site object (advanced was.trail)) (with_bytes (logical_path object was.trail) was.fed past.bytes) _ same
           (one_more_there job s.tree object was at.trail.entry.0 bytes past.bytes past bytes at.trail.entry.1 at whole part.bytes);
       few = room_moved job s.tree object was (with_file job object was bytes) same (same_entries was.trail) part.few;
     }

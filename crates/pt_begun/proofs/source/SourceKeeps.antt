@@ -64,9 +64,9 @@ module _ {job : Job} (past : Past) {here : Phase} {prefix : List ℕ} {held : He
 
 starts_beside : {job : Job} (source : Forest) (bytes : Path → List ℕ) {prefix read : List ℕ} {here next : Phase} {held : Held} {calls : Calls} → Starts job here prefix read calls (Ok next) → FewAt job source here held → BesideAt job source bytes next held
 starts_beside {job} source bytes {held} (MakesRoot was number item is) few =
-    either_phase (λ p. BesideAt job source bytes p held) (number == 5) phase.RootRename (phase.RootMake (number + 1)) (λ last. record { bytes_are = tt; few = few }) (λ more. record { bytes_are = tt; few = few })
+    either_phase (λ p. BesideAt job source bytes p held) (number == 5) phase.RootRename _ (λ last. record { bytes_are = tt; few = few }) (λ more. record { bytes_are = tt; few = few })
 starts_beside {job} source bytes {held} (IsSame was number path read is) few =
-    either_phase (λ p. BesideAt job source bytes p held) (number == 2) phase.OpenRoot (phase.RootCheck (number + 1)) (λ last. record { bytes_are = tt; few = few }) (λ more. record { bytes_are = tt; few = few })
+    either_phase (λ p. BesideAt job source bytes p held) (number == 2) phase.OpenRoot _ (λ last. record { bytes_are = tt; few = few }) (λ more. record { bytes_are = tt; few = few })
 starts_beside source bytes turn few = record { bytes_are = tt; few = few }
 
 pub starts_source : StartingKeepsSource
@@ -162,7 +162,7 @@ copied_whole : (s : Reading) (object : Object) (held : Held) (position : Positio
 copied_whole s object held position left row is ended it =
     let same : it.row ≡ row = some_same it.row row (sym it.is_row ∙ is) in
     (reads_end 8192 _ _ held.fed s.unread (omega arith) it.read (ended s refl)).all
-    ∙ ap (λ (r : Row). bytes_at (pairtree_of s.tree) (path_of_source object held.trail ++ r.path)) same
+    ∙ ap (λ (r : Row). bytes_at _ (path_of_source object held.trail ++ r.path)) same
 
 makes_beside : {job : Job} (past : Past) (s new : Reading) {prefix : List ℕ} {here : Phase} {held after : Held} {calls : Calls} {next : Phase} → Makings job here held after calls (Ok next) → Answers calls.asked (Some s) (Some new)
     → HeldAt job past here held → SourcePart job past here prefix held s → BesideAt job s.tree (bytes_after here next held past.bytes) next after

@@ -98,7 +98,7 @@ pub past_next : (job : Job) (source : Forest) (trail : List Frame) (name : List 
 past_next job source [] name count proper e short last way = absurd (cc)
 past_next job source (frame ∷ frames) name count proper e short last way =
     let path = names_to frames ++ name ∷ [] in
-    let met = met_past job.limits.depth (names_to frames) (inside_at (pairtree_of source) path) last in
+    let met = met_past job.limits.depth (names_to frames) _ last in
     shorty_next job source frame frames name count proper e short (ap is_listed met) way ∙ ap (λ (v : Visit). Some (path, v)) met ∙ ap (λ (p : Path). Some (p, Past)) (sym (path_grows frame frames (name, kind.Dir) e))
 
 pub deep_next : (job : Job) (source : Forest) (trail : List Frame) (name : List ℕ) (count : ℕ) → is_proper (pairtree_of source) ≡ true → is_trail trail ≡ true → current_entry trail ≡ Some (name, kind.Dir) → is_short name ≡ true
@@ -106,7 +106,7 @@ pub deep_next : (job : Job) (source : Forest) (trail : List Frame) (name : List 
 deep_next job source [] name count proper is_one e short last deep way = absurd (cc)
 deep_next job source (frame ∷ frames) name count proper is_one e short last deep way =
     let path = names_to frames ++ name ∷ [] in
-    let met = met_else job.limits.depth (names_to frames) (inside_at (pairtree_of source) path) true last (deep_as job.limits.depth frame frames true is_one deep) in
+    let met = met_else job.limits.depth (names_to frames) _ true last (deep_as job.limits.depth frame frames true is_one deep) in
     shorty_next job source frame frames name count proper e short (ap is_listed met) way ∙ ap (λ (v : Visit). Some (path, v)) met ∙ ap (λ (p : Path). Some (p, Deep)) (sym (path_grows frame frames (name, kind.Dir) e))
 
 pub passes_past : (job : Job) (source : Forest) (trail : List Frame) (name : List ℕ) (count : ℕ) → is_proper (pairtree_of source) ≡ true → current_entry trail ≡ Some (name, kind.Dir) → is_short name ≡ true
@@ -134,7 +134,7 @@ enters_site job source (frame ∷ frames) name items count proper is_one e short
     let trail = frame ∷ frames in
     let path = names_to frames ++ name ∷ [] in
     let here : names_to trail ≡ path = path_grows frame frames (name, kind.Dir) e in
-    let met = met_else depth (names_to frames) (inside_at top path) false last (deep_as depth frame frames false is_one deep) in
+    let met = met_else depth (names_to frames) _ false last (deep_as depth frame frames false is_one deep) in
     let next = enters depth top frame frames name path (inside_at top path) proper way.fits e short refl refl met in
     let there = directory_there top frame frames name proper way.fits e in
     let items_are : listing_of (inside_at top path) ≡ items =
