@@ -42,8 +42,8 @@ files_as : (bytes : Path → List ℕ) (rows : List Row) → map content_file (m
 files_as bytes [] = refl
 files_as bytes (row ∷ rows) = ap (λ l. content bytes row ∷ l) (files_as bytes rows)
 
-pub content_is : (rows : List Row) (bytes : Path → List ℕ) (n : ℕ) (row : Row) → slice_get (distinct rows) n ≡ Some row → slice_get (contents_of rows bytes) n ≡ Some (stored_at row, bytes row.path)
-content_is rows bytes n row is = ap (λ (l : List File). slice_get l n) (files_as bytes (distinct rows)) ∙ get_map (content bytes) (distinct rows) n row is
+pub content_is : (rows : List Row) (bytes : Path → List ℕ) (n : ℕ) {row : Row} → slice_get (distinct rows) n ≡ Some row → slice_get (contents_of rows bytes) n ≡ Some (stored_at row, bytes row.path)
+content_is rows bytes n {row} is = ap (λ (l : List File). slice_get l n) (files_as bytes (distinct rows)) ∙ get_map (content bytes) (distinct rows) n row is
 
 same_leads : (bytes : Path → List ℕ) (rows : List Row) (n : ℕ) (folder : Path) → leads_to (take n (map (content bytes) rows)) folder ≡ is_above_one (take n (map stored_at rows)) folder
 same_leads bytes rows zero folder = refl
@@ -54,9 +54,9 @@ pub leads_as : (rows : List Row) (bytes : Path → List ℕ) (n : ℕ) (folder :
 leads_as rows bytes n folder = ap (λ (l : List File). leads_to (take n l) folder) (files_as bytes (distinct rows)) ∙ same_leads bytes (distinct rows) n folder
 
 -- of the next content the folders still to be made are new
-pub new_folders : (rows : List Row) (bytes : Path → List ℕ) (position : Position) (row : Row) → slice_get (distinct rows) position.stored ≡ Some row → IsAtRow rows position
+pub new_folders : {rows : List Row} (bytes : Path → List ℕ) {position : Position} (row : Row) → slice_get (distinct rows) position.stored ≡ Some row → IsAtRow rows position
     → list_all (is_new_folder (take position.stored (contents_of rows bytes))) (drop position.directories (folders_above (stored_at row))) ≡ true
-new_folders rows bytes position row is at =
+new_folders {rows} bytes {position} row is at =
     let here = subst (λ (o : Option Path). AreNewFrom (take position.stored (content_paths rows)) position.directories o) (get_map stored_at (distinct rows) position.stored row is) at.new in
     all_then (λ folder. not (is_above_one (take position.stored (content_paths rows)) folder)) (is_new_folder (take position.stored (contents_of rows bytes)))
     (λ folder h. ap not (leads_as rows bytes position.stored folder) ∙ h) (drop position.directories (folders_above (stored_at row))) here
@@ -71,24 +71,24 @@ pub record IsHere (rows : List Row) (contents : List Content) (position : Positi
   pub stored : is_stored contents position.stored row.path ≡ true
   pub at : IsAtRow rows position
 
-distinct_here : (rows : List Row) (contents : List Content) (position : Position) (row : Row) → IsHere rows contents position row → slice_get (distinct rows) position.stored ≡ Some row
-distinct_here rows contents position row it = its_content rows contents position row it.are it.order it.is it.stored it.at
+distinct_here : {rows : List Row} {contents : List Content} {position : Position} {row : Row} → IsHere rows contents position row → slice_get (distinct rows) position.stored ≡ Some row
+distinct_here {rows} {contents} {position} {row} it = its_content row it.are it.order it.is it.stored it.at
 
 pub folder_next : (job : Job) (object : Object) (rows : List Row) (contents : List Content) (bytes : Path → List ℕ) (position : Position) (row : Row) → IsHere rows contents position row → position.directories < length row.path
     → IsNext (script_of_object job object rows bytes) (made_before job object rows bytes (part.Content position)) (MakeFolder (in_content (take position.directories row.path)))
 folder_next job object rows contents bytes position row it more =
-    let one = distinct_here rows contents position row it in
+    let one = distinct_here it in
     next_content job object rows bytes position (MakeFolder (codes "content" ∷ take position.directories row.path))
-    (next_folder _ position _ _ (content_is rows bytes position.stored row one)
-    (folder_at _ row.path position.directories more) (new_folders rows bytes position row one it.at))
+    (next_folder _ position _ _ (content_is rows bytes position.stored one)
+    (folder_at row.path position.directories more) (new_folders bytes row one it.at))
 
 pub folder_made : (job : Job) (object : Object) (rows : List Row) (contents : List Content) (bytes : Path → List ℕ) (position : Position) (row : Row) → IsHere rows contents position row → position.directories < length row.path
     → made_before job object rows bytes (part.Content (with_folder position)) ≡ made_before job object rows bytes (part.Content position) ++ MakeFolder (in_content (take position.directories row.path)) ∷ []
 folder_made job object rows contents bytes position row it more =
-    let one = distinct_here rows contents position row it in
+    let one = distinct_here it in
     after_content job object rows bytes position (with_folder position) (MakeFolder (codes "content" ∷ take position.directories row.path))
-    (with_next_folder _ position _ _ (content_is rows bytes position.stored row one)
-    (folder_at _ row.path position.directories more) (new_folders rows bytes position row one it.at))
+    (with_next_folder _ position _ _ (content_is rows bytes position.stored one)
+    (folder_at row.path position.directories more) (new_folders bytes row one it.at))
 
 all_stand : (row : Row) (directories : ℕ) → length row.path ≤ directories → length (folders_above (stored_at row)) ≤ directories
 all_stand row directories stand = let many = folders_many (codes "content") row.path in omega (arith, many, stand)
@@ -97,7 +97,7 @@ pub file_next : (job : Job) (object : Object) (rows : List Row) (contents : List
     → IsNext (script_of_object job object rows bytes) (made_before job object rows bytes (part.Content position)) (MakeFile (in_content row.path) (bytes row.path))
 file_next job object rows contents bytes position row it stand =
     next_content job object rows bytes position (MakeFile (stored_at row) (bytes row.path))
-    (next_file _ position _ (content_is rows bytes position.stored row (distinct_here rows contents position row it)) (all_stand row position.directories stand))
+    (next_file _ position _ (content_is rows bytes position.stored (distinct_here it)) (all_stand row position.directories stand))
 
 -- ---- the file is made
 
@@ -115,9 +115,9 @@ standing_made rows bytes stored row is order (Some next) there =
     let within : list_all (λ folder. leads folder (stored_at row)) (take k (folders_above (stored_at next))) ≡ true =
     ap (λ n. list_all (λ folder. leads folder (stored_at row)) (take n (folders_above (stored_at next)))) (sym (shared_in_content row.path next.path parts)) ∙ within_shared (stored_at row) (stored_at next) in
     let all : list_all (λ folder. leads_to (take (suc stored) files) folder) (take k (folders_above (stored_at next))) ≡ true =
-    all_then (λ folder. leads folder (stored_at row)) (λ folder. leads_to (take (suc stored) files) folder) (λ folder h. last_leads files stored (stored_at row, bytes row.path) folder (content_is rows bytes stored row is) h) (take k (folders_above (stored_at next))) within in
+    all_then (λ folder. leads folder (stored_at row)) (λ folder. leads_to (take (suc stored) files) folder) (λ folder h. last_leads files stored (stored_at row, bytes row.path) folder (content_is rows bytes stored is) h) (take k (folders_above (stored_at next))) within in
     ap (λ n. folders_before (take (suc stored) files) n (slice_get files (suc stored))) number
-    ∙ ap (folders_before (take (suc stored) files) k) (content_is rows bytes (suc stored) next there)
+    ∙ ap (folders_before (take (suc stored) files) k) (content_is rows bytes (suc stored) there)
     ∙ no_folders_before _ k _ (λ file same. ap (λ (f : File). list_all (λ folder. leads_to (take (suc stored) files) folder) (take k (folders_above f.0))) (sym (some_same (stored_at next, bytes next.path) file same)) ∙ all)
   where
     last_leads : (files : List File) (n : ℕ) (file : File) (folder : Path) → slice_get files n ≡ Some file → leads folder file.0 ≡ true → leads_to (take (suc n) files) folder ≡ true
@@ -138,7 +138,7 @@ standing_made rows bytes stored row is order (Some next) there =
 pub file_made : (job : Job) (object : Object) (rows : List Row) (contents : List Content) (bytes : Path → List ℕ) (position : Position) (row : Row) → IsHere rows contents position row → length row.path ≤ position.directories
     → made_before job object rows bytes (part.Content (behind_stored contents position row.path)) ≡ made_before job object rows bytes (part.Content position) ++ MakeFile (in_content row.path) (bytes row.path) ∷ []
 file_made job object rows contents bytes position row it stand =
-    let one = distinct_here rows contents position row it in
+    let one = distinct_here it in
     let next = behind_stored contents position row.path in
     let add : position.stored + 1 ≡ suc position.stored = omega arith in
     let none : folders_before (take (suc position.stored) (contents_of rows bytes)) next.directories (slice_get (contents_of rows bytes) (suc position.stored)) ≡ [] =
@@ -146,7 +146,7 @@ file_made job object rows contents bytes position row it stand =
     ∙ ap (λ n. folders_before (take (suc position.stored) (contents_of rows bytes)) (standing row.path (slice_get (map content_of_row (distinct rows)) n)) (slice_get (contents_of rows bytes) (suc position.stored))) add
     ∙ standing_made rows bytes position.stored row one it.order _ refl in
     after_content job object rows bytes position next _
-    (with_next_file _ position _ next.row next.directories (content_is rows bytes position.stored row one) (all_stand row position.directories stand) none)
+    (with_next_file _ position _ next.row next.directories (content_is rows bytes position.stored one) (all_stand row position.directories stand) none)
 
 -- ---- with other bytes of that file
 
@@ -164,16 +164,16 @@ fronts_same rows bytes read n row order is =
     ap (take n) (files_as bytes some) ∙ take_map (content bytes) n some ∙ same_contents bytes row.path read (take n some) before ∙ sym (take_map (content (with_bytes row.path read bytes)) n some) ∙ ap (take n) (sym (files_as _ some))
 
 -- what is made before it doesn't tell its bytes
-made_same : (job : Job) (object : Object) (rows : List Row) (contents : List Content) (bytes : Path → List ℕ) (read : List ℕ) (position : Position) (row : Row) → IsHere rows contents position row
+made_same : (job : Job) (object : Object) (rows : List Row) {contents : List Content} (bytes : Path → List ℕ) (read : List ℕ) (position : Position) (row : Row) → IsHere rows contents position row
     → made_before job object rows bytes (part.Content position) ≡ made_before job object rows (with_bytes row.path read bytes) (part.Content position)
-made_same job object rows contents bytes read position row it =
-    let one = distinct_here rows contents position row it in
+made_same job object rows bytes read position row it =
+    let one = distinct_here it in
     let later = with_bytes row.path read bytes in
     let fronts = fronts_same rows bytes read position.stored row it.order one in
     let same : contents_before (contents_of rows bytes) position ≡ contents_before (contents_of rows later) position =
-    ap (λ (o : Option File). files_items [] (take position.stored (contents_of rows bytes)) ++ folders_before (take position.stored (contents_of rows bytes)) position.directories o) (content_is rows bytes position.stored row one)
+    ap (λ (o : Option File). files_items [] (take position.stored (contents_of rows bytes)) ++ folders_before (take position.stored (contents_of rows bytes)) position.directories o) (content_is rows bytes position.stored one)
     ∙ ap (λ (l : List File). files_items [] l ++ folders_before l position.directories (Some (stored_at row, later row.path))) fronts
-    ∙ ap (λ (o : Option File). files_items [] (take position.stored (contents_of rows later)) ++ folders_before (take position.stored (contents_of rows later)) position.directories o) (sym (content_is rows later position.stored row one)) in
+    ∙ ap (λ (o : Option File). files_items [] (take position.stored (contents_of rows later)) ++ folders_before (take position.stored (contents_of rows later)) position.directories o) (sym (content_is rows later position.stored one)) in
     ap (λ (l : List Item). map (item_in staging) (take 3 (object_items job.algorithm (inventory_text object.id rows job.meta job.algorithm) (stored_files rows bytes)) ++ map (item_in version_folder) l)) same
 
 -- so with what was read of it the file that was copied is the item
@@ -182,8 +182,8 @@ pub copy_made : (job : Job) (object : Object) (rows : List Row) (contents : List
     ≡ made_before job object rows (with_bytes_of (slice_get rows position.row) read bytes) (part.Content (behind_stored contents position row.path))
 copy_made job object rows contents bytes read position row it stand =
     let later = with_bytes row.path read bytes in
-    ap (λ l. l ++ MakeFile (in_content row.path) read ∷ []) (made_same job object rows contents bytes read position row it)
-    ∙ ap (λ b. made_before job object rows later (part.Content position) ++ MakeFile (in_content row.path) b ∷ []) (now_held row.path read bytes)
+    ap (λ l. l ++ MakeFile (in_content row.path) read ∷ []) (made_same job object rows bytes read position row it)
+    ∙ ap (λ b. made_before job object rows later (part.Content position) ++ MakeFile (in_content row.path) b ∷ []) (now_held row.path bytes)
     ∙ sym (file_made job object rows contents later position row it stand)
     ∙ ap (λ (o : Option Row). made_before job object rows (with_bytes_of o read bytes) (part.Content (behind_stored contents position row.path))) (sym it.is)
 

@@ -31,23 +31,23 @@ top_stands : (tuples : Tuples) (root : Tree) (top : Option Entry) → root [] �
 top_stands tuples root None is = (Folder, refl)
 top_stands tuples root (Some entry) is = (entry, is)
 
-or_other : (here : Option Entry) (entry : Entry) (other : Option Entry) → here ≡ Some entry → option_or here other ≡ Some entry
-or_other here entry other is = ap (λ (o : Option Entry). option_or o other) is
+or_other : {here : Option Entry} {entry : Entry} (other : Option Entry) → here ≡ Some entry → option_or here other ≡ Some entry
+or_other other is = ap (λ (o : Option Entry). option_or o other) is
 
 -- something stands at the root's top
 root_top : (job : Job) (start : Tree) (placed : List Carried) → (entry : Entry) × (root_now job start placed [] ≡ Some entry)
 root_top job start placed =
     let top = top_stands job.tuples (root_in start) _ refl in
-    (top.0, or_other _ top.0 _ top.1)
+    (top.0, or_other _ top.1)
 
-no_folder : (root : Tree) (top : Entry) → root [] ≡ Some top → (path : Path) → option_or (root path) (folder_where (is_some (rest_below path []))) ≡ root path
-no_folder root top is [] = or_other (root []) top (Some Folder) is ∙ sym is
-no_folder root top is (name ∷ path) = or_nothing (root (name ∷ path))
+no_folder : (root : Tree) {top : Entry} → root [] ≡ Some top → (path : Path) → option_or (root path) (folder_where (is_some (rest_below path []))) ≡ root path
+no_folder root is [] = or_other (Some Folder) is ∙ sym is
+no_folder root is (name ∷ path) = or_nothing (root (name ∷ path))
 
 pub no_folders : (job : Job) (start : Tree) (placed : List Carried) (place : Path) → root_on_way job start placed place 0 ≡ root_now job start placed
 no_folders job start placed place =
     let top = root_top job start placed in
-    λ i path. no_folder (root_now job start placed) top.0 top.1 path i
+    λ i path. no_folder (root_now job start placed) top.1 path i
 
 -- ---- from phase to phase
 
@@ -60,8 +60,8 @@ no_kind None is = refl
 no_kind (Some entry) is = absurd (cc)
 
 -- nothing stands at the place of a new object
-new_making : (job : Job) (start : Tree) (placed : List Carried) (object : Object) (now : Writing) → option_map kind_of_entry (now.tree (in_root object.place)) ≡ None → IsBetweenObjects job start placed now → IsMakingObject job start placed object [] 0 now
-new_making job start placed object now is it = record {
+new_making : (job : Job) (start : Tree) (placed : List Carried) (object : Object) {now : Writing} → option_map kind_of_entry (now.tree (in_root object.place)) ≡ None → IsBetweenObjects job start placed now → IsMakingObject job start placed object [] 0 now
+new_making job start placed object is it = record {
   root = it.root;
   came = it.came;
   free = sym (ap (λ (t : Tree). t (in_root object.place)) it.tree) ∙ no_kind _ is;
@@ -69,35 +69,35 @@ new_making job start placed object now is it = record {
 }
 
 -- with one more directory counted
-counted : {job : Job} {start : Tree} {placed : List Carried} (object : Object) (empty : ℕ) {now : Writing} → IsMakingObject job start placed object [] 0 now → IsMakingObject job start placed (record object { empty = empty }) [] 0 now
-counted object empty it = record { root = it.root; came = it.came; free = it.free; tree = it.tree }
+counted : {job : Job} {start : Tree} {placed : List Carried} {object : Object} (empty : ℕ) {now : Writing} → IsMakingObject job start placed object [] 0 now → IsMakingObject job start placed (record object { empty = empty }) [] 0 now
+counted empty it = record { root = it.root; came = it.came; free = it.free; tree = it.tree }
 
 -- ---- no turn of the walk or the scan changes the destination
 
-walks_same : {job : Job} {prefix : List ℕ} (old new : Writing) {here next : Phase} {held after : Held} {calls : Calls} → Walks job prefix here held after calls (Ok next) → Changes calls.change (Some old) (Some new) → Some new ≡ Some old
+walks_same : {job : Job} {prefix : List ℕ} {old new : Writing} {here next : Phase} {held after : Held} {calls : Calls} → Walks job prefix here held after calls (Ok next) → Changes calls.change (Some old) (Some new) → Some new ≡ Some old
 unfolding Changes
-walks_same old new (IsPresent was index id kind is) change = change.1
-walks_same old new (IsNew was index id is) change = change.1
-walks_same old new turn change = change
+walks_same (IsPresent was index id kind is) change = change.1
+walks_same (IsNew was index id is) change = change.1
+walks_same turn change = change
 
-scans_same : {job : Job} (old new : Writing) {here next : Phase} {held after : Held} {calls : Calls} → Scans job here held after calls (Ok next) → Changes calls.change (Some old) (Some new) → Some new ≡ Some old
+scans_same : {job : Job} {old new : Writing} {here next : Phase} {held after : Held} {calls : Calls} → Scans job here held after calls (Ok next) → Changes calls.change (Some old) (Some new) → Some new ≡ Some old
 unfolding Changes
-scans_same old new (StartsInSite was object gathered) change = change
-scans_same old new turn change = change
+scans_same (StartsInSite was object gathered) change = change
+scans_same turn change = change
 
 -- ---- so what holds of it goes on to hold
 
 walks_keep : {job : Job} (start : Tree) (past : Past) (old new : Writing) {prefix : List ℕ} {here next : Phase} {held after : Held} {calls : Calls} → Walks job prefix here held after calls (Ok next)
     → Changes calls.change (Some old) (Some new) → DestAt job start past here held old → DestAt job start (past_after here next held past) next after old
 unfolding Changes IsKindAt
-walks_keep {job} start past old new (IsNew was index id is) change at = new_making job start past.placed _ old (change.0 old refl) at
+walks_keep {job} start past old new (IsNew was index id is) change at = new_making job start past.placed _ (change.0 old refl) at
 walks_keep start past old new turn change at = at
 
 scans_keep : {job : Job} (start : Tree) (past : Past) (old : Writing) {here next : Phase} {held after : Held} {calls : Calls} → Scans job here held after calls (Ok next)
     → DestAt job start past here held old → DestAt job start (past_after here next held past) next after old
-scans_keep start past old (EntersObject was object items apart shallow) at = counted object _ at
+scans_keep start past old (EntersObject was object items apart shallow) at = counted _ at
 scans_keep start past old (IsTooDeep was object apart deep) at = given_up at
-scans_keep start past old (EntersDirectory was object name items e apart shallow) at = counted object _ at
+scans_keep start past old (EntersDirectory was object name items e apart shallow) at = counted _ at
 scans_keep start past old (MeetsDeep was object name e apart deep) at = given_up at
 scans_keep start past old (MeetsLimit was object name e room) at = given_up at
 scans_keep start past old (MeetsOther was object name e) at = given_up at
@@ -106,10 +106,10 @@ scans_keep start past old turn at = at
 
 pub walks_dest : WalkingKeepsDest
 walks_dest job past start old new prefix here next held after calls turn change at part =
-    subst (DestPart job (past_after here next held past) next after start) (sym (some_same new old (walks_same old new turn change)))
+    subst (DestPart job (past_after here next held past) next after start) (sym (some_same new old (walks_same turn change)))
     (record { started = part.started; tree = part.tree; at = walks_keep start past old new turn change part.at })
 
 pub scans_dest : ScanningKeepsDest
 scans_dest job past start old new here next held after calls turn change at part =
-    subst (DestPart job (past_after here next held past) next after start) (sym (some_same new old (scans_same old new turn change)))
+    subst (DestPart job (past_after here next held past) next after start) (sym (some_same new old (scans_same turn change)))
     (record { started = part.started; tree = part.tree; at = scans_keep start past old turn part.at })

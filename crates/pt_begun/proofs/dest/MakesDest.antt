@@ -45,13 +45,13 @@ use Rattle.pt_begun.proofs.dest.Trees.{tree_added, tree_put}
 
 -- ---- an item may be made, and is
 
-pub fresh_root : (start root : Tree) → IsTree start → IsFree start staging → IsFresh (with_root start root)
-fresh_root start root tree free = record { top = tree.top; free = λ q. free q }
+pub fresh_root : {start : Tree} (root : Tree) → IsTree start → IsFree start staging → IsFresh (with_root start root)
+fresh_root root tree free = record { top = tree.top; free = λ q. free q }
 
 -- the whole script may be made
 pub script_may : (job : Job) (start root : Tree) (object : Object) (rows : List Row) (bytes : Path → List ℕ) → IsTree start → IsFree start staging → part_in_order (row_paths rows) ≡ true → CanBeMadeInTurn (script_of_object job object rows bytes) (with_root start root)
 script_may job start root object rows bytes tree free order =
-    script_of_rows_can_be_made object.id rows bytes job.meta job.algorithm (with_root start root) (in_order_apart (row_paths rows) order) (fresh_root start root tree free)
+    script_of_rows_can_be_made object.id rows bytes job.meta job.algorithm (with_root start root) (in_order_apart (row_paths rows) order) (fresh_root root tree free)
 
 -- the next item may be made
 pub item_may : (job : Job) (start : Tree) (placed : List Carried) (object : Object) (rows : List Row) (bytes : Path → List ℕ) (front : List Item) (item : Item) (now : Writing) → IsTree start → part_in_order (row_paths rows) ≡ true → IsNext (script_of_object job object rows bytes) front item
@@ -59,7 +59,7 @@ pub item_may : (job : Job) (start : Tree) (placed : List Carried) (object : Obje
 item_may job start placed object rows bytes front item now tree order next it =
     let root = root_on_way job start placed object.place 0 in
     subst (λ (t : Tree). CanMake t (item_path item)) (sym it.tree)
-    (next_may _ front item _ (script_may job start root object rows bytes tree it.root.free order) next)
+    (next_may front item _ (script_may job start root object rows bytes tree it.root.free order) next)
 
 -- with it
 pub with_item : (job : Job) (start : Tree) (placed : List Carried) (object : Object) (front : List Item) (item : Item) (old new : Writing) → new.tree ≡ done item old.tree → IsMakingObject job start placed object front 0 old → IsMakingObject job start placed object (front ++ item ∷ []) 0 new
@@ -71,21 +71,21 @@ with_item job start placed object front item old new is it = record {
 }
 
 -- what is made may be said otherwise
-said : (job : Job) (start : Tree) (placed : List Carried) (object : Object) (items others : List Item) (now : Writing) → items ≡ others → IsMakingObject job start placed object items 0 now → IsMakingObject job start placed object others 0 now
-said job start placed object items others now same it = subst (λ (l : List Item). IsMakingObject job start placed object l 0 now) same it
+said : {job : Job} {start : Tree} {placed : List Carried} {object : Object} {items others : List Item} {now : Writing} → items ≡ others → IsMakingObject job start placed object items 0 now → IsMakingObject job start placed object others 0 now
+said {job} {start} {placed} {object} {now} same it = subst (λ (l : List Item). IsMakingObject job start placed object l 0 now) same it
 
 -- a part was made
-part_made : (job : Job) (past : Past) (start : Tree) (object : Object) (here : Part) (held after : Held) (old new : Writing) (item : Item) (line : Option Line) (next : Part) → HeldAt job past (phase.Make object here) held → after.rows ≡ held.rows → new ≡ after_make item old
+part_made : {job : Job} {past : Past} {start : Tree} {object : Object} {here : Part} {held after : Held} {old new : Writing} {item : Item} {next : Part} → HeldAt job past (phase.Make object here) held → after.rows ≡ held.rows → new ≡ after_make item old
     → IsNext (script_of_object job object held.rows past.bytes) (made_before job object held.rows past.bytes here) item
     → made_before job object held.rows past.bytes here ++ item ∷ [] ≡ made_before job object held.rows past.bytes next
     → DestPart job past (phase.Make object here) held start old → DestPart job (past_after (phase.Make object here) (phase.Make object next) held past) (phase.Make object next) after start new
-part_made job past start object here held after old new item line next at rows change is more part =
+part_made {job} {past} {start} {object} {held} {old} {new} {item} {next} at rows change is more part =
     let tree_is : new.tree ≡ done item old.tree = ap (λ (w : Writing). w.tree) change ∙ tree_made item old in
     let may = item_may job start past.placed object held.rows past.bytes _ item old part.started at.rows.order is part.at in
     record {
       started = part.started;
       tree = subst IsTree (sym tree_is) (tree_put old.tree _ (item_entry item) part.tree may);
-      at = said job start past.placed object _ _ new (more ∙ ap (λ (l : List Row). made_before job object l past.bytes next) (sym rows))
+      at = said (more ∙ ap (λ (l : List Row). made_before job object l past.bytes next) (sym rows))
           (with_item job start past.placed object _ item old new tree_is part.at);
     }
 
@@ -95,7 +95,7 @@ pub is_here : (job : Job) (past : Past) (object : Object) (position : Position) 
 is_here job past object position held row at is stored = record { are = at.rows.contents; order = at.rows.order; is = is; stored = stored; at = at.numbers }
 
 pub copy_here : (job : Job) (past : Past) (object : Object) (position : Position) (left : ℕ) (held : Held) (row : Row) → HeldAt job past (phase.Copy object position left) held → slice_get held.rows position.row ≡ Some row → IsHere held.rows held.contents position row
-copy_here job past object position left held row at is = record { are = at.rows.contents; order = at.rows.order; is = is; stored = its_next held position row is at.numbers; at = at.numbers.at }
+copy_here job past object position left held row at is = record { are = at.rows.contents; order = at.rows.order; is = is; stored = its_next row is at.numbers; at = at.numbers.at }
 
 pub copy_stands : (held : Held) (position : Position) (row : Row) → slice_get held.rows position.row ≡ Some row → IsAtStoredRow held position → length row.path ≤ position.directories
 copy_stands held position row is it =
@@ -104,10 +104,10 @@ copy_stands held position row is it =
 
 -- ---- a file is copied
 
-opened : (job : Job) (past : Past) (start : Tree) (object : Object) (position : Position) (held : Held) (old new : Writing) (line : Option Line) (row : Row) → HeldAt job past (phase.Make object (a_part.Content position)) held → slice_get held.rows position.row ≡ Some row
+opened : (job : Job) (past : Past) (start : Tree) (object : Object) (position : Position) (held : Held) (old new : Writing) (row : Row) → HeldAt job past (phase.Make object (a_part.Content position)) held → slice_get held.rows position.row ≡ Some row
     → is_stored held.contents position.stored row.path ≡ true → nat_lt position.directories (length row.path) ≡ false → new ≡ after_create (in_content row.path) old → DestPart job past (phase.Make object (a_part.Content position)) held start old
     → DestPart job (past_after (phase.Make object (a_part.Content position)) (phase.Copy object position row.length) held past) (phase.Copy object position row.length) (with_fed held []) start new
-opened job past start object position held old new line row at is stored all change part =
+opened job past start object position held old new row at is stored all change part =
     let front = made_before job object held.rows past.bytes (a_part.Content position) in
     let next = file_next job object held.rows held.contents past.bytes position row (is_here job past object position held row at is stored) (ltb-false position.directories (length row.path) all) in
     let may = item_may job start past.placed object held.rows past.bytes front _ old part.started at.rows.order next part.at in
@@ -146,10 +146,10 @@ copied job past start object position left more held old new line piece change p
       };
     }
 
-closed : (job : Job) (past : Past) (start : Tree) (object : Object) (position : Position) (left : ℕ) (held : Held) (old new : Writing) (line : Option Line) (row : Row) → HeldAt job past (phase.Copy object position left) held → slice_get held.rows position.row ≡ Some row
+closed : (job : Job) (past : Past) (start : Tree) (object : Object) (position : Position) (left : ℕ) (held : Held) (old new : Writing) (row : Row) → HeldAt job past (phase.Copy object position left) held → slice_get held.rows position.row ≡ Some row
     → new ≡ after_finish old → DestPart job past (phase.Copy object position left) held start old
     → DestPart job (past_after (phase.Copy object position left) (phase.Make object (content_at held.rows (behind_stored held.contents position row.path))) held past) (phase.Make object (content_at held.rows (behind_stored held.contents position row.path))) (with_fed held []) start new
-closed job past start object position left held old new line row at is change part =
+closed job past start object position left held old new row at is change part =
     let here = copy_here job past object position left held row at is in
     let next = behind_stored held.contents position row.path in
     let later = with_bytes_of (slice_get held.rows position.row) held.fed past.bytes in
@@ -182,21 +182,21 @@ top_folder job start placed tree root = ap (λ (o : Option Entry). option_or o (
 pub top_on_way : (job : Job) (start : Tree) (placed : List Carried) (place : Path) (n : ℕ) → IsTree start → IsRootOfStart job start → root_on_way job start placed place n [] ≡ Some Folder
 top_on_way job start placed place n tree root = ap (λ (o : Option Entry). option_or o (folder_where (is_some (rest_below [] (take n place))))) (top_folder job start placed tree root)
 
-no_folders_yet : (job : Job) (start : Tree) (placed : List Carried) (place : Path) → IsTree start → IsRootOfStart job start → HasFoldersTo job start placed place 0
-no_folders_yet job start placed place tree root zero within = top_on_way job start placed place 0 tree root
-no_folders_yet job start placed place tree root (suc i) within = absurd (omega (arith, within))
+no_folders_yet : (job : Job) {start : Tree} (placed : List Carried) (place : Path) → IsTree start → IsRootOfStart job start → HasFoldersTo job start placed place 0
+no_folders_yet job {start} placed place tree root zero within = top_on_way job start placed place 0 tree root
+no_folders_yet job placed place tree root (suc i) within = absurd (omega (arith, within))
 
-finished : (job : Job) (past : Past) (start : Tree) (object : Object) (held : Held) (old new : Writing) (line : Option Line) (flat : Bool) → (job.tuples.count == 0) ≡ flat → HeldAt job past (phase.Make object a_part.Sidecar) held → new ≡ after_make (sidecar_file job object held.rows staging) old
+finished : (job : Job) (past : Past) (start : Tree) (object : Object) (held : Held) (old new : Writing) (flat : Bool) → (job.tuples.count == 0) ≡ flat → HeldAt job past (phase.Make object a_part.Sidecar) held → new ≡ after_make (sidecar_file job object held.rows staging) old
     → DestPart job past (phase.Make object a_part.Sidecar) held start old
     → DestPart job (past_after (phase.Make object a_part.Sidecar) (cond flat (phase.Rename object) (phase.Tuples object 0)) held past) (cond flat (phase.Rename object) (phase.Tuples object 0)) (with_fed held []) start new
-finished job past start object held old new line flat is at change part =
+finished job past start object held old new flat is at change part =
     let item = sidecar_file job object held.rows staging in
     let front = made_before job object held.rows past.bytes a_part.Sidecar in
     let tree_is : new.tree ≡ done item old.tree = ap (λ (w : Writing). w.tree) change ∙ tree_made item old in
     let may = item_may job start past.placed object held.rows past.bytes front item old part.started at.rows.order (next_fourth job object held.rows past.bytes) part.at in
     let tree = subst IsTree (sym tree_is) (tree_put old.tree _ (item_entry item) part.tree may) in
-    let all = said job start past.placed object _ _ new (sym (after_fourth job object held.rows past.bytes)) (with_item job start past.placed object front item old new tree_is part.at) in
-    let folders = no_folders_yet job start past.placed object.place part.started part.at.root in
+    let all = said (sym (after_fourth job object held.rows past.bytes)) (with_item job start past.placed object front item old new tree_is part.at) in
+    let folders = no_folders_yet job past.placed object.place part.started part.at.root in
     by flat is tree all folders
   where
     by : (b : Bool) → (job.tuples.count == 0) ≡ b → IsTree new.tree → IsMakingObject job start past.placed object (script_of_object job object held.rows past.bytes) 0 new → HasFoldersTo job start past.placed object.place 0
@@ -214,31 +214,31 @@ finished job past start object held old new line flat is at change part =
 
 pub makes_dest : MakingKeepsDest
 unfolding Changes
-makes_dest job past start old new here held after calls next (MakesStaging was object) change at dest = part_made job past start object a_part.Staging was was old new _ None a_part.Declaration at refl (some_same new (after_make (MakeFolder staging) old) change) (next_staging job object was.rows past.bytes) refl dest
-makes_dest job past start old new here held after calls next (MakesDeclaration was object) change at dest = part_made job past start object a_part.Declaration was was old new _ None a_part.Version at refl (some_same new (after_make (MakeFile (staging ++ object_declaration_name ∷ []) object_declaration_bytes) old) change) (next_declaration job object was.rows past.bytes) refl dest
+makes_dest job past start old new here held after calls next (MakesStaging was object) change at dest = part_made at refl (some_same new (after_make (MakeFolder staging) old) change) (next_staging job object was.rows past.bytes) refl dest
+makes_dest job past start old new here held after calls next (MakesDeclaration was object) change at dest = part_made at refl (some_same new (after_make (MakeFile (staging ++ object_declaration_name ∷ []) object_declaration_bytes) old) change) (next_declaration job object was.rows past.bytes) refl dest
 makes_dest job past start old new here held after calls next (MakesVersion was object) change at dest =
-    part_made job past start object a_part.Version was was old new _ None _ at refl (some_same new (after_make (MakeFolder (in_version [])) old) change) (next_version job object was.rows past.bytes)
+    part_made at refl (some_same new (after_make (MakeFolder (in_version [])) old) change) (next_version job object was.rows past.bytes)
     (sym (made_first job object was.rows past.bytes) ∙ sym (made_at job object was.rows past.bytes (record { row = 0; stored = 0; directories = 0 }) refl)) dest
 makes_dest job past start old new here held after calls next (PassesRow was object position row is other) change at dest =
     let same : made_before job object was.rows past.bytes (a_part.Content position) ≡ made_before job object was.rows past.bytes (content_at was.rows (behind position)) =
     sym (made_at job object was.rows past.bytes (behind position) (stored_passed was.rows was.contents position row at.rows.contents at.rows.order is other at.numbers)) in
     subst (λ (w : Writing). DestPart job (past_after here next was past) next was start w) (sym (some_same new old change))
-    (record { started = dest.started; tree = dest.tree; at = said job start past.placed object _ _ old same dest.at })
+    (record { started = dest.started; tree = dest.tree; at = said same dest.at })
 makes_dest job past start old new here held after calls next (MakesFolder was object position row is stored more) change at dest =
     let one = is_here job past object position was row at is stored in
     let less = ltb-true position.directories (length row.path) more in
-    part_made job past start object _ was was old new _ None _ at refl (some_same new (after_make (MakeFolder (in_content (take position.directories row.path))) old) change)
+    part_made at refl (some_same new (after_make (MakeFolder (in_content (take position.directories row.path))) old) change)
     (folder_next job object was.rows was.contents past.bytes position row one less) (sym (folder_made job object was.rows was.contents past.bytes position row one less)) dest
-makes_dest job past start old new here held after calls next (OpensCopy was object position row is stored all) change at dest = opened job past start object position was old new None row at is stored all (some_same new (after_create (in_content row.path) old) change) dest
+makes_dest job past start old new here held after calls next (OpensCopy was object position row is stored all) change at dest = opened job past start object position was old new row at is stored all (some_same new (after_create (in_content row.path) old) change) dest
 makes_dest job past start old new here held after calls next (CopiesOn was object position left byte block fits) change at dest = copied job past start object position left _ was old new None (byte ∷ block) (some_same new (after_append (byte ∷ block) old) change) dest
-makes_dest job past start old new here held after calls next (EndsCopy was object position row left is same) change at dest = closed job past start object position left was old new None row at is (some_same new (after_finish old) change) dest
+makes_dest job past start old new here held after calls next (EndsCopy was object position row left is same) change at dest = closed job past start object position left was old new row at is (some_same new (after_finish old) change) dest
 makes_dest job past start old new here held after calls next (MakesVersionInventory was object) change at dest =
-    part_made job past start object a_part.VersionInventory was _ old new _ None a_part.VersionSidecar at refl (some_same new (after_make (inventory_file job object was.rows (in_version [])) old) change)
+    part_made at refl (some_same new (after_make (inventory_file job object was.rows (in_version [])) old) change)
     (next_first job object was.rows past.bytes) (sym (after_first job object was.rows past.bytes)) dest
 makes_dest job past start old new here held after calls next (MakesVersionSidecar was object) change at dest =
-    part_made job past start object a_part.VersionSidecar was _ old new _ None a_part.Inventory at refl (some_same new (after_make (sidecar_file job object was.rows (in_version [])) old) change)
+    part_made at refl (some_same new (after_make (sidecar_file job object was.rows (in_version [])) old) change)
     (next_second job object was.rows past.bytes) (sym (after_second job object was.rows past.bytes)) dest
 makes_dest job past start old new here held after calls next (MakesInventory was object) change at dest =
-    part_made job past start object a_part.Inventory was _ old new _ None a_part.Sidecar at refl (some_same new (after_make (inventory_file job object was.rows staging) old) change)
+    part_made at refl (some_same new (after_make (inventory_file job object was.rows staging) old) change)
     (next_third job object was.rows past.bytes) (sym (after_third job object was.rows past.bytes)) dest
-makes_dest job past start old new here held after calls next (MakesSidecar was object) change at dest = finished job past start object was old new None _ refl at (some_same new (after_make (sidecar_file job object was.rows staging) old) change) dest
+makes_dest job past start old new here held after calls next (MakesSidecar was object) change at dest = finished job past start object was old new _ refl at (some_same new (after_make (sidecar_file job object was.rows staging) old) change) dest

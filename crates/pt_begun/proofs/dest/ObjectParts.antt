@@ -124,7 +124,7 @@ module _ (job : Job) (object : Object) (rows : List Row) (bytes : Path → List 
   pub next_content : (position : Position) (item : Item) → IsNext contents (contents_before (contents_of rows bytes) position) item → IsNext script (made_before job object rows bytes (part.Content position)) (item_in staging (item_in version_folder item))
   next_content position item next =
       next_in staging all_items _ _
-      (next_within first_three in_version_folder _ last_four _
+      (next_within first_three _ last_four _
       (next_in version_folder contents _ item next))
 
   -- of the last four
@@ -181,14 +181,14 @@ module _ (job : Job) (object : Object) (rows : List Row) (bytes : Path → List 
 
   -- what is made before any part is a front of the script
   pub front_made : (here : Part) → IsFront script (made_before job object rows bytes here)
-  front_made part.Staging = front_next script _ _ next_staging
-  front_made part.Declaration = front_next script _ _ next_declaration
-  front_made part.Version = front_next script _ _ next_version
+  front_made part.Staging = front_next next_staging
+  front_made part.Declaration = front_next next_declaration
+  front_made part.Version = front_next next_version
   front_made (part.Content position) =
-      front_in staging all_items _
-      (front_within first_three in_version_folder _ last_four
-      (front_in version_folder contents _ (contents_front _ position)))
-  front_made part.VersionInventory = front_next script _ _ next_first
-  front_made part.VersionSidecar = front_next script _ _ next_second
-  front_made part.Inventory = front_next script _ _ next_third
-  front_made part.Sidecar = front_next script _ _ next_fourth
+      front_in staging
+      (front_within first_three _ last_four
+      (front_in version_folder (contents_front _ position)))
+  front_made part.VersionInventory = front_next next_first
+  front_made part.VersionSidecar = front_next next_second
+  front_made part.Inventory = front_next next_third
+  front_made part.Sidecar = front_next next_fourth

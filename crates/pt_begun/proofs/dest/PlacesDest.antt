@@ -49,20 +49,20 @@ use Rattle.pt_begun.proofs.dest.Trees.{tree_moved, tree_put}
 abbrev object_made : Job → Object → List Row → (Path → List ℕ) → Tree
 object_made job object rows bytes = object_of_rows object.id rows bytes job.meta job.algorithm
 
-whole : (job : Job) (past : Past) (start root : Tree) (object : Object) (held : Held) → IsTree start → IsFree start staging → AreRows job past.bytes held
+whole : (job : Job) (past : Past) {start : Tree} (root : Tree) (object : Object) {held : Held} → IsTree start → IsFree start staging → AreRows job past.bytes held
     → made (script_of_object job object held.rows past.bytes) (with_root start root) ≡ in_place (with_root start root) staging (object_made job object held.rows past.bytes)
-whole job past start root object held tree free rows =
-    script_of_rows_makes_the_object object.id held.rows past.bytes job.meta job.algorithm (with_root start root) (in_order_apart (row_paths held.rows) rows.order) (fresh_root start root tree free)
+whole job past {start} root object {held} tree free rows =
+    script_of_rows_makes_the_object object.id held.rows past.bytes job.meta job.algorithm (with_root start root) (in_order_apart (row_paths held.rows) rows.order) (fresh_root root tree free)
 
 -- the destination holds it beside the root
-stands_so : (job : Job) (past : Past) (start : Tree) (object : Object) (held : Held) (n : ℕ) (now : Writing) → IsTree start → AreRows job past.bytes held → IsMakingObject job start past.placed object (script_of_object job object held.rows past.bytes) n now
+stands_so : {job : Job} (past : Past) {start : Tree} {object : Object} {held : Held} {n : ℕ} {now : Writing} → IsTree start → AreRows job past.bytes held → IsMakingObject job start past.placed object (script_of_object job object held.rows past.bytes) n now
     → now.tree ≡ in_place (with_root start (root_on_way job start past.placed object.place n)) staging (object_made job object held.rows past.bytes)
-stands_so job past start object held n now tree rows it = it.tree ∙ whole job past start _ object held tree it.root.free rows
+stands_so {job} past {object} tree rows it = it.tree ∙ whole job past _ object tree it.root.free rows
 
 -- at a path of the root it has what the root has
 pub at_root : (job : Job) (past : Past) (start : Tree) (object : Object) (held : Held) (n : ℕ) (now : Writing) (path : Path) → IsTree start → AreRows job past.bytes held → IsMakingObject job start past.placed object (script_of_object job object held.rows past.bytes) n now
     → now.tree (storage_root ++ path) ≡ root_on_way job start past.placed object.place n path
-at_root job past start object held n now path tree rows it = ap (λ (t : Tree). t (storage_root ++ path)) (stands_so job past start object held n now tree rows it)
+at_root job past start object held n now path tree rows it = ap (λ (t : Tree). t (storage_root ++ path)) (stands_so past tree rows it)
 
 -- ---- a tuple directory
 
@@ -112,20 +112,20 @@ found_folders job start placed place n name more found folders =
     more_folders job start placed place n (λ i within. sym (ap (λ (t : Tree). t (take i place)) same) ∙ folders i within) (sym (ap (λ (t : Tree). t (take (suc n) place)) same) ∙ found)
 
 -- the next phase
-next_tuple : (job : Job) (past : Past) (start : Tree) (object : Object) (held : Held) (number : ℕ) (new : Writing) (line : Option Line) (more : Bool) → nat_lt (number + 1) job.tuples.count ≡ more → number < job.tuples.count → IsTree start → IsTree new.tree
+next_tuple : (job : Job) (past : Past) {start : Tree} {object : Object} (held : Held) {number : ℕ} (new : Writing) (more : Bool) → nat_lt (number + 1) job.tuples.count ≡ more → number < job.tuples.count → IsTree start → IsTree new.tree
     → IsMakingObject job start past.placed object (script_of_object job object held.rows past.bytes) (suc number) new × HasFoldersTo job start past.placed object.place (suc number)
     → DestPart job (past_after (phase.Tuples object number) (cond more (phase.Tuples object (number + 1)) (phase.Rename object)) held past) (cond more (phase.Tuples object (number + 1)) (phase.Rename object)) held start new
-next_tuple job past start object held number new line true is few started tree it =
+next_tuple job past {start} {object} held {number} new true is few started tree it =
     let next : suc number ≡ number + 1 = omega arith in
     record { started = started; tree = tree; at = subst (λ n. IsMakingObject job start past.placed object (script_of_object job object held.rows past.bytes) n new × HasFoldersTo job start past.placed object.place n) next it }
-next_tuple job past start object held number new line false is few started tree it =
+next_tuple job past {start} {object} held {number} new false is few started tree it =
     let past_it = ltb-false (number + 1) job.tuples.count is in
     let all : suc number ≡ job.tuples.count = omega (arith, past_it, few) in
     record { started = started; tree = tree; at = subst (λ n. IsMakingObject job start past.placed object (script_of_object job object held.rows past.bytes) n new × HasFoldersTo job start past.placed object.place n) all it }
 
-tuple_made : (job : Job) (past : Past) (start : Tree) (object : Object) (held : Held) (number : ℕ) (old new : Writing) (line : Option Line) → HeldAt job past (phase.Tuples object number) held → old.tree (tuple_folder object number) ≡ None → new ≡ after_mkdir (tuple_folder object number) old
+tuple_made : (job : Job) (past : Past) (start : Tree) (object : Object) (held : Held) (number : ℕ) (old new : Writing) → HeldAt job past (phase.Tuples object number) held → old.tree (tuple_folder object number) ≡ None → new ≡ after_mkdir (tuple_folder object number) old
     → DestPart job past (phase.Tuples object number) held start old → DestPart job (past_after (phase.Tuples object number) (after_tuple job object number) held past) (after_tuple job object number) held start new
-tuple_made job past start object held number old new line at none change part =
+tuple_made job past start object held number old new at none change part =
     let few = at.numbers in
     let long = place_long job object at.ends.0 in
     let more : number + 1 ≡ suc number = omega arith in
@@ -140,17 +140,17 @@ tuple_made job past start object held number old new line at none change part =
     let now : new.tree ≡ made (script_of_object job object held.rows past.bytes) (with_root start (root_on_way job start past.placed place (suc number))) =
     tree_is
     ∙ ap (λ n. put old.tree (storage_root ++ take n place) Folder) more
-    ∙ ap (λ (t : Tree). put t (storage_root ++ p) Folder) (stands_so job past start object held number old part.started at.rows part.at.0)
+    ∙ ap (λ (t : Tree). put t (storage_root ++ p) Folder) (stands_so past part.started at.rows part.at.0)
     ∙ put_beside start inside root p Folder
     ∙ ap (λ (t : Tree). in_place (with_root start t) staging inside) grown
-    ∙ sym (whole job past start _ object held part.started part.at.0.root.free at.rows) in
+    ∙ sym (whole job past _ object part.started part.at.0.root.free at.rows) in
     let tree = subst IsTree (sym tree_is) (tree_put old.tree _ Folder part.tree (record { absent = none; in_folder = tuple_parent job past start object held number old few at part })) in
-    next_tuple job past start object held number new line _ refl few part.started tree
+    next_tuple job past held new _ refl few part.started tree
     (record { root = part.at.0.root; came = part.at.0.came; free = part.at.0.free; tree = now }, made_folders job start past.placed place number name.0 name.1 absent part.at.1)
 
-tuple_found : (job : Job) (past : Past) (start : Tree) (object : Object) (held : Held) (number : ℕ) (old new : Writing) (line : Option Line) → HeldAt job past (phase.Tuples object number) held → old.tree (tuple_folder object number) ≡ Some Folder → new ≡ old
+tuple_found : (job : Job) (past : Past) (start : Tree) (object : Object) (held : Held) (number : ℕ) (old new : Writing) → HeldAt job past (phase.Tuples object number) held → old.tree (tuple_folder object number) ≡ Some Folder → new ≡ old
     → DestPart job past (phase.Tuples object number) held start old → DestPart job (past_after (phase.Tuples object number) (after_tuple job object number) held past) (after_tuple job object number) held start new
-tuple_found job past start object held number old new line at folder change part =
+tuple_found job past start object held number old new at folder change part =
     let few = at.numbers in
     let long = place_long job object at.ends.0 in
     let more : number + 1 ≡ suc number = omega arith in
@@ -163,14 +163,14 @@ tuple_found job past start object held number old new line at folder change part
     let tree_is : new.tree ≡ old.tree = ap (λ (w : Writing). w.tree) change in
     let now : new.tree ≡ made (script_of_object job object held.rows past.bytes) (with_root start (root_on_way job start past.placed place (suc number))) =
     tree_is ∙ part.at.0.tree ∙ ap (λ (t : Tree). made (script_of_object job object held.rows past.bytes) (with_root start t)) same in
-    next_tuple job past start object held number new line _ refl few part.started (subst IsTree (sym tree_is) part.tree)
+    next_tuple job past held new _ refl few part.started (subst IsTree (sym tree_is) part.tree)
     (record { root = part.at.0.root; came = part.at.0.came; free = part.at.0.free; tree = now }, found_folders job start past.placed place number name.0 name.1 found part.at.1)
 
 -- ---- the object comes to its place
 
 -- nothing stands at it
-place_absent : (job : Job) (past : Past) (start : Tree) (object : Object) (held : Held) (now : Writing) → HeldAt job past (phase.Rename object) held → DestPart job past (phase.Rename object) held start now → root_on_way job start past.placed object.place job.tuples.count object.place ≡ None
-place_absent job past start object held now at part =
+place_absent : (job : Job) {past : Past} {start : Tree} (object : Object) {held : Held} {now : Writing} → HeldAt job past (phase.Rename object) held → DestPart job past (phase.Rename object) held start now → root_on_way job start past.placed object.place job.tuples.count object.place ≡ None
+place_absent job object at part =
     let long = place_long job object at.ends.0 in
     let name = name_of_place object.place job.tuples.count (omega (arith, long)) in
     let all : take (suc job.tuples.count) object.place ≡ object.place = take_all (suc job.tuples.count) object.place (omega (arith, long)) in
@@ -187,9 +187,9 @@ object_may_move job past start object held now at part =
     let all : take (suc count) object.place ≡ object.place = take_all (suc count) object.place (omega (arith, long)) in
     let same = own_files object.id held.rows past.bytes job.meta job.algorithm (in_order_apart (row_paths held.rows) at.rows.order) at.rows.digests in
     record {
-      stands = ap is_some (ap (λ (t : Tree). t staging) (stands_so job past start object held count now part.started at.rows part.at.0) ∙ ap (λ (t : Tree). t []) same.0 ∙ top_of_object job (object_held object held.rows past.bytes));
+      stands = ap is_some (ap (λ (t : Tree). t staging) (stands_so past part.started at.rows part.at.0) ∙ ap (λ (t : Tree). t []) same.0 ∙ top_of_object job (object_held object held.rows past.bytes));
       target = record {
-        absent = at_root job past start object held count now object.place part.started at.rows part.at.0 ∙ place_absent job past start object held now at part;
+        absent = at_root job past start object held count now object.place part.started at.rows part.at.0 ∙ place_absent job object at part;
         in_folder = ap (λ (p : Path). now.tree (parent (storage_root ++ p))) (sym all ∙ name.1) ∙ ap now.tree (parent_in_root _ name.0)
             ∙ at_root job past start object held count now _ part.started at.rows part.at.0 ∙ part.at.1 count (omega arith);
       };
@@ -197,9 +197,9 @@ object_may_move job past start object held now at part =
     }
 
 -- the root has it then
-root_grown : (job : Job) (past : Past) (start : Tree) (object : Object) (held : Held) (now : Writing) → HeldAt job past (phase.Rename object) held → DestPart job past (phase.Rename object) held start now
+root_grown : (job : Job) (past : Past) (start : Tree) (object : Object) (held : Held) {now : Writing} → HeldAt job past (phase.Rename object) held → DestPart job past (phase.Rename object) held start now
     → in_place (root_on_way job start past.placed object.place job.tuples.count) object.place (object_made job object held.rows past.bytes) ≡ root_now job start (past.placed ++ object_held object held.rows past.bytes ∷ [])
-root_grown job past start object held now at part =
+root_grown job past start object held at part =
     let count = job.tuples.count in
     let carried = object_held object held.rows past.bytes in
     let bottom = base job.tuples (root_in start) in
@@ -221,29 +221,29 @@ root_grown job past start object held now at part =
     ∙ ap (λ (t : Tree). in_place (with_folders (tuple_folders job carried) (root_now job start past.placed)) (place_of_carried job carried) t) same.0
     ∙ sym (λ i q. grown_at job past.placed carried bottom (base_top job (root_in start)) free (λ rest. base_gaps job start _ rest part.started none) q i)
 
-came_there : (job : Job) (past : Past) (start : Tree) (object : Object) (held : Held) (now : Writing) → HeldAt job past (phase.Rename object) held → DestPart job past (phase.Rename object) held start now
+came_there : (job : Job) (past : Past) (start : Tree) {object : Object} (held : Held) {now : Writing} → HeldAt job past (phase.Rename object) held → DestPart job past (phase.Rename object) held start now
     → CameToFreePlaces job start (past.placed ++ object_held object held.rows past.bytes ∷ [])
-came_there job past start object held now at part =
+came_there job past start held at part =
     one_comes job past.placed _ _ part.at.0.came
     (ap are_apart (paths_held held.rows past.bytes) ∙ in_order_apart (row_paths held.rows) at.rows.order)
     (ap is_none (ap (root_now job start past.placed) (sym at.ends.0.place) ∙ part.at.0.free))
 
-renamed : (job : Job) (past : Past) (start : Tree) (object : Object) (held : Held) (old new : Writing) (line : Option Line) → HeldAt job past (phase.Rename object) held → new ≡ after_rename staging (in_root object.place) old
+renamed : (job : Job) (past : Past) (start : Tree) (object : Object) (held : Held) (old new : Writing) → HeldAt job past (phase.Rename object) held → new ≡ after_rename staging (in_root object.place) old
     → DestPart job past (phase.Rename object) held start old → DestPart job (past_after (phase.Rename object) (phase.Line object) held past) (phase.Line object) held start new
-renamed job past start object held old new line at change part =
+renamed job past start object held old new at change part =
     let root = root_on_way job start past.placed object.place job.tuples.count in
     let inside = object_made job object held.rows past.bytes in
     let tree_is : new.tree ≡ moved old.tree staging (in_root object.place) = ap (λ (w : Writing). w.tree) change in
     record {
       started = part.started;
-      tree = subst IsTree (sym tree_is) (tree_moved old.tree staging _ part.tree (object_may_move job past start object held old at part));
+      tree = subst IsTree (sym tree_is) (tree_moved old.tree _ part.tree (object_may_move job past start object held old at part));
       at = record {
         root = part.at.0.root;
-        came = came_there job past start object held old at part;
+        came = came_there job past start held at part;
         tree = tree_is
-            ∙ ap (λ (t : Tree). moved t staging (in_root object.place)) (stands_so job past start object held job.tuples.count old part.started at.rows part.at.0)
+            ∙ ap (λ (t : Tree). moved t staging (in_root object.place)) (stands_so past part.started at.rows part.at.0)
             ∙ object_is_moved_in start root inside object.place part.at.0.root.free
-            ∙ ap (with_root start) (root_grown job past start object held old at part);
+            ∙ ap (with_root start) (root_grown job past start object held at part);
       };
     }
 
@@ -256,10 +256,10 @@ held_so job start placed now it = subst (IsKept job start) (sym it.tree) (Holdin
 pub places_dest : PlacingKeepsDest
 unfolding Changes IsKindAt
 places_dest job counts past start old new here next held after calls (MakesTuple was object number) change at part =
-    tuple_made job past start object was number old new None at (no_kind _ (change.0 old refl)) (some_same new (after_mkdir (tuple_folder object number) old) change.1) part
+    tuple_made job past start object was number old new at (no_kind _ (change.0 old refl)) (some_same new (after_mkdir (tuple_folder object number) old) change.1) part
 places_dest job counts past start old new here next held after calls (FindsTuple was object number) change at part =
-    tuple_found job past start object was number old new None at (folder_kind _ (change.0 old refl)) (some_same new old change.1) part
-places_dest job counts past start old new here next held after calls (RenamesObject was object) change at part = renamed job past start object was old new None at (some_same new (after_rename staging (in_root object.place) old) change) part
+    tuple_found job past start object was number old new at (folder_kind _ (change.0 old refl)) (some_same new old change.1) part
+places_dest job counts past start old new here next held after calls (RenamesObject was object) change at part = renamed job past start object was old new at (some_same new (after_rename staging (in_root object.place) old) change) part
 places_dest job counts past start old new here next held after calls (TellsDone was object) change at part =
     subst (λ (w : Writing). DestPart job (past_after here next was past) next (restarted was) start w) (sym (some_same new old change)) (record { started = part.started; tree = part.tree; at = record { root = part.at.root; came = part.at.came; tree = part.at.tree } })
 places_dest job counts past start old new here next held after calls (TellsEnd was) change at part =

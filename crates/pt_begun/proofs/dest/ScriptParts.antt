@@ -27,8 +27,8 @@ taken_front [] others = refl
 taken_front (x ∷ front) others = ap (λ l. x ∷ l) (taken_front front others)
 
 -- so it may be made after them
-pub next_may : (script front : List Item) (item : Item) (t : Tree) → CanBeMadeInTurn script t → IsNext script front item → CanMake (made front t) (item_path item)
-next_may script front item t can next =
+pub next_may : {script : List Item} (front : List Item) (item : Item) (t : Tree) → CanBeMadeInTurn script t → IsNext script front item → CanMake (made front t) (item_path item)
+next_may front item t can next =
     subst (λ (l : List Item). CanMake (made l t) (item_path item)) (ap (take (length front)) next.is ∙ taken_front front (item ∷ next.rest))
     (can (length front) item (ap (λ (l : List Item). slice_get l (length front)) next.is ∙ get_behind front (item ∷ next.rest)))
 
@@ -37,8 +37,8 @@ pub next_in : (folder : Path) (script front : List Item) (item : Item) → IsNex
 next_in folder script front item next = record { rest = map (item_in folder) next.rest; is = ap (map (item_in folder)) next.is ∙ map-append (item_in folder) front (item ∷ next.rest) }
 
 -- between items before and behind
-pub next_within : (before script front behind : List Item) (item : Item) → IsNext script front item → IsNext (before ++ (script ++ behind)) (before ++ front) item
-next_within before script front behind item next = record {
+pub next_within : (before : List Item) {script : List Item} (front behind : List Item) (item : Item) → IsNext script front item → IsNext (before ++ (script ++ behind)) (before ++ front) item
+next_within before front behind item next = record {
   rest = next.rest ++ behind;
   is = ap (λ l. before ++ (l ++ behind)) next.is ∙ ap (λ l. before ++ l) (append_assoc front (item ∷ next.rest) behind) ∙ sym (append_assoc before front (item ∷ (next.rest ++ behind)));
 }
@@ -67,10 +67,10 @@ none_kept test (x ∷ xs) h =
     off false h = refl
 
 -- the folders above a path below a name
-pub folder_at : (name : List ℕ) (path : Path) (d : ℕ) → d < length path → slice_get (folders_above (name ∷ path)) d ≡ Some (name ∷ take d path)
-folder_at name [] d less = absurd (omega (arith, less))
-folder_at name (next ∷ path) zero less = refl
-folder_at name (next ∷ path) (suc d) less = get_under name (folders_above (next ∷ path)) d (next ∷ take d path) (folder_at next path d (omega (arith, less)))
+pub folder_at : {name : List ℕ} (path : Path) (d : ℕ) → d < length path → slice_get (folders_above (name ∷ path)) d ≡ Some (name ∷ take d path)
+folder_at [] d less = absurd (omega (arith, less))
+folder_at (next ∷ path) zero less = refl
+folder_at {name} (next ∷ path) (suc d) less = get_under name (folders_above (next ∷ path)) d (next ∷ take d path) (folder_at path d (omega (arith, less)))
   where
     get_under : (name : List ℕ) (folders : List Path) (d : ℕ) (folder : Path) → slice_get folders d ≡ Some folder → slice_get (map (λ folder. name ∷ folder) folders) d ≡ Some (name ∷ folder)
     get_under name [] d folder is = absurd (cc)
@@ -96,8 +96,8 @@ files_in_turn earlier (f ∷ first) file later =
     ∙ ap (λ (l : List File). (file_items earlier f ++ files_items (earlier ++ f ∷ []) first) ++ (file_items l file ++ files_items (l ++ file ∷ []) later)) (append_assoc earlier (f ∷ []) first)
 
 -- those of the files, seen from one
-around : (files : List File) (n : ℕ) (file : File) → slice_get files n ≡ Some file → files_items [] files ≡ files_items [] (take n files) ++ (file_items (take n files) file ++ files_items (take n files ++ file ∷ []) (drop (suc n) files))
-around files n file is = ap (files_items []) (split_at n files file is) ∙ files_in_turn [] (take n files) file (drop (suc n) files)
+around : (files : List File) (n : ℕ) {file : File} → slice_get files n ≡ Some file → files_items [] files ≡ files_items [] (take n files) ++ (file_items (take n files) file ++ files_items (take n files ++ file ∷ []) (drop (suc n) files))
+around files n {file} is = ap (files_items []) (split_at n files file is) ∙ files_in_turn [] (take n files) file (drop (suc n) files)
 
 -- a folder is new where it leads to no earlier file
 abbrev pub is_new_folder : List File → Path → Bool
@@ -122,7 +122,7 @@ next_folder files position file folder is at new =
     let before : contents_before files position ≡ files_items [] earlier ++ map MakeFolder (filter test (take d folders)) = ap (λ o. files_items [] earlier ++ folders_before earlier d o) is in
     record {
       rest = rest ++ others;
-      is = around files position.stored file is
+      is = around files position.stored is
           ∙ ap (λ l. files_items [] earlier ++ (l ++ others)) items
           ∙ ap (λ l. files_items [] earlier ++ l) (append_assoc (map MakeFolder (filter test (take d folders))) (MakeFolder folder ∷ rest) others)
           ∙ sym (append_assoc (files_items [] earlier) (map MakeFolder (filter test (take d folders))) (MakeFolder folder ∷ (rest ++ others)))
@@ -158,7 +158,7 @@ next_file files position file is all =
     ap (λ o. files_items [] earlier ++ folders_before earlier position.directories o) is ∙ ap (λ l. files_items [] earlier ++ map MakeFolder (filter test l)) (take_all position.directories folders all) in
     record {
       rest = others;
-      is = around files position.stored file is
+      is = around files position.stored is
           ∙ ap (λ l. files_items [] earlier ++ l) (append_assoc (map MakeFolder (filter test folders)) (MakeFile file.0 file.1 ∷ []) others)
           ∙ sym (append_assoc (files_items [] earlier) (map MakeFolder (filter test folders)) (MakeFile file.0 file.1 ∷ others))
           ∙ ap (λ l. l ++ MakeFile file.0 file.1 ∷ others) (sym before);
@@ -243,7 +243,7 @@ contents_front files position = by (slice_get files position.stored) refl
         ∙ append_assoc (map MakeFolder (filter test (take d folders))) (map MakeFolder (filter test (drop d folders))) (MakeFile file.0 file.1 ∷ []) in
         record {
           rest = rest ++ others;
-          is = around files position.stored file is
+          is = around files position.stored is
               ∙ ap (λ l. files_items [] earlier ++ (l ++ others)) items
               ∙ ap (λ l. files_items [] earlier ++ l) (append_assoc (map MakeFolder (filter test (take d folders))) rest others)
               ∙ sym (append_assoc (files_items [] earlier) (map MakeFolder (filter test (take d folders))) (rest ++ others))
@@ -251,15 +251,15 @@ contents_front files position = by (slice_get files position.stored) refl
         }
 
 -- below a folder, and between items before and behind
-pub front_in : (folder : Path) (script front : List Item) → IsFront script front → IsFront (map (item_in folder) script) (map (item_in folder) front)
-front_in folder script front it = record { rest = map (item_in folder) it.rest; is = ap (map (item_in folder)) it.is ∙ map-append (item_in folder) front it.rest }
+pub front_in : (folder : Path) {script front : List Item} → IsFront script front → IsFront (map (item_in folder) script) (map (item_in folder) front)
+front_in folder {front} it = record { rest = map (item_in folder) it.rest; is = ap (map (item_in folder)) it.is ∙ map-append (item_in folder) front it.rest }
 
-pub front_within : (before script front behind : List Item) → IsFront script front → IsFront (before ++ (script ++ behind)) (before ++ front)
-front_within before script front behind it = record {
+pub front_within : (before : List Item) {script : List Item} (front behind : List Item) → IsFront script front → IsFront (before ++ (script ++ behind)) (before ++ front)
+front_within before front behind it = record {
   rest = it.rest ++ behind;
   is = ap (λ l. before ++ (l ++ behind)) it.is ∙ ap (λ l. before ++ l) (append_assoc front it.rest behind) ∙ sym (append_assoc before front (it.rest ++ behind));
 }
 
 -- what has a next item is one
-pub front_next : (script front : List Item) (item : Item) → IsNext script front item → IsFront script front
-front_next script front item it = record { rest = item ∷ it.rest; is = it.is }
+pub front_next : {script front : List Item} {item : Item} → IsNext script front item → IsFront script front
+front_next {item} it = record { rest = item ∷ it.rest; is = it.is }

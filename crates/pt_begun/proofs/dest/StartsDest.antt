@@ -59,28 +59,28 @@ no_objects job t i path = or_nothing (t path) i
 
 -- ---- a new root
 
-fresh_start : (start : Tree) → IsTree start → IsFree start staging → IsFresh start
-fresh_start start tree free = record { top = tree.top; free = free }
+fresh_start : {start : Tree} → IsTree start → IsFree start staging → IsFresh start
+fresh_start tree free = record { top = tree.top; free = free }
 
 pub root_item_made : (job : Job) (start : Tree) (number : ℕ) (item : Item) (now : Writing) → IsTree start → slice_get (root_script job.tuples) number ≡ Some item → IsMakingRoot start (take number (root_script job.tuples)) now → CanMake now.tree (item_path item)
 root_item_made job start number item now tree is it =
-    subst (λ (t : Tree). CanMake t (item_path item)) (sym it.tree) (root_script_can_be_made job.tuples start (fresh_start start tree it.free) number item is)
+    subst (λ (t : Tree). CanMake t (item_path item)) (sym it.tree) (root_script_can_be_made job.tuples start (fresh_start tree it.free) number item is)
 
-whole_root : (job : Job) (start : Tree) (now : Writing) → IsTree start → IsMakingRoot start (root_script job.tuples) now → now.tree ≡ in_place start staging (root_of job.tuples)
-whole_root job start now tree it = it.tree ∙ root_script_makes_the_root job.tuples start (fresh_start start tree it.free)
+whole_root : (job : Job) {start : Tree} {now : Writing} → IsTree start → IsMakingRoot start (root_script job.tuples) now → now.tree ≡ in_place start staging (root_of job.tuples)
+whole_root job {start} tree it = it.tree ∙ root_script_makes_the_root job.tuples start (fresh_start tree it.free)
 
 -- it may be moved
 pub root_may_move : (job : Job) (start : Tree) (now : Writing) → IsTree start → IsMakingRoot start (root_script job.tuples) now → CanMove now.tree staging storage_root
 root_may_move job start now tree it =
-    subst (λ (t : Tree). CanMove t staging storage_root) (sym (whole_root job start now tree it))
+    subst (λ (t : Tree). CanMove t staging storage_root) (sym (whole_root job tree it))
     (record { stands = refl; target = record { absent = it.root []; in_folder = tree.top }; apart = refl })
 
 new_base : (job : Job) (start : Tree) → IsFree start storage_root → base job.tuples (root_in start) ≡ root_of job.tuples
 new_base job start free = ap (base_where job.tuples (root_in start)) (free [])
 
-moved_root : (job : Job) (start : Tree) (now : Writing) → IsTree start → IsMakingRoot start (root_script job.tuples) now → moved now.tree staging storage_root ≡ with_root start (root_now job start [])
-moved_root job start now tree it =
-    ap (λ (t : Tree). moved t staging storage_root) (whole_root job start now tree it)
+moved_root : (job : Job) (start : Tree) {now : Writing} → IsTree start → IsMakingRoot start (root_script job.tuples) now → moved now.tree staging storage_root ≡ with_root start (root_now job start [])
+moved_root job start tree it =
+    ap (λ (t : Tree). moved t staging storage_root) (whole_root job tree it)
     ∙ root_is_moved_in start (root_of job.tuples) it.free
     ∙ ap (with_root start) (sym (no_objects job (base job.tuples (root_in start)) ∙ new_base job start it.root))
 
@@ -103,9 +103,9 @@ own_root job start tree files =
 
 -- ---- each turn
 
-made_next : (job : Job) (past : Past) (start : Tree) (held : Held) (old new : Writing) (number : ℕ) (item : Item) (line : Option Line) (last : Bool) → (number == 5) ≡ last → new ≡ after_make item old → slice_get (root_script job.tuples) number ≡ Some item
+made_next : (job : Job) (past : Past) (start : Tree) (held : Held) (old new : Writing) (number : ℕ) (item : Item) (last : Bool) → (number == 5) ≡ last → new ≡ after_make item old → slice_get (root_script job.tuples) number ≡ Some item
     → DestPart job past (phase.RootMake number) held start old → DestPart job (past_after (phase.RootMake number) (cond last phase.RootRename (phase.RootMake (number + 1))) held past) (cond last phase.RootRename (phase.RootMake (number + 1))) held start new
-made_next job past start held old new number item line last is change item_is part =
+made_next job past start held old new number item last is change item_is part =
     let can = root_item_made job start number item old part.started item_is part.at in
     let tree_is : new.tree ≡ done item old.tree = ap (λ (w : Writing). w.tree) change ∙ tree_made item old in
     let tree = subst IsTree (sym tree_is) (tree_put old.tree _ (item_entry item) part.tree can) in
@@ -122,11 +122,11 @@ made_next job past start held old new number item line last is change item_is pa
         let next : suc number ≡ number + 1 = omega arith in
         record { started = part.started; tree = tree; at = record { free = part.at.free; root = part.at.root; tree = now ∙ ap (λ n. made (take n (root_script job.tuples)) start) next } }
 
-checked_next : (job : Job) (past : Past) (start : Tree) (held : Held) (old new : Writing) (number : ℕ) (path : Path) (bytes : List ℕ) (line : Option Line) (last : Bool) → (number == 2) ≡ last → IsLayout job.tuples → slice_get (root_files_of job.tuples) number ≡ Some (path, bytes)
+checked_next : (job : Job) (past : Past) (start : Tree) (held : Held) {old : Writing} (new : Writing) (number : ℕ) (path : Path) (bytes : List ℕ) (last : Bool) → (number == 2) ≡ last → IsLayout job.tuples → slice_get (root_files_of job.tuples) number ≡ Some (path, bytes)
     → option_map (take 8192) (bytes_of (old.tree (storage_root ++ path))) ≡ Some bytes → new ≡ old → DestPart job past (phase.RootCheck number) held start old
     → DestPart job (past_after (phase.RootCheck number) (cond last phase.OpenRoot (phase.RootCheck (number + 1))) held past) (cond last phase.OpenRoot (phase.RootCheck (number + 1))) held start new
-checked_next job past start held old new number path bytes line last is layout file read change part =
-    let stands = peeked_whole _ bytes read (file_short job.tuples number path bytes layout file) in
+checked_next job past start held new number path bytes last is layout file read change part =
+    let stands = peeked_whole _ read (file_short job.tuples number path bytes layout file) in
     let here : root_in start path ≡ Some (Bytes bytes) = sym (ap (λ (t : Tree). t (storage_root ++ path)) part.at.tree) ∙ stands in
     by last is (one_more_file job (root_in start) number path bytes file here part.at.files)
   where
@@ -156,14 +156,14 @@ starts_dest job past start old new prefix read here next held calls layout (HasN
 starts_dest job past start old new prefix read here next held calls layout (HasRoot was) change at part =
     let folder = sym (ap (λ (t : Tree). t storage_root) part.at.0.tree) ∙ folder_kind _ (change.0 old refl) in
     unchanged change.1 (record { started = part.started; tree = part.tree; at = record { free = part.at.1; top = folder; files = λ k d h. absurd (omega (arith, h)); tree = part.at.0.tree } })
-starts_dest job past start old new prefix read here next held calls layout (MakesRoot was number item is) change at part = made_next job past start held old new number item None (number == 5) refl (some_same new (after_make item old) change) is part
+starts_dest job past start old new prefix read here next held calls layout (MakesRoot was number item is) change at part = made_next job past start held old new number item (number == 5) refl (some_same new (after_make item old) change) is part
 starts_dest job past start old new prefix read here next held calls layout (RenamesRoot was) change at part =
     let is = some_same new (after_rename staging storage_root old) change in
     subst (λ (w : Writing). DestPart job (past_after here next held past) next held start w) (sym is)
     (record {
       started = part.started;
-      tree = tree_moved old.tree staging storage_root part.tree (root_may_move job start old part.started part.at);
-      at = record { root = record { free = part.at.free; root = inl part.at.root }; came = refl; tree = moved_root job start old part.started part.at };
+      tree = tree_moved old.tree storage_root part.tree (root_may_move job start old part.started part.at);
+      at = record { root = record { free = part.at.free; root = inl part.at.root }; came = refl; tree = moved_root job start part.started part.at };
     })
-starts_dest job past start old new prefix read here next held calls layout (IsSame was number path bytes is) change at part = checked_next job past start held old new number path bytes None (number == 2) refl layout is (change.1 old refl) (some_same new old change.2) part
+starts_dest job past start old new prefix read here next held calls layout (IsSame was number path bytes is) change at part = checked_next job past start held new number path bytes (number == 2) refl layout is (change.1 old refl) (some_same new old change.2) part
 starts_dest job past start old new prefix read here next held calls layout turn change at part = unchanged change (record { started = part.started; tree = part.tree; at = part.at })

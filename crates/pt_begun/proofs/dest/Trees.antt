@@ -65,12 +65,12 @@ none_or p q never = by (rest_below p q) refl
 none_before : (p q : Path) (n : List ℕ) → rest_below p (q ++ n ∷ []) ≡ None → rest_below p q ≡ None
 none_before p q n none = none_or p q (λ on. true≢false (sym (leads-on p q (n ∷ []) on) ∙ ap is_some none))
 
-rest_of : (p rest : Path) → rest_below p (p ++ rest) ≡ Some rest
-rest_of [] rest = refl
-rest_of (x ∷ p) rest = ap (λ b. cond b (rest_below p (p ++ rest)) None) (name_itself x) ∙ rest_of p rest
+rest_of : (p : Path) {rest : Path} → rest_below p (p ++ rest) ≡ Some rest
+rest_of [] = refl
+rest_of (x ∷ p) {rest} = ap (λ b. cond b (rest_below p (p ++ rest)) None) (name_itself x) ∙ rest_of p
 
-pub tree_moved : (t : Tree) (from to : Path) → IsTree t → CanMove t from to → IsTree (moved t from to)
-tree_moved t from to tree can = record {
+pub tree_moved : (t : Tree) {from : Path} (to : Path) → IsTree t → CanMove t from to → IsTree (moved t from to)
+tree_moved t {from} to tree can = record {
   top = ap (λ o. moved_at t from o (rest_below from []) []) to_below ∙ ap (λ o. moved_at t from None o []) from_below ∙ tree.top;
   above = λ q n some. by q n (rest_below to (q ++ n ∷ [])) refl some;
 }
@@ -108,7 +108,7 @@ tree_moved t from to tree can = record {
         under : (o : Option Path) → rest_below to q ≡ o → moved t from to q ≡ Some Folder
         under (Some more) here =
             let whole : q ≡ to ++ more = whole_of to q more here in
-            let rest_is : Some rest ≡ Some (more ++ n ∷ []) = sym on ∙ ap (rest_below to) (ap (λ (p : Path). p ++ n ∷ []) whole ∙ append_assoc to more (n ∷ [])) ∙ rest_of to (more ++ n ∷ []) in
+            let rest_is : Some rest ≡ Some (more ++ n ∷ []) = sym on ∙ ap (rest_below to) (ap (λ (p : Path). p ++ n ∷ []) whole ∙ append_assoc to more (n ∷ [])) ∙ rest_of to in
             let there : IsSome (t ((from ++ more) ++ n ∷ [])) =
             ap is_some (ap t (append_assoc from more (n ∷ []))) ∙ ap (λ o. is_some (moved_at t from o (rest_below from (q ++ n ∷ [])) (q ++ n ∷ []))) (sym rest_is) ∙ some in
             ap (λ o. moved_at t from o (rest_below from q) q) here ∙ tree.above (from ++ more) n there

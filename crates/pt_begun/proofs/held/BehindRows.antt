@@ -53,17 +53,17 @@ below_directory earlier directory items h =
     (λ item. all_then (λ path. parts_before path directory) (λ path. parts_before path (directory ++ item.0 ∷ [])) (λ path g. parts_on path directory (item.0 ∷ []) g) earlier h) items
 
 -- the entry at the place is behind the rows
-pub behind_here : (earlier : List Path) (frame : Frame) (frames : List Frame) (item : Item) → entry_at frame ≡ Some item → all_behind earlier (frame ∷ frames) ≡ true → list_all (λ path. parts_before path (names_to (frame ∷ frames))) earlier ≡ true
-behind_here earlier frame frames item e h =
+pub behind_here : (earlier : List Path) (frame : Frame) (frames : List Frame) {item : Item} → entry_at frame ≡ Some item → all_behind earlier (frame ∷ frames) ≡ true → list_all (λ path. parts_before path (names_to (frame ∷ frames))) earlier ≡ true
+behind_here earlier frame frames {item} e h =
     let test = λ (item : Item). list_all (λ path. parts_before path (names_to frames ++ item.0 ∷ [])) earlier in
     let parts = and_parts _ _ h in
     ap (λ (q : Path). list_all (λ path. parts_before path q) earlier) (path_grows frame frames item e) ∙ first_passes test frame.place frame.listing item e parts.0
 
-pub behind_entered : (earlier : List Path) (frame : Frame) (frames : List Frame) (item : Item) (items : List Item) → entry_at frame ≡ Some item → all_behind earlier (frame ∷ frames) ≡ true → all_behind earlier (entered items (frame ∷ frames)) ≡ true
-behind_entered earlier frame frames item items e h =
+pub behind_entered : (earlier : List Path) (frame : Frame) (frames : List Frame) {item : Item} (items : List Item) → entry_at frame ≡ Some item → all_behind earlier (frame ∷ frames) ≡ true → all_behind earlier (entered items (frame ∷ frames)) ≡ true
+behind_entered earlier frame frames items e h =
     let parts = and_parts _ _ h in
     and_from _ _
-    (below_directory earlier _ items (behind_here earlier frame frames item e h))
+    (below_directory earlier _ items (behind_here earlier frame frames e h))
     (and_from _ _ (one_later earlier (names_to frames) frame.place frame.listing parts.0) parts.1)
 
 -- ---- and left
@@ -75,9 +75,9 @@ behind_left earlier frame (outer ∷ frames) h = (and_parts _ _ h).1
 -- ---- a row more
 
 -- in names that rise those behind a place come behind its own
-later_rise : (items : List Item) (place : ℕ) (item : Item) → names_rise items ≡ true → slice_get items place ≡ Some item → list_all (λ (other : Item). is_before item.0 other.0) (drop (suc place) items) ≡ true
-later_rise [] place item rise is = absurd (cc)
-later_rise (x ∷ items) zero item rise is =
+later_rise : (items : List Item) (place : ℕ) {item : Item} → names_rise items ≡ true → slice_get items place ≡ Some item → list_all (λ (other : Item). is_before item.0 other.0) (drop (suc place) items) ≡ true
+later_rise [] place rise is = absurd (cc)
+later_rise (x ∷ items) zero {item} rise is =
     let same : x ≡ item = cc in
     subst (λ (y : Item). list_all (λ (other : Item). is_before y.0 other.0) items ≡ true) same (all_follow x items rise)
   where
@@ -87,35 +87,35 @@ later_rise (x ∷ items) zero item rise is =
         let parts = and_parts _ _ rise in
         and_from _ _ parts.0
         (all_then (λ (other : Item). is_before y.0 other.0) (λ (other : Item). is_before x.0 other.0) (λ other h. before-trans x.0 y.0 other.0 parts.0 h) items (all_follow y items parts.1))
-later_rise (x ∷ []) (suc place) item rise is = absurd (cc)
-later_rise (x ∷ y ∷ items) (suc place) item rise is = later_rise (y ∷ items) place item (and_parts _ _ rise).1 is
+later_rise (x ∷ []) (suc place) rise is = absurd (cc)
+later_rise (x ∷ y ∷ items) (suc place) rise is = later_rise (y ∷ items) place (and_parts _ _ rise).1 is
 
 -- what stands at or below a place comes before the entries behind it
-before_later : (frame : Frame) (frames : List Frame) (item : Item) (more : Path) → is_frame frame ≡ true → entry_at frame ≡ Some item → come_behind ((names_to frames ++ item.0 ∷ more) ∷ []) (names_to frames) (drop (frame.place + 1) frame.listing) ≡ true
-before_later frame frames item more is e =
+before_later : (frame : Frame) (frames : List Frame) {item : Item} (more : Path) → is_frame frame ≡ true → entry_at frame ≡ Some item → come_behind ((names_to frames ++ item.0 ∷ more) ∷ []) (names_to frames) (drop (frame.place + 1) frame.listing) ≡ true
+before_later frame frames {item} more is e =
     let rise = (and_parts _ _ is).0 in
     let next : frame.place + 1 ≡ suc frame.place = omega arith in
     ap (λ n. come_behind ((names_to frames ++ item.0 ∷ more) ∷ []) (names_to frames) (drop n frame.listing)) next
     ∙ all_then (λ (other : Item). is_before item.0 other.0) (λ (other : Item). parts_before (names_to frames ++ item.0 ∷ more) (names_to frames ++ other.0 ∷ []) && true)
     (λ other h. and_from _ true (parts_at (names_to frames) item.0 other.0 more h) refl)
-    (drop (suc frame.place) frame.listing) (later_rise frame.listing frame.place item rise e)
+    (drop (suc frame.place) frame.listing) (later_rise frame.listing frame.place rise e)
 
 dir_item : (o : Option Item) → is_dir_entry o ≡ true → (item : Item) × (o ≡ Some item)
 dir_item None is = absurd (cc)
 dir_item (Some item) is = (item, refl)
 
 -- so it does in the listings around
-before_outer : (frames : List Frame) (here more : Path) → are_outer frames ≡ true → here ≡ names_to frames ++ more → outer_behind (here ∷ []) frames ≡ true
-before_outer [] here more outer is = refl
-before_outer (frame ∷ frames) here more outer is =
+before_outer : (frames : List Frame) {here : Path} (more : Path) → are_outer frames ≡ true → here ≡ names_to frames ++ more → outer_behind (here ∷ []) frames ≡ true
+before_outer [] more outer is = refl
+before_outer (frame ∷ frames) {here} more outer is =
     let first = and_parts _ _ outer in
     let second = and_parts _ _ first.1 in
     let entry = dir_item _ second.0 in
     let item = entry.0 in
     let here_is : here ≡ names_to frames ++ item.0 ∷ more = is ∙ ap (λ (p : Path). p ++ more) (path_grows frame frames item entry.1) ∙ append_assoc (names_to frames) (item.0 ∷ []) more in
     and_from _ _
-    (ap (λ (p : Path). come_behind (p ∷ []) (names_to frames) (drop (frame.place + 1) frame.listing)) here_is ∙ before_later frame frames item more first.0 entry.1)
-    (before_outer frames here (item.0 ∷ more) second.1 here_is)
+    (ap (λ (p : Path). come_behind (p ∷ []) (names_to frames) (drop (frame.place + 1) frame.listing)) here_is ∙ before_later frame frames more first.0 entry.1)
+    (before_outer frames (item.0 ∷ more) second.1 here_is)
 
 both_come : (earlier : List Path) (path directory : Path) (items : List Item) → come_behind earlier directory items ≡ true → come_behind (path ∷ []) directory items ≡ true → come_behind (earlier ++ path ∷ []) directory items ≡ true
 both_come earlier path directory [] h g = refl
@@ -146,5 +146,5 @@ behind_noted earlier frame frames item is_one e h =
     let parts = and_parts _ _ h in
     subst (λ (p : Path). all_behind (earlier ++ p ∷ []) (advanced (frame ∷ frames)) ≡ true) (sym here)
     (and_from _ _
-    (both_come earlier _ (names_to frames) items (one_later earlier (names_to frames) frame.place frame.listing parts.0) (before_later frame frames item [] one.0 e))
-    (both_outer earlier _ frames parts.1 (before_outer frames _ (item.0 ∷ []) one.1 refl)))
+    (both_come earlier _ (names_to frames) items (one_later earlier (names_to frames) frame.place frame.listing parts.0) (before_later frame frames [] one.0 e))
+    (both_outer earlier _ frames parts.1 (before_outer frames (item.0 ∷ []) one.1 refl)))

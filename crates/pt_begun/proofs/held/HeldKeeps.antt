@@ -37,21 +37,21 @@ with_rest rest trail fed = record { trail = trail; ends = rest.ends; rows = rest
 one_more : (number most : ℕ) → (number == most) ≡ false → number < most + 1 → number + 1 < most + 1
 one_more number most other within = let apart = eqb-false number most other in omega (arith, apart)
 
-starts_rest : {job : Job} (past : Past) {prefix read : List ℕ} {here next : Phase} {held : Held} {calls : Calls} → Starts job here prefix read calls (Ok next) → HeldAt job past here held → RestAt job (bytes_after here next held past.bytes) next held
-starts_rest past (HasNoRoot was) at = record { ends = tt; rows = at.rows; behind = tt; numbers = omega arith }
-starts_rest past (HasRoot was) at = record { ends = tt; rows = at.rows; behind = tt; numbers = omega arith }
-starts_rest {job} past {held} (MakesRoot was number item is) at =
+starts_rest : {job : Job} {past : Past} {prefix read : List ℕ} {here next : Phase} {held : Held} {calls : Calls} → Starts job here prefix read calls (Ok next) → HeldAt job past here held → RestAt job (bytes_after here next held past.bytes) next held
+starts_rest (HasNoRoot was) at = record { ends = tt; rows = at.rows; behind = tt; numbers = omega arith }
+starts_rest (HasRoot was) at = record { ends = tt; rows = at.rows; behind = tt; numbers = omega arith }
+starts_rest {job} {past} {held} (MakesRoot was number item is) at =
     either_phase (λ p. RestAt job past.bytes p held) (number == 5) phase.RootRename _
     (λ last. record { ends = tt; rows = at.rows; behind = tt; numbers = tt })
     (λ more. record { ends = tt; rows = at.rows; behind = tt; numbers = one_more number 5 more at.numbers })
-starts_rest {job} past {held} (IsSame was number path bytes is) at =
+starts_rest {job} {past} {held} (IsSame was number path bytes is) at =
     either_phase (λ p. RestAt job past.bytes p held) (number == 2) phase.OpenRoot _
     (λ last. record { ends = tt; rows = at.rows; behind = tt; numbers = tt })
     (λ more. record { ends = tt; rows = at.rows; behind = tt; numbers = one_more number 2 more at.numbers })
-starts_rest past turn at = record { ends = tt; rows = at.rows; behind = tt; numbers = tt }
+starts_rest turn at = record { ends = tt; rows = at.rows; behind = tt; numbers = tt }
 
 pub starts_hold : StartingKeepsHeld
-starts_hold job past prefix read here next held calls turn at = with_rest (starts_rest past turn at) (trail.starts_keep turn at.trail) (starts_feed held turn)
+starts_hold job past prefix read here next held calls turn at = with_rest (starts_rest turn at) (trail.starts_keep turn at.trail) (starts_feed held turn)
 
 -- ---- the walk
 
@@ -66,34 +66,34 @@ as_long None t = refl
 as_long (Some index) [] = refl
 as_long (Some index) (frame ∷ frames) = refl
 
-walks_rest : {job : Job} (past : Past) {prefix : List ℕ} {here next : Phase} {held after : Held} {calls : Calls} → Walks job prefix here held after calls (Ok next) → HeldAt job past here held
+walks_rest : {job : Job} {past : Past} {prefix : List ℕ} {here next : Phase} {held after : Held} {calls : Calls} → Walks job prefix here held after calls (Ok next) → HeldAt job past here held
     → RestAt job (bytes_after here next held past.bytes) next after
-walks_rest {job} past {prefix} (IsNew was index id is) at = record {
+walks_rest {job} {prefix} (IsNew was index id is) at = record {
   ends = (record { some = some_listing job was.trail index (named_found job prefix was.trail index id is); place = refl }, as_long index was.trail);
   rows = record { rows = at.rows.rows; contents = at.rows.contents };
   behind = tt;
   numbers = tt;
 }
-walks_rest past turn at = record { ends = tt; rows = record { rows = at.rows.rows; contents = at.rows.contents }; behind = tt; numbers = tt }
+walks_rest turn at = record { ends = tt; rows = record { rows = at.rows.rows; contents = at.rows.contents }; behind = tt; numbers = tt }
 
 pub walks_hold : WalkingKeepsHeld
-walks_hold job past old new prefix here next held after calls turn answers at = with_rest (walks_rest past turn at) (trail.walks_keep old new turn answers at.trail) (walks_feed turn)
+walks_hold job past old new prefix here next held after calls turn answers at = with_rest (walks_rest turn at) (trail.walks_keep old new turn answers at.trail) (walks_feed turn)
 
 -- ---- an object at its place
 
-after_a_tuple : (job : Job) (bytes : Path → List ℕ) (held : Held) (object : Object) (number : ℕ) → IsObject job object × (length held.trail ≡ object.site) → AreRows job bytes held → RestAt job bytes (after_tuple job object number) held
-after_a_tuple job bytes held object number ends rows =
+after_a_tuple : (job : Job) {bytes : Path → List ℕ} {held : Held} {object : Object} (number : ℕ) → IsObject job object × (length held.trail ≡ object.site) → AreRows job bytes held → RestAt job bytes (after_tuple job object number) held
+after_a_tuple job {bytes} {held} number ends rows =
     either_phase (λ p. RestAt job bytes p held) _ _ _
     (λ more. record { ends = ends; rows = rows; behind = tt; numbers = ltb-true (number + 1) job.tuples.count more })
     (λ last. record { ends = ends; rows = rows; behind = tt; numbers = tt })
 
-places_rest : {job : Job} {counts : Counts} (past : Past) {here next : Phase} {held after : Held} {calls : Calls} → Places job counts here held after calls (Ok next) → HeldAt job past here held
+places_rest : {job : Job} {counts : Counts} {past : Past} {here next : Phase} {held after : Held} {calls : Calls} → Places job counts here held after calls (Ok next) → HeldAt job past here held
     → RestAt job (bytes_after here next held past.bytes) next after
-places_rest {job} past (MakesTuple was object number) at = after_a_tuple job past.bytes was object number at.ends at.rows
-places_rest {job} past (FindsTuple was object number) at = after_a_tuple job past.bytes was object number at.ends at.rows
-places_rest past (RenamesObject was object) at = record { ends = at.ends; rows = at.rows; behind = tt; numbers = tt }
-places_rest past (TellsDone was object) at = record { ends = tt; rows = record { rows = refl; contents = refl }; behind = tt; numbers = tt }
-places_rest past (TellsEnd was) at = record { ends = tt; rows = tt; behind = tt; numbers = tt }
+places_rest {job} (MakesTuple was object number) at = after_a_tuple job number at.ends at.rows
+places_rest {job} (FindsTuple was object number) at = after_a_tuple job number at.ends at.rows
+places_rest (RenamesObject was object) at = record { ends = at.ends; rows = at.rows; behind = tt; numbers = tt }
+places_rest (TellsDone was object) at = record { ends = tt; rows = record { rows = refl; contents = refl }; behind = tt; numbers = tt }
+places_rest (TellsEnd was) at = record { ends = tt; rows = tt; behind = tt; numbers = tt }
 
 pub places_hold : PlacingKeepsHeld
-places_hold job counts past here next held after calls turn at = with_rest (places_rest past turn at) (trail.places_keep turn at.trail) (places_feed turn)
+places_hold job counts past here next held after calls turn at = with_rest (places_rest turn at) (trail.places_keep turn at.trail) (places_feed turn)

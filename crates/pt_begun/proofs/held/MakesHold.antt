@@ -47,53 +47,53 @@ above_none : (n : ℕ) → (n == 0) ≡ false → 0 < n
 above_none n some = let apart = eqb-false n 0 some in omega (arith, apart)
 
 -- the row that is copied is the next content
-pub its_next : (held : Held) (position : Position) (row : Row) → slice_get held.rows position.row ≡ Some row → IsAtStoredRow held position → is_stored held.contents position.stored row.path ≡ true
-its_next held position row is at =
+pub its_next : {held : Held} {position : Position} (row : Row) → slice_get held.rows position.row ≡ Some row → IsAtStoredRow held position → is_stored held.contents position.stored row.path ≡ true
+its_next {held} {position} row is at =
     let same : at.row ≡ row = some_same at.row row (sym at.is_row ∙ is) in
     ap (λ (r : Row). is_stored held.contents position.stored r.path) (sym same) ∙ at.next
 
-makes_rest : {job : Job} (past : Past) {here : Phase} {held after : Held} {calls : Calls} {next : Phase} → Makings job here held after calls (Ok next) → HeldAt job past here held
+makes_rest : {job : Job} {past : Past} {here : Phase} {held after : Held} {calls : Calls} {next : Phase} → Makings job here held after calls (Ok next) → HeldAt job past here held
     → RestAt job (bytes_after here next held past.bytes) next after
-makes_rest {job} past (MakesVersion was object) at = record {
+makes_rest {job} (MakesVersion was object) at = record {
   ends = at.ends;
   rows = at.rows;
   behind = tt;
   numbers = numbers_at job object was _ _ (λ some. at_first was.rows some);
 }
-makes_rest {job} past (PassesRow was object position row is other) at = record {
+makes_rest {job} (PassesRow was object position row is other) at = record {
   ends = at.ends;
   rows = at.rows;
   behind = tt;
   numbers = numbers_at job object was (behind position) _ (λ more. at_passed was.rows was.contents position row at.rows.contents at.rows.order is other more at.numbers);
 }
-makes_rest past (MakesFolder was object position row is stored more) at = record { ends = at.ends; rows = at.rows; behind = tt; numbers = at_folder was.rows position at.numbers }
-makes_rest {job} past (OpensCopy was object position row is stored all) at = record {
+makes_rest (MakesFolder was object position row is stored more) at = record { ends = at.ends; rows = at.rows; behind = tt; numbers = at_folder position at.numbers }
+makes_rest {job} {past} (OpensCopy was object position row is stored all) at = record {
   ends = at.ends;
   rows = fed_rows job past.bytes was [] at.rows;
   behind = tt;
   numbers = record { at = at.numbers; row = row; is_row = is; next = stored; stand = ltb-false position.directories (length row.path) all };
 }
-makes_rest {job} past (CopiesOn was object position left byte block fits) at = record {
+makes_rest {job} {past} (CopiesOn was object position left byte block fits) at = record {
   ends = at.ends;
   rows = fed_rows job past.bytes was _ at.rows;
   behind = tt;
   numbers = record { at = at.numbers.at; row = at.numbers.row; is_row = at.numbers.is_row; next = at.numbers.next; stand = at.numbers.stand };
 }
-makes_rest {job} past (EndsCopy was object position row left is same) at = record {
+makes_rest {job} {past} (EndsCopy was object position row left is same) at = record {
   ends = at.ends;
   rows = rows_copied job past.bytes was position.row left row is same at.rows;
   behind = tt;
-  numbers = numbers_at job object (with_fed was []) _ _ (λ more. at_stored was.rows was.contents position row at.rows.contents at.rows.order is (its_next was position row is at.numbers) more at.numbers.at);
+  numbers = numbers_at job object (with_fed was []) _ _ (λ more. at_stored was.rows was.contents position row at.rows.contents at.rows.order is (its_next row is at.numbers) more at.numbers.at);
 }
-makes_rest {job} past (MakesVersionInventory was object) at = record { ends = at.ends; rows = fed_rows job past.bytes was _ at.rows; behind = tt; numbers = tt }
-makes_rest {job} past (MakesVersionSidecar was object) at = record { ends = at.ends; rows = fed_rows job past.bytes was _ at.rows; behind = tt; numbers = tt }
-makes_rest {job} past (MakesInventory was object) at = record { ends = at.ends; rows = fed_rows job past.bytes was _ at.rows; behind = tt; numbers = tt }
-makes_rest {job} past {after} (MakesSidecar was object) at =
+makes_rest {job} {past} (MakesVersionInventory was object) at = record { ends = at.ends; rows = fed_rows job past.bytes was _ at.rows; behind = tt; numbers = tt }
+makes_rest {job} {past} (MakesVersionSidecar was object) at = record { ends = at.ends; rows = fed_rows job past.bytes was _ at.rows; behind = tt; numbers = tt }
+makes_rest {job} {past} (MakesInventory was object) at = record { ends = at.ends; rows = fed_rows job past.bytes was _ at.rows; behind = tt; numbers = tt }
+makes_rest {job} {past} {after} (MakesSidecar was object) at =
     let rows = fed_rows job past.bytes was [] at.rows in
     either_phase (λ p. RestAt job past.bytes p after) _ _ _
     (λ flat. record { ends = at.ends; rows = rows; behind = tt; numbers = tt })
     (λ some. record { ends = at.ends; rows = rows; behind = tt; numbers = above_none job.tuples.count some })
-makes_rest past turn at = record { ends = at.ends; rows = at.rows; behind = tt; numbers = tt }
+makes_rest turn at = record { ends = at.ends; rows = at.rows; behind = tt; numbers = tt }
 
 pub makes_hold : MakingKeepsHeld
-makes_hold job past here held after calls next turn at = with_rest (makes_rest past turn at) (trail.makes_keep turn at.trail) (makes_feed turn)
+makes_hold job past here held after calls next turn at = with_rest (makes_rest turn at) (trail.makes_keep turn at.trail) (makes_feed turn)

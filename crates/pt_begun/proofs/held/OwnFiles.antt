@@ -34,10 +34,10 @@ same_bare algorithm bytes (row ∷ rows) digests =
 held_so : (bytes : Path → List ℕ) (earlier rows : List Row) (row : Row) → are_apart (row_paths (earlier ++ row ∷ rows)) ≡ true → bytes row.path ≡ bytes_in (files_held (earlier ++ row ∷ rows) bytes) row.path
 held_so bytes earlier rows row apart = sym (ap (λ o. unwrap_or o []) (held_of_row (λ r. bytes r.path) earlier rows row apart))
 
-stored_so : (bytes : Path → List ℕ) (all earlier rows : List Row) → earlier ++ rows ≡ all → are_apart (row_paths all) ≡ true → map (holds_at bytes) (distinct_after earlier rows) ≡ map (holds_at (bytes_in (files_held all bytes))) (distinct_after earlier rows)
-stored_so bytes all earlier [] is apart = refl
-stored_so bytes all earlier (row ∷ rows) is apart =
-    by (is_known earlier row) (stored_so bytes all _ rows (append_assoc earlier (row ∷ []) rows ∙ is) apart)
+stored_so : (bytes : Path → List ℕ) {all : List Row} (earlier rows : List Row) → earlier ++ rows ≡ all → are_apart (row_paths all) ≡ true → map (holds_at bytes) (distinct_after earlier rows) ≡ map (holds_at (bytes_in (files_held all bytes))) (distinct_after earlier rows)
+stored_so bytes earlier [] is apart = refl
+stored_so bytes {all} earlier (row ∷ rows) is apart =
+    by (is_known earlier row) (stored_so bytes _ rows (append_assoc earlier (row ∷ []) rows ∙ is) apart)
   where
     here : bytes row.path ≡ bytes_in (files_held all bytes) row.path
     here = held_so bytes earlier rows row (ap (λ (l : List Row). are_apart (row_paths l)) is ∙ apart) ∙ ap (λ (l : List Row). bytes_in (files_held l bytes) row.path) is
@@ -55,7 +55,7 @@ own_files id rows bytes meta algorithm apart digests =
     let files : List File = files_held rows bytes in
     let one = same_bare algorithm bytes rows digests in
     let text : inventory_text id rows meta algorithm ≡ inventory_text id (rows_of algorithm files) meta algorithm = same_text id rows (rows_of algorithm files) meta algorithm one in
-    let stored : stored_files rows bytes ≡ stored_files (rows_of algorithm files) (bytes_in files) = stored_so bytes rows [] rows refl apart ∙ same_stored (bytes_in files) rows _ one in (
+    let stored : stored_files rows bytes ≡ stored_files (rows_of algorithm files) (bytes_in files) = stored_so bytes [] rows refl apart ∙ same_stored (bytes_in files) rows _ one in (
       λ i. holding (object_files algorithm (text i) (stored i)),
       λ i. map (item_in staging) (object_items algorithm (text i) (stored i)),
     )

@@ -182,9 +182,9 @@ is_new rows contents position row contents_are order is stored at = by (is_known
     by false known = known
 
 -- it is the distinct row of the position
-pub its_content : (rows : List Row) (contents : List Content) (position : Position) (row : Row) → contents ≡ map content_of_row (distinct rows) → part_in_order (row_paths rows) ≡ true → slice_get rows position.row ≡ Some row
+pub its_content : {rows : List Row} {contents : List Content} {position : Position} (row : Row) → contents ≡ map content_of_row (distinct rows) → part_in_order (row_paths rows) ≡ true → slice_get rows position.row ≡ Some row
     → is_stored contents position.stored row.path ≡ true → IsAtRow rows position → slice_get (distinct rows) position.stored ≡ Some row
-its_content rows contents position row contents_are order is stored at =
+its_content {rows} {contents} {position} row contents_are order is stored at =
     let front = distinct (take position.row rows) in
     ap (λ (l : List Row). slice_get l position.stored) (distinct_around rows position.row row is ∙ ap (λ t. front ++ (unless_known t row ++ distinct_after (take position.row rows ++ row ∷ []) (drop (suc position.row) rows))) (is_new rows contents position row contents_are order is stored at))
     ∙ ap (slice_get (front ++ row ∷ distinct_after (take position.row rows ++ row ∷ []) (drop (suc position.row) rows))) at.stored
@@ -210,8 +210,8 @@ more_folders earlier number (Some path) new =
     ap (λ n. list_all (λ folder. not (is_above_one earlier folder)) (drop n (folders_above path))) more ∙ all_drop_more (λ folder. not (is_above_one earlier folder)) number _ new
 
 -- one folder more stands
-pub at_folder : (rows : List Row) (position : Position) → IsAtRow rows position → IsAtRow rows (with_folder position)
-at_folder rows position at = record {
+pub at_folder : {rows : List Row} (position : Position) → IsAtRow rows position → IsAtRow rows (with_folder position)
+at_folder position at = record {
   within = at.within;
   stored = at.stored;
   new = more_folders _ position.directories _ at.new;
@@ -257,7 +257,7 @@ at_stored rows contents position row contents_are order is stored more at = reco
   stored = stored_more rows contents position row contents_are order is stored at;
   new = subst (λ (n : ℕ). AreNewFrom (take n (content_paths rows)) (standing row.path (slice_get contents n)) (slice_get (content_paths rows) n)) (sym (add_one position.stored))
       (subst (λ (l : List Content). AreNewFrom (take (suc position.stored) (content_paths rows)) (standing row.path (slice_get l (suc position.stored))) (slice_get (content_paths rows) (suc position.stored))) (sym contents_are)
-      (new_after (distinct rows) position.stored row (order_distinct [] rows order) (its_content rows contents position row contents_are order is stored at) _ refl));
+      (new_after (distinct rows) position.stored row (order_distinct [] rows order) (its_content row contents_are order is stored at) _ refl));
 }
   where
     add_one : (n : ℕ) → n + 1 ≡ suc n

@@ -39,8 +39,8 @@ use Rattle.pt_begun.proofs.held.WithBytes.{rows_push}
 
 -- ---- no row yet
 
-no_rows : (job : Job) (bytes : Path → List ℕ) (held : Held) → HoldsNoRows held → AreRows job bytes held
-no_rows job bytes held none = record {
+no_rows : (job : Job) {bytes : Path → List ℕ} {held : Held} → HoldsNoRows held → AreRows job bytes held
+no_rows job {bytes} none = record {
   order = ap (λ (l : List Row). part_in_order (row_paths l)) none.rows;
   digests = subst (λ (l : List Row). All (λ row. digest_of job.algorithm (bytes row.path) ≡ row.digest) l) (sym none.rows) (λ k d h. absurd (omega (arith, h)));
   contents = none.contents ∙ sym (ap (λ (l : List Row). map content_of_row (distinct l)) none.rows);
@@ -65,8 +65,8 @@ long_same : (t : List Frame) → length (advanced t) ≡ length t
 long_same [] = refl
 long_same (frame ∷ frames) = refl
 
-ends_advanced : (object : Object) (t : List Frame) → EndsInObject object t → EndsInObject object (advanced t)
-ends_advanced object t it = record {
+ends_advanced : {object : Object} (t : List Frame) → EndsInObject object t → EndsInObject object (advanced t)
+ends_advanced {object} t it = record {
   within = let long = long_same t in let within = it.within in omega (arith, long, within);
   own = own_advanced object t it.own;
 }
@@ -79,19 +79,19 @@ one_less : (n : ℕ) → 0 < n → n ≡ suc (n - 1)
 one_less n some = omega (arith, some)
 
 -- the object's own listings have the innermost one, and those around it
-own_front : (object : Object) (frame : Frame) (frames : List Frame) → 0 < own_listings object (frame ∷ frames)
+own_front : (object : Object) {frame : Frame} (frames : List Frame) → 0 < own_listings object (frame ∷ frames)
     → take (own_listings object (frame ∷ frames)) (frame ∷ frames) ≡ frame ∷ take (own_listings object (frame ∷ frames) - 1) frames
-own_front object frame frames some = ap (λ n. take n (frame ∷ frames)) (one_less _ some)
+own_front object {frame} frames some = ap (λ n. take n (frame ∷ frames)) (one_less _ some)
 
-all_entered : (earlier : List Path) (object : Object) (t : List Frame) (item : Item) (items : List Item) → current_entry t ≡ Some item → EndsInObject object t → all_behind earlier (take (own_listings object t) t) ≡ true
+all_entered : (earlier : List Path) {object : Object} (t : List Frame) {item : Item} (items : List Item) → current_entry t ≡ Some item → EndsInObject object t → all_behind earlier (take (own_listings object t) t) ≡ true
     → all_behind earlier (take (own_listings object (entered items t)) (entered items t)) ≡ true
-all_entered earlier object [] item items e ends it = absurd (cc)
-all_entered earlier object (frame ∷ frames) item items e ends it =
+all_entered earlier [] items e ends it = absurd (cc)
+all_entered earlier {object} (frame ∷ frames) items e ends it =
     let own = own_listings object (frame ∷ frames) in
-    let front = own_front object frame frames ends.own in
+    let front = own_front object frames ends.own in
     ap (λ n. all_behind earlier (take n (entered items (frame ∷ frames)))) (own_entered object items (frame ∷ frames) ends.within)
     ∙ ap (λ (l : List Frame). all_behind earlier (entered items l)) front
-    ∙ behind_entered earlier frame (take (own - 1) frames) item items e (sym (ap (all_behind earlier) front) ∙ it)
+    ∙ behind_entered earlier frame (take (own - 1) frames) items e (sym (ap (all_behind earlier) front) ∙ it)
 
 ends_entered : (object : Object) (items : List Item) (t : List Frame) → EndsInObject object t → EndsInObject object (entered items t)
 ends_entered object items t ends =
@@ -114,7 +114,7 @@ shorter (frame ∷ frames) site below = omega (arith, below)
 ends_left : (object : Object) (t : List Frame) → is_in_site object t ≡ false → is_own_directory object t ≡ false → EndsInObject object t → EndsInObject object (advanced (parent t))
 ends_left object t apart outside ends =
     let below = below_site_of object t apart ends.within in
-    ends_advanced object (parent t) (record { within = shorter t object.site below; own = some_around object t outside below })
+    ends_advanced (parent t) (record { within = shorter t object.site below; own = some_around object t outside below })
 
 -- at the end of the object's own directory the trail ends at its site
 at_site_again : (object : Object) (t : List Frame) → is_own_directory object t ≡ true → length (parent t) ≡ object.site
@@ -122,20 +122,20 @@ at_site_again object t own = eqb-true (length (parent t)) object.site (and_parts
 
 -- ---- a file is noted
 
-contents_push : (rows : List Row) (contents : List Content) (row : Row) → contents ≡ map content_of_row (distinct rows) → noted contents row.digest row.path ≡ map content_of_row (distinct (rows ++ row ∷ []))
-contents_push rows contents row is =
+contents_push : (rows : List Row) {contents : List Content} (row : Row) → contents ≡ map content_of_row (distinct rows) → noted contents row.digest row.path ≡ map content_of_row (distinct (rows ++ row ∷ []))
+contents_push rows row is =
     ap (λ (l : List Content). noted l row.digest row.path) (is ∙ sym (noting_gives_distinct rows))
     ∙ sym (fold_push (λ (l : List Content) (r : Row). noted l r.digest r.path) [] rows row)
     ∙ noting_gives_distinct (rows ++ row ∷ [])
 
 -- the file at the place comes behind all rows
-pub here_behind : (earlier : List Path) (object : Object) (t : List Frame) (item : Item) → current_entry t ≡ Some item → EndsInObject object t → all_behind earlier (take (own_listings object t) t) ≡ true
+pub here_behind : (earlier : List Path) {object : Object} (t : List Frame) {item : Item} → current_entry t ≡ Some item → EndsInObject object t → all_behind earlier (take (own_listings object t) t) ≡ true
     → list_all (λ path. parts_before path (logical_path object t)) earlier ≡ true
-here_behind earlier object [] item e ends it = absurd (cc)
-here_behind earlier object (frame ∷ frames) item e ends it =
-    let front = own_front object frame frames ends.own in
+here_behind earlier [] e ends it = absurd (cc)
+here_behind earlier {object} (frame ∷ frames) e ends it =
+    let front = own_front object frames ends.own in
     ap (λ (l : List Frame). list_all (λ path. parts_before path (names_to l)) earlier) front
-    ∙ behind_here earlier frame (take (own_listings object (frame ∷ frames) - 1) frames) item e (sym (ap (all_behind earlier) front) ∙ it)
+    ∙ behind_here earlier frame (take (own_listings object (frame ∷ frames) - 1) frames) e (sym (ap (all_behind earlier) front) ∙ it)
 
 -- the first listings of a trail are one
 first_ones : (n : ℕ) (t : List Frame) → is_trail t ≡ true → is_trail (take n t) ≡ true
@@ -154,34 +154,34 @@ first_ones (suc n) (frame ∷ frames) is_one =
         and_from _ _ first.0
         (and_from _ _ second.0 (outer_ones n frames second.1))
 
-all_noted : (earlier : List Path) (object : Object) (t : List Frame) (item : Item) → is_trail t ≡ true → current_entry t ≡ Some item → EndsInObject object t → all_behind earlier (take (own_listings object t) t) ≡ true
+all_noted : (earlier : List Path) {object : Object} (t : List Frame) {item : Item} → is_trail t ≡ true → current_entry t ≡ Some item → EndsInObject object t → all_behind earlier (take (own_listings object t) t) ≡ true
     → all_behind (earlier ++ logical_path object t ∷ []) (take (own_listings object (advanced t)) (advanced t)) ≡ true
-all_noted earlier object [] item is_one e ends it = absurd (cc)
-all_noted earlier object (frame ∷ frames) item is_one e ends it =
+all_noted earlier [] is_one e ends it = absurd (cc)
+all_noted earlier {object} (frame ∷ frames) {item} is_one e ends it =
     let own = own_listings object (frame ∷ frames) in
-    let front = own_front object frame frames ends.own in
+    let front = own_front object frames ends.own in
     ap (all_behind (earlier ++ logical_path object (frame ∷ frames) ∷ [])) (take_advanced own (frame ∷ frames))
     ∙ ap (λ (l : List Frame). all_behind (earlier ++ names_to l ∷ []) (advanced l)) front
     ∙ behind_noted earlier frame (take (own - 1) frames) item (ap is_trail (sym front) ∙ first_ones own (frame ∷ frames) is_one) e (sym (ap (all_behind earlier) front) ∙ it)
 
 -- the rows with the file that was read
-rows_noted : (job : Job) (bytes : Path → List ℕ) (object : Object) (held : Held) (item : Item) (read : ℕ) → current_entry held.trail ≡ Some item → EndsInObject object held.trail → IsBehindRows object held → AreRows job bytes held
+rows_noted : (job : Job) (bytes : Path → List ℕ) (object : Object) (held : Held) {item : Item} (read : ℕ) → current_entry held.trail ≡ Some item → EndsInObject object held.trail → IsBehindRows object held → AreRows job bytes held
     → AreRows job (with_bytes (logical_path object held.trail) held.fed bytes) (with_file job object held read)
-rows_noted job bytes object held item read e ends behind rows =
+rows_noted job bytes object held read e ends behind rows =
     let path = logical_path object held.trail in
     let row = row_of path (digest_of job.algorithm held.fed) read in
-    let last = here_behind _ object held.trail item e ends behind in
+    let last = here_behind _ held.trail e ends behind in
     record {
       order = ap part_in_order (map-append (λ (r : Row). r.path) held.rows (row ∷ [])) ∙ order_push _ path rows.order last;
-      digests = rows_push (λ b r. digest_of job.algorithm b ≡ r.digest) bytes path held.fed row refl refl held.rows last rows.digests;
-      contents = contents_push held.rows held.contents row rows.contents;
+      digests = rows_push (λ b r. digest_of job.algorithm b ≡ r.digest) bytes held.fed row refl refl held.rows last rows.digests;
+      contents = contents_push held.rows row rows.contents;
     }
 
-behind_file : (job : Job) (object : Object) (held : Held) (item : Item) (read : ℕ) → is_trail held.trail ≡ true → current_entry held.trail ≡ Some item → EndsInObject object held.trail → IsBehindRows object held → IsBehindRows object (with_file job object held read)
-behind_file job object held item read is_one e ends behind =
+behind_file : (job : Job) (object : Object) (held : Held) {item : Item} (read : ℕ) → is_trail held.trail ≡ true → current_entry held.trail ≡ Some item → EndsInObject object held.trail → IsBehindRows object held → IsBehindRows object (with_file job object held read)
+behind_file job object held read is_one e ends behind =
     let row = row_of (logical_path object held.trail) (digest_of job.algorithm held.fed) read in
     ap (λ (l : List Path). all_behind l (take (own_listings object (advanced held.trail)) (advanced held.trail))) (map-append (λ (r : Row). r.path) held.rows (row ∷ []))
-    ∙ all_noted _ object held.trail item is_one e ends behind
+    ∙ all_noted _ held.trail is_one e ends behind
 
 -- ---- each turn
 
@@ -198,68 +198,68 @@ first_in_directory object items t same =
     let own = own_entered object items t (omega (arith, same)) in
     record { within = omega (arith, same); own = omega (arith, own) }
 
-counted : (job : Job) (object : Object) (items : List Item) → IsObject job object → IsObject job (with_directory object items)
-counted job object items it = record { some = it.some; place = it.place }
+counted : {job : Job} {object : Object} (items : List Item) → IsObject job object → IsObject job (with_directory object items)
+counted items it = record { some = it.some; place = it.place }
 
-counted_ends : (object : Object) (items : List Item) (t : List Frame) → EndsInObject object t → EndsInObject (with_directory object items) t
-counted_ends object items t it = record { within = it.within; own = it.own }
+counted_ends : {object : Object} (items : List Item) (t : List Frame) → EndsInObject object t → EndsInObject (with_directory object items) t
+counted_ends items t it = record { within = it.within; own = it.own }
 
 pub fed_rows : (job : Job) (bytes : Path → List ℕ) (held : Held) (fed : List ℕ) → AreRows job bytes held → AreRows job bytes (with_fed held fed)
 fed_rows job bytes held fed it = record { order = it.order; digests = it.digests; contents = it.contents }
 
-moved_rows : (job : Job) (bytes : Path → List ℕ) (held : Held) (t : List Frame) → AreRows job bytes held → AreRows job bytes (with_trail held t)
-moved_rows job bytes held t it = record { order = it.order; digests = it.digests; contents = it.contents }
+moved_rows : {job : Job} {bytes : Path → List ℕ} {held : Held} (t : List Frame) → AreRows job bytes held → AreRows job bytes (with_trail held t)
+moved_rows t it = record { order = it.order; digests = it.digests; contents = it.contents }
 
 no_object_rest : {job : Job} {bytes : Path → List ℕ} (object : Object) (held : Held) → RestAt job bytes phase.Walk (back_at_site object held)
 no_object_rest object held = record { ends = tt; rows = record { rows = refl; contents = refl }; behind = tt; numbers = tt }
 
-scans_rest : {job : Job} (past : Past) {here next : Phase} {held after : Held} {calls : Calls} → Scans job here held after calls (Ok next) → HeldAt job past here held → RestAt job (bytes_after here next held past.bytes) next after
-scans_rest {job} past {after} (StartsInSite was object gathered) at = record {
+scans_rest : {job : Job} {past : Past} {here next : Phase} {held after : Held} {calls : Calls} → Scans job here held after calls (Ok next) → HeldAt job past here held → RestAt job (bytes_after here next held past.bytes) next after
+scans_rest {job} {after} (StartsInSite was object gathered) at = record {
   ends = (at.ends.0, first_in_site object was.trail gathered at.ends.1);
-  rows = moved_rows job past.bytes was after.trail (no_rows job past.bytes was at.rows);
+  rows = moved_rows after.trail (no_rows job at.rows);
   behind = none_behind object after at.rows.rows;
   numbers = tt;
 }
-scans_rest {job} past {after} (EntersObject was object items apart shallow) at = record {
-  ends = (counted job object items at.ends.0, counted_ends object items after.trail (first_in_directory object items was.trail at.ends.1));
-  rows = moved_rows job past.bytes was after.trail (no_rows job past.bytes was at.rows);
+scans_rest {job} {after} (EntersObject was object items apart shallow) at = record {
+  ends = (counted items at.ends.0, counted_ends items after.trail (first_in_directory object items was.trail at.ends.1));
+  rows = moved_rows after.trail (no_rows job at.rows);
   behind = none_behind (with_directory object items) after at.rows.rows;
   numbers = tt;
 }
-scans_rest past (IsTooDeep was object apart deep) at = no_object_rest object was
-scans_rest {job} past {after} (PassesShorty was object item e passed) at = record {
-  ends = (at.ends.0, ends_advanced object was.trail at.ends.1);
-  rows = moved_rows job past.bytes was after.trail at.rows;
+scans_rest (IsTooDeep was object apart deep) at = no_object_rest object was
+scans_rest {job} {after} (PassesShorty was object item e passed) at = record {
+  ends = (at.ends.0, ends_advanced was.trail at.ends.1);
+  rows = moved_rows after.trail at.rows;
   behind = all_advanced _ object was.trail at.behind;
   numbers = tt;
 }
-scans_rest {job} past {after} (EntersDirectory was object name items e apart shallow) at = record {
-  ends = (counted job object items at.ends.0, counted_ends object items after.trail (ends_entered object items was.trail at.ends.1));
-  rows = moved_rows job past.bytes was after.trail at.rows;
-  behind = all_entered _ object was.trail _ items e at.ends.1 at.behind;
+scans_rest {job} {after} (EntersDirectory was object name items e apart shallow) at = record {
+  ends = (counted items at.ends.0, counted_ends items after.trail (ends_entered object items was.trail at.ends.1));
+  rows = moved_rows after.trail at.rows;
+  behind = all_entered _ was.trail items e at.ends.1 at.behind;
   numbers = tt;
 }
-scans_rest past (MeetsDeep was object name e apart deep) at = no_object_rest object was
-scans_rest {job} past (OpensFile was object name e room) at = record { ends = at.ends; rows = fed_rows job past.bytes was [] at.rows; behind = at.behind; numbers = tt }
-scans_rest past (MeetsLimit was object name e room) at = no_object_rest object was
-scans_rest past (MeetsOther was object name e) at = no_object_rest object was
-scans_rest past (EndsSite was object e there) at = record { ends = (at.ends.0, eqb-true (length was.trail) object.site there); rows = at.rows; behind = tt; numbers = tt }
-scans_rest {job} past (EndsObject was object e apart own) at =
-    record { ends = (at.ends.0, at_site_again object was.trail own); rows = moved_rows job past.bytes was (parent was.trail) at.rows; behind = tt; numbers = tt }
-scans_rest {job} past {after} (LeavesDirectory was object e apart outside) at = record {
+scans_rest (MeetsDeep was object name e apart deep) at = no_object_rest object was
+scans_rest {job} {past} (OpensFile was object name e room) at = record { ends = at.ends; rows = fed_rows job past.bytes was [] at.rows; behind = at.behind; numbers = tt }
+scans_rest (MeetsLimit was object name e room) at = no_object_rest object was
+scans_rest (MeetsOther was object name e) at = no_object_rest object was
+scans_rest (EndsSite was object e there) at = record { ends = (at.ends.0, eqb-true (length was.trail) object.site there); rows = at.rows; behind = tt; numbers = tt }
+scans_rest {job} (EndsObject was object e apart own) at =
+    record { ends = (at.ends.0, at_site_again object was.trail own); rows = moved_rows (parent was.trail) at.rows; behind = tt; numbers = tt }
+scans_rest {job} {after} (LeavesDirectory was object e apart outside) at = record {
   ends = (at.ends.0, ends_left object was.trail apart outside at.ends.1);
-  rows = moved_rows job past.bytes was after.trail at.rows;
+  rows = moved_rows after.trail at.rows;
   behind = all_left _ object was.trail (below_site_of object was.trail apart at.ends.1.within) at.behind;
   numbers = tt;
 }
-scans_rest {job} past {after} (ReadsOn was object bytes byte block short) at = record { ends = at.ends; rows = fed_rows job past.bytes was after.fed at.rows; behind = at.behind; numbers = tt }
-scans_rest past (IsTooLong was object bytes byte block long) at = no_object_rest object was
-scans_rest {job} past (EndsFile was object bytes) at = record {
-  ends = (at.ends.0, ends_advanced object was.trail at.ends.1);
-  rows = rows_noted job past.bytes object was at.trail.entry.0 bytes at.trail.entry.1 at.ends.1 at.behind at.rows;
-  behind = behind_file job object was at.trail.entry.0 bytes at.trail.is_one at.trail.entry.1 at.ends.1 at.behind;
+scans_rest {job} {past} {after} (ReadsOn was object bytes byte block short) at = record { ends = at.ends; rows = fed_rows job past.bytes was after.fed at.rows; behind = at.behind; numbers = tt }
+scans_rest (IsTooLong was object bytes byte block long) at = no_object_rest object was
+scans_rest {job} {past} (EndsFile was object bytes) at = record {
+  ends = (at.ends.0, ends_advanced was.trail at.ends.1);
+  rows = rows_noted job past.bytes object was bytes at.trail.entry.1 at.ends.1 at.behind at.rows;
+  behind = behind_file job object was bytes at.trail.is_one at.trail.entry.1 at.ends.1 at.behind;
   numbers = tt;
 }
 
 pub scans_hold : ScanningKeepsHeld
-scans_hold job past old new here next held after calls turn answers at = with_rest (scans_rest past turn at) (trail.scans_keep old new turn answers at.trail) (scans_feed turn)
+scans_hold job past old new here next held after calls turn answers at = with_rest (scans_rest turn at) (trail.scans_keep old new turn answers at.trail) (scans_feed turn)

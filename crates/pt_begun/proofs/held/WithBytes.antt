@@ -25,8 +25,8 @@ later_held : (path : Path) (read : List ℕ) (bytes : Path → List ℕ) (later 
 later_held path read bytes later parts =
     sym (ap (λ t. cond t read (bytes later)) (same_path-sym later path ∙ parts_differ path later _ refl parts))
 
-pub now_held : (path : Path) (read : List ℕ) (bytes : Path → List ℕ) → read ≡ with_bytes path read bytes path
-now_held path read bytes = sym (ap (λ t. cond t read (bytes path)) (path_itself path))
+pub now_held : (path : Path) {read : List ℕ} (bytes : Path → List ℕ) → read ≡ with_bytes path read bytes path
+now_held path {read} bytes = sym (ap (λ t. cond t read (bytes path)) (path_itself path))
 
 rest_of : (P : Row → Type 0) (row : Row) (rows : List Row) → All P (row ∷ rows) → All P rows
 rest_of P row rows all = λ k d h. all (suc k) d (omega (arith, h))
@@ -51,11 +51,11 @@ all_later P bytes path read (row ∷ rows) after all =
     (all_later P bytes path read rows parts.1 (rest_of (λ r. P (bytes r.path) r) row rows all))
 
 -- one row more, with what was read of its file
-pub rows_push : (P : List ℕ → Row → Type 0) (bytes : Path → List ℕ) (path : Path) (read : List ℕ) (row : Row) → row.path ≡ path → P read row → (rows : List Row) → list_all (λ earlier. parts_before earlier path) (row_paths rows) ≡ true
+pub rows_push : (P : List ℕ → Row → Type 0) (bytes : Path → List ℕ) {path : Path} (read : List ℕ) (row : Row) → row.path ≡ path → P read row → (rows : List Row) → list_all (λ earlier. parts_before earlier path) (row_paths rows) ≡ true
     → EachRow P bytes rows → EachRow P (with_bytes path read bytes) (rows ++ row ∷ [])
-rows_push P bytes path read row is new rows behind all =
+rows_push P bytes {path} read row is new rows behind all =
     All-push (λ r. P (with_bytes path read bytes r.path) r) rows row (all_still P bytes path read rows behind all)
-    (subst (λ p. P (with_bytes path read bytes p) row) (sym is) (subst (λ b. P b row) (now_held path read bytes) new))
+    (subst (λ p. P (with_bytes path read bytes p) row) (sym is) (subst (λ b. P b row) (now_held path bytes) new))
 
 comes_before : (path : Path) (front : List Row) (row : Row) (others : List Row) → list_all (parts_before path) (row_paths (front ++ row ∷ others)) ≡ true → parts_before path row.path ≡ true
 comes_before path [] row others h = (and_parts _ _ h).0
@@ -65,7 +65,7 @@ comes_before path (r ∷ front) row others h = comes_before path front row other
 all_around : (P : List ℕ → Row → Type 0) (bytes : Path → List ℕ) (read : List ℕ) (front : List Row) (row : Row) (others : List Row) → part_in_order (row_paths (front ++ row ∷ others)) ≡ true → P read row
     → EachRow P bytes (front ++ row ∷ others) → EachRow P (with_bytes row.path read bytes) (front ++ row ∷ others)
 all_around P bytes read [] row others order new all =
-    All-cons (λ r. P (with_bytes row.path read bytes r.path) r) row others (subst (λ b. P b row) (now_held row.path read bytes) new)
+    All-cons (λ r. P (with_bytes row.path read bytes r.path) r) row others (subst (λ b. P b row) (now_held row.path bytes) new)
     (all_later P bytes row.path read others (and_parts _ _ order).0 (rest_of (λ r. P (bytes r.path) r) row others all))
 all_around P bytes read (first ∷ front) row others order new all =
     let parts = and_parts _ _ order in

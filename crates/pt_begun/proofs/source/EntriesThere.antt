@@ -60,26 +60,26 @@ inner n inside directory base is (entry ∷ some) there =
       inner n inside directory base is some there.1,
     )
 
-first_found : (n : List ℕ) (node : Node) (o : Option Node) → cond (bytes_eq n n) (Some node) o ≡ Some node
-first_found n node o = ap (λ b. cond b (Some node) o) (name_itself n)
+first_found : (n : List ℕ) {node : Node} (o : Option Node) → cond (bytes_eq n n) (Some node) o ≡ Some node
+first_found n {node} o = ap (λ b. cond b (Some node) o) (name_itself n)
 
 pub all_there : (f : Forest) (base : Path) → is_proper f ≡ true → AreThere f base (entries_in base f)
 all_there none base proper = tt
 all_there (file n bytes after) base proper =
     let parts = proper_file n bytes after proper in (
-      record { name = n; rest = []; path = refl; stands = ap (option_and_then (λ node. node_at node [])) (first_found n (File bytes) (find after n)) },
+      record { name = n; rest = []; path = refl; stands = ap (option_and_then (λ node. node_at node [])) (first_found n (find after n)) },
       lifted n (File bytes) after _ base (λ m. refl) parts.1 parts.2 (entries_in base after) (all_there after base parts.2),
     )
 all_there (other n after) base proper =
     let parts = proper_other n after proper in (
-      record { name = n; rest = []; path = refl; stands = ap (option_and_then (λ node. node_at node [])) (first_found n Other (find after n)) },
+      record { name = n; rest = []; path = refl; stands = ap (option_and_then (λ node. node_at node [])) (first_found n (find after n)) },
       lifted n Other after _ base (λ m. refl) parts.1 parts.2 (entries_in base after) (all_there after base parts.2),
     )
 all_there (dir n inside after) base proper =
     let parts = proper_dir n inside after proper in (
-      record { name = n; rest = []; path = refl; stands = ap (option_and_then (λ node. node_at node [])) (first_found n (Dir inside) (find after n)) },
+      record { name = n; rest = []; path = refl; stands = ap (option_and_then (λ node. node_at node [])) (first_found n (find after n)) },
       both_there _ base _ _
-          (inner n inside _ base (first_found n (Dir inside) (find after n)) (entries_in (base ++ n ∷ []) inside) (all_there inside (base ++ n ∷ []) parts.3))
+          (inner n inside _ base (first_found n (find after n)) (entries_in (base ++ n ∷ []) inside) (all_there inside (base ++ n ∷ []) parts.3))
           (lifted n (Dir inside) after _ base (λ m. refl) parts.1 parts.2 (entries_in base after) (all_there after base parts.2)),
     )
 
@@ -88,19 +88,19 @@ pub gathered_there : (f : Forest) (base : Path) → is_proper f ≡ true → Are
 gathered_there none base proper = tt
 gathered_there (file n bytes after) base proper =
     let parts = proper_file n bytes after proper in (
-      record { name = n; rest = []; path = refl; stands = ap (option_and_then (λ node. node_at node [])) (first_found n (File bytes) (find after n)) },
+      record { name = n; rest = []; path = refl; stands = ap (option_and_then (λ node. node_at node [])) (first_found n (find after n)) },
       lifted n (File bytes) after _ base (λ m. refl) parts.1 parts.2 (entries_in base (without_shorties after)) (gathered_there after base parts.2),
     )
 gathered_there (other n after) base proper =
     let parts = proper_other n after proper in (
-      record { name = n; rest = []; path = refl; stands = ap (option_and_then (λ node. node_at node [])) (first_found n Other (find after n)) },
+      record { name = n; rest = []; path = refl; stands = ap (option_and_then (λ node. node_at node [])) (first_found n (find after n)) },
       lifted n Other after _ base (λ m. refl) parts.1 parts.2 (entries_in base (without_shorties after)) (gathered_there after base parts.2),
     )
 gathered_there (dir n inside after) base proper =
     let parts = proper_dir n inside after proper in
     by (is_short n)
-    (record { name = n; rest = []; path = refl; stands = ap (option_and_then (λ node. node_at node [])) (first_found n (Dir inside) (find after n)) })
-    (inner n inside _ base (first_found n (Dir inside) (find after n)) (entries_in (base ++ n ∷ []) inside) (all_there inside (base ++ n ∷ []) parts.3))
+    (record { name = n; rest = []; path = refl; stands = ap (option_and_then (λ node. node_at node [])) (first_found n (find after n)) })
+    (inner n inside _ base (first_found n (find after n)) (entries_in (base ++ n ∷ []) inside) (all_there inside (base ++ n ∷ []) parts.3))
     (lifted n (Dir inside) after _ base (λ m. refl) parts.1 parts.2 (entries_in base (without_shorties after)) (gathered_there after base parts.2))
   where
     by : (short : Bool) → IsThere (dir n inside after) base (base ++ n ∷ [], Dir inside) → AreThere (dir n inside after) base (entries_in (base ++ n ∷ []) inside) → AreThere (dir n inside after) base (entries_in base (without_shorties after))
@@ -115,20 +115,20 @@ front_there directory base [] left there = tt
 front_there directory base (entry ∷ front) left there = (there.0, front_there directory base front left there.1)
 
 -- a file that is one of the entries stands there
-pub file_of : (directory : Forest) (base : Path) (some : List Entry) (k : ℕ) (path : Path) (bytes : List ℕ) → AreThere directory base some → slice_get (files some) k ≡ Some (path, bytes) → IsThere directory base (path, File bytes)
-file_of directory base [] k path bytes there is = absurd (cc)
-file_of directory base ((p, File b) ∷ some) zero path bytes there is =
+pub file_of : {directory : Forest} {base : Path} (some : List Entry) (k : ℕ) {path : Path} {bytes : List ℕ} → AreThere directory base some → slice_get (files some) k ≡ Some (path, bytes) → IsThere directory base (path, File bytes)
+file_of [] k there is = absurd (cc)
+file_of {directory} {base} ((p, File b) ∷ some) zero {path} {bytes} there is =
     let same : (p, b) ≡ (path, bytes) = some_same (p, b) (path, bytes) is in
     let one : p ≡ path = ap (λ (f : (Path × List ℕ)). f.0) same in
     let two : b ≡ bytes = ap (λ (f : (Path × List ℕ)). f.1) same in
     subst (λ (q : Path). IsThere directory base (q, File bytes)) one (subst (λ (c : List ℕ). IsThere directory base (p, File c)) two there.0)
-file_of directory base ((p, File b) ∷ some) (suc k) path bytes there is = file_of directory base some k path bytes there.1 is
-file_of directory base ((p, Dir inside) ∷ some) k path bytes there is = file_of directory base some k path bytes there.1 is
-file_of directory base ((p, Other) ∷ some) k path bytes there is = file_of directory base some k path bytes there.1 is
+file_of ((p, File b) ∷ some) (suc k) there is = file_of some k there.1 is
+file_of ((p, Dir inside) ∷ some) k there is = file_of some k there.1 is
+file_of ((p, Other) ∷ some) k there is = file_of some k there.1 is
 
 -- of a directory in the tree: the file stands in the tree
-pub file_stands : (top inside : Forest) (at : Path) (front left : List Entry) (k : ℕ) (path : Path) (bytes : List ℕ) → AreThere inside [] (front ++ left)
+pub file_stands : (top inside : Forest) (at : Path) (front left : List Entry) (k : ℕ) {path : Path} {bytes : List ℕ} → AreThere inside [] (front ++ left)
     → ((below : Path) → node_at (Dir top) (at ++ below) ≡ node_at (Dir inside) below) → slice_get (files front) k ≡ Some (path, bytes) → file_at top (at ++ path) ≡ Some bytes
-file_stands top inside at front left k path bytes there down is =
-    let it = file_of inside [] front k path bytes (front_there inside [] front left there) is in
+file_stands top inside at front left k there down is =
+    let it = file_of front k (front_there inside [] front left there) is in
     ap (option_and_then as_file) (ap (λ (p : Path). node_at (Dir top) (at ++ p)) it.path ∙ down (it.name ∷ it.rest) ∙ it.stands)

@@ -50,9 +50,9 @@ site_itself object trail same =
 
 -- ---- an object stays under way
 
-pub still_in : (job : Job) (source : Forest) (prefix : List ℕ) (object : Object) (old new : List Frame) (count : ℕ) → object.site ≤ length new → Fits (pairtree_of source) new → to_site object new ≡ to_site object old
+pub still_in : (job : Job) (source : Forest) (prefix : List ℕ) (object : Object) {old new : List Frame} (count : ℕ) → object.site ≤ length new → Fits (pairtree_of source) new → to_site object new ≡ to_site object old
     → IsInObject job source prefix object old count → IsInObject job source prefix object new count
-still_in job source prefix object old new count within fits same it = record {
+still_in job source prefix object count within fits same it = record {
   some = it.some;
   within = within;
   fits = fits;
@@ -61,9 +61,9 @@ still_in job source prefix object old new count within fits same it = record {
 }
 
 -- with one more directory counted
-pub still_counted : (job : Job) (source : Forest) (prefix : List ℕ) (object : Object) (empty : ℕ) (trail : List Frame) (count : ℕ)
+pub still_counted : {job : Job} {source : Forest} {prefix : List ℕ} {object : Object} (empty : ℕ) {trail : List Frame} {count : ℕ}
     → IsInObject job source prefix object trail count → IsInObject job source prefix (record object { empty = empty }) trail count
-still_counted job source prefix object empty trail count it = record {
+still_counted empty it = record {
   some = it.some;
   within = it.within;
   fits = it.fits;
@@ -86,9 +86,9 @@ object_moved source object frame frames place gathered =
     (same_choice object.gathered (without_shorties (inside_at top (names_to frames))) (inside_at top (names_to old)) (inside_at top (names_to new)) gathered)
 
 -- a gathered object, when the place in its site moves
-pub site_moved : (job : Job) (source : Forest) (prefix : List ℕ) (object : Object) (frame : Frame) (frames : List Frame) (place count : ℕ) → object.gathered ≡ true
+pub site_moved : {job : Job} (source : Forest) {prefix : List ℕ} (object : Object) (frame : Frame) (frames : List Frame) (place : ℕ) {count : ℕ} → object.gathered ≡ true
     → IsSiteOf job source prefix object (frame ∷ frames) count → IsSiteOf job source prefix object (sought place (frame ∷ frames)) count
-site_moved job source prefix object frame frames place count gathered it =
+site_moved source object frame frames place gathered it =
     let same = object_moved source object frame frames place gathered in
     record {
       here = record { site = it.here.site };
@@ -121,14 +121,14 @@ own_advanced object [] some = some
 own_advanced object (frame ∷ frames) some = some
 
 -- at the site a gathered object has one, and any other none
-own_here : (g : Bool) (n site : ℕ) → n ≡ site → own_at g n site ≡ cond g 1 0
+own_here : (g : Bool) (n : ℕ) {site : ℕ} → n ≡ site → own_at g n site ≡ cond g 1 0
 unfolding own_at
-own_here true n site same = omega (arith, same)
-own_here false n site same = omega (arith, same)
+own_here true n same = omega (arith, same)
+own_here false n same = omega (arith, same)
 
 pub own_at_site : (object : Object) (trail : List Frame) → length trail ≡ object.site → own_listings object trail ≡ cond object.gathered 1 0
 unfolding own_at
-own_at_site object trail same = own_here object.gathered _ object.site same
+own_at_site object trail same = own_here object.gathered _ same
 
 -- an entry that isn't passed over isn't a shorty of a gathered site
 not_passed : (g : Bool) (n site k : ℕ) (item : Item) → site ≤ n → own_at g n site ≡ suc k → (n == site) && is_shorty item ≡ false → walk.is_passed g k item ≡ false
@@ -144,14 +144,14 @@ unfolding own_at
 passed_not object trail k item within own apart = not_passed object.gathered (length trail) object.site k item within own apart
 
 -- an object that has a listing of its own at its site is gathered
-gathered_here : (g : Bool) (n site : ℕ) → n ≡ site → 0 < own_at g n site → g ≡ true
+gathered_here : (g : Bool) (n : ℕ) {site : ℕ} → n ≡ site → 0 < own_at g n site → g ≡ true
 unfolding own_at
-gathered_here true n site same some = refl
-gathered_here false n site same some = absurd (omega (arith, same, some))
+gathered_here true n same some = refl
+gathered_here false n same some = absurd (omega (arith, same, some))
 
 pub is_gathered : (object : Object) (trail : List Frame) → length trail ≡ object.site → 0 < own_listings object trail → object.gathered ≡ true
 unfolding own_at
-is_gathered object trail same some = gathered_here object.gathered _ object.site same some
+is_gathered object trail same some = gathered_here object.gathered _ same some
 
 -- ---- the path of an entry is the object's and the logical one
 
@@ -187,10 +187,10 @@ logical_is object frame frames k item e own =
 
 -- ---- one entry more is scanned
 
-pub scans_more : (job : Job) (object : PairtreeObject) (rows : List Row) (empty more : ℕ) (entry : Entry) (left : List Entry)
+pub scans_more : (job : Job) {object : PairtreeObject} {rows : List Row} {empty more : ℕ} {entry : Entry} {left : List Entry}
     → entry_cause job.limits (length object.at) (length rows) entry ≡ None → more ≡ empty + empties (entry ∷ [])
     → HasScanned job object rows empty (entry ∷ left) → HasScanned job object (rows ++ rows_of job.algorithm (files (entry ∷ []))) more left
-scans_more job object rows empty more entry left none counted it =
+scans_more job {object} {rows} {entry} {left} none counted it =
     let both = counts it.front (entry ∷ []) in
     let many : 0 + length (files it.front) ≡ length rows =
     (let long : length rows ≡ length (files it.front) = ap length it.rows_are ∙ length-map (files it.front) (row_of_file job.algorithm) in omega (arith, long)) in
@@ -209,5 +209,5 @@ scans_more job object rows empty more entry left none counted it =
     }
 
 -- what is left may be said otherwise
-pub scans_same : (job : Job) (object : PairtreeObject) (rows : List Row) (empty : ℕ) (old new : List Entry) → old ≡ new → HasScanned job object rows empty old → HasScanned job object rows empty new
-scans_same job object rows empty old new same it = subst (λ (l : List Entry). HasScanned job object rows empty l) same it
+pub scans_same : {job : Job} {object : PairtreeObject} {rows : List Row} {empty : ℕ} {old new : List Entry} → old ≡ new → HasScanned job object rows empty old → HasScanned job object rows empty new
+scans_same {job} {object} {rows} {empty} same it = subst (λ (l : List Entry). HasScanned job object rows empty l) same it

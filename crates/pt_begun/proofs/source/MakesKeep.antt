@@ -46,7 +46,7 @@ module _ (job : Job) (s : Reading) (prefix : List ℕ) (object : Object) (held :
       → RowFile job (pairtree_of s.tree) (path_of_source object held.trail) row
   file_of_row n row proper is it =
       subst (λ (t : List Frame). RowFile job (pairtree_of s.tree) (path_of_source object t) row) (site_itself object held.trail it.1.at_site)
-      (row_file job s.tree object (to_site object held.trail) held.rows object.empty [] n row (pairtree_proper s.tree it.0.store proper) it.1.scanned is)
+      (row_file job s.tree object (to_site object held.trail) [] n row (pairtree_proper s.tree it.0.store proper) it.1.scanned is)
 
   opens_copy : (position : Position) (row : Row) → is_proper s.tree ≡ true → slice_get held.rows position.row ≡ Some row → Scanned job prefix object count held s
       → IsCopyingFile s.tree object (with_fed held []) position (file_at s.tree (pairtree_root ∷ (path_of_source object held.trail ++ row.path))) row.length
@@ -61,7 +61,7 @@ module _ (job : Job) (s : Reading) (prefix : List ℕ) (object : Object) (held :
         row = row;
         is_row = is;
         within = omega arith;
-        read = subst (λ (n : ℕ). IsReading bytes n [] there) (sym none_read) (reads_first bytes there opened);
+        read = subst (λ (n : ℕ). IsReading bytes n [] there) (sym none_read) (reads_first opened);
       }
 
   copies_on : (position : Position) (left : ℕ) (block : List ℕ) → nat_lt left (length block) ≡ false → ForSome (Some s) (λ (r : Reading). option_map (take 8192) r.unread ≡ Some block) → IsCopyingFile s.tree object held position s.unread left

@@ -77,12 +77,12 @@ heads x y xs ys e = cc
 dirs_same : (a b : Forest) → Dir a ≡ Dir b → a ≡ b
 dirs_same a b e = cc
 
-encapsulated_is : (site : Path) (f : Forest) (name : List ℕ) (inside : Forest) (rest : List Entry) → entries_in [] f ++ [] ≡ (name ∷ [], Dir inside) ∷ rest
+encapsulated_is : (site : Path) (f : Forest) {name : List ℕ} (inside : Forest) {rest : List Entry} → entries_in [] f ++ [] ≡ (name ∷ [], Dir inside) ∷ rest
     → encapsulated site f ≡ Some (record { at = site ++ name ∷ []; gathered = false; inside = inside })
-encapsulated_is site none name inside rest e = absurd (cc)
-encapsulated_is site (file n bytes after) name inside rest e = absurd (let nodes : Rattle.pt_tree.specs.Forest.File bytes ≡ Dir inside = ap (λ (x : Entry). x.1) (heads _ _ _ _ e) in cc)
-encapsulated_is site (other n after) name inside rest e = absurd (let nodes : Rattle.pt_tree.specs.Forest.Other ≡ Dir inside = ap (λ (x : Entry). x.1) (heads _ _ _ _ e) in cc)
-encapsulated_is site (dir n d after) name inside rest e =
+encapsulated_is site none inside e = absurd (cc)
+encapsulated_is site (file n bytes after) inside e = absurd (let nodes : Rattle.pt_tree.specs.Forest.File bytes ≡ Dir inside = ap (λ (x : Entry). x.1) (heads _ _ _ _ e) in cc)
+encapsulated_is site (other n after) inside e = absurd (let nodes : Rattle.pt_tree.specs.Forest.Other ≡ Dir inside = ap (λ (x : Entry). x.1) (heads _ _ _ _ e) in cc)
+encapsulated_is site (dir n d after) {name} inside e =
     let head = heads _ _ _ _ e in
     let names : n ≡ name = heads n name [] [] (ap (λ (x : Entry). x.0) head) in
     let insides : d ≡ inside = dirs_same d inside (ap (λ (x : Entry). x.1) head) in
@@ -91,9 +91,9 @@ encapsulated_is site (dir n d after) name inside rest e =
 
 -- ---- the object of a site that was judged
 
-pub found_there : (job : Job) (top : Forest) (frame : Frame) (frames : List Frame) (what : Finding) → is_proper top ≡ true → Fits top (frame ∷ frames) → found frame.listing (at_of (names_to frames)) (form_of job) ≡ what
+pub found_there : (job : Job) (top : Forest) (frame : Frame) (frames : List Frame) {what : Finding} → is_proper top ≡ true → Fits top (frame ∷ frames) → found frame.listing (at_of (names_to frames)) (form_of job) ≡ what
     → found (listing_of (inside_at top (names_to frames))) (at_of (names_to frames)) (form_of job) ≡ what
-found_there job top frame frames what proper fits is =
+found_there job top frame frames proper fits is =
     ap (λ (l : List Item). found l (at_of (names_to frames)) (form_of job)) (listing_there top frame frames proper fits).1 ∙ is
 
 -- it is named so
@@ -104,7 +104,7 @@ named_there job source prefix frame frames None id proper fits is reads =
     let top = pairtree_of source in
     let site = names_to frames in
     let inside = inside_at top site in
-    ap (verdict_by_finding job prefix site inside) (found_there job top frame frames finding.Gathered proper fits is)
+    ap (verdict_by_finding job prefix site inside) (found_there job top frame frames proper fits is)
     ∙ identified job prefix _ _ id reads
 named_there job source prefix frame frames (Some i) id proper fits is reads =
     let top = pairtree_of source in
@@ -115,9 +115,9 @@ named_there job source prefix frame frames (Some i) id proper fits is reads =
     let name = entry.0 in
     let object : PairtreeObject = record { at = site ++ name ∷ []; gathered = false; inside = inside_at top (site ++ name ∷ []) } in
     let next = step.enters false top 0 there frames name (inside_at top (site ++ name ∷ [])) proper fits entry.1 refl refl in
-    let held = encapsulated_is site _ name _ _ next in
+    let held = encapsulated_is site _ _ next in
     let path : site ++ name ∷ [] ≡ names_to (there ∷ frames) = sym (path_grows there frames (name, kind.Dir) entry.1) in
-    ap (verdict_by_finding job prefix site inside) (found_there job top frame frames _ proper fits is)
+    ap (verdict_by_finding job prefix site inside) (found_there job top frame frames proper fits is)
     ∙ ap (verdict_on_candidate job prefix site) held
     ∙ identified job prefix object _ id reads
     ∙ ap (λ (p : Path). Named id (record { at = p; gathered = false; inside = inside_at top p })) path
@@ -129,7 +129,7 @@ pub nameless_there : (job : Job) (source : Forest) (prefix : List ℕ) (frame : 
 nameless_there job source prefix frame frames None why proper fits is reads =
     let site = names_to frames in
     let inside = inside_at (pairtree_of source) site in
-    ap (verdict_by_finding job prefix site inside) (found_there job _ frame frames finding.Gathered proper fits is)
+    ap (verdict_by_finding job prefix site inside) (found_there job _ frame frames proper fits is)
     ∙ unidentified job prefix _ _ why reads
 nameless_there job source prefix frame frames (Some i) why proper fits is reads =
     let top = pairtree_of source in
@@ -140,8 +140,8 @@ nameless_there job source prefix frame frames (Some i) why proper fits is reads 
     let name = entry.0 in
     let object : PairtreeObject = record { at = site ++ name ∷ []; gathered = false; inside = inside_at top (site ++ name ∷ []) } in
     let next = step.enters false top 0 there frames name (inside_at top (site ++ name ∷ [])) proper fits entry.1 refl refl in
-    let held = encapsulated_is site _ name _ _ next in
-    ap (verdict_by_finding job prefix site inside) (found_there job top frame frames _ proper fits is)
+    let held = encapsulated_is site _ _ next in
+    ap (verdict_by_finding job prefix site inside) (found_there job top frame frames proper fits is)
     ∙ ap (verdict_on_candidate job prefix site) held
     ∙ unidentified job prefix object _ why reads
 
@@ -160,9 +160,9 @@ by_identifier job source prefix frame frames index (Err why) proper fits is read
 by_found : (job : Job) (source : Forest) (prefix : List ℕ) (frame : Frame) (frames : List Frame) (what : Finding) → is_proper (pairtree_of source) ≡ true → Fits (pairtree_of source) (frame ∷ frames) → found_at (form_of job) (frame ∷ frames) ≡ what
     → verdict_by_visit job prefix (names_to frames) (Listed (inside_at (pairtree_of source) (names_to frames))) ≡ verdict_there job source (frame ∷ frames) (judged_by_finding job prefix (names_to frames) what)
 by_found job source prefix frame frames finding.Interior proper fits is =
-    ap (verdict_by_finding job prefix (names_to frames) (inside_at (pairtree_of source) (names_to frames))) (found_there job _ frame frames finding.Interior proper fits is)
+    ap (verdict_by_finding job prefix (names_to frames) (inside_at (pairtree_of source) (names_to frames))) (found_there job _ frame frames proper fits is)
 by_found job source prefix frame frames (finding.Skip why) proper fits is =
-    ap (verdict_by_finding job prefix (names_to frames) (inside_at (pairtree_of source) (names_to frames))) (found_there job _ frame frames _ proper fits is)
+    ap (verdict_by_finding job prefix (names_to frames) (inside_at (pairtree_of source) (names_to frames))) (found_there job _ frame frames proper fits is)
 by_found job source prefix frame frames (finding.Candidate i) proper fits is = by_identifier job source prefix frame frames (Some i) _ proper fits is refl
 by_found job source prefix frame frames finding.Gathered proper fits is = by_identifier job source prefix frame frames None _ proper fits is refl
 
@@ -202,9 +202,9 @@ ours_named share (Named i o) id index is = either (holds share i) is
     either true h = h
     either false h = absurd (cc)
 
-named_identifier : (own index : Option ℕ) (read : Result (List ℕ) Cause) (id : List ℕ) → judged_by_identifier own read ≡ Named id index → own ≡ index
-named_identifier own index (Ok i) id is = cc
-named_identifier own index (Err why) id is = absurd (cc)
+named_identifier : {own index : Option ℕ} (read : Result (List ℕ) Cause) (id : List ℕ) → judged_by_identifier own read ≡ Named id index → own ≡ index
+named_identifier (Ok i) id is = cc
+named_identifier (Err why) id is = absurd (cc)
 
 pub named_found : (job : Job) (prefix : List ℕ) (t : List Frame) (index : Option ℕ) (id : List ℕ) → judged_at job prefix t ≡ Named id index → found_at (form_of job) t ≡ has_object index
 named_found job prefix t index id is = by (found_at (form_of job) t) (ours_named job.share _ id index is)
@@ -212,8 +212,8 @@ named_found job prefix t index id is = by (found_at (form_of job) t) (ours_named
     by : (what : Finding) → judged_by_finding job prefix (trail_path t) what ≡ Named id index → what ≡ has_object index
     by finding.Interior h = absurd (cc)
     by (finding.Skip why) h = absurd (cc)
-    by (finding.Candidate i) h = ap has_object (named_identifier (Some i) index _ id h)
-    by finding.Gathered h = ap has_object (named_identifier None index _ id h)
+    by (finding.Candidate i) h = ap has_object (named_identifier _ id h)
+    by finding.Gathered h = ap has_object (named_identifier _ id h)
 
 -- an object that is encapsulated stands at a directory
 leads_there : (job : Job) (frame : Frame) (frames : List Frame) (index : Option ℕ) → found_at (form_of job) (frame ∷ frames) ≡ has_object index
@@ -254,7 +254,7 @@ filled_there job source frame frames (Some i) id proper fits is gathered = absur
 filled_there job source frame frames None id proper fits is gathered =
     let top = pairtree_of source in
     some_left 0 (inside_at top (names_to frames))
-    (some_found (form_of job) (listing_of (inside_at top (names_to frames))) (at_of (names_to frames)) (found_there job top frame frames finding.Gathered proper fits is))
+    (some_found (form_of job) (listing_of (inside_at top (names_to frames))) (at_of (names_to frames)) (found_there job top frame frames proper fits is))
 
 long_at : (index : Option ℕ) (trail : List Frame) → length (at_object index trail) ≡ length trail
 long_at None trail = refl

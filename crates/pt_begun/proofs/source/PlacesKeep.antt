@@ -17,9 +17,9 @@ use Rattle.pt_begun.proofs.held.EitherPhase.{either_phase}
 use Rattle.pt_begun.proofs.source.InObject.{site_itself}
 use Rattle.pt_begun.proofs.source.InPairtree.{stays}
 
-after_a_tuple : (job : Job) {s new : Reading} (prefix : List ℕ) (object : Object) (held : Held) (count number : ℕ) → Some new ≡ Some s → HasStarted s.tree prefix × IsScanned job s.tree prefix object held count
+after_a_tuple : (job : Job) {s new : Reading} {prefix : List ℕ} {object : Object} {held : Held} {count : ℕ} (number : ℕ) → Some new ≡ Some s → HasStarted s.tree prefix × IsScanned job s.tree prefix object held count
     → SourceAt job new prefix (done_after (phase.Tuples object number) held.trail (after_tuple job object number) count) (after_tuple job object number) held
-after_a_tuple job {new} prefix object held count number same at =
+after_a_tuple job {new} {prefix} {object} {held} {count} number same at =
     let next = λ (p : Phase). SourceAt job new prefix (done_after (phase.Tuples object number) held.trail p count) p held in
     let it = stays (λ r. HasStarted r.tree prefix × IsScanned job r.tree prefix object held count) same at in
     either_phase next _ (phase.Tuples object (number + 1)) (phase.Rename object) (λ more. it) (λ last. it)
@@ -28,8 +28,8 @@ pub places_keep : (job : Job) {counts : Counts} (s new : Reading) (prefix : List
     → Places job counts here held after calls (Ok next) → SourceAt job s prefix count here held
     → Answers calls.asked (Some s) (Some new) → SourceAt job new prefix (done_after here held.trail next count) next after
 unfolding Answers
-places_keep job s new prefix count (MakesTuple was object number) at answers = after_a_tuple job prefix object was count number answers at
-places_keep job s new prefix count (FindsTuple was object number) at answers = after_a_tuple job prefix object was count number answers at
+places_keep job s new prefix count (MakesTuple was object number) at answers = after_a_tuple job number answers at
+places_keep job s new prefix count (FindsTuple was object number) at answers = after_a_tuple job number answers at
 places_keep job s new prefix count (RenamesObject was object) at answers = stays (λ r. HasStarted r.tree prefix × IsScanned job r.tree prefix object was count) answers at
 places_keep job s new prefix count (TellsDone was object) at answers =
     stays (λ r. HoldsNoObject (restarted was) × HasStarted r.tree prefix × IsOnWay job r.tree (sought 0 was.trail) (suc count)) answers

@@ -7,12 +7,12 @@ use Rattle.std.proofs.Math.Seq.{take-append_seam, drop-append_seam}
 use Rattle.pt_begun.specs.BegunSource.{IsReading}
 use Rattle.pt_begun.proofs.source.InPairtree.{some_same}
 
-fed_length : (bytes : List ℕ) (count : ℕ) (fed : List ℕ) (unread : Option (List ℕ)) → IsReading bytes count fed unread → length fed ≡ count
-fed_length bytes count fed unread it = ap length it.fed_is ∙ length-take-le count bytes it.within
+fed_length : {bytes : List ℕ} {count : ℕ} {fed : List ℕ} {unread : Option (List ℕ)} → IsReading bytes count fed unread → length fed ≡ count
+fed_length {bytes} {count} it = ap length it.fed_is ∙ length-take-le count bytes it.within
 
 -- a file is read from its start
-pub reads_first : (bytes : List ℕ) (unread : Option (List ℕ)) → unread ≡ Some bytes → IsReading bytes 0 [] unread
-reads_first bytes unread is = record { within = omega arith; fed_is = refl; left = is }
+pub reads_first : {bytes : List ℕ} {unread : Option (List ℕ)} → unread ≡ Some bytes → IsReading bytes 0 [] unread
+reads_first is = record { within = omega arith; fed_is = refl; left = is }
 
 -- a block more
 pub reads_block : (most : ℕ) (bytes : List ℕ) (count : ℕ) (fed block : List ℕ) (unread : Option (List ℕ)) → IsReading bytes count fed unread → option_map (take most) unread ≡ Some block
@@ -25,7 +25,7 @@ reads_block most bytes count fed block unread it read =
     let whole : bytes ≡ (fed ++ block) ++ behind =
     here ∙ ap (λ (l : List ℕ). fed ++ l) (sym (take-append-drop most rest) ∙ ap (λ (l : List ℕ). l ++ behind) is_block) ∙ sym (append_assoc fed block behind) in
     let many : length (fed ++ block) ≡ count + length block =
-    (let both = length-append fed block in let front = fed_length bytes count fed unread it in omega (arith, both, front)) in
+    (let both = length-append fed block in let front = fed_length it in omega (arith, both, front)) in
     let long : length bytes ≡ length (fed ++ block) + length behind = ap length whole ∙ length-append (fed ++ block) behind in
     record {
       within = omega (arith, many, long);
@@ -50,4 +50,4 @@ reads_end most bytes count fed unread some it read =
     let rest = drop count bytes in
     let none : rest ≡ [] = none_taken most rest some (some_same (take most rest) [] (sym (ap (option_map (take most)) it.left) ∙ read)) in
     let all : fed ≡ bytes = it.fed_is ∙ sym (append-nil (take count bytes)) ∙ ap (λ (l : List ℕ). take count bytes ++ l) (sym none) ∙ take-append-drop count bytes in
-    record { all = all; length_is = sym (fed_length bytes count fed unread it) ∙ ap length all }
+    record { all = all; length_is = sym (fed_length it) ∙ ap length all }

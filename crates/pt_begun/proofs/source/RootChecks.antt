@@ -13,11 +13,11 @@ use Rattle.pt_tree.specs.Tree.{Bytes, Entry, Folder, Special, bytes_of}
 use Rattle.pt_begun.proofs.source.InPairtree.{some_same}
 
 -- what is shorter than a block is read whole by one
-pub peeked_whole : (o : Option Entry) (bytes : List ℕ) → option_map (take 8192) (bytes_of o) ≡ Some bytes → length bytes < 8192 → o ≡ Some (Bytes bytes)
-peeked_whole None bytes read short = absurd (cc)
-peeked_whole (Some Folder) bytes read short = absurd (cc)
-peeked_whole (Some Special) bytes read short = absurd (cc)
-peeked_whole (Some (Bytes held)) bytes read short =
+pub peeked_whole : (o : Option Entry) {bytes : List ℕ} → option_map (take 8192) (bytes_of o) ≡ Some bytes → length bytes < 8192 → o ≡ Some (Bytes bytes)
+peeked_whole None read short = absurd (cc)
+peeked_whole (Some Folder) read short = absurd (cc)
+peeked_whole (Some Special) read short = absurd (cc)
+peeked_whole (Some (Bytes held)) {bytes} read short =
     let block : take 8192 held ≡ bytes = some_same (take 8192 held) bytes read in
     let long : length bytes ≡ min 8192 (length held) = ap length (sym block) ∙ length-take 8192 held in
     ap (λ (l : List ℕ). Some (Bytes l)) (sym (take_all 8192 held (omega (arith, long, short))) ∙ block)

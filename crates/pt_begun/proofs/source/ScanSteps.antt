@@ -26,25 +26,25 @@ pub record Moved (job : Job) (source : Forest) (prefix : List ℕ) (object : Obj
   pub stands : IsInObject job source prefix object new count
   pub same : object_at source object (to_site object old) ≡ object_at source object (to_site object new)
 
-pub moved_twice : (job : Job) (source : Forest) (prefix : List ℕ) (object : Object) (a b d : List Frame) (count : ℕ) → Moved job source prefix object a b count → Moved job source prefix object b d count → Moved job source prefix object a d count
-moved_twice job source prefix object a b d count first second = record { stands = second.stands; same = first.same ∙ second.same }
+pub moved_twice : {job : Job} {source : Forest} {prefix : List ℕ} {object : Object} (a b d : List Frame) {count : ℕ} → Moved job source prefix object a b count → Moved job source prefix object b d count → Moved job source prefix object a d count
+moved_twice a b d first second = record { stands = second.stands; same = first.same ∙ second.same }
 
-moved_by : (job : Job) (source : Forest) (prefix : List ℕ) (object : Object) (old new : List Frame) (count : ℕ) → object.site ≤ length new → Fits (pairtree_of source) new → to_site object new ≡ to_site object old
+moved_by : {job : Job} {source : Forest} {prefix : List ℕ} {object : Object} {old new : List Frame} {count : ℕ} → object.site ≤ length new → Fits (pairtree_of source) new → to_site object new ≡ to_site object old
     → IsInObject job source prefix object old count → Moved job source prefix object old new count
-moved_by job source prefix object old new count within fits same it =
-    record { stands = still_in job source prefix object old new count within fits same it; same = ap (object_at source object) (sym same) }
+moved_by {job} {source} {prefix} {object} {count} within fits same it =
+    record { stands = still_in job source prefix object count within fits same it; same = ap (object_at source object) (sym same) }
 
-pub moved_in : (job : Job) (source : Forest) (prefix : List ℕ) (object : Object) (items : List Item) (trail : List Frame) (count : ℕ) → listing_at (pairtree_of source) (names_to trail) ≡ Some items
+pub moved_in : {job : Job} {source : Forest} {prefix : List ℕ} {object : Object} {items : List Item} {trail : List Frame} {count : ℕ} → listing_at (pairtree_of source) (names_to trail) ≡ Some items
     → IsInObject job source prefix object trail count → Moved job source prefix object trail (entered items trail) count
-moved_in job source prefix object items trail count listed it =
+moved_in {source} {object} {items} {trail} listed it =
     let within = it.within in
-    moved_by job source prefix object trail _ count (omega (arith, within)) (fits_entered (pairtree_of source) trail items it.fits listed) (site_entered object items trail it.within) it
+    moved_by (omega (arith, within)) (fits_entered (pairtree_of source) trail items it.fits listed) (site_entered object items trail it.within) it
 
-pub moved_out : (job : Job) (source : Forest) (prefix : List ℕ) (object : Object) (trail : List Frame) (count : ℕ) → object.site < length trail
+pub moved_out : {job : Job} {source : Forest} {prefix : List ℕ} {object : Object} (trail : List Frame) {count : ℕ} → object.site < length trail
     → IsInObject job source prefix object trail count → Moved job source prefix object trail (parent trail) count
-moved_out job source prefix object [] count inside it = absurd (omega (arith, inside))
-moved_out job source prefix object (frame ∷ frames) count inside it =
-    moved_by job source prefix object _ frames count (omega (arith, inside)) (fits_moved (pairtree_of source) (frame ∷ frames) 0 it.fits).2 (site_parent object (frame ∷ frames) inside) it
+moved_out [] inside it = absurd (omega (arith, inside))
+moved_out {source} {object} (frame ∷ frames) inside it =
+    moved_by (omega (arith, inside)) (fits_moved (pairtree_of source) (frame ∷ frames) 0 it.fits).2 (site_parent object (frame ∷ frames) inside) it
 
 -- in the site of a gathered object
 pub moved_at_site : (job : Job) (source : Forest) (prefix : List ℕ) (object : Object) (trail : List Frame) (place count : ℕ) → object.gathered ≡ true → length trail ≡ object.site
@@ -61,7 +61,7 @@ moved_at_site job source prefix object (frame ∷ frames) place count gathered a
         some = it.some;
         within = it.within;
         fits = (fits_moved (pairtree_of source) old place it.fits).0;
-        site = subst (λ (t : List Frame). IsSiteOf job source prefix object t count) (sym there) (site_moved job source prefix object frame frames place count gathered was);
+        site = subst (λ (t : List Frame). IsSiteOf job source prefix object t count) (sym there) (site_moved source object frame frames place gathered was);
         place = it.place;
       };
       same = ap (object_at source object) here ∙ object_moved source object frame frames place gathered ∙ ap (object_at source object) (sym there);
@@ -70,30 +70,30 @@ moved_at_site job source prefix object (frame ∷ frames) place count gathered a
 pub below_site : (n m : ℕ) → (n == m) ≡ false → m ≤ n → m < n
 below_site n m apart within = let other = eqb-false n m apart in omega (arith, other, within)
 
-advances : (job : Job) (source : Forest) (prefix : List ℕ) (object : Object) (frame : Frame) (frames : List Frame) (count : ℕ) (at_site : Bool) → (length (frame ∷ frames) == object.site) ≡ at_site → 0 < own_listings object (frame ∷ frames)
+advances : (job : Job) (source : Forest) {prefix : List ℕ} (object : Object) (frame : Frame) (frames : List Frame) {count : ℕ} (at_site : Bool) → (length (frame ∷ frames) == object.site) ≡ at_site → 0 < own_listings object (frame ∷ frames)
     → IsInObject job source prefix object (frame ∷ frames) count → Moved job source prefix object (frame ∷ frames) (advanced (frame ∷ frames)) count
-advances job source prefix object frame frames count true is inside it =
+advances job source {prefix} object frame frames {count} true is inside it =
     let same = eqb-true (length (frame ∷ frames)) object.site is in
     moved_at_site job source prefix object _ (frame.place + 1) count (is_gathered object (frame ∷ frames) same inside) same it
-advances job source prefix object frame frames count false is inside it =
+advances job source object frame frames false is inside it =
     let below : object.site < length (frame ∷ frames) = below_site _ object.site is it.within in
-    moved_by job source prefix object _ _ count it.within (fits_moved (pairtree_of source) (frame ∷ frames) 0 it.fits).1 (site_advanced object (frame ∷ frames) below) it
+    moved_by it.within (fits_moved (pairtree_of source) (frame ∷ frames) 0 it.fits).1 (site_advanced object (frame ∷ frames) below) it
 
 pub moved_on : (job : Job) (source : Forest) (prefix : List ℕ) (object : Object) (trail : List Frame) (count : ℕ) → 0 < own_listings object trail
     → IsInObject job source prefix object trail count → Moved job source prefix object trail (advanced trail) count
 moved_on job source prefix object [] count inside it = absurd (let some = it.some in let within = it.within in omega (arith, some, within))
-moved_on job source prefix object (frame ∷ frames) count inside it = advances job source prefix object frame frames count _ refl inside it
+moved_on job source prefix object (frame ∷ frames) count inside it = advances job source object frame frames _ refl inside it
 
 pub moved_behind : (job : Job) (source : Forest) (prefix : List ℕ) (object : Object) (trail : List Frame) (count : ℕ) → object.site < length trail → 0 < own_listings object (parent trail)
     → IsInObject job source prefix object trail count → Moved job source prefix object trail (advanced (parent trail)) count
 moved_behind job source prefix object trail count below inside it =
-    let out = moved_out job source prefix object trail count below it in
-    moved_twice job source prefix object trail _ _ count out (moved_on job source prefix object _ count inside out.stands)
+    let out = moved_out trail below it in
+    moved_twice trail _ _ out (moved_on job source prefix object _ count inside out.stands)
 
 -- ---- what is left
 
-one_less : (n : ℕ) → 0 < n → n ≡ suc (n - 1)
-one_less n some = omega (arith, some)
+one_less : {n : ℕ} → 0 < n → n ≡ suc (n - 1)
+one_less some = omega (arith, some)
 
 -- a shorty of the site is passed
 pub left_shorty : (source : Forest) (object : Object) (trail : List Frame) (item : Item) → is_proper (pairtree_of source) ≡ true → Fits (pairtree_of source) trail → current_entry trail ≡ Some item → is_passed object trail item ≡ true → 0 < own_listings object trail
@@ -120,7 +120,7 @@ left_directory source object frame frames name items inside proper fits within s
     let top = pairtree_of source in
     let trail = frame ∷ frames in
     let k = own_listings object trail - 1 in
-    let own : own_listings object trail ≡ suc k = one_less _ some in
+    let own : own_listings object trail ≡ suc k = one_less some in
     let own' : own_listings object (entered items trail) ≡ suc (suc k) = own_entered object items trail within ∙ ap (λ (n : ℕ). suc n) own in
     ap (λ (n : ℕ). entries_left object.gathered top n trail) own
     ∙ step.enters object.gathered top k frame frames name inside proper fits e (passed_not object trail k (name, kind.Dir) within own apart) is
@@ -136,7 +136,7 @@ left_file source object frame frames name proper fits some e =
     let top = pairtree_of source in
     let trail = frame ∷ frames in
     let k = own_listings object trail - 1 in
-    let own : own_listings object trail ≡ suc k = one_less _ some in
+    let own : own_listings object trail ≡ suc k = one_less some in
     let here : names_to trail ≡ names_to frames ++ name ∷ [] = path_grows frame frames (name, kind.File) e in
     ap (λ (n : ℕ). entries_left object.gathered top n trail) own
     ∙ step.reads object.gathered top k frame frames name proper fits e
@@ -152,7 +152,7 @@ left_behind source object (frame ∷ []) fits e first below some = absurd (omega
 left_behind source object (frame ∷ outer ∷ frames) fits e first below some =
     let top = pairtree_of source in
     let k = own_listings object (outer ∷ frames) - 1 in
-    let own : own_listings object (outer ∷ frames) ≡ suc k = one_less _ some in
+    let own : own_listings object (outer ∷ frames) ≡ suc k = one_less some in
     let whole : own_listings object (frame ∷ outer ∷ frames) ≡ suc (suc k) = own_parent object frame (outer ∷ frames) (omega (arith, below)) ∙ ap (λ (n : ℕ). suc n) own in
     ap (λ (n : ℕ). entries_left object.gathered top n (frame ∷ outer ∷ frames)) whole
     ∙ step.leaves object.gathered top k frame outer frames fits e

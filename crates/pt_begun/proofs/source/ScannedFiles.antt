@@ -35,8 +35,8 @@ entries_there false top site own proper = all_there (inside_at top own) [] (insi
 
 -- what stands in a directory stands in the tree
 pub file_in : (top : Forest) (at : Path) (o : Option Forest) → dir_at top at ≡ o → (front left : List Entry) (k : ℕ) (path : Path) (bytes : List ℕ) → AreThere (unwrap_or o none) [] (front ++ left) → slice_get (files front) k ≡ Some (path, bytes) → file_at top (at ++ path) ≡ Some bytes
-file_in top at None is front left k path bytes there one = absurd (let nothing = (file_of none [] front k path bytes (front_there none [] front left there) one).stands in cc)
-file_in top at (Some f) is front left k path bytes there one = file_stands top f at front left k path bytes there (λ below. (reads_below top f at below is).0) one
+file_in top at None is front left k path bytes there one = absurd (let nothing = (file_of front k (front_there none [] front left there) one).stands in cc)
+file_in top at (Some f) is front left k path bytes there one = file_stands top f at front left k there (λ below. (reads_below top f at below is).0) one
 
 -- the file of a row
 pub record RowFile (job : Job) (top : Forest) (at : Path) (row : Row) : Type 0 where
@@ -46,9 +46,9 @@ pub record RowFile (job : Job) (top : Forest) (at : Path) (row : Row) : Type 0 w
   pub digest : row.digest ≡ digest_of job.algorithm bytes
   pub long : row.length ≡ length bytes
 
-pub row_file : (job : Job) (source : Forest) (object : Object) (site : List Frame) (rows : List Row) (empty : ℕ) (left : List Entry) (n : ℕ) (row : Row) → is_proper (pairtree_of source) ≡ true
+pub row_file : (job : Job) (source : Forest) (object : Object) (site : List Frame) {rows : List Row} {empty : ℕ} (left : List Entry) (n : ℕ) (row : Row) → is_proper (pairtree_of source) ≡ true
     → HasScanned job (object_at source object site) rows empty left → slice_get rows n ≡ Some row → RowFile job (pairtree_of source) (path_of_source object site) row
-row_file job source object site rows empty left n row proper scanned is =
+row_file job source object site left n row proper scanned is =
     let top = pairtree_of source in
     let at = path_of_source object site in
     let one = get_map_back (row_of_file job.algorithm) (files scanned.front) n row (sym (ap (λ (l : List Row). slice_get l n) scanned.rows_are) ∙ is) in

@@ -44,8 +44,8 @@ use Rattle.pt_begun.proofs.held.WithBytes.{rows_push}
 -- ---- the bytes of the rows
 
 -- of no rows
-none_there : (source : Forest) (object : Object) (site : List Frame) (bytes : Path → List ℕ) (rows : List Row) → rows ≡ [] → AreHeldThere source object site bytes rows
-none_there source object site bytes rows none = subst (AreHeldThere source object site bytes) (sym none) (λ k d h. absurd (omega (arith, h)))
+none_there : (source : Forest) (object : Object) (site : List Frame) (bytes : Path → List ℕ) {rows : List Row} → rows ≡ [] → AreHeldThere source object site bytes rows
+none_there source object site bytes none = subst (AreHeldThere source object site bytes) (sym none) (λ k d h. absurd (omega (arith, h)))
 
 -- the same object's
 still_there : (source : Forest) (object : Object) (old new : List Frame) (bytes : Path → List ℕ) (rows : List Row) → object_at source object old ≡ object_at source object new → AreHeldThere source object old bytes rows → AreHeldThere source object new bytes rows
@@ -53,14 +53,14 @@ still_there source object old new bytes rows same there =
     subst (λ (o : PairtreeObject). All (λ row. bytes row.path ≡ bytes_at (pairtree_of source) (o.at ++ row.path)) rows) same there
 
 -- with the file that was read
-one_more_there : (job : Job) (source : Forest) (object : Object) (held : Held) (item : Item) (read : ℕ) (bytes : Path → List ℕ) (past : Past) (count : ℕ) → current_entry held.trail ≡ Some item → HeldAt job past (phase.Read object count) held
+one_more_there : {job : Job} (source : Forest) (object : Object) (held : Held) (item : Item) (read : ℕ) (bytes : Path → List ℕ) {past : Past} {count : ℕ} → current_entry held.trail ≡ Some item → HeldAt job past (phase.Read object count) held
     → held.fed ≡ bytes_at (pairtree_of source) (names_to held.trail) → AreHeldThere source object (to_site object held.trail) bytes held.rows
     → AreHeldThere source object (to_site object held.trail) (with_bytes (logical_path object held.trail) held.fed bytes) (held.rows ++ row_of (logical_path object held.trail) (digest_of job.algorithm held.fed) read ∷ [])
-one_more_there job source object held item read bytes past count e at whole there =
+one_more_there source object held item read bytes e at whole there =
     let path = logical_path object held.trail in
-    rows_push (λ b r. b ≡ bytes_at (pairtree_of source) (path_of_source object (to_site object held.trail) ++ r.path)) bytes path held.fed
+    rows_push (λ b r. b ≡ bytes_at (pairtree_of source) (path_of_source object (to_site object held.trail) ++ r.path)) bytes held.fed
     _ refl (whole ∙ ap (bytes_at (pairtree_of source)) (path_in_object object held.trail))
-    held.rows (here_behind _ object held.trail item e at.ends.1 at.behind) there
+    held.rows (here_behind _ held.trail e at.ends.1 at.behind) there
 
 -- ---- how much is held
 
@@ -78,17 +78,17 @@ early_room : (job : Job) (source : Forest) (object : Object) (held : Held) → I
 early_room job source object held few = back_room job source object held (length held.rows + length held.contents) (omega (arith, few))
 
 -- all of it was scanned
-made_room : (job : Job) (source : Forest) (prefix : List ℕ) (past : Past) (object : Object) (held : Held) (t : List Frame) (count : ℕ) → HeldAt job past (phase.Scan object) held → IsScanning job source prefix object held count → entries_held t ≤ entries_held held.trail
+made_room : (job : Job) {source : Forest} {prefix : List ℕ} {past : Past} {object : Object} {held : Held} (t : List Frame) {count : ℕ} → HeldAt job past (phase.Scan object) held → IsScanning job source prefix object held count → entries_held t ≤ entries_held held.trail
     → HasRoom job source object held → IsWithinBound job source (with_trail held t)
-made_room job source prefix past object held t count at it less room =
+made_room job {object} {held} t at it less room =
     let records = records_held job _ held object.empty _ at.rows.contents it.scanned in
     omega (arith, less, records, room)
 
 -- at the object's own directory, or in its site
-room_in_site : (job : Job) (source : Forest) (prefix : List ℕ) (object : Object) (held : Held) (t : List Frame) (count : ℕ) → object.gathered ≡ true → length t ≡ object.site → HasStarted source prefix → is_trail (sought 0 t) ≡ true
+room_in_site : (job : Job) {source : Forest} {prefix : List ℕ} {object : Object} (held : Held) (t : List Frame) {count : ℕ} → object.gathered ≡ true → length t ≡ object.site → HasStarted source prefix → is_trail (sought 0 t) ≡ true
     → IsScanning job source prefix object (with_trail held (sought 0 t)) count → HasRoom job source object (with_trail held (sought 0 t))
-room_in_site job source prefix object held [] count gathered same started is_one it = absurd (let some = it.stands.some in omega (arith, some, same))
-room_in_site job source prefix object held (frame ∷ frames) count gathered same started is_one it =
+room_in_site job held [] gathered same started is_one it = absurd (let some = it.stands.some in omega (arith, some, same))
+room_in_site job {source} {prefix} {object} held (frame ∷ frames) {count} gathered same started is_one it =
     let t = sought 0 (frame ∷ frames) in
     room_at job source prefix object _ count [] started it is_one
     (sym (append-nil (names_to frames))
@@ -126,69 +126,69 @@ same_entries : (t : List Frame) → entries_held (advanced t) ≤ entries_held t
 same_entries t = let one = entries_advanced t in omega (arith, one)
 
 -- the trail moved in the object
-moved_beside : (job : Job) (source : Forest) (bytes : Path → List ℕ) (object : Object) (held : Held) (t : List Frame) → object_at source object (to_site object held.trail) ≡ object_at source object (to_site object t) → entries_held t ≤ entries_held held.trail
+moved_beside : (job : Job) {source : Forest} {bytes : Path → List ℕ} {object : Object} (held : Held) (t : List Frame) → object_at source object (to_site object held.trail) ≡ object_at source object (to_site object t) → entries_held t ≤ entries_held held.trail
     → AreHeldThere source object (to_site object held.trail) bytes held.rows → HasRoom job source object held → BesideAt job source bytes (phase.Scan object) (with_trail held t)
-moved_beside job source bytes object held t same less there room = record {
+moved_beside job {source} {bytes} {object} held t same less there room = record {
   bytes_are = still_there source object (to_site object held.trail) (to_site object t) bytes held.rows same there;
   few = room_moved job source object held (with_trail held t) same less room;
 }
 
-scans_beside : (job : Job) (past : Past) (s new : Reading) (prefix : List ℕ) {here next : Phase} {held after : Held} {calls : Calls} → Scans job here held after calls (Ok next) → Answers calls.asked (Some s) (Some new) → HeldAt job past here held
+scans_beside : (job : Job) {past : Past} (s new : Reading) {prefix : List ℕ} {here next : Phase} {held after : Held} {calls : Calls} → Scans job here held after calls (Ok next) → Answers calls.asked (Some s) (Some new) → HeldAt job past here held
     → SourcePart job past here prefix held s → BesideAt job s.tree (bytes_after here next held past.bytes) next after
 unfolding Answers IsListed IsRead
-scans_beside job past s new prefix {after} (StartsInSite was object gathered) answers at part =
+scans_beside job {past} s new {prefix} {after} (StartsInSite was object gathered) answers at part =
     record {
-      bytes_are = none_there s.tree object (to_site object (sought 0 was.trail)) past.bytes was.rows at.rows.rows;
-      few = room_in_site job s.tree prefix object was was.trail past.count gathered at.ends.1 part.at.1 (trail.scans_keep {job = job} (Some s) (Some s) (StartsInSite was object gathered) refl at.trail).is_one (scans_keep job s s prefix past.count part.proper at.trail.is_one (StartsInSite was object gathered) part.at refl).1;
+      bytes_are = none_there s.tree object (to_site object (sought 0 was.trail)) past.bytes at.rows.rows;
+      few = room_in_site job was was.trail gathered at.ends.1 part.at.1 (trail.scans_keep {job = job} (Some s) (Some s) (StartsInSite was object gathered) refl at.trail).is_one (scans_keep s s prefix past.count part.proper at.trail.is_one (StartsInSite was object gathered) part.at refl).1;
     }
-scans_beside job past s new prefix {after} (EntersObject was object items apart shallow) answers at part =
+scans_beside job {past} s new {prefix} {after} (EntersObject was object items apart shallow) answers at part =
     record {
-      bytes_are = none_there s.tree (with_directory object items) (to_site object (entered items was.trail)) past.bytes was.rows at.rows.rows;
+      bytes_are = none_there s.tree (with_directory object items) (to_site object (entered items was.trail)) past.bytes at.rows.rows;
       few = room_in_directory job s.tree prefix object was items was.trail past.count apart at.ends.1 part.at.1 (trail.scans_keep {job = job} (Some s) (Some s) (EntersObject was object items apart shallow) (answers.0, answers.1, refl) at.trail).is_one
-          (scans_keep job s s prefix past.count part.proper at.trail.is_one (EntersObject was object items apart shallow) part.at (answers.0, answers.1, refl)).1;
+          (scans_keep s s prefix past.count part.proper at.trail.is_one (EntersObject was object items apart shallow) part.at (answers.0, answers.1, refl)).1;
     }
-scans_beside job past s new prefix {after} (IsTooDeep was object apart deep) answers at part =
+scans_beside job s new {after} (IsTooDeep was object apart deep) answers at part =
     record { bytes_are = tt; few = early_room job s.tree object was part.few }
-scans_beside job past s new prefix {after} (PassesShorty was object item e passed) answers at part =
-    moved_beside job s.tree past.bytes object was _ (moved_on job s.tree prefix object was.trail past.count part.at.1.inside part.at.1.stands).same (same_entries was.trail) part.bytes part.few
-scans_beside job past s new prefix {after} (EntersDirectory was object name items e apart shallow) answers at part =
+scans_beside job {past} s new {prefix} {after} (PassesShorty was object item e passed) answers at part =
+    moved_beside job was _ (moved_on job s.tree prefix object was.trail past.count part.at.1.inside part.at.1.stands).same (same_entries was.trail) part.bytes part.few
+scans_beside job {past} s new {prefix} {after} (EntersDirectory was object name items e apart shallow) answers at part =
     record {
       bytes_are = still_there s.tree object (to_site object was.trail) (to_site object (entered items was.trail)) past.bytes was.rows (ap (object_at s.tree object) (sym (site_entered object items was.trail part.at.1.stands.within))) part.bytes;
       few = room_below job s.tree prefix object was items name past.count (pairtree_proper s.tree part.at.0.store part.proper) at.trail.is_one e apart shallow (sym (listing_in s.tree _ part.at.0.store) ∙ answers.0 s refl) part.at.0
-          (trail.scans_keep {job = job} (Some s) (Some s) (EntersDirectory was object name items e apart shallow) (answers.0, answers.1, refl) at.trail).is_one part.at.1 (scans_keep job s s prefix past.count part.proper at.trail.is_one (EntersDirectory was object name items e apart shallow) part.at (answers.0, answers.1, refl)).1;
+          (trail.scans_keep {job = job} (Some s) (Some s) (EntersDirectory was object name items e apart shallow) (answers.0, answers.1, refl) at.trail).is_one part.at.1 (scans_keep s s prefix past.count part.proper at.trail.is_one (EntersDirectory was object name items e apart shallow) part.at (answers.0, answers.1, refl)).1;
     }
-scans_beside job past s new prefix {after} (MeetsDeep was object name e apart deep) answers at part =
+scans_beside job s new {after} (MeetsDeep was object name e apart deep) answers at part =
     record { bytes_are = tt; few = given_room job s.tree object was part.few }
-scans_beside job past s new prefix {after} (OpensFile was object name e room) answers at part =
+scans_beside job s new {after} (OpensFile was object name e room) answers at part =
     record { bytes_are = part.bytes; few = part.few }
-scans_beside job past s new prefix {after} (MeetsLimit was object name e room) answers at part =
+scans_beside job s new {after} (MeetsLimit was object name e room) answers at part =
     record { bytes_are = tt; few = given_room job s.tree object was part.few }
-scans_beside job past s new prefix {after} (MeetsOther was object name e) answers at part =
+scans_beside job s new {after} (MeetsOther was object name e) answers at part =
     record { bytes_are = tt; few = given_room job s.tree object was part.few }
-scans_beside job past s new prefix {after} (EndsSite was object e there) answers at part =
-    record { bytes_are = part.bytes; few = made_room job s.tree prefix past object was was.trail past.count at part.at.1 (omega arith) part.few }
-scans_beside job past s new prefix {after} (EndsObject was object e apart own) answers at part =
+scans_beside job s new {after} (EndsSite was object e there) answers at part =
+    record { bytes_are = part.bytes; few = made_room job was.trail at part.at.1 (omega arith) part.few }
+scans_beside job {past} s new {after} (EndsObject was object e apart own) answers at part =
     record {
-      bytes_are = still_there s.tree object (to_site object was.trail) (to_site object (parent was.trail)) past.bytes was.rows (moved_out job s.tree prefix object was.trail past.count (below_site_of object was.trail apart part.at.1.stands.within) part.at.1.stands).same part.bytes;
-      few = made_room job s.tree prefix past object was (parent was.trail) past.count at part.at.1 (entries_parent was.trail) part.few;
+      bytes_are = still_there s.tree object (to_site object was.trail) (to_site object (parent was.trail)) past.bytes was.rows (moved_out was.trail (below_site_of object was.trail apart part.at.1.stands.within) part.at.1.stands).same part.bytes;
+      few = made_room job (parent was.trail) at part.at.1 (entries_parent was.trail) part.few;
     }
-scans_beside job past s new prefix {after} (LeavesDirectory was object e apart outside) answers at part =
+scans_beside job {past} s new {prefix} {after} (LeavesDirectory was object e apart outside) answers at part =
     let below = below_site_of object was.trail apart part.at.1.stands.within in
-    moved_beside job s.tree past.bytes object was _ (moved_behind job s.tree prefix object was.trail past.count below (some_around object was.trail outside below) part.at.1.stands).same (behind_parent was.trail) part.bytes part.few
-scans_beside job past s new prefix {after} (ReadsOn was object bytes byte block short) answers at part =
+    moved_beside job was _ (moved_behind job s.tree prefix object was.trail past.count below (some_around object was.trail outside below) part.at.1.stands).same (behind_parent was.trail) part.bytes part.few
+scans_beside job s new {after} (ReadsOn was object bytes byte block short) answers at part =
     record { bytes_are = part.bytes; few = part.few }
-scans_beside job past s new prefix {after} (IsTooLong was object bytes byte block long) answers at part =
+scans_beside job s new {after} (IsTooLong was object bytes byte block long) answers at part =
     record { bytes_are = tt; few = given_room job s.tree object was part.few }
-scans_beside job past s new prefix {after} (EndsFile was object bytes) answers at part =
+scans_beside job {past} s new {prefix} {after} (EndsFile was object bytes) answers at part =
     let whole = (reads_end 8192 _ bytes was.fed s.unread (omega arith) part.at.2.read (answers.0 s refl)).all in
     let same = (moved_on job s.tree prefix object was.trail past.count part.at.1.inside part.at.1.stands).same in
     record {
       bytes_are = still_there s.tree object (to_site object was.trail) (to_site object (advanced was.trail)) (with_bytes (logical_path object was.trail) was.fed past.bytes) _ same
-          (one_more_there job s.tree object was at.trail.entry.0 bytes past.bytes past bytes at.trail.entry.1 at whole part.bytes);
+          (one_more_there s.tree object was at.trail.entry.0 bytes past.bytes at.trail.entry.1 at whole part.bytes);
       few = room_moved job s.tree object was (with_file job object was bytes) same (same_entries was.trail) part.few;
     }
 
 pub scans_source : ScanningKeepsSource
 scans_source job past s new prefix here next held after calls turn answers at part =
-    with_beside (past_after here next held past) calls.asked s new answers part.proper (scans_keep job s new prefix past.count part.proper at.trail.is_one turn part.at answers)
-    (scans_beside job past s new prefix turn answers at part)
+    with_beside (past_after here next held past) calls.asked s new answers part.proper (scans_keep s new prefix past.count part.proper at.trail.is_one turn part.at answers)
+    (scans_beside job s new turn answers at part)

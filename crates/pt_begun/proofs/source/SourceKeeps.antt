@@ -62,17 +62,17 @@ module _ {job : Job} (past : Past) {here : Phase} {prefix : List ℕ} {held : He
 
 -- ---- the start
 
-starts_beside : {job : Job} (source : Forest) (bytes : Path → List ℕ) {prefix read : List ℕ} {here next : Phase} {held : Held} {calls : Calls} → Starts job here prefix read calls (Ok next) → FewAt job source here held → BesideAt job source bytes next held
-starts_beside {job} source bytes {held} (MakesRoot was number item is) few =
+starts_beside : {job : Job} {source : Forest} {bytes : Path → List ℕ} {prefix read : List ℕ} {here next : Phase} {held : Held} {calls : Calls} → Starts job here prefix read calls (Ok next) → FewAt job source here held → BesideAt job source bytes next held
+starts_beside {job} {source} {bytes} {held} (MakesRoot was number item is) few =
     either_phase (λ p. BesideAt job source bytes p held) (number == 5) phase.RootRename _ (λ last. record { bytes_are = tt; few = few }) (λ more. record { bytes_are = tt; few = few })
-starts_beside {job} source bytes {held} (IsSame was number path read is) few =
+starts_beside {job} {source} {bytes} {held} (IsSame was number path read is) few =
     either_phase (λ p. BesideAt job source bytes p held) (number == 2) phase.OpenRoot _ (λ last. record { bytes_are = tt; few = few }) (λ more. record { bytes_are = tt; few = few })
-starts_beside source bytes turn few = record { bytes_are = tt; few = few }
+starts_beside turn few = record { bytes_are = tt; few = few }
 
 pub starts_source : StartingKeepsSource
 starts_source job past s new prefix read here next held calls turn answers at part =
     let after = past_after here next held past in
-    with_beside after calls.asked s new answers part.proper (starts_keep job s new past.count held turn part.at answers) (starts_beside s.tree after.bytes turn part.few)
+    with_beside after calls.asked s new answers part.proper (starts_keep s new past.count held turn part.at answers) (starts_beside turn part.few)
 
 -- ---- the walk
 
@@ -88,9 +88,9 @@ behind_parent : (t : List Frame) → entries_held (advanced (parent t)) ≤ entr
 behind_parent t = let one = entries_advanced (parent t) in let two = entries_parent t in omega (arith, one, two)
 
 -- at a site nothing is held but its listings
-within_at_site : (job : Job) (past : Past) (s : Reading) (prefix : List ℕ) (here : Phase) (held after : Held) (calls : Calls) → Walks job prefix here held after calls (Ok phase.Judge) → Answers calls.asked (Some s) (Some s)
+within_at_site : (job : Job) {past : Past} (s : Reading) {prefix : List ℕ} {here : Phase} {held after : Held} {calls : Calls} → Walks job prefix here held after calls (Ok phase.Judge) → Answers calls.asked (Some s) (Some s)
     → HeldAt job past here held → SourcePart job past here prefix held s → IsWithinBound job s.tree after
-within_at_site job past s prefix here held after calls turn answers at part =
+within_at_site job {past} s {after} turn answers at part =
     let one = (trail.walks_keep (Some s) (Some s) turn answers at.trail).is_one in
     let there = walks_keep job s s past.count part.proper at.trail.is_one turn part.at answers in
     let room = room_at_site job s.tree after.trail past.count one there.2 in
@@ -103,7 +103,7 @@ module _ (job : Job) (past : Past) (s new : Reading) (prefix : List ℕ) where
       → SourcePart job past here prefix held s → BesideAt job s.tree (bytes_after here next held past.bytes) next after
   unfolding Answers
   walks_beside here next held after calls (OpensRoot was items) answers at part =
-      record { bytes_are = tt; few = within_at_site job past s prefix here held after calls (OpensRoot was items) (answers.0, answers.1, refl) at part }
+      record { bytes_are = tt; few = within_at_site job s (OpensRoot was items) (answers.0, answers.1, refl) at part }
   walks_beside here next held after calls (IsNew was index id is) answers at part =
       record { bytes_are = tt; few = fewer job s.tree was after refl refl (let same = object_sought index was.trail in omega (arith, same)) part.few }
   walks_beside here next held after calls (IsPast was name e short last) answers at part =
@@ -111,7 +111,7 @@ module _ (job : Job) (past : Past) (s new : Reading) (prefix : List ℕ) where
   walks_beside here next held after calls (IsDeep was name e short last deep) answers at part =
       record { bytes_are = tt; few = fewer job s.tree was after refl refl (let same = entries_advanced was.trail in omega (arith, same)) part.few }
   walks_beside here next held after calls (EntersSite was name items e short last deep) answers at part =
-      record { bytes_are = tt; few = within_at_site job past s prefix here held after calls (EntersSite was name items e short last deep) (answers.0, answers.1, refl) at part }
+      record { bytes_are = tt; few = within_at_site job s (EntersSite was name items e short last deep) (answers.0, answers.1, refl) at part }
   walks_beside here next held after calls (PassesEntry was item e apart) answers at part =
       record { bytes_are = tt; few = fewer job s.tree was after refl refl (let same = entries_advanced was.trail in omega (arith, same)) part.few }
   walks_beside here next held after calls (LeavesSite was e long) answers at part =
@@ -125,41 +125,41 @@ walks_source job past s new prefix here next held after calls turn answers at pa
 
 -- ---- an object at its place
 
-after_a_tuple : (job : Job) (source : Forest) (bytes : Path → List ℕ) (object : Object) (held : Held) (number : ℕ) → AreHeldThere source object (to_site object held.trail) bytes held.rows → IsWithinBound job source held
+after_a_tuple : (job : Job) {source : Forest} {bytes : Path → List ℕ} (object : Object) {held : Held} (number : ℕ) → AreHeldThere source object (to_site object held.trail) bytes held.rows → IsWithinBound job source held
     → BesideAt job source bytes (after_tuple job object number) held
-after_a_tuple job source bytes object held number there few =
+after_a_tuple job {source} {bytes} object {held} number there few =
     either_phase (λ p. BesideAt job source bytes p held) (nat_lt (number + 1) job.tuples.count) (phase.Tuples object (number + 1)) (phase.Rename object)
     (λ more. record { bytes_are = there; few = few }) (λ last. record { bytes_are = there; few = few })
 
 at_site_again : (job : Job) (source : Forest) (held : Held) → IsWithinBound job source held → IsWithinBound job source (restarted held)
 at_site_again job source held few = let same = entries_sought 0 held.trail in omega (arith, same, few)
 
-places_beside : {job : Job} {counts : Counts} (past : Past) (s : Reading) {prefix : List ℕ} {here next : Phase} {held after : Held} {calls : Calls} → Places job counts here held after calls (Ok next)
+places_beside : {job : Job} {counts : Counts} {past : Past} {s : Reading} {prefix : List ℕ} {here next : Phase} {held after : Held} {calls : Calls} → Places job counts here held after calls (Ok next)
     → SourcePart job past here prefix held s → BesideAt job s.tree (bytes_after here next held past.bytes) next after
-places_beside {job} past s (MakesTuple was object number) part = after_a_tuple job s.tree past.bytes object was number part.bytes part.few
-places_beside {job} past s (FindsTuple was object number) part = after_a_tuple job s.tree past.bytes object was number part.bytes part.few
-places_beside past s (RenamesObject was object) part = record { bytes_are = part.bytes; few = part.few }
-places_beside {job} past s (TellsDone was object) part = record { bytes_are = tt; few = at_site_again job s.tree was part.few }
-places_beside past s (TellsEnd was) part = record { bytes_are = tt; few = tt }
+places_beside {job} (MakesTuple was object number) part = after_a_tuple job object number part.bytes part.few
+places_beside {job} (FindsTuple was object number) part = after_a_tuple job object number part.bytes part.few
+places_beside (RenamesObject was object) part = record { bytes_are = part.bytes; few = part.few }
+places_beside {job} {s} (TellsDone was object) part = record { bytes_are = tt; few = at_site_again job s.tree was part.few }
+places_beside (TellsEnd was) part = record { bytes_are = tt; few = tt }
 
 pub places_source : PlacingKeepsSource
 places_source job counts past s new prefix here next held after calls turn answers at part =
-    with_beside (past_after here next held past) calls.asked s new answers part.proper (places_keep job s new prefix past.count turn part.at answers) (places_beside past s turn part)
+    with_beside (past_after here next held past) calls.asked s new answers part.proper (places_keep job s new prefix past.count turn part.at answers) (places_beside turn part)
 
 -- ---- an object that is made
 
 -- what was read of a file a second time is what the source holds there
-read_again : (job : Job) (s : Reading) (bytes : Path → List ℕ) (object : Object) (held : Held) (n left : ℕ) (row : Row) → slice_get held.rows n ≡ Some row → part_in_order (row_paths held.rows) ≡ true → to_site object held.trail ≡ held.trail
+read_again : (s : Reading) (bytes : Path → List ℕ) (object : Object) (held : Held) (n : ℕ) (row : Row) → slice_get held.rows n ≡ Some row → part_in_order (row_paths held.rows) ≡ true → to_site object held.trail ≡ held.trail
     → held.fed ≡ bytes_at (pairtree_of s.tree) (path_of_source object held.trail ++ row.path) → AreHeldThere s.tree object (to_site object held.trail) bytes held.rows
     → AreHeldThere s.tree object (to_site object held.trail) (with_bytes_of (slice_get held.rows n) held.fed bytes) held.rows
-read_again job s bytes object held n left row is order site whole there =
+read_again s bytes object held n row is order site whole there =
     rows_again (λ b r. b ≡ bytes_at (pairtree_of s.tree) (path_of_source object (to_site object held.trail) ++ r.path)) bytes held.fed held.rows n row is order
     (whole ∙ ap (λ (t : List Frame). bytes_at (pairtree_of s.tree) (path_of_source object t ++ row.path)) (sym site)) there
 
 -- at its end all of it was read
-copied_whole : (s : Reading) (object : Object) (held : Held) (position : Position) (left : ℕ) (row : Row) → slice_get held.rows position.row ≡ Some row → ForSome (Some s) (λ (r : Reading). option_map (take 8192) r.unread ≡ Some []) → IsCopyingFile s.tree object held position s.unread left
+copied_whole : (s : Reading) (object : Object) (held : Held) {position : Position} {left : ℕ} (row : Row) → slice_get held.rows position.row ≡ Some row → ForSome (Some s) (λ (r : Reading). option_map (take 8192) r.unread ≡ Some []) → IsCopyingFile s.tree object held position s.unread left
     → held.fed ≡ bytes_at (pairtree_of s.tree) (path_of_source object held.trail ++ row.path)
-copied_whole s object held position left row is ended it =
+copied_whole s object held row is ended it =
     let same : it.row ≡ row = some_same it.row row (sym it.is_row ∙ is) in
     (reads_end 8192 _ _ held.fed s.unread (omega arith) it.read (ended s refl)).all
     ∙ ap (λ (r : Row). bytes_at _ (path_of_source object held.trail ++ r.path)) same
@@ -169,8 +169,8 @@ makes_beside : {job : Job} (past : Past) (s new : Reading) {prefix : List ℕ} {
 unfolding Answers IsRead
 makes_beside {job} past s new (EndsCopy was object position row left is same) answers at part = record {
   bytes_are =
-      read_again job s past.bytes object was position.row left row is at.rows.order (site_itself object was.trail at.ends.1)
-      (copied_whole s object was position left row is answers.0 part.at.2) part.bytes;
+      read_again s past.bytes object was position.row row is at.rows.order (site_itself object was.trail at.ends.1)
+      (copied_whole s object was row is answers.0 part.at.2) part.bytes;
   few = part.few;
 }
 makes_beside {job} past s new {after} (MakesSidecar was object) answers at part =

@@ -25,16 +25,16 @@ use Rattle.pt_begun.proofs.source.InPairtree.{some_same, stays}
 
 -- ---- the top
 
-either_kind : (b : Bool) (node : Node) (l : Option Kind) (o : Option Node) → l ≡ option_map kind_of o → cond b (Some (kind_of node)) l ≡ option_map kind_of (cond b (Some node) o)
-either_kind true node l o e = refl
-either_kind false node l o e = e
+either_kind : (b : Bool) (node : Node) {l : Option Kind} (o : Option Node) → l ≡ option_map kind_of o → cond b (Some (kind_of node)) l ≡ option_map kind_of (cond b (Some node) o)
+either_kind true node o e = refl
+either_kind false node o e = e
 
 -- the kind that is listed is that of what stands there
 kind_listed : (f : Forest) (name : List ℕ) → kind_in (listing_of f) name ≡ option_map kind_of (find f name)
 kind_listed none name = refl
-kind_listed (file n bytes after) name = either_kind (bytes_eq n name) (File bytes) _ (find after name) (kind_listed after name)
-kind_listed (other n after) name = either_kind (bytes_eq n name) Other _ (find after name) (kind_listed after name)
-kind_listed (dir n inside after) name = either_kind (bytes_eq n name) (Dir inside) _ (find after name) (kind_listed after name)
+kind_listed (file n bytes after) name = either_kind (bytes_eq n name) (File bytes) (find after name) (kind_listed after name)
+kind_listed (other n after) name = either_kind (bytes_eq n name) Other (find after name) (kind_listed after name)
+kind_listed (dir n inside after) name = either_kind (bytes_eq n name) (Dir inside) (find after name) (kind_listed after name)
 
 file_kind : (o : Option Node) → is_file_kind (option_map kind_of o) ≡ is_some (option_and_then as_file (option_and_then (λ node. node_at node []) o))
 file_kind None = refl
@@ -75,12 +75,12 @@ read_whole bytes block read good =
     let long : length block ≡ min 8192 (length bytes) = ap length (sym read) ∙ length-take 8192 bytes in
     sym (take_all 8192 bytes (omega (arith, few, long))) ∙ read
 
-good_prefix : (o : Option Node) (block : List ℕ) → Some kind.File ≡ option_map kind_of o → option_map (take 8192) (option_and_then as_file (option_and_then (λ node. node_at node []) o)) ≡ Some block → prefix_refusal block ≡ None
+good_prefix : (o : Option Node) {block : List ℕ} → Some kind.File ≡ option_map kind_of o → option_map (take 8192) (option_and_then as_file (option_and_then (λ node. node_at node []) o)) ≡ Some block → prefix_refusal block ≡ None
     → (is_prefix o ≡ true) × (prefix_in o ≡ without_line_ends block)
-good_prefix None block is read good = absurd (cc)
-good_prefix (Some (Dir inside)) block is read good = absurd (cc)
-good_prefix (Some Other) block is read good = absurd (cc)
-good_prefix (Some (File bytes)) block is read good =
+good_prefix None is read good = absurd (cc)
+good_prefix (Some (Dir inside)) is read good = absurd (cc)
+good_prefix (Some Other) is read good = absurd (cc)
+good_prefix (Some (File bytes)) {block} is read good =
     let same : bytes ≡ block = read_whole bytes block (some_same (take 8192 bytes) block read) good in
     let passes : is_none (prefix_refusal bytes) ≡ true = ap (λ (l : List ℕ). is_none (prefix_refusal l)) same ∙ ap is_none good in
     (passes, ap (λ b. cond b (without_line_ends bytes) []) passes ∙ ap without_line_ends same)
@@ -91,26 +91,26 @@ good_prefix (Some (File bytes)) block is read good =
 abbrev Started : List ℕ → ℕ → Held → Reading → Type 0
 Started prefix count held s = HoldsNothing held × (count ≡ 0) × HasStarted s.tree prefix
 
-pub starts_keep : (job : Job) (s new : Reading) {prefix read : List ℕ} (count : ℕ) {here next : Phase} (held : Held) {calls : Calls}
+pub starts_keep : {job : Job} (s new : Reading) {prefix read : List ℕ} (count : ℕ) {here next : Phase} (held : Held) {calls : Calls}
     → Starts job here prefix read calls (Ok next) → SourceAt job s prefix count here held → Answers calls.asked (Some s) (Some new) → SourceAt job new read (done_after here held.trail next count) next held
 unfolding Answers IsListed IsRead
-starts_keep job s new {prefix} count held (IsStore was entries is) at answers =
+starts_keep s new {prefix} count held (IsStore was entries is) at answers =
     let listed : entries ≡ listing_of s.tree = sym (some_same (listing_of s.tree) entries (answers.0 s refl)) in
     let store : is_store s.tree ≡ true = sym (store_listed s.tree) ∙ ap lists_store (sym listed) ∙ is in
     stays (λ r. HoldsNothing held × (count ≡ 0) × (is_store r.tree ≡ true) × (kind_in entries prefix_file ≡ option_map kind_of (find r.tree prefix_file)) × (prefix ≡ [])) answers.2
     (at.0, at.1, store, ap (λ l. kind_in l prefix_file) listed ∙ kind_listed s.tree prefix_file, at.2)
-starts_keep job s new {prefix} count held (HasNoPrefix was) at answers =
+starts_keep s new {prefix} count held (HasNoPrefix was) at answers =
     let none_there = no_prefix (find s.tree prefix_file) at.3 in
     stays (Started prefix count held) answers (at.0, at.1, record { store = at.2; good = none_there.0; read = at.4 ∙ sym none_there.1 })
-starts_keep job s new count held (HasPrefix was block good) at answers =
-    let it = good_prefix (find s.tree prefix_file) block at.3 (answers.0 (after_open (prefix_file ∷ []) s) refl) good in
+starts_keep s new count held (HasPrefix was block good) at answers =
+    let it = good_prefix (find s.tree prefix_file) at.3 (answers.0 (after_open (prefix_file ∷ []) s) refl) good in
     stays (Started (without_line_ends block) count held) answers.1 (at.0, at.1, record { store = at.2; good = it.0; read = sym it.1 })
-starts_keep job s new {prefix} count held (MakesRoot was number item is) at answers =
+starts_keep {job} s new {prefix} count held (MakesRoot was number item is) at answers =
     let next = λ (p : Phase). SourceAt job new prefix (done_after (phase.RootMake number) held.trail p count) p held in
     let it = stays (Started prefix count held) answers at in
     either_phase next (number == 5) phase.RootRename (phase.RootMake (number + 1)) (λ last. it) (λ more. it)
-starts_keep job s new {prefix} count held (IsSame was number path bytes is) at answers =
+starts_keep {job} s new {prefix} count held (IsSame was number path bytes is) at answers =
     let next = λ (p : Phase). SourceAt job new prefix (done_after (phase.RootCheck number) held.trail p count) p held in
     let it = stays (Started prefix count held) answers at in
     either_phase next (number == 2) phase.OpenRoot (phase.RootCheck (number + 1)) (λ last. it) (λ more. it)
-starts_keep job s new {prefix} count held turn at answers = stays (Started prefix count held) answers at
+starts_keep s new {prefix} count held turn at answers = stays (Started prefix count held) answers at
