@@ -74,21 +74,23 @@ pub record IsHere (rows : List Row) (contents : List Content) (position : Positi
 distinct_here : {rows : List Row} {contents : List Content} {position : Position} {row : Row} → IsHere rows contents position row → slice_get (distinct rows) position.stored ≡ Some row
 distinct_here {rows} {contents} {position} {row} it = its_content row it.are it.order it.is it.stored it.at
 
-pub folder_next : (job : Job) (object : Object) (rows : List Row) (contents : List Content) (bytes : Path → List ℕ) (position : Position) (row : Row) → IsHere rows contents position row → position.directories < length row.path
-    → IsNext (script_of_object job object rows bytes) (made_before job object rows bytes (part.Content position)) (MakeFolder (in_content (take position.directories row.path)))
-folder_next job object rows contents bytes position row it more =
-    let one = distinct_here it in
-    next_content job object rows bytes position (MakeFolder (codes "content" ∷ take position.directories row.path))
-    (next_folder _ position _ _ (content_is rows bytes position.stored one)
-    (folder_at row.path position.directories more) (new_folders bytes row one it.at))
+module _ (job : Job) (object : Object) (rows : List Row) (contents : List Content) (bytes : Path → List ℕ) (position : Position) (row : Row) where
 
-pub folder_made : (job : Job) (object : Object) (rows : List Row) (contents : List Content) (bytes : Path → List ℕ) (position : Position) (row : Row) → IsHere rows contents position row → position.directories < length row.path
-    → made_before job object rows bytes (part.Content (with_folder position)) ≡ made_before job object rows bytes (part.Content position) ++ MakeFolder (in_content (take position.directories row.path)) ∷ []
-folder_made job object rows contents bytes position row it more =
-    let one = distinct_here it in
-    after_content job object rows bytes position (with_folder position) (MakeFolder (codes "content" ∷ take position.directories row.path))
-    (with_next_folder _ position _ _ (content_is rows bytes position.stored one)
-    (folder_at row.path position.directories more) (new_folders bytes row one it.at))
+  pub folder_next : IsHere rows contents position row → position.directories < length row.path
+      → IsNext (script_of_object job object rows bytes) (made_before job object rows bytes (part.Content position)) (MakeFolder (in_content (take position.directories row.path)))
+  folder_next it more =
+      let one = distinct_here it in
+      next_content job object rows bytes position (MakeFolder (codes "content" ∷ take position.directories row.path))
+      (next_folder _ position _ _ (content_is rows bytes position.stored one)
+      (folder_at row.path position.directories more) (new_folders bytes row one it.at))
+
+  pub folder_made : IsHere rows contents position row → position.directories < length row.path
+      → made_before job object rows bytes (part.Content (with_folder position)) ≡ made_before job object rows bytes (part.Content position) ++ MakeFolder (in_content (take position.directories row.path)) ∷ []
+  folder_made it more =
+      let one = distinct_here it in
+      after_content job object rows bytes position (with_folder position) (MakeFolder (codes "content" ∷ take position.directories row.path))
+      (with_next_folder _ position _ _ (content_is rows bytes position.stored one)
+      (folder_at row.path position.directories more) (new_folders bytes row one it.at))
 
 all_stand : (row : Row) (directories : ℕ) → length row.path ≤ directories → length (folders_above (stored_at row)) ≤ directories
 all_stand row directories stand = let many = folders_many (codes "content") row.path in omega (arith, many, stand)
@@ -163,46 +165,48 @@ fronts_same rows bytes read n row order is =
     (sym (ap part_in_order (ap row_paths (split_at n some row is) ∙ map-append (λ (r : Row). r.path) (take n some) (row ∷ drop (suc n) some))) ∙ order_distinct [] rows order) in
     ap (take n) (files_as bytes some) ∙ take_map (content bytes) n some ∙ same_contents bytes row.path read (take n some) before ∙ sym (take_map (content (with_bytes row.path read bytes)) n some) ∙ ap (take n) (sym (files_as _ some))
 
--- what is made before it doesn't tell its bytes
-made_same : (job : Job) (object : Object) (rows : List Row) {contents : List Content} (bytes : Path → List ℕ) (read : List ℕ) (position : Position) (row : Row) → IsHere rows contents position row
-    → made_before job object rows bytes (part.Content position) ≡ made_before job object rows (with_bytes row.path read bytes) (part.Content position)
-made_same job object rows bytes read position row it =
-    let one = distinct_here it in
-    let later = with_bytes row.path read bytes in
-    let fronts = fronts_same rows bytes read position.stored row it.order one in
-    let same : contents_before (contents_of rows bytes) position ≡ contents_before (contents_of rows later) position =
-    ap (λ (o : Option File). files_items [] (take position.stored (contents_of rows bytes)) ++ folders_before (take position.stored (contents_of rows bytes)) position.directories o) (content_is rows bytes position.stored one)
-    ∙ ap (λ (l : List File). files_items [] l ++ folders_before l position.directories (Some (stored_at row, later row.path))) fronts
-    ∙ ap (λ (o : Option File). files_items [] (take position.stored (contents_of rows later)) ++ folders_before (take position.stored (contents_of rows later)) position.directories o) (sym (content_is rows later position.stored one)) in
-    ap (λ (l : List Item). map (item_in staging) (take 3 (object_items job.algorithm (inventory_text object.id rows job.meta job.algorithm) (stored_files rows bytes)) ++ map (item_in version_folder) l)) same
+module _ (job : Job) (object : Object) (rows : List Row) where
 
--- so with what was read of it the file that was copied is the item
-pub copy_made : (job : Job) (object : Object) (rows : List Row) (contents : List Content) (bytes : Path → List ℕ) (read : List ℕ) (position : Position) (row : Row) → IsHere rows contents position row → length row.path ≤ position.directories
-    → made_before job object rows bytes (part.Content position) ++ MakeFile (in_content row.path) read ∷ []
-    ≡ made_before job object rows (with_bytes_of (slice_get rows position.row) read bytes) (part.Content (behind_stored contents position row.path))
-copy_made job object rows contents bytes read position row it stand =
-    let later = with_bytes row.path read bytes in
-    ap (λ l. l ++ MakeFile (in_content row.path) read ∷ []) (made_same job object rows bytes read position row it)
-    ∙ ap (λ b. made_before job object rows later (part.Content position) ++ MakeFile (in_content row.path) b ∷ []) (now_held row.path bytes)
-    ∙ sym (file_made job object rows contents later position row it stand)
-    ∙ ap (λ (o : Option Row). made_before job object rows (with_bytes_of o read bytes) (part.Content (behind_stored contents position row.path))) (sym it.is)
+  -- what is made before it doesn't tell its bytes
+  made_same : {contents : List Content} (bytes : Path → List ℕ) (read : List ℕ) (position : Position) (row : Row) → IsHere rows contents position row
+      → made_before job object rows bytes (part.Content position) ≡ made_before job object rows (with_bytes row.path read bytes) (part.Content position)
+  made_same bytes read position row it =
+      let one = distinct_here it in
+      let later = with_bytes row.path read bytes in
+      let fronts = fronts_same rows bytes read position.stored row it.order one in
+      let same : contents_before (contents_of rows bytes) position ≡ contents_before (contents_of rows later) position =
+      ap (λ (o : Option File). files_items [] (take position.stored (contents_of rows bytes)) ++ folders_before (take position.stored (contents_of rows bytes)) position.directories o) (content_is rows bytes position.stored one)
+      ∙ ap (λ (l : List File). files_items [] l ++ folders_before l position.directories (Some (stored_at row, later row.path))) fronts
+      ∙ ap (λ (o : Option File). files_items [] (take position.stored (contents_of rows later)) ++ folders_before (take position.stored (contents_of rows later)) position.directories o) (sym (content_is rows later position.stored one)) in
+      ap (λ (l : List Item). map (item_in staging) (take 3 (object_items job.algorithm (inventory_text object.id rows job.meta job.algorithm) (stored_files rows bytes)) ++ map (item_in version_folder) l)) same
 
--- ---- the part at a position
+  -- so with what was read of it the file that was copied is the item
+  pub copy_made : (contents : List Content) (bytes : Path → List ℕ) (read : List ℕ) (position : Position) (row : Row) → IsHere rows contents position row → length row.path ≤ position.directories
+      → made_before job object rows bytes (part.Content position) ++ MakeFile (in_content row.path) read ∷ []
+      ≡ made_before job object rows (with_bytes_of (slice_get rows position.row) read bytes) (part.Content (behind_stored contents position row.path))
+  copy_made contents bytes read position row it stand =
+      let later = with_bytes row.path read bytes in
+      ap (λ l. l ++ MakeFile (in_content row.path) read ∷ []) (made_same bytes read position row it)
+      ∙ ap (λ b. made_before job object rows later (part.Content position) ++ MakeFile (in_content row.path) b ∷ []) (now_held row.path bytes)
+      ∙ sym (file_made job object rows contents later position row it stand)
+      ∙ ap (λ (o : Option Row). made_before job object rows (with_bytes_of o read bytes) (part.Content (behind_stored contents position row.path))) (sym it.is)
 
-pub made_at : (job : Job) (object : Object) (rows : List Row) (bytes : Path → List ℕ) (position : Position) → position.stored ≡ length (distinct (take position.row rows)) → made_before job object rows bytes (content_at rows position) ≡ made_before job object rows bytes (part.Content position)
-made_at job object rows bytes position stored = by (nat_lt position.row (length rows)) refl
-  where
-    by : (more : Bool) → nat_lt position.row (length rows) ≡ more → made_before job object rows bytes (cond more (part.Content position) part.VersionInventory) ≡ made_before job object rows bytes (part.Content position)
-    by true is = refl
-    by false is =
-        let past = ltb-false position.row (length rows) is in
-        let many : length (contents_of rows bytes) ≡ length (distinct rows) = ap length (files_as bytes (distinct rows)) ∙ length-map (distinct rows) (content bytes) in
-        at_inventory job object rows bytes position (stored ∙ ap (λ (l : List Row). length (distinct l)) (take_all position.row rows past) ∙ sym many)
+  -- ---- the part at a position
 
--- before any
-pub made_first : (job : Job) (object : Object) (rows : List Row) (bytes : Path → List ℕ) → made_before job object rows bytes (part.Content (record { row = 0; stored = 0; directories = 0 })) ≡ made_before job object rows bytes part.Version ++ MakeFolder (in_version []) ∷ []
-made_first job object rows bytes = by (slice_get (contents_of rows bytes) 0)
-  where
-    by : (o : Option File) → map (item_in staging) (take 3 (object_items job.algorithm (inventory_text object.id rows job.meta job.algorithm) (stored_files rows bytes)) ++ map (item_in version_folder) (folders_before [] 0 o)) ≡ made_before job object rows bytes part.Version ++ MakeFolder (in_version []) ∷ []
-    by None = refl
-    by (Some file) = refl
+  pub made_at : (bytes : Path → List ℕ) (position : Position) → position.stored ≡ length (distinct (take position.row rows)) → made_before job object rows bytes (content_at rows position) ≡ made_before job object rows bytes (part.Content position)
+  made_at bytes position stored = by (nat_lt position.row (length rows)) refl
+    where
+      by : (more : Bool) → nat_lt position.row (length rows) ≡ more → made_before job object rows bytes (cond more (part.Content position) part.VersionInventory) ≡ made_before job object rows bytes (part.Content position)
+      by true is = refl
+      by false is =
+          let past = ltb-false position.row (length rows) is in
+          let many : length (contents_of rows bytes) ≡ length (distinct rows) = ap length (files_as bytes (distinct rows)) ∙ length-map (distinct rows) (content bytes) in
+          at_inventory job object rows bytes position (stored ∙ ap (λ (l : List Row). length (distinct l)) (take_all position.row rows past) ∙ sym many)
+
+  -- before any
+  pub made_first : (bytes : Path → List ℕ) → made_before job object rows bytes (part.Content (record { row = 0; stored = 0; directories = 0 })) ≡ made_before job object rows bytes part.Version ++ MakeFolder (in_version []) ∷ []
+  made_first bytes = by (slice_get (contents_of rows bytes) 0)
+    where
+      by : (o : Option File) → map (item_in staging) (take 3 (object_items job.algorithm (inventory_text object.id rows job.meta job.algorithm) (stored_files rows bytes)) ++ map (item_in version_folder) (folders_before [] 0 o)) ≡ made_before job object rows bytes part.Version ++ MakeFolder (in_version []) ∷ []
+      by None = refl
+      by (Some file) = refl

@@ -1,21 +1,21 @@
 -- The turns of the walk and of the scan keep what holds where the destination tells.
-use Rattle.std.proofs.Common.{◌≡◌, ℕ, ◌+◌, List, [], ◌∷◌, refl, ap, sym, ◌∙◌, subst}
+use Rattle.std.proofs.Common.{◌≡◌, ℕ, List, [], ◌∷◌, refl, ap, sym, ◌∙◌, subst}
 use Rattle.std.specs.Prelude.{Option, None, Some, Ok, is_some}
 use Rattle.std.specs.Option.{option_map, option_or}
 use Rattle.pt_name.specs.Tuples.{Tuples}
-use Rattle.pt_object.specs.Root.{base, base_where}
+use Rattle.pt_object.specs.Root.{base_where}
 use Rattle.pt_tree.specs.Dest.{Writing, IsKindAt}
 use Rattle.pt_tree.specs.Path.{Path, rest_below}
-use Rattle.pt_tree.specs.Tree.{Entry, Folder, IsTree, Tree, kind_of_entry}
+use Rattle.pt_tree.specs.Tree.{Entry, Folder, Tree, kind_of_entry}
 use Rattle.pt_begun.specs.BegunDest.{DestAt, DestPart, IsBetweenObjects, IsMakingObject, root_now, root_on_way}
-use Rattle.pt_plan.specs.Carried.{Carried, entry_of_objects, folder_where, is_on_the_way}
+use Rattle.pt_plan.specs.Carried.{Carried, folder_where}
 use Rattle.pt_begun.specs.DestLaws.{ScanningKeepsDest, WalkingKeepsDest}
 use Rattle.pt_begun.specs.Past.{Past, past_after}
 use Rattle.pt_plan.specs.Job.{Job}
 use Rattle.pt_plan.specs.Run.{Held}
 use Rattle.pt_plan.specs.Roots.{root_in, with_root}
-use Rattle.pt_plan.specs.TurnScan.{Scans, StartsInSite, EntersObject, IsTooDeep, PassesShorty, EntersDirectory, MeetsDeep, OpensFile, MeetsLimit, MeetsOther, EndsSite, EndsObject, LeavesDirectory, ReadsOn, IsTooLong, EndsFile, none_listed}
-use Rattle.pt_plan.specs.TurnWalk.{Walks, OpensRoot, LeadsOn, IsSkipped, IsPresent, IsNew, IsPast, IsDeep, EntersSite, PassesEntry, LeavesSite, EndsWalk, in_root, new_object}
+use Rattle.pt_plan.specs.TurnScan.{Scans, StartsInSite, EntersObject, IsTooDeep, EntersDirectory, MeetsDeep, MeetsLimit, MeetsOther, IsTooLong}
+use Rattle.pt_plan.specs.TurnWalk.{Walks, IsPresent, IsNew, in_root}
 use Rattle.pt_plan.specs.World.{Calls, Changes}
 use Rattle.pt_plan.specs.declared.object.Object.{Object}
 use Rattle.pt_plan.specs.declared.phase.Phase.{Phase}

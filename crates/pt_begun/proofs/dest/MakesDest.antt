@@ -1,5 +1,5 @@
 -- The turns that make an object keep what holds where the destination tells.
-use Rattle.std.proofs.Common.{inl, inr, ◌≡◌, ◌≤◌, ◌==◌, ◌-◌, ℕ, zero, suc, Bool, true, false, List, [], ◌∷◌, ◌++◌, refl, ap, sym, ◌∙◌, subst, arith, cond, length, take}
+use Rattle.std.proofs.Common.{inl, inr, ◌≡◌, ◌≤◌, ◌==◌, ℕ, zero, suc, Bool, true, false, List, [], ◌∷◌, ◌++◌, refl, ap, sym, ◌∙◌, subst, arith, cond, length, take}
 use Rattle.std.specs.Prelude.{◌⊎◌, Option, None, Some, is_some, nat_lt, slice_get}
 use Rattle.std.specs.Option.{option_or}
 use Rattle.std.proofs.lemmas.Bool.{eqb-true, ltb-false, ltb-true}
@@ -21,7 +21,7 @@ use Rattle.pt_plan.specs.Job.{Job}
 use Rattle.pt_plan.specs.Lines.{Line}
 use Rattle.pt_plan.specs.Roots.{root_in, storage_root, with_root}
 use Rattle.pt_plan.specs.Run.{Held, with_fed}
-use Rattle.pt_plan.specs.TurnMake.{MakesStaging, MakesDeclaration, MakesVersion, PassesRow, MakesFolder, OpensCopy, CopiesOn, EndsCopy, MakesVersionInventory, MakesVersionSidecar, MakesInventory, MakesSidecar, behind, behind_stored, content_at, in_content, in_version, inventory_file, is_stored, sidecar_file, text_of_inventory, with_folder}
+use Rattle.pt_plan.specs.TurnMake.{MakesStaging, MakesDeclaration, MakesVersion, PassesRow, MakesFolder, OpensCopy, CopiesOn, EndsCopy, MakesVersionInventory, MakesVersionSidecar, MakesInventory, MakesSidecar, behind, behind_stored, content_at, in_content, in_version, inventory_file, is_stored, sidecar_file}
 use Rattle.pt_plan.specs.World.{Changes, after_make}
 use Rattle.pt_plan.specs.declared.object.Object.{Object}
 use Rattle.pt_plan.specs.declared.phase.Part.{Part}

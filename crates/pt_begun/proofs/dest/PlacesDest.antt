@@ -23,7 +23,6 @@ use Rattle.pt_plan.proofs.WithObjects.{base_top, top_of_object}
 use Rattle.pt_plan.specs.Carried.{Carried, entry_of_objects, folder_where, is_on_the_way, place_of_carried, with_objects}
 use Rattle.pt_plan.specs.Fixity.{Holding, IsKept}
 use Rattle.pt_plan.specs.Job.{Job}
-use Rattle.pt_plan.specs.Lines.{Line}
 use Rattle.pt_plan.specs.Roots.{root_in, storage_root, tuple_folders, with_folders, with_root}
 use Rattle.pt_plan.specs.Run.{Held}
 use Rattle.pt_plan.specs.TurnPlace.{MakesTuple, FindsTuple, RenamesObject, TellsDone, TellsEnd, after_tuple, restarted, tuple_folder}
@@ -84,32 +83,34 @@ tuple_parent job past start object held number now few at part =
     ∙ at_root job past start object held number now _ part.started at.rows part.at.0
     ∙ part.at.1 number (omega arith)
 
--- each of the first folders is one, and so is the next
-more_folders : (job : Job) (start : Tree) (placed : List Carried) (place : Path) (n : ℕ) → ((i : ℕ) → i ≤ n → root_on_way job start placed place (suc n) (take i place) ≡ Some Folder) → root_on_way job start placed place (suc n) (take (suc n) place) ≡ Some Folder → HasFoldersTo job start placed place (suc n)
-more_folders job start placed place n first last i within = by (nat_lt n i) refl
-  where
-    by : (b : Bool) → nat_lt n i ≡ b → root_on_way job start placed place (suc n) (take i place) ≡ Some Folder
-    by true above =
-        let beyond = ltb-true n i above in
-        let same : suc n ≡ i = omega (arith, beyond, within) in
-        subst (λ k. root_on_way job start placed place (suc n) (take k place) ≡ Some Folder) same last
-    by false below = first i (ltb-false n i below)
+module _ (job : Job) (start : Tree) (placed : List Carried) (place : Path) (n : ℕ) where
 
-made_folders : (job : Job) (start : Tree) (placed : List Carried) (place : Path) (n : ℕ) (name : List ℕ) → take (suc n) place ≡ take n place ++ name ∷ [] → root_on_way job start placed place n (take (suc n) place) ≡ None → HasFoldersTo job start placed place n → HasFoldersTo job start placed place (suc n)
-made_folders job start placed place n name more none folders =
-    let grown = way_made job start placed place n name more none in
-    more_folders job start placed place n
-    (λ i within. sym (ap (λ (t : Tree). t (take i place)) grown) ∙ still i within (same_path (take i place) (take (suc n) place)))
-    (sym (ap (λ (t : Tree). t (take (suc n) place)) grown) ∙ ap (λ b. cond b (Some Folder) (root_on_way job start placed place n (take (suc n) place))) (path_itself (take (suc n) place)))
-  where
-    still : (i : ℕ) → i ≤ n → (b : Bool) → cond b (Some Folder) (root_on_way job start placed place n (take i place)) ≡ Some Folder
-    still i within true = refl
-    still i within false = folders i within
+  -- each of the first folders is one, and so is the next
+  more_folders : ((i : ℕ) → i ≤ n → root_on_way job start placed place (suc n) (take i place) ≡ Some Folder) → root_on_way job start placed place (suc n) (take (suc n) place) ≡ Some Folder → HasFoldersTo job start placed place (suc n)
+  more_folders first last i within = by (nat_lt n i) refl
+    where
+      by : (b : Bool) → nat_lt n i ≡ b → root_on_way job start placed place (suc n) (take i place) ≡ Some Folder
+      by true above =
+          let beyond = ltb-true n i above in
+          let same : suc n ≡ i = omega (arith, beyond, within) in
+          subst (λ k. root_on_way job start placed place (suc n) (take k place) ≡ Some Folder) same last
+      by false below = first i (ltb-false n i below)
 
-found_folders : (job : Job) (start : Tree) (placed : List Carried) (place : Path) (n : ℕ) (name : List ℕ) → take (suc n) place ≡ take n place ++ name ∷ [] → root_on_way job start placed place n (take (suc n) place) ≡ Some Folder → HasFoldersTo job start placed place n → HasFoldersTo job start placed place (suc n)
-found_folders job start placed place n name more found folders =
-    let same = way_found job start placed place n name more found in
-    more_folders job start placed place n (λ i within. sym (ap (λ (t : Tree). t (take i place)) same) ∙ folders i within) (sym (ap (λ (t : Tree). t (take (suc n) place)) same) ∙ found)
+  made_folders : (name : List ℕ) → take (suc n) place ≡ take n place ++ name ∷ [] → root_on_way job start placed place n (take (suc n) place) ≡ None → HasFoldersTo job start placed place n → HasFoldersTo job start placed place (suc n)
+  made_folders name more none folders =
+      let grown = way_made job start placed place n name more none in
+      more_folders
+      (λ i within. sym (ap (λ (t : Tree). t (take i place)) grown) ∙ still i within (same_path (take i place) (take (suc n) place)))
+      (sym (ap (λ (t : Tree). t (take (suc n) place)) grown) ∙ ap (λ b. cond b (Some Folder) (root_on_way job start placed place n (take (suc n) place))) (path_itself (take (suc n) place)))
+    where
+      still : (i : ℕ) → i ≤ n → (b : Bool) → cond b (Some Folder) (root_on_way job start placed place n (take i place)) ≡ Some Folder
+      still i within true = refl
+      still i within false = folders i within
+
+  found_folders : (name : List ℕ) → take (suc n) place ≡ take n place ++ name ∷ [] → root_on_way job start placed place n (take (suc n) place) ≡ Some Folder → HasFoldersTo job start placed place n → HasFoldersTo job start placed place (suc n)
+  found_folders name more found folders =
+      let same = way_found job start placed place n name more found in
+      more_folders (λ i within. sym (ap (λ (t : Tree). t (take i place)) same) ∙ folders i within) (sym (ap (λ (t : Tree). t (take (suc n) place)) same) ∙ found)
 
 -- the next phase
 next_tuple : (job : Job) (past : Past) {start : Tree} {object : Object} (held : Held) {number : ℕ} (new : Writing) (more : Bool) → nat_lt (number + 1) job.tuples.count ≡ more → number < job.tuples.count → IsTree start → IsTree new.tree

@@ -19,10 +19,9 @@ use Rattle.pt_plan.proofs.MovedIn.{root_is_its_own, root_is_moved_in}
 use Rattle.pt_plan.proofs.WithObjects.{base_stays}
 use Rattle.pt_plan.specs.Carried.{with_objects}
 use Rattle.pt_plan.specs.Job.{Job}
-use Rattle.pt_plan.specs.Lines.{Line}
 use Rattle.pt_plan.specs.Roots.{root_in, storage_root, with_root}
 use Rattle.pt_plan.specs.Run.{Held}
-use Rattle.pt_plan.specs.TurnStart.{IsStore, HasNoPrefix, HasPrefix, HasNoStaging, HasNoRoot, HasRoot, MakesRoot, RenamesRoot, IsSame}
+use Rattle.pt_plan.specs.TurnStart.{HasNoStaging, HasNoRoot, HasRoot, MakesRoot, RenamesRoot, IsSame}
 use Rattle.pt_plan.specs.World.{Changes, after_make}
 use Rattle.pt_plan.specs.declared.phase.Phase.{Phase}
 use Rattle.pt_plan.specs.declared.phase.Phase.TheVariants as phase

@@ -6,7 +6,6 @@ use Rattle.std.specs.Option.{option_or}
 use Rattle.std.proofs.lemmas.Bool.{and_from, false≢true, or_right, true≢false}
 use Rattle.std.proofs.lemmas.List.{length-append}
 use Rattle.pt_object.proofs.Ways.{path_itself}
-use Rattle.pt_object.specs.Script.{folders_above}
 use Rattle.pt_tree.specs.Path.{Path, rest_below}
 use Rattle.pt_tree.specs.Tree.{Entry, Folder, IsTree, Tree}
 use Rattle.pt_plan.proofs.Folders.{each_same, is_above, is_one}

@@ -32,45 +32,47 @@ behind_none (frame ∷ frames) =
 
 -- ---- the place moves on
 
-one_later : (earlier : List Path) (directory : Path) (place : ℕ) (items : List Item) → come_behind earlier directory (drop place items) ≡ true → come_behind earlier directory (drop (place + 1) items) ≡ true
-one_later earlier directory place items h =
-    let test = λ (item : Item). list_all (λ path. parts_before path (directory ++ item.0 ∷ [])) earlier in
-    let next : place + 1 ≡ suc place = omega arith in
-    ap (λ n. come_behind earlier directory (drop n items)) next ∙ all_drop_more test place items h
+module _ (earlier : List Path) where
 
-pub behind_advanced : (earlier : List Path) (frames : List Frame) → all_behind earlier frames ≡ true → all_behind earlier (advanced frames) ≡ true
-behind_advanced earlier [] h = h
-behind_advanced earlier (frame ∷ frames) h =
-    let parts = and_parts _ _ h in
-    and_from _ _ (one_later earlier (names_to frames) frame.place frame.listing parts.0) parts.1
+  one_later : (directory : Path) (place : ℕ) (items : List Item) → come_behind earlier directory (drop place items) ≡ true → come_behind earlier directory (drop (place + 1) items) ≡ true
+  one_later directory place items h =
+      let test = λ (item : Item). list_all (λ path. parts_before path (directory ++ item.0 ∷ [])) earlier in
+      let next : place + 1 ≡ suc place = omega arith in
+      ap (λ n. come_behind earlier directory (drop n items)) next ∙ all_drop_more test place items h
 
--- ---- a directory is entered
+  pub behind_advanced : (frames : List Frame) → all_behind earlier frames ≡ true → all_behind earlier (advanced frames) ≡ true
+  behind_advanced [] h = h
+  behind_advanced (frame ∷ frames) h =
+      let parts = and_parts _ _ h in
+      and_from _ _ (one_later (names_to frames) frame.place frame.listing parts.0) parts.1
 
--- what comes behind a directory comes behind each of its entries
-below_directory : (earlier : List Path) (directory : Path) (items : List Item) → list_all (λ path. parts_before path directory) earlier ≡ true → come_behind earlier directory items ≡ true
-below_directory earlier directory items h =
-    all_true (λ (item : Item). list_all (λ path. parts_before path (directory ++ item.0 ∷ [])) earlier)
-    (λ item. all_then (λ path. parts_before path directory) (λ path. parts_before path (directory ++ item.0 ∷ [])) (λ path g. parts_on path directory (item.0 ∷ []) g) earlier h) items
+  -- ---- a directory is entered
 
--- the entry at the place is behind the rows
-pub behind_here : (earlier : List Path) (frame : Frame) (frames : List Frame) {item : Item} → entry_at frame ≡ Some item → all_behind earlier (frame ∷ frames) ≡ true → list_all (λ path. parts_before path (names_to (frame ∷ frames))) earlier ≡ true
-behind_here earlier frame frames {item} e h =
-    let test = λ (item : Item). list_all (λ path. parts_before path (names_to frames ++ item.0 ∷ [])) earlier in
-    let parts = and_parts _ _ h in
-    ap (λ (q : Path). list_all (λ path. parts_before path q) earlier) (path_grows frame frames item e) ∙ first_passes test frame.place frame.listing item e parts.0
+  -- what comes behind a directory comes behind each of its entries
+  below_directory : (directory : Path) (items : List Item) → list_all (λ path. parts_before path directory) earlier ≡ true → come_behind earlier directory items ≡ true
+  below_directory directory items h =
+      all_true (λ (item : Item). list_all (λ path. parts_before path (directory ++ item.0 ∷ [])) earlier)
+      (λ item. all_then (λ path. parts_before path directory) (λ path. parts_before path (directory ++ item.0 ∷ [])) (λ path g. parts_on path directory (item.0 ∷ []) g) earlier h) items
 
-pub behind_entered : (earlier : List Path) (frame : Frame) (frames : List Frame) {item : Item} (items : List Item) → entry_at frame ≡ Some item → all_behind earlier (frame ∷ frames) ≡ true → all_behind earlier (entered items (frame ∷ frames)) ≡ true
-behind_entered earlier frame frames items e h =
-    let parts = and_parts _ _ h in
-    and_from _ _
-    (below_directory earlier _ items (behind_here earlier frame frames e h))
-    (and_from _ _ (one_later earlier (names_to frames) frame.place frame.listing parts.0) parts.1)
+  -- the entry at the place is behind the rows
+  pub behind_here : (frame : Frame) (frames : List Frame) {item : Item} → entry_at frame ≡ Some item → all_behind earlier (frame ∷ frames) ≡ true → list_all (λ path. parts_before path (names_to (frame ∷ frames))) earlier ≡ true
+  behind_here frame frames {item} e h =
+      let test = λ (item : Item). list_all (λ path. parts_before path (names_to frames ++ item.0 ∷ [])) earlier in
+      let parts = and_parts _ _ h in
+      ap (λ (q : Path). list_all (λ path. parts_before path q) earlier) (path_grows frame frames item e) ∙ first_passes test frame.place frame.listing item e parts.0
 
--- ---- and left
+  pub behind_entered : (frame : Frame) (frames : List Frame) {item : Item} (items : List Item) → entry_at frame ≡ Some item → all_behind earlier (frame ∷ frames) ≡ true → all_behind earlier (entered items (frame ∷ frames)) ≡ true
+  behind_entered frame frames items e h =
+      let parts = and_parts _ _ h in
+      and_from _ _
+      (below_directory _ items (behind_here frame frames e h))
+      (and_from _ _ (one_later (names_to frames) frame.place frame.listing parts.0) parts.1)
 
-pub behind_left : (earlier : List Path) (frame : Frame) (frames : List Frame) → all_behind earlier (frame ∷ frames) ≡ true → all_behind earlier (advanced frames) ≡ true
-behind_left earlier frame [] h = refl
-behind_left earlier frame (outer ∷ frames) h = (and_parts _ _ h).1
+  -- ---- and left
+
+  pub behind_left : (frame : Frame) (frames : List Frame) → all_behind earlier (frame ∷ frames) ≡ true → all_behind earlier (advanced frames) ≡ true
+  behind_left frame [] h = refl
+  behind_left frame (outer ∷ frames) h = (and_parts _ _ h).1
 
 -- ---- a row more
 
@@ -93,7 +95,7 @@ later_rise (x ∷ y ∷ items) (suc place) rise is = later_rise (y ∷ items) pl
 -- what stands at or below a place comes before the entries behind it
 before_later : (frame : Frame) (frames : List Frame) {item : Item} (more : Path) → is_frame frame ≡ true → entry_at frame ≡ Some item → come_behind ((names_to frames ++ item.0 ∷ more) ∷ []) (names_to frames) (drop (frame.place + 1) frame.listing) ≡ true
 before_later frame frames {item} more is e =
-    let rise = (and_parts _ _ is).0 in
+    let rise = (and_parts (names_rise frame.listing) _ is).0 in
     let next : frame.place + 1 ≡ suc frame.place = omega arith in
     ap (λ n. come_behind ((names_to frames ++ item.0 ∷ more) ∷ []) (names_to frames) (drop n frame.listing)) next
     ∙ all_then (λ (other : Item). is_before item.0 other.0) (λ (other : Item). parts_before (names_to frames ++ item.0 ∷ more) (names_to frames ++ other.0 ∷ []) && true)

@@ -1,6 +1,6 @@
 -- Each turn that goes on keeps what holds of what is held: the turns of the start and of the walk, and those that place an object.
 use Rattle.std.proofs.Common.{◌≡◌, ◌<◌, ℕ, ◌+◌, ◌==◌, false, List, [], ◌∷◌, refl, arith, length}
-use Rattle.std.specs.Prelude.{None, Some, Ok, Option, nat_lt}
+use Rattle.std.specs.Prelude.{None, Some, Ok, Option}
 use Rattle.std.proofs.lemmas.Bool.{eqb-false, ltb-true}
 use Rattle.pt_tree.specs.Path.{Path}
 use Rattle.pt_walk.specs.declared.frame.Frame.{Frame}

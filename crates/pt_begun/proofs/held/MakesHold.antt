@@ -1,7 +1,6 @@
 -- Each turn that makes an object and goes on keeps what holds of what is held.
-use Rattle.std.proofs.Common.{◌≡◌, ◌<◌, ℕ, ◌+◌, ◌==◌, Bool, true, false, List, [], ◌∷◌, ◌++◌, refl, ap, sym, ◌∙◌, arith, cond, length}
-use Rattle.std.specs.Prelude.{Ok, Some, nat_lt, slice_get}
-use Rattle.std.specs.Str.{bytes_eq}
+use Rattle.std.proofs.Common.{◌≡◌, ◌<◌, ℕ, ◌==◌, Bool, true, false, List, [], refl, ap, sym, ◌∙◌, arith, cond, length}
+use Rattle.std.specs.Prelude.{Ok, Some, slice_get}
 use Rattle.std.proofs.lemmas.Bool.{and_parts, eqb-false, ltb-false}
 use Rattle.pt_object.proofs.Ways.{same_name}
 use Rattle.pt_object.specs.Algorithm.{digest_of}
@@ -9,7 +8,7 @@ use Rattle.pt_object.specs.declared.rows.Row.{Row}
 use Rattle.pt_tree.specs.Path.{Path}
 use Rattle.pt_plan.specs.Job.{Job}
 use Rattle.pt_plan.specs.Run.{Held, with_fed}
-use Rattle.pt_plan.specs.TurnMake.{Makings, MakesVersion, PassesRow, MakesFolder, OpensCopy, CopiesOn, EndsCopy, MakesVersionInventory, MakesVersionSidecar, MakesInventory, MakesSidecar, behind, behind_stored, is_as_read, is_stored, text_of_inventory}
+use Rattle.pt_plan.specs.TurnMake.{Makings, MakesVersion, PassesRow, MakesFolder, OpensCopy, CopiesOn, EndsCopy, MakesVersionInventory, MakesVersionSidecar, MakesInventory, MakesSidecar, behind, is_as_read, is_stored}
 use Rattle.pt_plan.specs.World.{Calls}
 use Rattle.pt_plan.specs.declared.object.Object.{Object}
 use Rattle.pt_plan.specs.declared.phase.Phase.{Phase}

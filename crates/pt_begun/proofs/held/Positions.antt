@@ -217,48 +217,50 @@ at_folder position at = record {
   new = more_folders _ position.directories _ at.new;
 }
 
--- so many contents are stored behind a row whose content is stored already
-pub stored_passed : (rows : List Row) (contents : List Content) (position : Position) (row : Row) → contents ≡ map content_of_row (distinct rows) → part_in_order (row_paths rows) ≡ true → slice_get rows position.row ≡ Some row
-    → is_stored contents position.stored row.path ≡ false → IsAtRow rows position → position.stored ≡ length (distinct (take (position.row + 1) rows))
-stored_passed rows contents position row contents_are order is passed at = at.stored ∙ by (is_known (take position.row rows) row) refl
-  where
-    next : position.row + 1 ≡ suc position.row
-    next = omega arith
+module _ (rows : List Row) (contents : List Content) (position : Position) (row : Row) where
 
-    by : (known : Bool) → is_known (take position.row rows) row ≡ known → length (distinct (take position.row rows)) ≡ length (distinct (take (position.row + 1) rows))
-    by true known =
-        sym (ap (λ n. length (distinct (take n rows))) next ∙ ap length (distinct_more rows position.row row is ∙ ap (λ t. distinct (take position.row rows) ++ unless_known t row) known ∙ append-nil (distinct (take position.row rows))))
-    by false new = absurd (true≢false (sym (stored_where_new rows contents position.row position.stored row contents_are at.stored order is false new) ∙ passed))
+  -- so many contents are stored behind a row whose content is stored already
+  pub stored_passed : contents ≡ map content_of_row (distinct rows) → part_in_order (row_paths rows) ≡ true → slice_get rows position.row ≡ Some row
+      → is_stored contents position.stored row.path ≡ false → IsAtRow rows position → position.stored ≡ length (distinct (take (position.row + 1) rows))
+  stored_passed contents_are order is passed at = at.stored ∙ by (is_known (take position.row rows) row) refl
+    where
+      next : position.row + 1 ≡ suc position.row
+      next = omega arith
 
--- that row is passed
-pub at_passed : (rows : List Row) (contents : List Content) (position : Position) (row : Row) → contents ≡ map content_of_row (distinct rows) → part_in_order (row_paths rows) ≡ true → slice_get rows position.row ≡ Some row
-    → is_stored contents position.stored row.path ≡ false → nat_lt (position.row + 1) (length rows) ≡ true → IsAtRow rows position → IsAtRow rows (behind position)
-at_passed rows contents position row contents_are order is passed more at = record {
-  within = ltb-true (position.row + 1) (length rows) more;
-  stored = stored_passed rows contents position row contents_are order is passed at;
-  new = at.new;
-}
+      by : (known : Bool) → is_known (take position.row rows) row ≡ known → length (distinct (take position.row rows)) ≡ length (distinct (take (position.row + 1) rows))
+      by true known =
+          sym (ap (λ n. length (distinct (take n rows))) next ∙ ap length (distinct_more rows position.row row is ∙ ap (λ t. distinct (take position.row rows) ++ unless_known t row) known ∙ append-nil (distinct (take position.row rows))))
+      by false new = absurd (true≢false (sym (stored_where_new rows contents position.row position.stored row contents_are at.stored order is false new) ∙ passed))
 
--- and one more behind any other
-pub stored_more : (rows : List Row) (contents : List Content) (position : Position) (row : Row) → contents ≡ map content_of_row (distinct rows) → part_in_order (row_paths rows) ≡ true → slice_get rows position.row ≡ Some row
-    → is_stored contents position.stored row.path ≡ true → IsAtRow rows position → position.stored + 1 ≡ length (distinct (take (position.row + 1) rows))
-stored_more rows contents position row contents_are order is stored at =
-    let next : position.row + 1 ≡ suc position.row = omega arith in
-    ap (λ n. n + 1) at.stored
-    ∙ sym (ap (λ n. length (distinct (take n rows))) next
-    ∙ ap length (distinct_more rows position.row row is ∙ ap (λ t. distinct (take position.row rows) ++ unless_known t row) (is_new rows contents position row contents_are order is stored at))
-    ∙ length-append (distinct (take position.row rows)) (row ∷ []))
+  -- that row is passed
+  pub at_passed : contents ≡ map content_of_row (distinct rows) → part_in_order (row_paths rows) ≡ true → slice_get rows position.row ≡ Some row
+      → is_stored contents position.stored row.path ≡ false → nat_lt (position.row + 1) (length rows) ≡ true → IsAtRow rows position → IsAtRow rows (behind position)
+  at_passed contents_are order is passed more at = record {
+    within = ltb-true (position.row + 1) (length rows) more;
+    stored = stored_passed contents_are order is passed at;
+    new = at.new;
+  }
 
--- of the others the content has just been stored
-pub at_stored : (rows : List Row) (contents : List Content) (position : Position) (row : Row) → contents ≡ map content_of_row (distinct rows) → part_in_order (row_paths rows) ≡ true → slice_get rows position.row ≡ Some row
-    → is_stored contents position.stored row.path ≡ true → nat_lt (position.row + 1) (length rows) ≡ true → IsAtRow rows position → IsAtRow rows (behind_stored contents position row.path)
-at_stored rows contents position row contents_are order is stored more at = record {
-  within = ltb-true (position.row + 1) (length rows) more;
-  stored = stored_more rows contents position row contents_are order is stored at;
-  new = subst (λ (n : ℕ). AreNewFrom (take n (content_paths rows)) (standing row.path (slice_get contents n)) (slice_get (content_paths rows) n)) (sym (add_one position.stored))
-      (subst (λ (l : List Content). AreNewFrom (take (suc position.stored) (content_paths rows)) (standing row.path (slice_get l (suc position.stored))) (slice_get (content_paths rows) (suc position.stored))) (sym contents_are)
-      (new_after (distinct rows) position.stored row (order_distinct [] rows order) (its_content row contents_are order is stored at) _ refl));
-}
-  where
-    add_one : (n : ℕ) → n + 1 ≡ suc n
-    add_one n = omega arith
+  -- and one more behind any other
+  pub stored_more : contents ≡ map content_of_row (distinct rows) → part_in_order (row_paths rows) ≡ true → slice_get rows position.row ≡ Some row
+      → is_stored contents position.stored row.path ≡ true → IsAtRow rows position → position.stored + 1 ≡ length (distinct (take (position.row + 1) rows))
+  stored_more contents_are order is stored at =
+      let next : position.row + 1 ≡ suc position.row = omega arith in
+      ap (λ n. n + 1) at.stored
+      ∙ sym (ap (λ n. length (distinct (take n rows))) next
+      ∙ ap length (distinct_more rows position.row row is ∙ ap (λ t. distinct (take position.row rows) ++ unless_known t row) (is_new rows contents position row contents_are order is stored at))
+      ∙ length-append (distinct (take position.row rows)) (row ∷ []))
+
+  -- of the others the content has just been stored
+  pub at_stored : contents ≡ map content_of_row (distinct rows) → part_in_order (row_paths rows) ≡ true → slice_get rows position.row ≡ Some row
+      → is_stored contents position.stored row.path ≡ true → nat_lt (position.row + 1) (length rows) ≡ true → IsAtRow rows position → IsAtRow rows (behind_stored contents position row.path)
+  at_stored contents_are order is stored more at = record {
+    within = ltb-true (position.row + 1) (length rows) more;
+    stored = stored_more contents_are order is stored at;
+    new = subst (λ (n : ℕ). AreNewFrom (take n (content_paths rows)) (standing row.path (slice_get contents n)) (slice_get (content_paths rows) n)) (sym (add_one position.stored))
+        (subst (λ (l : List Content). AreNewFrom (take (suc position.stored) (content_paths rows)) (standing row.path (slice_get l (suc position.stored))) (slice_get (content_paths rows) (suc position.stored))) (sym contents_are)
+        (new_after (distinct rows) position.stored row (order_distinct [] rows order) (its_content row contents_are order is stored at) _ refl));
+  }
+    where
+      add_one : (n : ℕ) → n + 1 ≡ suc n
+      add_one n = omega arith

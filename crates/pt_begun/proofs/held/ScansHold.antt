@@ -1,7 +1,7 @@
 -- Each turn of the scan that goes on keeps what holds of what is held.
-use Rattle.std.proofs.Common.{◌≡◌, ◌<◌, ◌≤◌, ℕ, zero, suc, ◌-◌, ◌==◌, ◌&&◌, true, false, List, [], ◌∷◌, ◌++◌, refl, ap, sym, ◌∙◌, subst, arith, cond, length, map, take}
+use Rattle.std.proofs.Common.{◌≡◌, ◌<◌, ◌≤◌, ℕ, zero, suc, ◌-◌, true, false, List, [], ◌∷◌, ◌++◌, refl, ap, sym, ◌∙◌, subst, arith, cond, length, map, take}
 use Rattle.std.specs.List.{list_all}
-use Rattle.std.specs.Prelude.{All, Ok, Some, not}
+use Rattle.std.specs.Prelude.{All, Ok, Some}
 use Rattle.std.proofs.lemmas.Bool.{and_from, and_parts, eqb-true}
 use Rattle.std.proofs.lemmas.List.{map-append}
 use Rattle.std.proofs.lemmas.List.Sums.{fold_push}
@@ -15,8 +15,7 @@ use Rattle.pt_object.specs.declared.contents.Content.{Content}
 use Rattle.pt_object.specs.declared.rows.Row.{Row}
 use Rattle.pt_tree.specs.Listing.{Item}
 use Rattle.pt_tree.specs.Path.{Path}
-use Rattle.pt_tree.specs.declared.kind.Kind.TheVariants as kind
-use Rattle.pt_walk.specs.Trail.{advanced, are_outer, current_entry, entered, entry_at, is_dir_entry, is_frame, is_trail, names_to, parent, sought}
+use Rattle.pt_walk.specs.Trail.{advanced, are_outer, current_entry, entered, is_trail, names_to, parent, sought}
 use Rattle.pt_walk.specs.declared.frame.Frame.{Frame}
 use Rattle.pt_plan.specs.Job.{Job}
 use Rattle.pt_plan.specs.Run.{Held, with_fed, with_trail}

@@ -1,6 +1,6 @@
 -- Each turn that goes on keeps the trail one.
-use Rattle.std.proofs.Common.{◌≡◌, ◌≤◌, ℕ, zero, suc, ◌+◌, ◌-◌, ◌==◌, ◌&&◌, true, false, List, [], ◌∷◌, refl, ap, sym, ◌∙◌, subst, length, arith, drop}
-use Rattle.std.specs.Prelude.{Option, None, Some, Ok, is_none, nat_le, nat_lt}
+use Rattle.std.proofs.Common.{◌≡◌, ◌≤◌, ℕ, zero, suc, ◌+◌, ◌-◌, ◌==◌, true, false, List, [], ◌∷◌, refl, ap, sym, ◌∙◌, subst, length, arith, drop}
+use Rattle.std.specs.Prelude.{Option, None, Some, Ok, is_none, nat_lt}
 use Rattle.std.proofs.lemmas.Bool.{and_from, and_parts, le-leb}
 use Rattle.std.proofs.lemmas.Option.{slice_get_within}
 use Rattle.pt_tree.specs.Listing.{Item, names_rise}
@@ -19,7 +19,7 @@ use Rattle.pt_plan.specs.TurnMake.{Makings, MakesSidecar}
 use Rattle.pt_plan.specs.TurnPlace.{Places, after_tuple, MakesTuple, FindsTuple, TellsDone}
 use Rattle.pt_plan.specs.TurnScan.{Scans, StartsInSite, EntersObject, IsTooDeep, PassesShorty, EntersDirectory, MeetsDeep, OpensFile, MeetsLimit, MeetsOther, EndsSite, EndsObject, LeavesDirectory, ReadsOn, IsTooLong, EndsFile, to_site}
 use Rattle.pt_plan.specs.TurnStart.{Starts, MakesRoot, IsSame}
-use Rattle.pt_plan.specs.TurnWalk.{Walks, OpensRoot, IsNew, IsPast, IsDeep, EntersSite, PassesEntry, LeavesSite, at_object, found_at, has_object, new_object as new_object_of}
+use Rattle.pt_plan.specs.TurnWalk.{Walks, OpensRoot, IsNew, IsPast, IsDeep, EntersSite, PassesEntry, LeavesSite, at_object, found_at, has_object}
 use Rattle.pt_plan.specs.World.{Answers, Calls}
 use Rattle.pt_plan.specs.declared.object.Object.{Object}
 use Rattle.pt_plan.specs.declared.phase.Phase.{Phase}

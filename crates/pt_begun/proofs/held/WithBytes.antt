@@ -7,7 +7,7 @@ use Rattle.std.proofs.lemmas.List.Elements.{All-cons, All-push}
 use Rattle.pt_object.proofs.Ways.{path_itself}
 use Rattle.pt_object.specs.FilePaths.{part_in_order, parts_before, row_paths}
 use Rattle.pt_object.specs.declared.rows.Row.{Row}
-use Rattle.pt_tree.specs.Path.{Path, same_path}
+use Rattle.pt_tree.specs.Path.{Path}
 use Rattle.pt_plan.proofs.Levels.{same_path-sym}
 use Rattle.pt_begun.specs.Past.{with_bytes, with_bytes_of}
 use Rattle.pt_begun.proofs.dest.Ordering.{parts_differ}
@@ -31,24 +31,26 @@ now_held path {read} bytes = sym (ap (λ t. cond t read (bytes path)) (path_itse
 rest_of : (P : Row → Type 0) (row : Row) (rows : List Row) → All P (row ∷ rows) → All P rows
 rest_of P row rows all = λ k d h. all (suc k) d (omega (arith, h))
 
--- it still is of rows that come before the path of the file
-all_still : (P : List ℕ → Row → Type 0) (bytes : Path → List ℕ) (path : Path) (read : List ℕ) (rows : List Row) → list_all (λ earlier. parts_before earlier path) (row_paths rows) ≡ true
-    → EachRow P bytes rows → EachRow P (with_bytes path read bytes) rows
-all_still P bytes path read [] behind all = λ k d h. absurd (omega (arith, h))
-all_still P bytes path read (row ∷ rows) behind all =
-    let parts = and_parts _ _ behind in
-    All-cons (λ r. P (with_bytes path read bytes r.path) r) row rows
-    (subst (λ b. P b row) (earlier_held path read bytes row.path parts.0) (all 0 row (omega arith)))
-    (all_still P bytes path read rows parts.1 (rest_of (λ r. P (bytes r.path) r) row rows all))
+module _ (P : List ℕ → Row → Type 0) (bytes : Path → List ℕ) (path : Path) (read : List ℕ) where
 
--- and of those that come behind it
-all_later : (P : List ℕ → Row → Type 0) (bytes : Path → List ℕ) (path : Path) (read : List ℕ) (rows : List Row) → list_all (parts_before path) (row_paths rows) ≡ true → EachRow P bytes rows → EachRow P (with_bytes path read bytes) rows
-all_later P bytes path read [] after all = λ k d h. absurd (omega (arith, h))
-all_later P bytes path read (row ∷ rows) after all =
-    let parts = and_parts _ _ after in
-    All-cons (λ r. P (with_bytes path read bytes r.path) r) row rows
-    (subst (λ b. P b row) (later_held path read bytes row.path parts.0) (all 0 row (omega arith)))
-    (all_later P bytes path read rows parts.1 (rest_of (λ r. P (bytes r.path) r) row rows all))
+  -- it still is of rows that come before the path of the file
+  all_still : (rows : List Row) → list_all (λ earlier. parts_before earlier path) (row_paths rows) ≡ true
+      → EachRow P bytes rows → EachRow P (with_bytes path read bytes) rows
+  all_still [] behind all = λ k d h. absurd (omega (arith, h))
+  all_still (row ∷ rows) behind all =
+      let parts = and_parts _ _ behind in
+      All-cons (λ r. P (with_bytes path read bytes r.path) r) row rows
+      (subst (λ b. P b row) (earlier_held path read bytes row.path parts.0) (all 0 row (omega arith)))
+      (all_still rows parts.1 (rest_of (λ r. P (bytes r.path) r) row rows all))
+
+  -- and of those that come behind it
+  all_later : (rows : List Row) → list_all (parts_before path) (row_paths rows) ≡ true → EachRow P bytes rows → EachRow P (with_bytes path read bytes) rows
+  all_later [] after all = λ k d h. absurd (omega (arith, h))
+  all_later (row ∷ rows) after all =
+      let parts = and_parts _ _ after in
+      All-cons (λ r. P (with_bytes path read bytes r.path) r) row rows
+      (subst (λ b. P b row) (later_held path read bytes row.path parts.0) (all 0 row (omega arith)))
+      (all_later rows parts.1 (rest_of (λ r. P (bytes r.path) r) row rows all))
 
 -- one row more, with what was read of its file
 pub rows_push : (P : List ℕ → Row → Type 0) (bytes : Path → List ℕ) {path : Path} (read : List ℕ) (row : Row) → row.path ≡ path → P read row → (rows : List Row) → list_all (λ earlier. parts_before earlier path) (row_paths rows) ≡ true

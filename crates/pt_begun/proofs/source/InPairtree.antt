@@ -8,7 +8,7 @@ use Rattle.pt_tree.specs.Path.{Path}
 use Rattle.pt_tree.specs.Source.{Reading}
 use Rattle.pt_walk.proofs.Paths.{reads_below}
 use Rattle.pt_walk.specs.Sites.{sites}
-use Rattle.pt_plan.specs.Store.{is_store, pairtree_of, pairtree_root, sites_in_root, sites_of, version_file}
+use Rattle.pt_plan.specs.Store.{is_store, pairtree_of, pairtree_root, sites_in_root, sites_of}
 
 some_of : (o : Option Forest) → is_some o ≡ true → o ≡ Some (unwrap_or o none)
 some_of None h = absurd (cc)

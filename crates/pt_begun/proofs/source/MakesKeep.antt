@@ -1,5 +1,5 @@
 -- The turns that make an object keep where the run stands, where the source tells.
-use Rattle.std.proofs.Common.{◌≡◌, ◌-◌, ℕ, ◌+◌, ◌==◌, true, false, List, [], ◌∷◌, ◌++◌, refl, ap, sym, ◌∙◌, subst, arith, length, take}
+use Rattle.std.proofs.Common.{◌≡◌, ◌-◌, ℕ, ◌+◌, true, false, List, [], ◌∷◌, ◌++◌, refl, ap, sym, ◌∙◌, subst, arith, length, take}
 use Rattle.std.specs.Prelude.{Some, Ok, nat_lt, slice_get}
 use Rattle.std.specs.Option.{ForSome, option_map}
 use Rattle.std.proofs.lemmas.Bool.{ltb-false}
@@ -54,7 +54,7 @@ module _ (job : Job) (s : Reading) (prefix : List ℕ) (object : Object) (held :
       let file = file_of_row position.row row proper is it in
       let path = path_of_source object held.trail ++ row.path in
       let there = file_at s.tree (pairtree_root ∷ path) in
-      let bytes = bytes_at _ path in
+      let bytes = bytes_at (pairtree_of s.tree) path in
       let none_read : row.length - row.length ≡ 0 = omega arith in
       let opened : there ≡ Some bytes = file_in_pairtree s.tree path it.0.store ∙ file.stands ∙ ap (λ (b : List ℕ). Some b) (sym file.here) in
       record {
@@ -69,7 +69,7 @@ module _ (job : Job) (s : Reading) (prefix : List ℕ) (object : Object) (held :
   copies_on position left block fits read it =
       let few = ltb-false left (length block) fits in
       let within = it.within in
-      let bytes = bytes_at _ (path_of_source object held.trail ++ it.row.path) in
+      let bytes = bytes_at (pairtree_of s.tree) (path_of_source object held.trail ++ it.row.path) in
       let more : it.row.length - left + length block ≡ it.row.length - (left - length block) = omega (arith, few, within) in
       record {
         row = it.row;

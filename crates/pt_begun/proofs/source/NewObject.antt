@@ -1,9 +1,7 @@
 -- A site that was judged to have an object, with the object before it is entered.
 use Rattle.std.proofs.Common.{◌≡◌, ◌-◌, ℕ, suc, Bool, true, false, List, [], ◌∷◌, ◌++◌, refl, ap, sym, ◌∙◌, subst, cond, length, arith, drop}
 use Rattle.std.specs.Prelude.{Option, None, Some, Result, Ok, Err, is_none, ◌+◌}
-use Rattle.std.specs.List.{concat}
 use Rattle.std.specs.Str.{is_utf8}
-use Rattle.pt_name.specs.Reading.{reading_of}
 use Rattle.pt_name.specs.Share.{Portion, holds, is_first}
 use Rattle.pt_tree.specs.Forest.{Forest, Node, Dir, none, file, other, dir, is_proper, listing_of}
 use Rattle.pt_tree.specs.Listing.{Item}
@@ -13,11 +11,11 @@ use Rattle.pt_tree.specs.declared.kind.Kind.TheVariants as kind
 use Rattle.pt_walk.proofs.Findings.{candidate}
 use Rattle.pt_walk.proofs.ObjectSteps as step
 use Rattle.pt_walk.proofs.TrailSteps.{fits_moved, listing_there, path_grows}
-use Rattle.pt_walk.specs.Left.{Fits, entries_from, entries_left, inside_at}
+use Rattle.pt_walk.specs.Left.{Fits, inside_at}
 use Rattle.pt_walk.specs.Object.{Entry, emptiness, entries_in, without_shorties}
 use Rattle.pt_walk.specs.Site.{found, found_at_top, found_below, is_short, non_shorties, non_shorties_from}
 use Rattle.pt_walk.specs.Sites.{Listed, at_of}
-use Rattle.pt_walk.specs.Trail.{current_entry, entered, is_dir_entry, names_to, sought, trail_path}
+use Rattle.pt_walk.specs.Trail.{current_entry, is_dir_entry, names_to, sought, trail_path}
 use Rattle.pt_walk.specs.declared.cause.Cause.{Cause}
 use Rattle.pt_walk.specs.declared.cause.Cause.TheVariants as cause
 use Rattle.pt_walk.specs.declared.frame.Frame.{Frame}
@@ -27,7 +25,7 @@ use Rattle.pt_walk.specs.declared.site.Form.{Form}
 use Rattle.pt_walk.specs.declared.site.Finding.{Finding}
 use Rattle.pt_walk.specs.declared.site.Finding.TheVariants as finding
 use Rattle.pt_begun.specs.BegunSource.{IsInObject, IsOnWay, IsSiteOf, IsToJudge, inside_object, object_at}
-use Rattle.pt_plan.specs.Items.{Interior, Named, PairtreeObject, Skip, Verdict, VerdictOn, encapsulated, gathered_from, is_reserved, ours, verdict_by_finding, verdict_by_reading, verdict_by_visit, verdict_of, verdict_on_candidate}
+use Rattle.pt_plan.specs.Items.{Interior, Named, PairtreeObject, Skip, Verdict, VerdictOn, encapsulated, ours, verdict_by_finding, verdict_by_reading, verdict_by_visit, verdict_of, verdict_on_candidate}
 use Rattle.pt_plan.specs.Job.{Job, form_of}
 use Rattle.pt_plan.specs.Store.{pairtree_of}
 use Rattle.pt_plan.specs.TurnScan.{to_site}
@@ -151,42 +149,46 @@ verdict_there job source t Interior = Interior
 verdict_there job source t (Skip why) = Skip why
 verdict_there job source t (Named id index) = Named id (object_at source (new_object job id index t) (at_object index t))
 
-by_identifier : (job : Job) (source : Forest) (prefix : List ℕ) (frame : Frame) (frames : List Frame) (index : Option ℕ) (read : Result (List ℕ) Cause) → is_proper (pairtree_of source) ≡ true → Fits (pairtree_of source) (frame ∷ frames)
-    → found_at (form_of job) (frame ∷ frames) ≡ has_object index → identifier_at job prefix (names_to frames) ≡ read
-    → verdict_by_visit job prefix (names_to frames) (Listed (inside_at (pairtree_of source) (names_to frames))) ≡ verdict_there job source (frame ∷ frames) (judged_by_identifier index read)
-by_identifier job source prefix frame frames index (Ok id) proper fits is reads = named_there job source prefix frame frames index id proper fits is reads
-by_identifier job source prefix frame frames index (Err why) proper fits is reads = nameless_there job source prefix frame frames index why proper fits is reads
+module _ (job : Job) (source : Forest) where
 
-by_found : (job : Job) (source : Forest) (prefix : List ℕ) (frame : Frame) (frames : List Frame) (what : Finding) → is_proper (pairtree_of source) ≡ true → Fits (pairtree_of source) (frame ∷ frames) → found_at (form_of job) (frame ∷ frames) ≡ what
-    → verdict_by_visit job prefix (names_to frames) (Listed (inside_at (pairtree_of source) (names_to frames))) ≡ verdict_there job source (frame ∷ frames) (judged_by_finding job prefix (names_to frames) what)
-by_found job source prefix frame frames finding.Interior proper fits is =
-    ap (verdict_by_finding job prefix (names_to frames) (inside_at (pairtree_of source) (names_to frames))) (found_there job _ frame frames proper fits is)
-by_found job source prefix frame frames (finding.Skip why) proper fits is =
-    ap (verdict_by_finding job prefix (names_to frames) (inside_at (pairtree_of source) (names_to frames))) (found_there job _ frame frames proper fits is)
-by_found job source prefix frame frames (finding.Candidate i) proper fits is = by_identifier job source prefix frame frames (Some i) _ proper fits is refl
-by_found job source prefix frame frames finding.Gathered proper fits is = by_identifier job source prefix frame frames None _ proper fits is refl
+  module _ (prefix : List ℕ) (frame : Frame) (frames : List Frame) where
 
--- as far as it is of the share
-ours_there : (job : Job) (source : Forest) (t : List Frame) (what : VerdictOn (Option ℕ)) → ours job.share (verdict_there job source t what) ≡ verdict_there job source t (ours job.share what)
-ours_there job source t Interior = refl
-ours_there job source t (Skip why) = either (is_first job.share)
-  where
-    either : (b : Bool) → cond b (Skip why) Interior ≡ verdict_there job source t (cond b (Skip why) Interior)
-    either true = refl
-    either false = refl
-ours_there job source t (Named id index) = either (holds job.share id)
-  where
-    either : (b : Bool) → cond b (verdict_there job source t (Named id index)) Interior ≡ verdict_there job source t (cond b (Named id index) Interior)
-    either true = refl
-    either false = refl
+    by_identifier : (index : Option ℕ) (read : Result (List ℕ) Cause) → is_proper (pairtree_of source) ≡ true → Fits (pairtree_of source) (frame ∷ frames)
+        → found_at (form_of job) (frame ∷ frames) ≡ has_object index → identifier_at job prefix (names_to frames) ≡ read
+        → verdict_by_visit job prefix (names_to frames) (Listed (inside_at (pairtree_of source) (names_to frames))) ≡ verdict_there job source (frame ∷ frames) (judged_by_identifier index read)
+    by_identifier index (Ok id) proper fits is reads = named_there job source prefix frame frames index id proper fits is reads
+    by_identifier index (Err why) proper fits is reads = nameless_there job source prefix frame frames index why proper fits is reads
 
--- the verdict on the site is what it is judged to be
-pub judged_there : (job : Job) (source : Forest) (prefix : List ℕ) (frame : Frame) (frames : List Frame) → is_proper (pairtree_of source) ≡ true → Fits (pairtree_of source) (frame ∷ frames)
-    → verdict_of job prefix (names_to frames) (Listed (inside_at (pairtree_of source) (names_to frames))) ≡ verdict_there job source (frame ∷ frames) (judged_at job prefix (frame ∷ frames))
-judged_there job source prefix frame frames proper fits =
-    let what = found_at (form_of job) (frame ∷ frames) in
-    ap (λ (v : Verdict). ours job.share v) (by_found job source prefix frame frames what proper fits refl)
-    ∙ ours_there job source (frame ∷ frames) (judged_by_finding job prefix (names_to frames) what)
+    by_found : (what : Finding) → is_proper (pairtree_of source) ≡ true → Fits (pairtree_of source) (frame ∷ frames) → found_at (form_of job) (frame ∷ frames) ≡ what
+        → verdict_by_visit job prefix (names_to frames) (Listed (inside_at (pairtree_of source) (names_to frames))) ≡ verdict_there job source (frame ∷ frames) (judged_by_finding job prefix (names_to frames) what)
+    by_found finding.Interior proper fits is =
+        ap (verdict_by_finding job prefix (names_to frames) (inside_at (pairtree_of source) (names_to frames))) (found_there job _ frame frames proper fits is)
+    by_found (finding.Skip why) proper fits is =
+        ap (verdict_by_finding job prefix (names_to frames) (inside_at (pairtree_of source) (names_to frames))) (found_there job _ frame frames proper fits is)
+    by_found (finding.Candidate i) proper fits is = by_identifier (Some i) _ proper fits is refl
+    by_found finding.Gathered proper fits is = by_identifier None _ proper fits is refl
+
+  -- as far as it is of the share
+  ours_there : (t : List Frame) (what : VerdictOn (Option ℕ)) → ours job.share (verdict_there job source t what) ≡ verdict_there job source t (ours job.share what)
+  ours_there t Interior = refl
+  ours_there t (Skip why) = either (is_first job.share)
+    where
+      either : (b : Bool) → cond b (Skip why) Interior ≡ verdict_there job source t (cond b (Skip why) Interior)
+      either true = refl
+      either false = refl
+  ours_there t (Named id index) = either (holds job.share id)
+    where
+      either : (b : Bool) → cond b (verdict_there job source t (Named id index)) Interior ≡ verdict_there job source t (cond b (Named id index) Interior)
+      either true = refl
+      either false = refl
+
+  -- the verdict on the site is what it is judged to be
+  pub judged_there : (prefix : List ℕ) (frame : Frame) (frames : List Frame) → is_proper (pairtree_of source) ≡ true → Fits (pairtree_of source) (frame ∷ frames)
+      → verdict_of job prefix (names_to frames) (Listed (inside_at (pairtree_of source) (names_to frames))) ≡ verdict_there job source (frame ∷ frames) (judged_at job prefix (frame ∷ frames))
+  judged_there prefix frame frames proper fits =
+      let what = found_at (form_of job) (frame ∷ frames) in
+      ap (λ (v : Verdict). ours job.share v) (by_found prefix frame frames what proper fits refl)
+      ∙ ours_there (frame ∷ frames) (judged_by_finding job prefix (names_to frames) what)
 
 -- what is named is found to have an object
 ours_named : (share : Portion) (what : VerdictOn (Option ℕ)) (id : List ℕ) (index : Option ℕ) → ours share what ≡ Named id index → what ≡ Named id index

@@ -1,6 +1,6 @@
 -- The turns that place an object, and that tell of it and of the end, keep what holds where the source tells.
 use Rattle.std.proofs.Common.{◌≡◌, ℕ, suc, ◌+◌, List, refl, subst}
-use Rattle.std.specs.Prelude.{Some, Ok, nat_lt}
+use Rattle.std.specs.Prelude.{Some, Ok}
 use Rattle.pt_tree.specs.Source.{Reading}
 use Rattle.pt_walk.specs.Trail.{sought}
 use Rattle.pt_walk.specs.declared.frame.Frame.{Frame}

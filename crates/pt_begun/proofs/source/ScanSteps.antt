@@ -15,7 +15,7 @@ use Rattle.pt_walk.specs.declared.frame.Frame.{Frame}
 use Rattle.pt_begun.specs.BegunSource.{IsInObject, IsSiteOf, left_of, object_at}
 use Rattle.pt_plan.specs.Job.{Job}
 use Rattle.pt_plan.specs.Store.{pairtree_of}
-use Rattle.pt_plan.specs.TurnScan.{is_in_site, is_passed, logical_path, own_listings, to_site}
+use Rattle.pt_plan.specs.TurnScan.{is_passed, logical_path, own_listings, to_site}
 use Rattle.pt_plan.specs.declared.object.Object.{Object}
 use Rattle.pt_begun.proofs.source.InObject.{is_gathered, logical_is, object_moved, own_at_site, own_entered, own_parent, passed_not, site_advanced, site_entered, site_itself, site_moved, site_parent, still_in}
 
@@ -79,87 +79,91 @@ advances job source object frame frames false is inside it =
     let below : object.site < length (frame ∷ frames) = below_site _ object.site is it.within in
     moved_by it.within (fits_moved (pairtree_of source) (frame ∷ frames) 0 it.fits).1 (site_advanced object (frame ∷ frames) below) it
 
-pub moved_on : (job : Job) (source : Forest) (prefix : List ℕ) (object : Object) (trail : List Frame) (count : ℕ) → 0 < own_listings object trail
-    → IsInObject job source prefix object trail count → Moved job source prefix object trail (advanced trail) count
-moved_on job source prefix object [] count inside it = absurd (let some = it.some in let within = it.within in omega (arith, some, within))
-moved_on job source prefix object (frame ∷ frames) count inside it = advances job source object frame frames _ refl inside it
+module _ (job : Job) (source : Forest) (prefix : List ℕ) (object : Object) where
 
-pub moved_behind : (job : Job) (source : Forest) (prefix : List ℕ) (object : Object) (trail : List Frame) (count : ℕ) → object.site < length trail → 0 < own_listings object (parent trail)
-    → IsInObject job source prefix object trail count → Moved job source prefix object trail (advanced (parent trail)) count
-moved_behind job source prefix object trail count below inside it =
-    let out = moved_out trail below it in
-    moved_twice trail _ _ out (moved_on job source prefix object _ count inside out.stands)
+  pub moved_on : (trail : List Frame) (count : ℕ) → 0 < own_listings object trail
+      → IsInObject job source prefix object trail count → Moved job source prefix object trail (advanced trail) count
+  moved_on [] count inside it = absurd (let some = it.some in let within = it.within in omega (arith, some, within))
+  moved_on (frame ∷ frames) count inside it = advances job source object frame frames _ refl inside it
+
+  pub moved_behind : (trail : List Frame) (count : ℕ) → object.site < length trail → 0 < own_listings object (parent trail)
+      → IsInObject job source prefix object trail count → Moved job source prefix object trail (advanced (parent trail)) count
+  moved_behind trail count below inside it =
+      let out = moved_out trail below it in
+      moved_twice trail _ _ out (moved_on _ count inside out.stands)
 
 -- ---- what is left
 
 one_less : {n : ℕ} → 0 < n → n ≡ suc (n - 1)
 one_less some = omega (arith, some)
 
--- a shorty of the site is passed
-pub left_shorty : (source : Forest) (object : Object) (trail : List Frame) (item : Item) → is_proper (pairtree_of source) ≡ true → Fits (pairtree_of source) trail → current_entry trail ≡ Some item → is_passed object trail item ≡ true → 0 < own_listings object trail
-    → left_of source object trail ≡ left_of source object (advanced trail)
-left_shorty source object [] item proper fits e passed inside = absurd (cc)
-left_shorty source object (frame ∷ frames) item proper fits e passed inside =
-    let top = pairtree_of source in
-    let trail = frame ∷ frames in
-    let tests = and_parts _ _ passed in
-    let same = eqb-true (length trail) object.site tests.0 in
-    let gathered = is_gathered object trail same inside in
-    let own : own_listings object trail ≡ 1 = own_at_site object trail same ∙ ap (λ b. cond b 1 0) gathered in
-    let shorty = ap (λ b. b && is_shorty item) gathered ∙ tests.1 in
-    ap (λ (n : ℕ). entries_left object.gathered top n trail) own
-    ∙ step.passes object.gathered top 0 frame frames item proper fits e shorty
-    ∙ sym (ap (λ (n : ℕ). entries_left object.gathered top n (advanced trail)) own)
+module _ (source : Forest) (object : Object) where
 
--- a directory is entered
-pub left_directory : (source : Forest) (object : Object) (frame : Frame) (frames : List Frame) (name : List ℕ) (items : List Item) (inside : Forest) → is_proper (pairtree_of source) ≡ true → Fits (pairtree_of source) (frame ∷ frames)
-    → object.site ≤ length (frame ∷ frames) → 0 < own_listings object (frame ∷ frames) → entry_at frame ≡ Some (name, kind.Dir) → is_passed object (frame ∷ frames) (name, kind.Dir) ≡ false
-    → inside ≡ inside_at (pairtree_of source) (names_to frames ++ name ∷ []) → listing_of inside ≡ items
-    → left_of source object (frame ∷ frames) ≡ (logical_path object (frame ∷ frames), Dir inside) ∷ left_of source object (entered items (frame ∷ frames))
-left_directory source object frame frames name items inside proper fits within some e apart is items_are =
-    let top = pairtree_of source in
-    let trail = frame ∷ frames in
-    let k = own_listings object trail - 1 in
-    let own : own_listings object trail ≡ suc k = one_less some in
-    let own' : own_listings object (entered items trail) ≡ suc (suc k) = own_entered object items trail within ∙ ap (λ (n : ℕ). suc n) own in
-    ap (λ (n : ℕ). entries_left object.gathered top n trail) own
-    ∙ step.enters object.gathered top k frame frames name inside proper fits e (passed_not object trail k (name, kind.Dir) within own apart) is
-    ∙ ap (λ (p : Path). (p, Dir inside) ∷ entries_left object.gathered top (suc (suc k)) (entered (listing_of inside) trail)) (logical_is object frame frames k _ e own)
-    ∙ ap (λ (l : List Item). (logical_path object trail, Dir inside) ∷ entries_left object.gathered top (suc (suc k)) (entered l trail)) items_are
-    ∙ ap (λ (n : ℕ). (logical_path object trail, Dir inside) ∷ entries_left object.gathered top n (entered items trail)) (sym own')
+  -- a shorty of the site is passed
+  pub left_shorty : (trail : List Frame) (item : Item) → is_proper (pairtree_of source) ≡ true → Fits (pairtree_of source) trail → current_entry trail ≡ Some item → is_passed object trail item ≡ true → 0 < own_listings object trail
+      → left_of source object trail ≡ left_of source object (advanced trail)
+  left_shorty [] item proper fits e passed inside = absurd (cc)
+  left_shorty (frame ∷ frames) item proper fits e passed inside =
+      let top = pairtree_of source in
+      let trail = frame ∷ frames in
+      let tests = and_parts _ _ passed in
+      let same = eqb-true (length trail) object.site tests.0 in
+      let gathered = is_gathered object trail same inside in
+      let own : own_listings object trail ≡ 1 = own_at_site object trail same ∙ ap (λ b. cond b 1 0) gathered in
+      let shorty = ap (λ b. b && is_shorty item) gathered ∙ tests.1 in
+      ap (λ (n : ℕ). entries_left object.gathered top n trail) own
+      ∙ step.passes object.gathered top 0 frame frames item proper fits e shorty
+      ∙ sym (ap (λ (n : ℕ). entries_left object.gathered top n (advanced trail)) own)
 
--- a file is read
-pub left_file : (source : Forest) (object : Object) (frame : Frame) (frames : List Frame) (name : List ℕ) → is_proper (pairtree_of source) ≡ true → Fits (pairtree_of source) (frame ∷ frames)
-    → 0 < own_listings object (frame ∷ frames) → entry_at frame ≡ Some (name, kind.File)
-    → left_of source object (frame ∷ frames) ≡ (logical_path object (frame ∷ frames), File (bytes_at (pairtree_of source) (names_to (frame ∷ frames)))) ∷ left_of source object (advanced (frame ∷ frames))
-left_file source object frame frames name proper fits some e =
-    let top = pairtree_of source in
-    let trail = frame ∷ frames in
-    let k = own_listings object trail - 1 in
-    let own : own_listings object trail ≡ suc k = one_less some in
-    let here : names_to trail ≡ names_to frames ++ name ∷ [] = path_grows frame frames (name, kind.File) e in
-    ap (λ (n : ℕ). entries_left object.gathered top n trail) own
-    ∙ step.reads object.gathered top k frame frames name proper fits e
-    ∙ ap (λ (p : Path). (p, File (bytes_at top (names_to frames ++ name ∷ []))) ∷ entries_left object.gathered top (suc k) (advanced trail)) (logical_is object frame frames k _ e own)
-    ∙ ap (λ (p : Path). (logical_path object trail, File (bytes_at top p)) ∷ entries_left object.gathered top (suc k) (advanced trail)) (sym here)
-    ∙ ap (λ (n : ℕ). (logical_path object trail, File (bytes_at top (names_to trail))) ∷ entries_left object.gathered top n (advanced trail)) (sym own)
+  -- a directory is entered
+  pub left_directory : (frame : Frame) (frames : List Frame) (name : List ℕ) (items : List Item) (inside : Forest) → is_proper (pairtree_of source) ≡ true → Fits (pairtree_of source) (frame ∷ frames)
+      → object.site ≤ length (frame ∷ frames) → 0 < own_listings object (frame ∷ frames) → entry_at frame ≡ Some (name, kind.Dir) → is_passed object (frame ∷ frames) (name, kind.Dir) ≡ false
+      → inside ≡ inside_at (pairtree_of source) (names_to frames ++ name ∷ []) → listing_of inside ≡ items
+      → left_of source object (frame ∷ frames) ≡ (logical_path object (frame ∷ frames), Dir inside) ∷ left_of source object (entered items (frame ∷ frames))
+  left_directory frame frames name items inside proper fits within some e apart is items_are =
+      let top = pairtree_of source in
+      let trail = frame ∷ frames in
+      let k = own_listings object trail - 1 in
+      let own : own_listings object trail ≡ suc k = one_less some in
+      let own' : own_listings object (entered items trail) ≡ suc (suc k) = own_entered object items trail within ∙ ap (λ (n : ℕ). suc n) own in
+      ap (λ (n : ℕ). entries_left object.gathered top n trail) own
+      ∙ step.enters object.gathered top k frame frames name inside proper fits e (passed_not object trail k (name, kind.Dir) within own apart) is
+      ∙ ap (λ (p : Path). (p, Dir inside) ∷ entries_left object.gathered top (suc (suc k)) (entered (listing_of inside) trail)) (logical_is object frame frames k _ e own)
+      ∙ ap (λ (l : List Item). (logical_path object trail, Dir inside) ∷ entries_left object.gathered top (suc (suc k)) (entered l trail)) items_are
+      ∙ ap (λ (n : ℕ). (logical_path object trail, Dir inside) ∷ entries_left object.gathered top n (entered items trail)) (sym own')
 
--- a directory is left
-pub left_behind : (source : Forest) (object : Object) (trail : List Frame) → Fits (pairtree_of source) trail → current_entry trail ≡ None → 0 < object.site → object.site < length trail → 0 < own_listings object (parent trail)
-    → left_of source object trail ≡ left_of source object (advanced (parent trail))
-left_behind source object [] fits e first below some = absurd (omega (arith, below))
-left_behind source object (frame ∷ []) fits e first below some = absurd (omega (arith, first, below))
-left_behind source object (frame ∷ outer ∷ frames) fits e first below some =
-    let top = pairtree_of source in
-    let k = own_listings object (outer ∷ frames) - 1 in
-    let own : own_listings object (outer ∷ frames) ≡ suc k = one_less some in
-    let whole : own_listings object (frame ∷ outer ∷ frames) ≡ suc (suc k) = own_parent object frame (outer ∷ frames) (omega (arith, below)) ∙ ap (λ (n : ℕ). suc n) own in
-    ap (λ (n : ℕ). entries_left object.gathered top n (frame ∷ outer ∷ frames)) whole
-    ∙ step.leaves object.gathered top k frame outer frames fits e
-    ∙ sym (ap (λ (n : ℕ). entries_left object.gathered top n (advanced (outer ∷ frames))) own)
+  -- a file is read
+  pub left_file : (frame : Frame) (frames : List Frame) (name : List ℕ) → is_proper (pairtree_of source) ≡ true → Fits (pairtree_of source) (frame ∷ frames)
+      → 0 < own_listings object (frame ∷ frames) → entry_at frame ≡ Some (name, kind.File)
+      → left_of source object (frame ∷ frames) ≡ (logical_path object (frame ∷ frames), File (bytes_at (pairtree_of source) (names_to (frame ∷ frames)))) ∷ left_of source object (advanced (frame ∷ frames))
+  left_file frame frames name proper fits some e =
+      let top = pairtree_of source in
+      let trail = frame ∷ frames in
+      let k = own_listings object trail - 1 in
+      let own : own_listings object trail ≡ suc k = one_less some in
+      let here : names_to trail ≡ names_to frames ++ name ∷ [] = path_grows frame frames (name, kind.File) e in
+      ap (λ (n : ℕ). entries_left object.gathered top n trail) own
+      ∙ step.reads object.gathered top k frame frames name proper fits e
+      ∙ ap (λ (p : Path). (p, File (bytes_at top (names_to frames ++ name ∷ []))) ∷ entries_left object.gathered top (suc k) (advanced trail)) (logical_is object frame frames k _ e own)
+      ∙ ap (λ (p : Path). (logical_path object trail, File (bytes_at top p)) ∷ entries_left object.gathered top (suc k) (advanced trail)) (sym here)
+      ∙ ap (λ (n : ℕ). (logical_path object trail, File (bytes_at top (names_to trail))) ∷ entries_left object.gathered top n (advanced trail)) (sym own)
 
--- nothing is left at the end of the object's own listing
-pub left_none : (source : Forest) (object : Object) (trail : List Frame) → Fits (pairtree_of source) trail → current_entry trail ≡ None → own_listings object trail ≡ 1 → left_of source object trail ≡ []
-left_none source object [] fits e own = ap (λ (n : ℕ). entries_left object.gathered (pairtree_of source) n []) own
-left_none source object (frame ∷ frames) fits e own =
-    ap (λ (n : ℕ). entries_left object.gathered (pairtree_of source) n (frame ∷ frames)) own ∙ step.ends object.gathered (pairtree_of source) frame frames fits e
+  -- a directory is left
+  pub left_behind : (trail : List Frame) → Fits (pairtree_of source) trail → current_entry trail ≡ None → 0 < object.site → object.site < length trail → 0 < own_listings object (parent trail)
+      → left_of source object trail ≡ left_of source object (advanced (parent trail))
+  left_behind [] fits e first below some = absurd (omega (arith, below))
+  left_behind (frame ∷ []) fits e first below some = absurd (omega (arith, first, below))
+  left_behind (frame ∷ outer ∷ frames) fits e first below some =
+      let top = pairtree_of source in
+      let k = own_listings object (outer ∷ frames) - 1 in
+      let own : own_listings object (outer ∷ frames) ≡ suc k = one_less some in
+      let whole : own_listings object (frame ∷ outer ∷ frames) ≡ suc (suc k) = own_parent object frame (outer ∷ frames) (omega (arith, below)) ∙ ap (λ (n : ℕ). suc n) own in
+      ap (λ (n : ℕ). entries_left object.gathered top n (frame ∷ outer ∷ frames)) whole
+      ∙ step.leaves object.gathered top k frame outer frames fits e
+      ∙ sym (ap (λ (n : ℕ). entries_left object.gathered top n (advanced (outer ∷ frames))) own)
+
+  -- nothing is left at the end of the object's own listing
+  pub left_none : (trail : List Frame) → Fits (pairtree_of source) trail → current_entry trail ≡ None → own_listings object trail ≡ 1 → left_of source object trail ≡ []
+  left_none [] fits e own = ap (λ (n : ℕ). entries_left object.gathered (pairtree_of source) n []) own
+  left_none (frame ∷ frames) fits e own =
+      ap (λ (n : ℕ). entries_left object.gathered (pairtree_of source) n (frame ∷ frames)) own ∙ step.ends object.gathered (pairtree_of source) frame frames fits e

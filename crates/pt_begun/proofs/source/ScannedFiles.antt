@@ -9,7 +9,7 @@ use Rattle.pt_tree.specs.Path.{Path}
 use Rattle.pt_walk.proofs.Paths.{reads_below}
 use Rattle.pt_walk.specs.Left.{bytes_at, inside_at}
 use Rattle.pt_walk.specs.Object.{Entry, entries, files, without_shorties}
-use Rattle.pt_walk.specs.Trail.{names_to, trail_path}
+use Rattle.pt_walk.specs.Trail.{names_to}
 use Rattle.pt_walk.specs.declared.frame.Frame.{Frame}
 use Rattle.pt_plan.specs.Job.{Job}
 use Rattle.pt_plan.specs.Store.{pairtree_of}

@@ -16,7 +16,7 @@ use Rattle.pt_walk.proofs.ObjectSteps as step
 use Rattle.pt_walk.proofs.TrailSteps.{directory_there, file_there, path_grows}
 use Rattle.pt_walk.specs.Left.{Fits, bytes_at, entries_left, inside_at}
 use Rattle.pt_walk.specs.Object.{emptiness, entries, entry_cause, without_shorties}
-use Rattle.pt_walk.specs.Trail.{advanced, current_entry, entered, entry_at, is_dir_entry, is_trail, names_to, parent, sought}
+use Rattle.pt_walk.specs.Trail.{advanced, current_entry, entered, is_dir_entry, is_trail, names_to, parent, sought}
 use Rattle.pt_walk.specs.declared.cause.Cause.TheVariants as cause
 use Rattle.pt_walk.specs.declared.frame.Frame.{Frame}
 use Rattle.pt_begun.specs.BegunSource.{HasScanned, HasStarted, HoldsNoObject, IsInObject, IsOnWay, IsReadingFile, IsScanned, IsScanning, SourceAt, inside_object, left_of, object_at}

@@ -2,7 +2,6 @@
 use Rattle.std.proofs.Common.{◌≡◌, ◌≤◌, ℕ, ◌+◌, ◌-◌, true, false, List, [], ◌∷◌, ◌++◌, refl, ap, sym, ◌∙◌, subst, append-nil, arith, cond, length}
 use Rattle.std.specs.Prelude.{All, Some, Ok, nat_lt}
 use Rattle.pt_object.specs.Algorithm.{digest_of}
-use Rattle.pt_object.specs.FilePaths.{row_paths}
 use Rattle.pt_object.specs.Rows.{row_of}
 use Rattle.pt_object.specs.declared.rows.Row.{Row}
 use Rattle.pt_tree.specs.Forest.{Forest, is_proper, listing_at}
@@ -11,10 +10,9 @@ use Rattle.pt_tree.specs.Path.{Path}
 use Rattle.pt_tree.specs.Source.{Reading, IsListed, IsRead}
 use Rattle.pt_tree.specs.declared.kind.Kind.TheVariants as kind
 use Rattle.pt_walk.specs.Left.{bytes_at}
-use Rattle.pt_walk.specs.Object.{files}
 use Rattle.pt_walk.specs.Trail.{advanced, current_entry, entered, entries_held, is_trail, names_to, parent, sought, trail_path}
 use Rattle.pt_walk.specs.declared.frame.Frame.{Frame}
-use Rattle.pt_plan.specs.Bound.{bound, dirs, records_of, scanned}
+use Rattle.pt_plan.specs.Bound.{bound, dirs, scanned}
 use Rattle.pt_plan.specs.Items.{PairtreeObject}
 use Rattle.pt_plan.specs.Job.{Job}
 use Rattle.pt_plan.specs.Run.{Held, with_trail}
@@ -26,7 +24,7 @@ use Rattle.pt_plan.specs.declared.object.Object.{Object}
 use Rattle.pt_plan.specs.declared.phase.Phase.{Phase}
 use Rattle.pt_plan.specs.declared.phase.Phase.TheVariants as phase
 use Rattle.pt_begun.specs.BegunHeld.{HeldAt}
-use Rattle.pt_begun.specs.BegunSource.{AreHeldThere, HasRoom, HasStarted, IsScanning, IsWithinBound, SourcePart, left_of, object_at}
+use Rattle.pt_begun.specs.BegunSource.{AreHeldThere, HasRoom, HasStarted, IsScanning, IsWithinBound, SourcePart, object_at}
 use Rattle.pt_begun.specs.Past.{bytes_after, Past, past_after, with_bytes}
 use Rattle.pt_begun.specs.SourceLaws.{ScanningKeepsSource}
 use Rattle.pt_begun.proofs.bounds.Bounds.{IsOne}
@@ -64,18 +62,20 @@ one_more_there source object held item read bytes e at whole there =
 
 -- ---- how much is held
 
--- the object is given up
-back_room : (job : Job) (source : Forest) (object : Object) (held : Held) (others : ℕ) → entries_held held.trail + others ≤ bound job source → IsWithinBound job source (back_at_site object held)
-back_room job source object held others few =
-    let one = entries_sought 0 (to_site object held.trail) in
-    let two = entries_dropped (length held.trail - object.site) held.trail in
-    omega (arith, one, two, few)
+module _ (job : Job) (source : Forest) (object : Object) (held : Held) where
 
-given_room : (job : Job) (source : Forest) (object : Object) (held : Held) → HasRoom job source object held → IsWithinBound job source (back_at_site object held)
-given_room job source object held room = back_room job source object held _ room
+  -- the object is given up
+  back_room : (others : ℕ) → entries_held held.trail + others ≤ bound job source → IsWithinBound job source (back_at_site object held)
+  back_room others few =
+      let one = entries_sought 0 (to_site object held.trail) in
+      let two = entries_dropped (length held.trail - object.site) held.trail in
+      omega (arith, one, two, few)
 
-early_room : (job : Job) (source : Forest) (object : Object) (held : Held) → IsWithinBound job source held → IsWithinBound job source (back_at_site object held)
-early_room job source object held few = back_room job source object held (length held.rows + length held.contents) (omega (arith, few))
+  given_room : HasRoom job source object held → IsWithinBound job source (back_at_site object held)
+  given_room room = back_room _ room
+
+  early_room : IsWithinBound job source held → IsWithinBound job source (back_at_site object held)
+  early_room few = back_room (length held.rows + length held.contents) (omega (arith, few))
 
 -- all of it was scanned
 made_room : (job : Job) {source : Forest} {prefix : List ℕ} {past : Past} {object : Object} {held : Held} (t : List Frame) {count : ℕ} → HeldAt job past (phase.Scan object) held → IsScanning job source prefix object held count → entries_held t ≤ entries_held held.trail
