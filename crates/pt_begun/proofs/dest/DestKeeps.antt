@@ -87,6 +87,10 @@ scans_same turn change = change
 
 -- ---- so what holds of it goes on to hold
 
+-- what holds after a turn from one phase to another, before which so much was held
+abbrev pub DestAfter : Job → Past → Phase → Phase → Held → Held → Tree → Writing → Type 0
+DestAfter job past here next held after start now = DestPart job (past_after here next held past) next after start now
+
 walks_keep : {job : Job} (start : Tree) (past : Past) (old new : Writing) {prefix : List ℕ} {here next : Phase} {held after : Held} {calls : Calls} → Walks job prefix here held after calls (Ok next)
     → Changes calls.change (Some old) (Some new) → DestAt job start past here held old → DestAt job start (past_after here next held past) next after old
 unfolding Changes IsKindAt
@@ -106,10 +110,10 @@ scans_keep start past old turn at = at
 
 pub walks_dest : WalkingKeepsDest
 walks_dest job past start old new prefix here next held after calls turn change at part =
-    subst (DestPart job (past_after here next held past) next after start) (sym (some_same new old (walks_same turn change)))
+    subst (DestAfter job past here next held after start) (sym (some_same new old (walks_same turn change)))
     (record { started = part.started; tree = part.tree; at = walks_keep start past old new turn change part.at })
 
 pub scans_dest : ScanningKeepsDest
 scans_dest job past start old new here next held after calls turn change at part =
-    subst (DestPart job (past_after here next held past) next after start) (sym (some_same new old (scans_same turn change)))
+    subst (DestAfter job past here next held after start) (sym (some_same new old (scans_same turn change)))
     (record { started = part.started; tree = part.tree; at = scans_keep start past old turn part.at })

@@ -33,6 +33,7 @@ use Rattle.pt_begun.specs.BegunHeld.{HeldAt}
 use Rattle.pt_begun.specs.DestLaws.{MakingKeepsDest}
 use Rattle.pt_begun.specs.PartsMade.{IsAtStoredRow, made_before, script_of_object}
 use Rattle.pt_begun.specs.Past.{Past, past_after, with_bytes_of}
+use Rattle.pt_begun.proofs.dest.DestKeeps.{DestAfter}
 use Rattle.pt_begun.proofs.dest.ContentParts.{IsHere, copy_made, file_next, folder_made, folder_next, made_at, made_first}
 use Rattle.pt_begun.proofs.source.InPairtree.{some_same}
 use Rattle.pt_begun.proofs.dest.MadeItems.{made_in_turn, tree_made}
@@ -78,7 +79,7 @@ said {job} {start} {placed} {object} {now} same it = subst (λ (l : List Item). 
 part_made : {job : Job} {past : Past} {start : Tree} {object : Object} {here : Part} {held after : Held} {old new : Writing} {item : Item} {next : Part} → HeldAt job past (phase.Make object here) held → after.rows ≡ held.rows → new ≡ after_make item old
     → IsNext (script_of_object job object held.rows past.bytes) (made_before job object held.rows past.bytes here) item
     → made_before job object held.rows past.bytes here ++ item ∷ [] ≡ made_before job object held.rows past.bytes next
-    → DestPart job past (phase.Make object here) held start old → DestPart job (past_after (phase.Make object here) (phase.Make object next) held past) (phase.Make object next) after start new
+    → DestPart job past (phase.Make object here) held start old → DestAfter job past (phase.Make object here) (phase.Make object next) held after start new
 part_made {job} {past} {start} {object} {held} {old} {new} {item} {next} at rows change is more part =
     let tree_is : new.tree ≡ done item old.tree = ap (λ (w : Writing). w.tree) change ∙ tree_made item old in
     let may = item_may job start past.placed object held.rows past.bytes _ item old part.started at.rows.order is part.at in
@@ -106,7 +107,7 @@ copy_stands held position row is it =
 
 opened : (job : Job) (past : Past) (start : Tree) (object : Object) (position : Position) (held : Held) (old new : Writing) (row : Row) → HeldAt job past (phase.Make object (a_part.Content position)) held → slice_get held.rows position.row ≡ Some row
     → is_stored held.contents position.stored row.path ≡ true → nat_lt position.directories (length row.path) ≡ false → new ≡ after_create (in_content row.path) old → DestPart job past (phase.Make object (a_part.Content position)) held start old
-    → DestPart job (past_after (phase.Make object (a_part.Content position)) (phase.Copy object position row.length) held past) (phase.Copy object position row.length) (with_fed held []) start new
+    → DestAfter job past (phase.Make object (a_part.Content position)) (phase.Copy object position row.length) held (with_fed held []) start new
 opened job past start object position held old new row at is stored all change part =
     let front = made_before job object held.rows past.bytes (a_part.Content position) in
     let next = file_next job object held.rows held.contents past.bytes position row (is_here job past object position held row at is stored) (ltb-false position.directories (length row.path) all) in
@@ -122,7 +123,7 @@ opened job past start object position held old new row at is stored all change p
     }
 
 pub copied : (job : Job) (past : Past) (start : Tree) (object : Object) (position : Position) (left more : ℕ) (held : Held) (old new : Writing) (line : Option Line) (piece : List ℕ) → new ≡ after_append piece old → DestPart job past (phase.Copy object position left) held start old
-    → DestPart job (past_after (phase.Copy object position left) (phase.Copy object position more) held past) (phase.Copy object position more) (with_fed held (held.fed ++ piece)) start new
+    → DestAfter job past (phase.Copy object position left) (phase.Copy object position more) held (with_fed held (held.fed ++ piece)) start new
 copied job past start object position left more held old new line piece change part =
     let row = part.at.writes.row in
     let path = in_content row.path in
@@ -148,7 +149,7 @@ copied job past start object position left more held old new line piece change p
 
 closed : (job : Job) (past : Past) (start : Tree) (object : Object) (position : Position) (left : ℕ) (held : Held) (old new : Writing) (row : Row) → HeldAt job past (phase.Copy object position left) held → slice_get held.rows position.row ≡ Some row
     → new ≡ after_finish old → DestPart job past (phase.Copy object position left) held start old
-    → DestPart job (past_after (phase.Copy object position left) (phase.Make object (content_at held.rows (behind_stored held.contents position row.path))) held past) (phase.Make object (content_at held.rows (behind_stored held.contents position row.path))) (with_fed held []) start new
+    → DestAfter job past (phase.Copy object position left) (phase.Make object (content_at held.rows (behind_stored held.contents position row.path))) held (with_fed held []) start new
 closed job past start object position left held old new row at is change part =
     let here = copy_here job past object position left held row at is in
     let next = behind_stored held.contents position row.path in
@@ -188,7 +189,7 @@ no_folders_yet job placed place tree root (suc i) within = absurd (omega (arith,
 
 finished : (job : Job) (past : Past) (start : Tree) (object : Object) (held : Held) (old new : Writing) (flat : Bool) → (job.tuples.count == 0) ≡ flat → HeldAt job past (phase.Make object a_part.Sidecar) held → new ≡ after_make (sidecar_file job object held.rows staging) old
     → DestPart job past (phase.Make object a_part.Sidecar) held start old
-    → DestPart job (past_after (phase.Make object a_part.Sidecar) (cond flat (phase.Rename object) (phase.Tuples object 0)) held past) (cond flat (phase.Rename object) (phase.Tuples object 0)) (with_fed held []) start new
+    → DestAfter job past (phase.Make object a_part.Sidecar) (cond flat (phase.Rename object) (phase.Tuples object 0)) held (with_fed held []) start new
 finished job past start object held old new flat is at change part =
     let item = sidecar_file job object held.rows staging in
     let front = made_before job object held.rows past.bytes a_part.Sidecar in
@@ -200,7 +201,7 @@ finished job past start object held old new flat is at change part =
     by flat is tree all folders
   where
     by : (b : Bool) → (job.tuples.count == 0) ≡ b → IsTree new.tree → IsMakingObject job start past.placed object (script_of_object job object held.rows past.bytes) 0 new → HasFoldersTo job start past.placed object.place 0
-        → DestPart job (past_after (phase.Make object a_part.Sidecar) (cond b (phase.Rename object) (phase.Tuples object 0)) held past) (cond b (phase.Rename object) (phase.Tuples object 0)) (with_fed held []) start new
+        → DestAfter job past (phase.Make object a_part.Sidecar) (cond b (phase.Rename object) (phase.Tuples object 0)) held (with_fed held []) start new
     by true is tree all folders =
         let none = eqb-true job.tuples.count 0 is in
         record {
@@ -222,7 +223,7 @@ makes_dest job past start old new here held after calls next (MakesVersion was o
 makes_dest job past start old new here held after calls next (PassesRow was object position row is other) change at dest =
     let same : made_before job object was.rows past.bytes (a_part.Content position) ≡ made_before job object was.rows past.bytes (content_at was.rows (behind position)) =
     sym (made_at job object was.rows past.bytes (behind position) (stored_passed was.rows was.contents position row at.rows.contents at.rows.order is other at.numbers)) in
-    subst (λ (w : Writing). DestPart job (past_after here next was past) next was start w) (sym (some_same new old change))
+    subst (λ (w : Writing). DestAfter job past here next was was start w) (sym (some_same new old change))
     (record { started = dest.started; tree = dest.tree; at = said same dest.at })
 makes_dest job past start old new here held after calls next (MakesFolder was object position row is stored more) change at dest =
     let one = is_here job past object position was row at is stored in

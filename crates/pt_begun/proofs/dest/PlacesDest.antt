@@ -35,7 +35,7 @@ use Rattle.pt_begun.specs.BegunHeld.{AreRows, HeldAt, IsObject}
 use Rattle.pt_begun.specs.DestLaws.{PlacingKeepsDest}
 use Rattle.pt_begun.specs.PartsMade.{script_of_object}
 use Rattle.pt_begun.specs.Past.{Past, object_held, past_after}
-use Rattle.pt_begun.proofs.dest.DestKeeps.{no_kind}
+use Rattle.pt_begun.proofs.dest.DestKeeps.{DestAfter, no_kind}
 use Rattle.pt_begun.proofs.source.InPairtree.{some_same}
 use Rattle.pt_begun.proofs.dest.MakesDest.{fresh_root, top_folder}
 use Rattle.pt_begun.proofs.held.OwnFiles.{own_files, paths_held}
@@ -115,7 +115,7 @@ module _ (job : Job) (start : Tree) (placed : List Carried) (place : Path) (n : 
 -- the next phase
 next_tuple : (job : Job) (past : Past) {start : Tree} {object : Object} (held : Held) {number : ℕ} (new : Writing) (more : Bool) → nat_lt (number + 1) job.tuples.count ≡ more → number < job.tuples.count → IsTree start → IsTree new.tree
     → IsMakingObject job start past.placed object (script_of_object job object held.rows past.bytes) (suc number) new × HasFoldersTo job start past.placed object.place (suc number)
-    → DestPart job (past_after (phase.Tuples object number) (cond more (phase.Tuples object (number + 1)) (phase.Rename object)) held past) (cond more (phase.Tuples object (number + 1)) (phase.Rename object)) held start new
+    → DestAfter job past (phase.Tuples object number) (cond more (phase.Tuples object (number + 1)) (phase.Rename object)) held held start new
 next_tuple job past {start} {object} held {number} new true is few started tree it =
     let next : suc number ≡ number + 1 = omega arith in
     record { started = started; tree = tree; at = subst (λ n. IsMakingObject job start past.placed object (script_of_object job object held.rows past.bytes) n new × HasFoldersTo job start past.placed object.place n) next it }
@@ -125,7 +125,7 @@ next_tuple job past {start} {object} held {number} new false is few started tree
     record { started = started; tree = tree; at = subst (λ n. IsMakingObject job start past.placed object (script_of_object job object held.rows past.bytes) n new × HasFoldersTo job start past.placed object.place n) all it }
 
 tuple_made : (job : Job) (past : Past) (start : Tree) (object : Object) (held : Held) (number : ℕ) (old new : Writing) → HeldAt job past (phase.Tuples object number) held → old.tree (tuple_folder object number) ≡ None → new ≡ after_mkdir (tuple_folder object number) old
-    → DestPart job past (phase.Tuples object number) held start old → DestPart job (past_after (phase.Tuples object number) (after_tuple job object number) held past) (after_tuple job object number) held start new
+    → DestPart job past (phase.Tuples object number) held start old → DestAfter job past (phase.Tuples object number) (after_tuple job object number) held held start new
 tuple_made job past start object held number old new at none change part =
     let few = at.numbers in
     let long = place_long job object at.ends.0 in
@@ -150,7 +150,7 @@ tuple_made job past start object held number old new at none change part =
     (record { root = part.at.0.root; came = part.at.0.came; free = part.at.0.free; tree = now }, made_folders job start past.placed place number name.0 name.1 absent part.at.1)
 
 tuple_found : (job : Job) (past : Past) (start : Tree) (object : Object) (held : Held) (number : ℕ) (old new : Writing) → HeldAt job past (phase.Tuples object number) held → old.tree (tuple_folder object number) ≡ Some Folder → new ≡ old
-    → DestPart job past (phase.Tuples object number) held start old → DestPart job (past_after (phase.Tuples object number) (after_tuple job object number) held past) (after_tuple job object number) held start new
+    → DestPart job past (phase.Tuples object number) held start old → DestAfter job past (phase.Tuples object number) (after_tuple job object number) held held start new
 tuple_found job past start object held number old new at folder change part =
     let few = at.numbers in
     let long = place_long job object at.ends.0 in
@@ -230,7 +230,7 @@ came_there job past start held at part =
     (ap is_none (ap (root_now job start past.placed) (sym at.ends.0.place) ∙ part.at.0.free))
 
 renamed : (job : Job) (past : Past) (start : Tree) (object : Object) (held : Held) (old new : Writing) → HeldAt job past (phase.Rename object) held → new ≡ after_rename staging (in_root object.place) old
-    → DestPart job past (phase.Rename object) held start old → DestPart job (past_after (phase.Rename object) (phase.Line object) held past) (phase.Line object) held start new
+    → DestPart job past (phase.Rename object) held start old → DestAfter job past (phase.Rename object) (phase.Line object) held held start new
 renamed job past start object held old new at change part =
     let root = root_on_way job start past.placed object.place job.tuples.count in
     let inside = object_made job object held.rows past.bytes in
@@ -262,6 +262,6 @@ places_dest job counts past start old new here next held after calls (FindsTuple
     tuple_found job past start object was number old new at (folder_kind _ (change.0 old refl)) (some_same new old change.1) part
 places_dest job counts past start old new here next held after calls (RenamesObject was object) change at part = renamed job past start object was old new at (some_same new (after_rename staging (in_root object.place) old) change) part
 places_dest job counts past start old new here next held after calls (TellsDone was object) change at part =
-    subst (λ (w : Writing). DestPart job (past_after here next was past) next (restarted was) start w) (sym (some_same new old change)) (record { started = part.started; tree = part.tree; at = record { root = part.at.root; came = part.at.came; tree = part.at.tree } })
+    subst (λ (w : Writing). DestAfter job past here next was (restarted was) start w) (sym (some_same new old change)) (record { started = part.started; tree = part.tree; at = record { root = part.at.root; came = part.at.came; tree = part.at.tree } })
 places_dest job counts past start old new here next held after calls (TellsEnd was) change at part =
-    subst (λ (w : Writing). DestPart job (past_after here next was past) next was start w) (sym (some_same new old change)) (record { started = part.started; tree = part.tree; at = record { kept = held_so job start past.placed old part.at; stood = inl part.at.root } })
+    subst (λ (w : Writing). DestAfter job past here next was was start w) (sym (some_same new old change)) (record { started = part.started; tree = part.tree; at = record { kept = held_so job start past.placed old part.at; stood = inl part.at.root } })

@@ -28,7 +28,7 @@ use Rattle.pt_plan.specs.declared.phase.Phase.TheVariants as phase
 use Rattle.pt_begun.specs.BegunDest.{DestPart, HasRootFiles, IsMakingRoot, root_now}
 use Rattle.pt_begun.specs.DestLaws.{StartingKeepsDest}
 use Rattle.pt_begun.specs.Past.{Past, past_after}
-use Rattle.pt_begun.proofs.dest.DestKeeps.{no_kind, or_nothing}
+use Rattle.pt_begun.proofs.dest.DestKeeps.{DestAfter, no_kind, or_nothing}
 use Rattle.pt_begun.proofs.source.InPairtree.{some_same}
 use Rattle.pt_begun.proofs.dest.MadeItems.{made_more, tree_made}
 use Rattle.pt_begun.proofs.dest.PlacesOnWay.{folder_kind}
@@ -103,7 +103,7 @@ own_root job start tree files =
 -- ---- each turn
 
 made_next : (job : Job) (past : Past) (start : Tree) (held : Held) (old new : Writing) (number : ℕ) (item : Item) (last : Bool) → (number == 5) ≡ last → new ≡ after_make item old → slice_get (root_script job.tuples) number ≡ Some item
-    → DestPart job past (phase.RootMake number) held start old → DestPart job (past_after (phase.RootMake number) (cond last phase.RootRename (phase.RootMake (number + 1))) held past) (cond last phase.RootRename (phase.RootMake (number + 1))) held start new
+    → DestPart job past (phase.RootMake number) held start old → DestAfter job past (phase.RootMake number) (cond last phase.RootRename (phase.RootMake (number + 1))) held held start new
 made_next job past start held old new number item last is change item_is part =
     let can = root_item_made job start number item old part.started item_is part.at in
     let tree_is : new.tree ≡ done item old.tree = ap (λ (w : Writing). w.tree) change ∙ tree_made item old in
@@ -113,7 +113,7 @@ made_next job past start held old new number item last is change item_is part =
     by last is tree now
   where
     by : (b : Bool) → (number == 5) ≡ b → IsTree new.tree → new.tree ≡ made (take (suc number) (root_script job.tuples)) start
-        → DestPart job (past_after (phase.RootMake number) (cond b phase.RootRename (phase.RootMake (number + 1))) held past) (cond b phase.RootRename (phase.RootMake (number + 1))) held start new
+        → DestAfter job past (phase.RootMake number) (cond b phase.RootRename (phase.RootMake (number + 1))) held held start new
     by true is tree now =
         let five = eqb-true number 5 is in
         record { started = part.started; tree = tree; at = record { free = part.at.free; root = part.at.root; tree = now ∙ ap (λ n. made (take (suc n) (root_script job.tuples)) start) five } }
@@ -123,21 +123,21 @@ made_next job past start held old new number item last is change item_is part =
 
 checked_next : (job : Job) (past : Past) (start : Tree) (held : Held) {old : Writing} (new : Writing) (number : ℕ) (path : Path) (bytes : List ℕ) (last : Bool) → (number == 2) ≡ last → IsLayout job.tuples → slice_get (root_files_of job.tuples) number ≡ Some (path, bytes)
     → option_map (take 8192) (bytes_of (old.tree (storage_root ++ path))) ≡ Some bytes → new ≡ old → DestPart job past (phase.RootCheck number) held start old
-    → DestPart job (past_after (phase.RootCheck number) (cond last phase.OpenRoot (phase.RootCheck (number + 1))) held past) (cond last phase.OpenRoot (phase.RootCheck (number + 1))) held start new
+    → DestAfter job past (phase.RootCheck number) (cond last phase.OpenRoot (phase.RootCheck (number + 1))) held held start new
 checked_next job past start held new number path bytes last is layout file read change part =
     let stands = peeked_whole _ read (file_short job.tuples number path bytes layout file) in
     let here : root_in start path ≡ Some (Bytes bytes) = sym (ap (λ (t : Tree). t (storage_root ++ path)) part.at.tree) ∙ stands in
     by last is (one_more_file job (root_in start) number path bytes file here part.at.files)
   where
     by : (b : Bool) → (number == 2) ≡ b → HasRootFiles job (root_in start) (number + 1)
-        → DestPart job (past_after (phase.RootCheck number) (cond b phase.OpenRoot (phase.RootCheck (number + 1))) held past) (cond b phase.OpenRoot (phase.RootCheck (number + 1))) held start new
+        → DestAfter job past (phase.RootCheck number) (cond b phase.OpenRoot (phase.RootCheck (number + 1))) held held start new
     by true is files =
         let two = eqb-true number 2 is in
         let all : HasRootFiles job (root_in start) 3 = subst (λ (n : ℕ). HasRootFiles job (root_in start) (n + 1)) two files in
-        subst (λ (w : Writing). DestPart job (past_after (phase.RootCheck number) phase.OpenRoot held past) phase.OpenRoot held start w) (sym change)
+        subst (λ (w : Writing). DestAfter job past (phase.RootCheck number) phase.OpenRoot held held start w) (sym change)
         (record { started = part.started; tree = part.tree; at = record { root = record { free = part.at.free; root = inr all }; came = refl; tree = part.at.tree ∙ own_root job start part.started all } })
     by false is files =
-        subst (λ (w : Writing). DestPart job (past_after (phase.RootCheck number) (phase.RootCheck (number + 1)) held past) (phase.RootCheck (number + 1)) held start w) (sym change)
+        subst (λ (w : Writing). DestAfter job past (phase.RootCheck number) (phase.RootCheck (number + 1)) held held start w) (sym change)
         (record { started = part.started; tree = part.tree; at = record { free = part.at.free; top = part.at.top; files = files; tree = part.at.tree } })
 
 -- with the destination as it was
@@ -158,7 +158,7 @@ starts_dest job past start old new prefix read here next held calls layout (HasR
 starts_dest job past start old new prefix read here next held calls layout (MakesRoot was number item is) change at part = made_next job past start held old new number item (number == 5) refl (some_same new (after_make item old) change) is part
 starts_dest job past start old new prefix read here next held calls layout (RenamesRoot was) change at part =
     let is = some_same new (after_rename staging storage_root old) change in
-    subst (λ (w : Writing). DestPart job (past_after here next held past) next held start w) (sym is)
+    subst (λ (w : Writing). DestAfter job past here next held held start w) (sym is)
     (record {
       started = part.started;
       tree = tree_moved old.tree storage_root part.tree (root_may_move job start old part.started part.at);
