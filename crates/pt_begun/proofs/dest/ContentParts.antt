@@ -75,7 +75,6 @@ distinct_here : {rows : List Row} {contents : List Content} {position : Position
 distinct_here {rows} {contents} {position} {row} it = its_content row it.are it.order it.is it.stored it.at
 
 module _ (job : Job) (object : Object) (rows : List Row) (contents : List Content) (bytes : Path → List ℕ) (position : Position) (row : Row) where
-
   pub folder_next : IsHere rows contents position row → position.directories < length row.path
       → IsNext (script_of_object job object rows bytes) (made_before job object rows bytes (part.Content position)) (MakeFolder (in_content (take position.directories row.path)))
   folder_next it more =
@@ -166,7 +165,6 @@ fronts_same rows bytes read n row order is =
     ap (take n) (files_as bytes some) ∙ take_map (content bytes) n some ∙ same_contents bytes row.path read (take n some) before ∙ sym (take_map (content (with_bytes row.path read bytes)) n some) ∙ ap (take n) (sym (files_as _ some))
 
 module _ (job : Job) (object : Object) (rows : List Row) where
-
   -- what is made before it doesn't tell its bytes
   made_same : {contents : List Content} (bytes : Path → List ℕ) (read : List ℕ) (position : Position) (row : Row) → IsHere rows contents position row
       → made_before job object rows bytes (part.Content position) ≡ made_before job object rows (with_bytes row.path read bytes) (part.Content position)

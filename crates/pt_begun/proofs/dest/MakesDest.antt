@@ -1,16 +1,14 @@
 -- The turns that make an object keep what holds where the destination tells.
-use Rattle.std.proofs.Common.{inl, inr, ◌≡◌, ◌≤◌, ◌==◌, ℕ, zero, suc, Bool, true, false, List, [], ◌∷◌, ◌++◌, refl, ap, sym, ◌∙◌, subst, arith, cond, length, take}
+use Rattle.std.proofs.Common.{inl, inr, ◌≡◌, ◌≤◌, ◌==◌, ℕ, zero, suc, true, false, List, [], ◌∷◌, ◌++◌, refl, ap, sym, ◌∙◌, subst, arith, cond, length, take}
 use Rattle.std.specs.Prelude.{◌⊎◌, Option, None, Some, is_some, nat_lt, slice_get}
 use Rattle.std.specs.Option.{option_or}
 use Rattle.std.proofs.lemmas.Bool.{eqb-true, ltb-false, ltb-true}
 use Rattle.pt_object.proofs.Moved.{piece_makes_more}
 use Rattle.pt_object.proofs.ObjectScripts.{in_order_apart, script_of_rows_can_be_made}
-use Rattle.pt_object.specs.Files.{object_declaration_bytes}
-use Rattle.pt_object.specs.Object.{object_declaration_name}
 use Rattle.pt_object.specs.FilePaths.{part_in_order, row_paths}
 use Rattle.pt_object.specs.Holding.{IsFree}
 use Rattle.pt_object.specs.Root.{base, base_where}
-use Rattle.pt_object.specs.Script.{CanBeMadeInTurn, Item, MakeFile, MakeFolder, done, item_entry, item_path, made}
+use Rattle.pt_object.specs.Script.{CanBeMadeInTurn, Item, MakeFile, done, item_entry, item_path, made}
 use Rattle.pt_object.specs.Scripts.{IsFresh, staging}
 use Rattle.pt_object.specs.declared.rows.Row.{Row}
 use Rattle.pt_tree.specs.Dest.{Writing, added_to, after_append, after_create, after_finish}
@@ -21,7 +19,7 @@ use Rattle.pt_plan.specs.Job.{Job}
 use Rattle.pt_plan.specs.Lines.{Line}
 use Rattle.pt_plan.specs.Roots.{root_in, storage_root, with_root}
 use Rattle.pt_plan.specs.Run.{Held, with_fed}
-use Rattle.pt_plan.specs.TurnMake.{MakesStaging, MakesDeclaration, MakesVersion, PassesRow, MakesFolder, OpensCopy, CopiesOn, EndsCopy, MakesVersionInventory, MakesVersionSidecar, MakesInventory, MakesSidecar, behind, behind_stored, content_at, in_content, in_version, inventory_file, is_stored, sidecar_file}
+use Rattle.pt_plan.specs.TurnMake.{MakesStaging, MakesDeclaration, MakesVersion, PassesRow, MakesFolder, OpensCopy, CopiesOn, EndsCopy, MakesVersionInventory, MakesVersionSidecar, MakesInventory, MakesSidecar, behind, behind_stored, content_at, in_content, is_stored, sidecar_file}
 use Rattle.pt_plan.specs.World.{Changes, after_make}
 use Rattle.pt_plan.specs.declared.object.Object.{Object}
 use Rattle.pt_plan.specs.declared.phase.Part.{Part}
@@ -32,7 +30,8 @@ use Rattle.pt_begun.specs.BegunDest.{DestPart, HasFoldersTo, HasRootFiles, IsMak
 use Rattle.pt_begun.specs.BegunHeld.{HeldAt}
 use Rattle.pt_begun.specs.DestLaws.{MakingKeepsDest}
 use Rattle.pt_begun.specs.PartsMade.{IsAtStoredRow, made_before, script_of_object}
-use Rattle.pt_begun.specs.Past.{Past, past_after, with_bytes_of}
+use Rattle.pt_begun.specs.Past.{Past, with_bytes_of}
+use Rattle.pt_begun.proofs.held.EitherPhase.{either_phase}
 use Rattle.pt_begun.proofs.dest.DestKeeps.{DestAfter}
 use Rattle.pt_begun.proofs.dest.ContentParts.{IsHere, copy_made, file_next, folder_made, folder_next, made_at, made_first}
 use Rattle.pt_begun.proofs.source.InPairtree.{some_same}
@@ -76,12 +75,12 @@ said : {job : Job} {start : Tree} {placed : List Carried} {object : Object} {ite
 said {job} {start} {placed} {object} {now} same it = subst (λ (l : List Item). IsMakingObject job start placed object l 0 now) same it
 
 -- a part was made
-part_made : {job : Job} {past : Past} {start : Tree} {object : Object} {here : Part} {held after : Held} {old new : Writing} {item : Item} {next : Part} → HeldAt job past (phase.Make object here) held → after.rows ≡ held.rows → new ≡ after_make item old
+part_made : {job : Job} {past : Past} {start : Tree} {object : Object} {here : Part} {held after : Held} {old new : Writing} {item : Item} {next : Part} → HeldAt job past (phase.Make object here) held → after.rows ≡ held.rows → Some new ≡ Some (after_make item old)
     → IsNext (script_of_object job object held.rows past.bytes) (made_before job object held.rows past.bytes here) item
     → made_before job object held.rows past.bytes here ++ item ∷ [] ≡ made_before job object held.rows past.bytes next
     → DestPart job past (phase.Make object here) held start old → DestAfter job past (phase.Make object here) (phase.Make object next) held after start new
 part_made {job} {past} {start} {object} {held} {old} {new} {item} {next} at rows change is more part =
-    let tree_is : new.tree ≡ done item old.tree = ap (λ (w : Writing). w.tree) change ∙ tree_made item old in
+    let tree_is : new.tree ≡ done item old.tree = ap (λ (w : Writing). w.tree) (some_same new (after_make item old) change) ∙ tree_made item old in
     let may = item_may job start past.placed object held.rows past.bytes _ item old part.started at.rows.order is part.at in
     record {
       started = part.started;
@@ -187,38 +186,33 @@ no_folders_yet : (job : Job) {start : Tree} (placed : List Carried) (place : Pat
 no_folders_yet job {start} placed place tree root zero within = top_on_way job start placed place 0 tree root
 no_folders_yet job placed place tree root (suc i) within = absurd (omega (arith, within))
 
-finished : (job : Job) (past : Past) (start : Tree) (object : Object) (held : Held) (old new : Writing) (flat : Bool) → (job.tuples.count == 0) ≡ flat → HeldAt job past (phase.Make object a_part.Sidecar) held → new ≡ after_make (sidecar_file job object held.rows staging) old
+finished : (job : Job) (past : Past) (start : Tree) (object : Object) (held : Held) (old new : Writing) → HeldAt job past (phase.Make object a_part.Sidecar) held → Some new ≡ Some (after_make (sidecar_file job object held.rows staging) old)
     → DestPart job past (phase.Make object a_part.Sidecar) held start old
-    → DestAfter job past (phase.Make object a_part.Sidecar) (cond flat (phase.Rename object) (phase.Tuples object 0)) held (with_fed held []) start new
-finished job past start object held old new flat is at change part =
+    → DestAfter job past (phase.Make object a_part.Sidecar) (cond (job.tuples.count == 0) (phase.Rename object) (phase.Tuples object 0)) held (with_fed held []) start new
+finished job past start object held old new at change part =
     let item = sidecar_file job object held.rows staging in
     let front = made_before job object held.rows past.bytes a_part.Sidecar in
-    let tree_is : new.tree ≡ done item old.tree = ap (λ (w : Writing). w.tree) change ∙ tree_made item old in
+    let tree_is : new.tree ≡ done item old.tree = ap (λ (w : Writing). w.tree) (some_same new (after_make item old) change) ∙ tree_made item old in
     let may = item_may job start past.placed object held.rows past.bytes front item old part.started at.rows.order (next_fourth job object held.rows past.bytes) part.at in
     let tree = subst IsTree (sym tree_is) (tree_put old.tree _ (item_entry item) part.tree may) in
     let all = said (sym (after_fourth job object held.rows past.bytes)) (with_item job start past.placed object front item old new tree_is part.at) in
     let folders = no_folders_yet job past.placed object.place part.started part.at.root in
-    by flat is tree all folders
-  where
-    by : (b : Bool) → (job.tuples.count == 0) ≡ b → IsTree new.tree → IsMakingObject job start past.placed object (script_of_object job object held.rows past.bytes) 0 new → HasFoldersTo job start past.placed object.place 0
-        → DestAfter job past (phase.Make object a_part.Sidecar) (cond b (phase.Rename object) (phase.Tuples object 0)) held (with_fed held []) start new
-    by true is tree all folders =
-        let none = eqb-true job.tuples.count 0 is in
-        record {
-          started = part.started;
-          tree = tree;
-          at = subst (λ (n : ℕ). IsMakingObject job start past.placed object (script_of_object job object held.rows past.bytes) n new × HasFoldersTo job start past.placed object.place n) (sym none) (all, folders);
-        }
-    by false is tree all folders = record { started = part.started; tree = tree; at = (all, folders) }
+    either_phase (λ p. DestAfter job past (phase.Make object a_part.Sidecar) p held (with_fed held []) start new) (job.tuples.count == 0) (phase.Rename object) (phase.Tuples object 0)
+    (λ flat. record {
+      started = part.started;
+      tree = tree;
+      at = subst (λ (n : ℕ). IsMakingObject job start past.placed object (script_of_object job object held.rows past.bytes) n new × HasFoldersTo job start past.placed object.place n) (sym (eqb-true job.tuples.count 0 flat)) (all, folders);
+    })
+    (λ some. record { started = part.started; tree = tree; at = (all, folders) })
 
 -- ---- each turn
 
 pub makes_dest : MakingKeepsDest
 unfolding Changes
-makes_dest job past start old new here held after calls next (MakesStaging was object) change at dest = part_made at refl (some_same new (after_make (MakeFolder staging) old) change) (next_staging job object was.rows past.bytes) refl dest
-makes_dest job past start old new here held after calls next (MakesDeclaration was object) change at dest = part_made at refl (some_same new (after_make (MakeFile (staging ++ object_declaration_name ∷ []) object_declaration_bytes) old) change) (next_declaration job object was.rows past.bytes) refl dest
+makes_dest job past start old new here held after calls next (MakesStaging was object) change at dest = part_made at refl change (next_staging job object was.rows past.bytes) refl dest
+makes_dest job past start old new here held after calls next (MakesDeclaration was object) change at dest = part_made at refl change (next_declaration job object was.rows past.bytes) refl dest
 makes_dest job past start old new here held after calls next (MakesVersion was object) change at dest =
-    part_made at refl (some_same new (after_make (MakeFolder (in_version [])) old) change) (next_version job object was.rows past.bytes)
+    part_made at refl change (next_version job object was.rows past.bytes)
     (sym (made_first job object was.rows past.bytes) ∙ sym (made_at job object was.rows past.bytes (record { row = 0; stored = 0; directories = 0 }) refl)) dest
 makes_dest job past start old new here held after calls next (PassesRow was object position row is other) change at dest =
     let same : made_before job object was.rows past.bytes (a_part.Content position) ≡ made_before job object was.rows past.bytes (content_at was.rows (behind position)) =
@@ -228,18 +222,18 @@ makes_dest job past start old new here held after calls next (PassesRow was obje
 makes_dest job past start old new here held after calls next (MakesFolder was object position row is stored more) change at dest =
     let one = is_here job past object position was row at is stored in
     let less = ltb-true position.directories (length row.path) more in
-    part_made at refl (some_same new (after_make (MakeFolder (in_content (take position.directories row.path))) old) change)
+    part_made at refl change
     (folder_next job object was.rows was.contents past.bytes position row one less) (sym (folder_made job object was.rows was.contents past.bytes position row one less)) dest
 makes_dest job past start old new here held after calls next (OpensCopy was object position row is stored all) change at dest = opened job past start object position was old new row at is stored all (some_same new (after_create (in_content row.path) old) change) dest
 makes_dest job past start old new here held after calls next (CopiesOn was object position left byte block fits) change at dest = copied job past start object position left _ was old new None (byte ∷ block) (some_same new (after_append (byte ∷ block) old) change) dest
 makes_dest job past start old new here held after calls next (EndsCopy was object position row left is same) change at dest = closed job past start object position left was old new row at is (some_same new (after_finish old) change) dest
 makes_dest job past start old new here held after calls next (MakesVersionInventory was object) change at dest =
-    part_made at refl (some_same new (after_make (inventory_file job object was.rows (in_version [])) old) change)
+    part_made at refl change
     (next_first job object was.rows past.bytes) (sym (after_first job object was.rows past.bytes)) dest
 makes_dest job past start old new here held after calls next (MakesVersionSidecar was object) change at dest =
-    part_made at refl (some_same new (after_make (sidecar_file job object was.rows (in_version [])) old) change)
+    part_made at refl change
     (next_second job object was.rows past.bytes) (sym (after_second job object was.rows past.bytes)) dest
 makes_dest job past start old new here held after calls next (MakesInventory was object) change at dest =
-    part_made at refl (some_same new (after_make (inventory_file job object was.rows staging) old) change)
+    part_made at refl change
     (next_third job object was.rows past.bytes) (sym (after_third job object was.rows past.bytes)) dest
-makes_dest job past start old new here held after calls next (MakesSidecar was object) change at dest = finished job past start object was old new _ refl at (some_same new (after_make (sidecar_file job object was.rows staging) old) change) dest
+makes_dest job past start old new here held after calls next (MakesSidecar was object) change at dest = finished job past start object was old new at change dest

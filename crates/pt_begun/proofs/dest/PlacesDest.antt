@@ -34,7 +34,8 @@ use Rattle.pt_begun.specs.BegunDest.{CameToFreePlaces, DestPart, HasFoldersTo, I
 use Rattle.pt_begun.specs.BegunHeld.{AreRows, HeldAt, IsObject}
 use Rattle.pt_begun.specs.DestLaws.{PlacingKeepsDest}
 use Rattle.pt_begun.specs.PartsMade.{script_of_object}
-use Rattle.pt_begun.specs.Past.{Past, object_held, past_after}
+use Rattle.pt_begun.specs.Past.{Past, object_held}
+use Rattle.pt_begun.proofs.held.EitherPhase.{either_phase}
 use Rattle.pt_begun.proofs.dest.DestKeeps.{DestAfter, no_kind}
 use Rattle.pt_begun.proofs.source.InPairtree.{some_same}
 use Rattle.pt_begun.proofs.dest.MakesDest.{fresh_root, top_folder}
@@ -84,7 +85,6 @@ tuple_parent job past start object held number now few at part =
     ∙ part.at.1 number (omega arith)
 
 module _ (job : Job) (start : Tree) (placed : List Carried) (place : Path) (n : ℕ) where
-
   -- each of the first folders is one, and so is the next
   more_folders : ((i : ℕ) → i ≤ n → root_on_way job start placed place (suc n) (take i place) ≡ Some Folder) → root_on_way job start placed place (suc n) (take (suc n) place) ≡ Some Folder → HasFoldersTo job start placed place (suc n)
   more_folders first last i within = by (nat_lt n i) refl
@@ -113,16 +113,18 @@ module _ (job : Job) (start : Tree) (placed : List Carried) (place : Path) (n : 
       more_folders (λ i within. sym (ap (λ (t : Tree). t (take i place)) same) ∙ folders i within) (sym (ap (λ (t : Tree). t (take (suc n) place)) same) ∙ found)
 
 -- the next phase
-next_tuple : (job : Job) (past : Past) {start : Tree} {object : Object} (held : Held) {number : ℕ} (new : Writing) (more : Bool) → nat_lt (number + 1) job.tuples.count ≡ more → number < job.tuples.count → IsTree start → IsTree new.tree
+next_tuple : (job : Job) (past : Past) {start : Tree} {object : Object} (held : Held) {number : ℕ} (new : Writing) → number < job.tuples.count → IsTree start → IsTree new.tree
     → IsMakingObject job start past.placed object (script_of_object job object held.rows past.bytes) (suc number) new × HasFoldersTo job start past.placed object.place (suc number)
-    → DestAfter job past (phase.Tuples object number) (cond more (phase.Tuples object (number + 1)) (phase.Rename object)) held held start new
-next_tuple job past {start} {object} held {number} new true is few started tree it =
+    → DestAfter job past (phase.Tuples object number) (after_tuple job object number) held held start new
+next_tuple job past {start} {object} held {number} new few started tree it =
+    let stands = λ (n : ℕ). IsMakingObject job start past.placed object (script_of_object job object held.rows past.bytes) n new × HasFoldersTo job start past.placed object.place n in
     let next : suc number ≡ number + 1 = omega arith in
-    record { started = started; tree = tree; at = subst (λ n. IsMakingObject job start past.placed object (script_of_object job object held.rows past.bytes) n new × HasFoldersTo job start past.placed object.place n) next it }
-next_tuple job past {start} {object} held {number} new false is few started tree it =
-    let past_it = ltb-false (number + 1) job.tuples.count is in
+    either_phase (λ p. DestAfter job past (phase.Tuples object number) p held held start new) (nat_lt (number + 1) job.tuples.count) (phase.Tuples object (number + 1)) (phase.Rename object)
+    (λ more. record { started = started; tree = tree; at = subst stands next it })
+    (λ last.
+    let past_it = ltb-false (number + 1) job.tuples.count last in
     let all : suc number ≡ job.tuples.count = omega (arith, past_it, few) in
-    record { started = started; tree = tree; at = subst (λ n. IsMakingObject job start past.placed object (script_of_object job object held.rows past.bytes) n new × HasFoldersTo job start past.placed object.place n) all it }
+    record { started = started; tree = tree; at = subst stands all it })
 
 tuple_made : (job : Job) (past : Past) (start : Tree) (object : Object) (held : Held) (number : ℕ) (old new : Writing) → HeldAt job past (phase.Tuples object number) held → old.tree (tuple_folder object number) ≡ None → new ≡ after_mkdir (tuple_folder object number) old
     → DestPart job past (phase.Tuples object number) held start old → DestAfter job past (phase.Tuples object number) (after_tuple job object number) held held start new
@@ -146,7 +148,7 @@ tuple_made job past start object held number old new at none change part =
     ∙ ap (λ (t : Tree). in_place (with_root start t) staging inside) grown
     ∙ sym (whole job past _ object part.started part.at.0.root.free at.rows) in
     let tree = subst IsTree (sym tree_is) (tree_put old.tree _ Folder part.tree (record { absent = none; in_folder = tuple_parent job past start object held number old few at part })) in
-    next_tuple job past held new _ refl few part.started tree
+    next_tuple job past held new few part.started tree
     (record { root = part.at.0.root; came = part.at.0.came; free = part.at.0.free; tree = now }, made_folders job start past.placed place number name.0 name.1 absent part.at.1)
 
 tuple_found : (job : Job) (past : Past) (start : Tree) (object : Object) (held : Held) (number : ℕ) (old new : Writing) → HeldAt job past (phase.Tuples object number) held → old.tree (tuple_folder object number) ≡ Some Folder → new ≡ old
@@ -164,7 +166,7 @@ tuple_found job past start object held number old new at folder change part =
     let tree_is : new.tree ≡ old.tree = ap (λ (w : Writing). w.tree) change in
     let now : new.tree ≡ made (script_of_object job object held.rows past.bytes) (with_root start (root_on_way job start past.placed place (suc number))) =
     tree_is ∙ part.at.0.tree ∙ ap (λ (t : Tree). made (script_of_object job object held.rows past.bytes) (with_root start t)) same in
-    next_tuple job past held new _ refl few part.started (subst IsTree (sym tree_is) part.tree)
+    next_tuple job past held new few part.started (subst IsTree (sym tree_is) part.tree)
     (record { root = part.at.0.root; came = part.at.0.came; free = part.at.0.free; tree = now }, found_folders job start past.placed place number name.0 name.1 found part.at.1)
 
 -- ---- the object comes to its place

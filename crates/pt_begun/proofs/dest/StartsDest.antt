@@ -1,5 +1,5 @@
 -- The turns of the start keep what holds where the destination tells.
-use Rattle.std.proofs.Common.{inl, inr, ◌≡◌, ◌==◌, ◌+◌, ℕ, suc, Bool, true, false, List, [], ◌∷◌, ◌++◌, refl, ap, sym, ◌∙◌, subst, append-nil, append_assoc, arith, cond, take}
+use Rattle.std.proofs.Common.{inl, inr, ◌≡◌, ◌==◌, ◌+◌, ℕ, suc, List, [], ◌∷◌, ◌++◌, refl, ap, sym, ◌∙◌, subst, append-nil, append_assoc, arith, cond, take}
 use Rattle.std.specs.Prelude.{All, Option, None, Some, codes, is_some, slice_get}
 use Rattle.std.specs.Option.{option_map}
 use Rattle.std.proofs.lemmas.Bool.{eqb-true}
@@ -27,7 +27,8 @@ use Rattle.pt_plan.specs.declared.phase.Phase.{Phase}
 use Rattle.pt_plan.specs.declared.phase.Phase.TheVariants as phase
 use Rattle.pt_begun.specs.BegunDest.{DestPart, HasRootFiles, IsMakingRoot, root_now}
 use Rattle.pt_begun.specs.DestLaws.{StartingKeepsDest}
-use Rattle.pt_begun.specs.Past.{Past, past_after}
+use Rattle.pt_begun.specs.Past.{Past}
+use Rattle.pt_begun.proofs.held.EitherPhase.{either_phase}
 use Rattle.pt_begun.proofs.dest.DestKeeps.{DestAfter, no_kind, or_nothing}
 use Rattle.pt_begun.proofs.source.InPairtree.{some_same}
 use Rattle.pt_begun.proofs.dest.MadeItems.{made_more, tree_made}
@@ -102,43 +103,35 @@ own_root job start tree files =
 
 -- ---- each turn
 
-made_next : (job : Job) (past : Past) (start : Tree) (held : Held) (old new : Writing) (number : ℕ) (item : Item) (last : Bool) → (number == 5) ≡ last → new ≡ after_make item old → slice_get (root_script job.tuples) number ≡ Some item
-    → DestPart job past (phase.RootMake number) held start old → DestAfter job past (phase.RootMake number) (cond last phase.RootRename (phase.RootMake (number + 1))) held held start new
-made_next job past start held old new number item last is change item_is part =
+made_next : (job : Job) (past : Past) (start : Tree) (held : Held) (old new : Writing) (number : ℕ) (item : Item) → Some new ≡ Some (after_make item old) → slice_get (root_script job.tuples) number ≡ Some item
+    → DestPart job past (phase.RootMake number) held start old → DestAfter job past (phase.RootMake number) (cond (number == 5) phase.RootRename (phase.RootMake (number + 1))) held held start new
+made_next job past start held old new number item change item_is part =
     let can = root_item_made job start number item old part.started item_is part.at in
-    let tree_is : new.tree ≡ done item old.tree = ap (λ (w : Writing). w.tree) change ∙ tree_made item old in
+    let tree_is : new.tree ≡ done item old.tree = ap (λ (w : Writing). w.tree) (some_same new (after_make item old) change) ∙ tree_made item old in
     let tree = subst IsTree (sym tree_is) (tree_put old.tree _ (item_entry item) part.tree can) in
     let now : new.tree ≡ made (take (suc number) (root_script job.tuples)) start =
     tree_is ∙ ap (done item) part.at.tree ∙ sym (made_more (root_script job.tuples) number item start item_is) in
-    by last is tree now
-  where
-    by : (b : Bool) → (number == 5) ≡ b → IsTree new.tree → new.tree ≡ made (take (suc number) (root_script job.tuples)) start
-        → DestAfter job past (phase.RootMake number) (cond b phase.RootRename (phase.RootMake (number + 1))) held held start new
-    by true is tree now =
-        let five = eqb-true number 5 is in
-        record { started = part.started; tree = tree; at = record { free = part.at.free; root = part.at.root; tree = now ∙ ap (λ n. made (take (suc n) (root_script job.tuples)) start) five } }
-    by false is tree now =
-        let next : suc number ≡ number + 1 = omega arith in
-        record { started = part.started; tree = tree; at = record { free = part.at.free; root = part.at.root; tree = now ∙ ap (λ n. made (take n (root_script job.tuples)) start) next } }
+    let next : suc number ≡ number + 1 = omega arith in
+    either_phase (λ p. DestAfter job past (phase.RootMake number) p held held start new) (number == 5) phase.RootRename (phase.RootMake (number + 1))
+    (λ last. record {
+      started = part.started;
+      tree = tree;
+      at = record { free = part.at.free; root = part.at.root; tree = now ∙ ap (λ n. made (take (suc n) (root_script job.tuples)) start) (eqb-true number 5 last) };
+    })
+    (λ more. record { started = part.started; tree = tree; at = record { free = part.at.free; root = part.at.root; tree = now ∙ ap (λ n. made (take n (root_script job.tuples)) start) next } })
 
-checked_next : (job : Job) (past : Past) (start : Tree) (held : Held) {old : Writing} (new : Writing) (number : ℕ) (path : Path) (bytes : List ℕ) (last : Bool) → (number == 2) ≡ last → IsLayout job.tuples → slice_get (root_files_of job.tuples) number ≡ Some (path, bytes)
-    → option_map (take 8192) (bytes_of (old.tree (storage_root ++ path))) ≡ Some bytes → new ≡ old → DestPart job past (phase.RootCheck number) held start old
-    → DestAfter job past (phase.RootCheck number) (cond last phase.OpenRoot (phase.RootCheck (number + 1))) held held start new
-checked_next job past start held new number path bytes last is layout file read change part =
+checked_next : (job : Job) (past : Past) (start : Tree) (held : Held) {old : Writing} (number : ℕ) (path : Path) (bytes : List ℕ) → IsLayout job.tuples → slice_get (root_files_of job.tuples) number ≡ Some (path, bytes)
+    → option_map (take 8192) (bytes_of (old.tree (storage_root ++ path))) ≡ Some bytes → DestPart job past (phase.RootCheck number) held start old
+    → DestAfter job past (phase.RootCheck number) (cond (number == 2) phase.OpenRoot (phase.RootCheck (number + 1))) held held start old
+checked_next job past start held {old} number path bytes layout file read part =
     let stands = peeked_whole _ read (file_short job.tuples number path bytes layout file) in
     let here : root_in start path ≡ Some (Bytes bytes) = sym (ap (λ (t : Tree). t (storage_root ++ path)) part.at.tree) ∙ stands in
-    by last is (one_more_file job (root_in start) number path bytes file here part.at.files)
-  where
-    by : (b : Bool) → (number == 2) ≡ b → HasRootFiles job (root_in start) (number + 1)
-        → DestAfter job past (phase.RootCheck number) (cond b phase.OpenRoot (phase.RootCheck (number + 1))) held held start new
-    by true is files =
-        let two = eqb-true number 2 is in
-        let all : HasRootFiles job (root_in start) 3 = subst (λ (n : ℕ). HasRootFiles job (root_in start) (n + 1)) two files in
-        subst (λ (w : Writing). DestAfter job past (phase.RootCheck number) phase.OpenRoot held held start w) (sym change)
-        (record { started = part.started; tree = part.tree; at = record { root = record { free = part.at.free; root = inr all }; came = refl; tree = part.at.tree ∙ own_root job start part.started all } })
-    by false is files =
-        subst (λ (w : Writing). DestAfter job past (phase.RootCheck number) (phase.RootCheck (number + 1)) held held start w) (sym change)
-        (record { started = part.started; tree = part.tree; at = record { free = part.at.free; top = part.at.top; files = files; tree = part.at.tree } })
+    let files = one_more_file job (root_in start) number path bytes file here part.at.files in
+    either_phase (λ p. DestAfter job past (phase.RootCheck number) p held held start old) (number == 2) phase.OpenRoot (phase.RootCheck (number + 1))
+    (λ last.
+    let all : HasRootFiles job (root_in start) 3 = subst (λ (n : ℕ). HasRootFiles job (root_in start) (n + 1)) (eqb-true number 2 last) files in
+    record { started = part.started; tree = part.tree; at = record { root = record { free = part.at.free; root = inr all }; came = refl; tree = part.at.tree ∙ own_root job start part.started all } })
+    (λ more. record { started = part.started; tree = part.tree; at = record { free = part.at.free; top = part.at.top; files = files; tree = part.at.tree } })
 
 -- with the destination as it was
 unchanged : {job : Job} {past : Past} {here : Phase} {held : Held} {start : Tree} {old new : Writing} → Some new ≡ Some old → DestPart job past here held start old → DestPart job past here held start new
@@ -155,7 +148,7 @@ starts_dest job past start old new prefix read here next held calls layout (HasN
 starts_dest job past start old new prefix read here next held calls layout (HasRoot was) change at part =
     let folder = sym (ap (λ (t : Tree). t storage_root) part.at.0.tree) ∙ folder_kind _ (change.0 old refl) in
     unchanged change.1 (record { started = part.started; tree = part.tree; at = record { free = part.at.1; top = folder; files = λ k d h. absurd (omega (arith, h)); tree = part.at.0.tree } })
-starts_dest job past start old new prefix read here next held calls layout (MakesRoot was number item is) change at part = made_next job past start held old new number item (number == 5) refl (some_same new (after_make item old) change) is part
+starts_dest job past start old new prefix read here next held calls layout (MakesRoot was number item is) change at part = made_next job past start held old new number item change is part
 starts_dest job past start old new prefix read here next held calls layout (RenamesRoot was) change at part =
     let is = some_same new (after_rename staging storage_root old) change in
     subst (λ (w : Writing). DestAfter job past here next held held start w) (sym is)
@@ -164,5 +157,5 @@ starts_dest job past start old new prefix read here next held calls layout (Rena
       tree = tree_moved old.tree storage_root part.tree (root_may_move job start old part.started part.at);
       at = record { root = record { free = part.at.free; root = inl part.at.root }; came = refl; tree = moved_root job start part.started part.at };
     })
-starts_dest job past start old new prefix read here next held calls layout (IsSame was number path bytes is) change at part = checked_next job past start held new number path bytes (number == 2) refl layout is (change.1 old refl) (some_same new old change.2) part
+starts_dest job past start old new prefix read here next held calls layout (IsSame was number path bytes is) change at part = unchanged change.2 (checked_next job past start held number path bytes layout is (change.1 old refl) part)
 starts_dest job past start old new prefix read here next held calls layout turn change at part = unchanged change (record { started = part.started; tree = part.tree; at = part.at })

@@ -33,7 +33,6 @@ behind_none (frame ∷ frames) =
 -- ---- the place moves on
 
 module _ (earlier : List Path) where
-
   one_later : (directory : Path) (place : ℕ) (items : List Item) → come_behind earlier directory (drop place items) ≡ true → come_behind earlier directory (drop (place + 1) items) ≡ true
   one_later directory place items h =
       let test = λ (item : Item). list_all (λ path. parts_before path (directory ++ item.0 ∷ [])) earlier in

@@ -218,7 +218,6 @@ at_folder position at = record {
 }
 
 module _ (rows : List Row) (contents : List Content) (position : Position) (row : Row) where
-
   -- so many contents are stored behind a row whose content is stored already
   pub stored_passed : contents ≡ map content_of_row (distinct rows) → part_in_order (row_paths rows) ≡ true → slice_get rows position.row ≡ Some row
       → is_stored contents position.stored row.path ≡ false → IsAtRow rows position → position.stored ≡ length (distinct (take (position.row + 1) rows))

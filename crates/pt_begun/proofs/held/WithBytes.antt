@@ -32,7 +32,6 @@ rest_of : (P : Row → Type 0) (row : Row) (rows : List Row) → All P (row ∷ 
 rest_of P row rows all = λ k d h. all (suc k) d (omega (arith, h))
 
 module _ (P : List ℕ → Row → Type 0) (bytes : Path → List ℕ) (path : Path) (read : List ℕ) where
-
   -- it still is of rows that come before the path of the file
   all_still : (rows : List Row) → list_all (λ earlier. parts_before earlier path) (row_paths rows) ≡ true
       → EachRow P bytes rows → EachRow P (with_bytes path read bytes) rows

@@ -150,9 +150,7 @@ verdict_there job source t (Skip why) = Skip why
 verdict_there job source t (Named id index) = Named id (object_at source (new_object job id index t) (at_object index t))
 
 module _ (job : Job) (source : Forest) where
-
   module _ (prefix : List ℕ) (frame : Frame) (frames : List Frame) where
-
     by_identifier : (index : Option ℕ) (read : Result (List ℕ) Cause) → is_proper (pairtree_of source) ≡ true → Fits (pairtree_of source) (frame ∷ frames)
         → found_at (form_of job) (frame ∷ frames) ≡ has_object index → identifier_at job prefix (names_to frames) ≡ read
         → verdict_by_visit job prefix (names_to frames) (Listed (inside_at (pairtree_of source) (names_to frames))) ≡ verdict_there job source (frame ∷ frames) (judged_by_identifier index read)

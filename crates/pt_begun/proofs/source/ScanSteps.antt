@@ -80,7 +80,6 @@ advances job source object frame frames false is inside it =
     moved_by it.within (fits_moved (pairtree_of source) (frame ∷ frames) 0 it.fits).1 (site_advanced object (frame ∷ frames) below) it
 
 module _ (job : Job) (source : Forest) (prefix : List ℕ) (object : Object) where
-
   pub moved_on : (trail : List Frame) (count : ℕ) → 0 < own_listings object trail
       → IsInObject job source prefix object trail count → Moved job source prefix object trail (advanced trail) count
   moved_on [] count inside it = absurd (let some = it.some in let within = it.within in omega (arith, some, within))
@@ -98,7 +97,6 @@ one_less : {n : ℕ} → 0 < n → n ≡ suc (n - 1)
 one_less some = omega (arith, some)
 
 module _ (source : Forest) (object : Object) where
-
   -- a shorty of the site is passed
   pub left_shorty : (trail : List Frame) (item : Item) → is_proper (pairtree_of source) ≡ true → Fits (pairtree_of source) trail → current_entry trail ≡ Some item → is_passed object trail item ≡ true → 0 < own_listings object trail
       → left_of source object trail ≡ left_of source object (advanced trail)

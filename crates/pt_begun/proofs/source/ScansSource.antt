@@ -63,7 +63,6 @@ one_more_there source object held item read bytes e at whole there =
 -- ---- how much is held
 
 module _ (job : Job) (source : Forest) (object : Object) (held : Held) where
-
   -- the object is given up
   back_room : (others : ℕ) → entries_held held.trail + others ≤ bound job source → IsWithinBound job source (back_at_site object held)
   back_room others few =
