@@ -2,8 +2,9 @@
 use Rattle.std.proofs.Common.{◌≡◌, ℕ, Bool, true, false, List, [], ◌∷◌, ◌++◌, refl, ap, sym, ◌∙◌, append_assoc, cond}
 use Rattle.std.specs.Prelude.{Option, None, Some, IsSome, is_some, ◌||◌}
 use Rattle.std.proofs.lemmas.Bool.{false≢true, true≢false}
-use Rattle.pt_object.proofs.Ways.{is_same, leads, leads-itself, leads-on, leads-push, name_itself, parent-push}
+use Rattle.pt_object.proofs.Ways.{is_same, leads, leads-itself, leads-on, leads-push, parent-push}
 use Rattle.pt_plan.proofs.Levels.{leads_through, whole_of}
+use Rattle.pt_plan.proofs.NextObject.{rest_of}
 use Rattle.pt_tree.specs.Path.{Path, parent, rest_below, same_path}
 use Rattle.pt_tree.specs.Tree.{CanMake, CanMove, Entry, Folder, IsTree, Tree, added, edited_by, moved, moved_at, put}
 
@@ -65,10 +66,6 @@ none_or p q never = by (rest_below p q) refl
 none_before : (p q : Path) (n : List ℕ) → rest_below p (q ++ n ∷ []) ≡ None → rest_below p q ≡ None
 none_before p q n none = none_or p q (λ on. true≢false (sym (leads-on p q (n ∷ []) on) ∙ ap is_some none))
 
-rest_of : (p : Path) {rest : Path} → rest_below p (p ++ rest) ≡ Some rest
-rest_of [] = refl
-rest_of (x ∷ p) {rest} = ap (λ b. cond b (rest_below p (p ++ rest)) None) (name_itself x) ∙ rest_of p
-
 pub tree_moved : (t : Tree) {from : Path} (to : Path) → IsTree t → CanMove t from to → IsTree (moved t from to)
 tree_moved t {from} to tree can = record {
   top = ap (λ o. moved_at t from o (rest_below from []) []) to_below ∙ ap (λ o. moved_at t from None o []) from_below ∙ tree.top;
@@ -108,7 +105,7 @@ tree_moved t {from} to tree can = record {
         under : (o : Option Path) → rest_below to q ≡ o → moved t from to q ≡ Some Folder
         under (Some more) here =
             let whole : q ≡ to ++ more = whole_of to q more here in
-            let rest_is : Some rest ≡ Some (more ++ n ∷ []) = sym on ∙ ap (rest_below to) (ap (λ (p : Path). p ++ n ∷ []) whole ∙ append_assoc to more (n ∷ [])) ∙ rest_of to in
+            let rest_is : Some rest ≡ Some (more ++ n ∷ []) = sym on ∙ ap (rest_below to) (ap (λ (p : Path). p ++ n ∷ []) whole ∙ append_assoc to more (n ∷ [])) ∙ rest_of to _ in
             let there : IsSome (t ((from ++ more) ++ n ∷ [])) =
             ap is_some (ap t (append_assoc from more (n ∷ []))) ∙ ap (λ o. is_some (moved_at t from o (rest_below from (q ++ n ∷ [])) (q ++ n ∷ []))) (sym rest_is) ∙ some in
             ap (λ o. moved_at t from o (rest_below from q) q) here ∙ tree.above (from ++ more) n there

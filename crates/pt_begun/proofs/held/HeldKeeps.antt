@@ -8,12 +8,12 @@ use Rattle.pt_plan.specs.Job.{Job, form_of}
 use Rattle.pt_plan.specs.Run.{Counts, Held}
 use Rattle.pt_plan.specs.TurnPlace.{Places, after_tuple, MakesTuple, FindsTuple, RenamesObject, TellsDone, TellsEnd}
 use Rattle.pt_plan.specs.TurnStart.{Starts, HasNoRoot, HasRoot, MakesRoot, IsSame}
-use Rattle.pt_plan.specs.TurnWalk.{Walks, IsNew, at_object, found_at, has_object}
+use Rattle.pt_plan.specs.TurnWalk.{Walks, IsNew, found_at, has_object}
 use Rattle.pt_plan.specs.World.{Calls}
 use Rattle.pt_plan.specs.declared.object.Object.{Object}
 use Rattle.pt_plan.specs.declared.phase.Phase.{Phase}
 use Rattle.pt_plan.specs.declared.phase.Phase.TheVariants as phase
-use Rattle.pt_begun.proofs.source.NewObject.{named_found}
+use Rattle.pt_begun.proofs.source.NewObject.{long_at, named_found}
 use Rattle.pt_begun.specs.BegunHeld.{AreRows, EndsAt, FedAt, HeldAt, IsObject, NumbersAt, RowsAt, ScansInOrder, TrailAt}
 use Rattle.pt_begun.specs.Past.{Past, bytes_after}
 use Rattle.pt_begun.specs.HeldLaws.{PlacingKeepsHeld, StartingKeepsHeld, WalkingKeepsHeld}
@@ -61,15 +61,10 @@ some_listing job [] None is = absurd (cc)
 some_listing job [] (Some index) is = absurd (cc)
 some_listing job (frame ∷ frames) index is = omega arith
 
-as_long : (index : Option ℕ) (t : List Frame) → length (at_object index t) ≡ length t
-as_long None t = refl
-as_long (Some index) [] = refl
-as_long (Some index) (frame ∷ frames) = refl
-
 walks_rest : {job : Job} {past : Past} {prefix : List ℕ} {here next : Phase} {held after : Held} {calls : Calls} → Walks job prefix here held after calls (Ok next) → HeldAt job past here held
     → RestAt job (bytes_after here next held past.bytes) next after
 walks_rest {job} {prefix} (IsNew was index id is) at = record {
-  ends = (record { some = some_listing job was.trail index (named_found job prefix was.trail index id is); place = refl }, as_long index was.trail);
+  ends = (record { some = some_listing job was.trail index (named_found job prefix was.trail index id is); place = refl }, long_at index was.trail);
   rows = record { rows = at.rows.rows; contents = at.rows.contents };
   behind = tt;
   numbers = tt;

@@ -3,6 +3,8 @@ use Rattle.std.proofs.Common.{◌≡◌, ◌-◌, ℕ, suc, Bool, true, false, L
 use Rattle.std.specs.Prelude.{Option, None, Some, Result, Ok, Err, is_none, ◌+◌}
 use Rattle.std.specs.Str.{is_utf8}
 use Rattle.pt_name.specs.Share.{Portion, holds, is_first}
+use Rattle.std.specs.List.{concat}
+use Rattle.pt_name.specs.Reading.{reading_of}
 use Rattle.pt_tree.specs.Forest.{Forest, Node, Dir, none, file, other, dir, is_proper, listing_of}
 use Rattle.pt_tree.specs.Listing.{Item}
 use Rattle.pt_tree.specs.Path.{Path}
@@ -25,7 +27,7 @@ use Rattle.pt_walk.specs.declared.site.Form.{Form}
 use Rattle.pt_walk.specs.declared.site.Finding.{Finding}
 use Rattle.pt_walk.specs.declared.site.Finding.TheVariants as finding
 use Rattle.pt_begun.specs.BegunSource.{IsInObject, IsOnWay, IsSiteOf, IsToJudge, inside_object, object_at}
-use Rattle.pt_plan.specs.Items.{Interior, Named, PairtreeObject, Skip, Verdict, VerdictOn, encapsulated, ours, verdict_by_finding, verdict_by_reading, verdict_by_visit, verdict_of, verdict_on_candidate}
+use Rattle.pt_plan.specs.Items.{is_reserved, Interior, Named, PairtreeObject, Skip, Verdict, VerdictOn, encapsulated, ours, verdict_by_finding, verdict_by_reading, verdict_by_visit, verdict_of, verdict_on_candidate}
 use Rattle.pt_plan.specs.Job.{Job, form_of}
 use Rattle.pt_plan.specs.Store.{pairtree_of}
 use Rattle.pt_plan.specs.TurnScan.{to_site}
@@ -34,38 +36,20 @@ use Rattle.pt_plan.specs.declared.object.Object.{Object}
 
 -- ---- an identifier is that of the verdict
 
-by_tests : (utf8 reserved : Bool) (read id : List ℕ) (object : PairtreeObject) → cond utf8 (cond reserved (Err cause.Reserved) (Ok read)) (Err cause.Utf8) ≡ Ok id
-    → cond utf8 (cond reserved (Skip cause.Reserved) (Named read object)) (Skip cause.Utf8) ≡ Named id object
-by_tests false reserved read id object e = absurd (cc)
-by_tests true true read id object e = absurd (cc)
-by_tests true false read id object e = ap (λ (x : List ℕ). Named x object) (ok_is read id (Ok read) (Ok id) refl refl e)
-  where
-    ok_is : (a b : List ℕ) (r s : Result (List ℕ) Cause) → r ≡ Ok a → s ≡ Ok b → r ≡ s → a ≡ b
-    ok_is a b r s h k same = cc
+-- the object named so, or passed over
+abbrev verdict_on_reading : PairtreeObject → Result (List ℕ) Cause → Verdict
+verdict_on_reading object (Ok id) = Named id object
+verdict_on_reading object (Err why) = Skip why
 
-identified : (job : Job) (prefix : List ℕ) (object : PairtreeObject) (read : Option (List ℕ)) (id : List ℕ) → identifier_by job prefix read ≡ Ok id → verdict_by_reading job prefix object read ≡ Named id object
-identified job prefix object None id e = absurd (cc)
-identified job prefix object (Some read) id e = by_tests (is_utf8 read) _ (prefix ++ read) id object e
+by_tests : (utf8 reserved : Bool) (read : List ℕ) (object : PairtreeObject) → cond utf8 (cond reserved (Skip cause.Reserved) (Named read object)) (Skip cause.Utf8)
+    ≡ verdict_on_reading object (cond utf8 (cond reserved (Err cause.Reserved) (Ok read)) (Err cause.Utf8))
+by_tests false reserved read object = refl
+by_tests true true read object = refl
+by_tests true false read object = refl
 
--- without one the object is passed over
-by_refusals : (utf8 reserved : Bool) (read : List ℕ) (object : PairtreeObject) (why : Cause) → cond utf8 (cond reserved (Err cause.Reserved) (Ok read)) (Err cause.Utf8) ≡ Err why
-    → cond utf8 (cond reserved (Skip cause.Reserved) (Named read object)) (Skip cause.Utf8) ≡ Skip why
-by_refusals false reserved read object why e = let same : cause.Utf8 ≡ why = err_is cause.Utf8 why e in ap (λ (c : Cause). Skip c) same
-  where
-    err_is : (a b : Cause) → ◌≡◌ {A = Result (List ℕ) Cause} (Err a) (Err b) → a ≡ b
-    err_is a b same = cc
-by_refusals true true read object why e = let same : cause.Reserved ≡ why = err_is cause.Reserved why e in ap (λ (c : Cause). Skip c) same
-  where
-    err_is : (a b : Cause) → ◌≡◌ {A = Result (List ℕ) Cause} (Err a) (Err b) → a ≡ b
-    err_is a b same = cc
-by_refusals true false read object why e = absurd (cc)
-
-unidentified : (job : Job) (prefix : List ℕ) (object : PairtreeObject) (read : Option (List ℕ)) (why : Cause) → identifier_by job prefix read ≡ Err why → verdict_by_reading job prefix object read ≡ Skip why
-unidentified job prefix object None why e = let same : cause.Name ≡ why = err_is cause.Name why e in ap (λ (c : Cause). Skip c) same
-  where
-    err_is : (a b : Cause) → ◌≡◌ {A = Result (List ℕ) Cause} (Err a) (Err b) → a ≡ b
-    err_is a b same = cc
-unidentified job prefix object (Some read) why e = by_refusals (is_utf8 read) _ (prefix ++ read) object why e
+as_identified : (job : Job) (prefix : List ℕ) (object : PairtreeObject) (read : Option (List ℕ)) → verdict_by_reading job prefix object read ≡ verdict_on_reading object (identifier_by job prefix read)
+as_identified job prefix object None = refl
+as_identified job prefix object (Some read) = by_tests (is_utf8 read) (is_reserved job (prefix ++ read)) (prefix ++ read) object
 
 -- ---- the entry that encapsulates an object
 
@@ -94,54 +78,24 @@ pub found_there : (job : Job) (top : Forest) (frame : Frame) (frames : List Fram
 found_there job top frame frames proper fits is =
     ap (λ (l : List Item). found l (at_of (names_to frames)) (form_of job)) (listing_there top frame frames proper fits).1 ∙ is
 
--- it is named so
-pub named_there : (job : Job) (source : Forest) (prefix : List ℕ) (frame : Frame) (frames : List Frame) (index : Option ℕ) (id : List ℕ) → is_proper (pairtree_of source) ≡ true → Fits (pairtree_of source) (frame ∷ frames)
-    → found_at (form_of job) (frame ∷ frames) ≡ has_object index → identifier_at job prefix (names_to frames) ≡ Ok id
-    → verdict_by_visit job prefix (names_to frames) (Listed (inside_at (pairtree_of source) (names_to frames))) ≡ Named id (object_at source (new_object job id index (frame ∷ frames)) (at_object index (frame ∷ frames)))
-named_there job source prefix frame frames None id proper fits is reads =
+-- it comes to what its identifier is read as
+visit_there : (job : Job) (source : Forest) (prefix : List ℕ) (frame : Frame) (frames : List Frame) (index : Option ℕ) → is_proper (pairtree_of source) ≡ true → Fits (pairtree_of source) (frame ∷ frames)
+    → found_at (form_of job) (frame ∷ frames) ≡ has_object index
+    → verdict_by_visit job prefix (names_to frames) (Listed (inside_at (pairtree_of source) (names_to frames)))
+    ≡ verdict_by_reading job prefix (object_at source (new_object job [] index (frame ∷ frames)) (at_object index (frame ∷ frames))) (reading_of (concat (names_to frames)))
+visit_there job source prefix frame frames None proper fits is =
+    ap (verdict_by_finding job prefix (names_to frames) (inside_at (pairtree_of source) (names_to frames))) (found_there job _ frame frames proper fits is)
+visit_there job source prefix frame frames (Some i) proper fits is =
     let top = pairtree_of source in
     let site = names_to frames in
-    let inside = inside_at top site in
-    ap (verdict_by_finding job prefix site inside) (found_there job top frame frames proper fits is)
-    ∙ identified job prefix _ _ id reads
-named_there job source prefix frame frames (Some i) id proper fits is reads =
-    let top = pairtree_of source in
-    let site = names_to frames in
-    let inside = inside_at top site in
     let there : Frame = record { listing = frame.listing; place = i } in
     let entry = candidate frame.listing (at_of site) (form_of job) i is in
     let name = entry.0 in
-    let object : PairtreeObject = record { at = site ++ name ∷ []; gathered = false; inside = inside_at top (site ++ name ∷ []) } in
     let next = step.enters false top 0 there frames name (inside_at top (site ++ name ∷ [])) proper fits entry.1 refl refl in
-    let held = encapsulated_is site _ _ next in
     let path : site ++ name ∷ [] ≡ names_to (there ∷ frames) = sym (path_grows there frames (name, kind.Dir) entry.1) in
-    ap (verdict_by_finding job prefix site inside) (found_there job top frame frames proper fits is)
-    ∙ ap (verdict_on_candidate job prefix site) held
-    ∙ identified job prefix object _ id reads
-    ∙ ap (λ (p : Path). Named id (record { at = p; gathered = false; inside = inside_at top p })) path
-
--- it is passed over
-pub nameless_there : (job : Job) (source : Forest) (prefix : List ℕ) (frame : Frame) (frames : List Frame) (index : Option ℕ) (why : Cause) → is_proper (pairtree_of source) ≡ true → Fits (pairtree_of source) (frame ∷ frames)
-    → found_at (form_of job) (frame ∷ frames) ≡ has_object index → identifier_at job prefix (names_to frames) ≡ Err why
-    → verdict_by_visit job prefix (names_to frames) (Listed (inside_at (pairtree_of source) (names_to frames))) ≡ Skip why
-nameless_there job source prefix frame frames None why proper fits is reads =
-    let site = names_to frames in
-    let inside = inside_at (pairtree_of source) site in
-    ap (verdict_by_finding job prefix site inside) (found_there job _ frame frames proper fits is)
-    ∙ unidentified job prefix _ _ why reads
-nameless_there job source prefix frame frames (Some i) why proper fits is reads =
-    let top = pairtree_of source in
-    let site = names_to frames in
-    let inside = inside_at top site in
-    let there : Frame = record { listing = frame.listing; place = i } in
-    let entry = candidate frame.listing (at_of site) (form_of job) i is in
-    let name = entry.0 in
-    let object : PairtreeObject = record { at = site ++ name ∷ []; gathered = false; inside = inside_at top (site ++ name ∷ []) } in
-    let next = step.enters false top 0 there frames name (inside_at top (site ++ name ∷ [])) proper fits entry.1 refl refl in
-    let held = encapsulated_is site _ _ next in
-    ap (verdict_by_finding job prefix site inside) (found_there job top frame frames proper fits is)
-    ∙ ap (verdict_on_candidate job prefix site) held
-    ∙ unidentified job prefix object _ why reads
+    ap (verdict_by_finding job prefix site (inside_at top site)) (found_there job top frame frames proper fits is)
+    ∙ ap (verdict_on_candidate job prefix site) (encapsulated_is site _ _ next)
+    ∙ ap (λ (p : Path). verdict_by_reading job prefix (record { at = p; gathered = false; inside = inside_at top p }) (reading_of (concat site))) path
 
 -- what an item comes to whose site is judged to be this where the trail stands
 abbrev pub verdict_there : Job → Forest → List Frame → VerdictOn (Option ℕ) → Verdict
@@ -154,8 +108,8 @@ module _ (job : Job) (source : Forest) where
     by_identifier : (index : Option ℕ) (read : Result (List ℕ) Cause) → is_proper (pairtree_of source) ≡ true → Fits (pairtree_of source) (frame ∷ frames)
         → found_at (form_of job) (frame ∷ frames) ≡ has_object index → identifier_at job prefix (names_to frames) ≡ read
         → verdict_by_visit job prefix (names_to frames) (Listed (inside_at (pairtree_of source) (names_to frames))) ≡ verdict_there job source (frame ∷ frames) (judged_by_identifier index read)
-    by_identifier index (Ok id) proper fits is reads = named_there job source prefix frame frames index id proper fits is reads
-    by_identifier index (Err why) proper fits is reads = nameless_there job source prefix frame frames index why proper fits is reads
+    by_identifier index (Ok id) proper fits is reads = visit_there job source prefix frame frames index proper fits is ∙ as_identified job prefix _ _ ∙ ap (verdict_on_reading _) reads
+    by_identifier index (Err why) proper fits is reads = visit_there job source prefix frame frames index proper fits is ∙ as_identified job prefix _ _ ∙ ap (verdict_on_reading _) reads
 
     by_found : (what : Finding) → is_proper (pairtree_of source) ≡ true → Fits (pairtree_of source) (frame ∷ frames) → found_at (form_of job) (frame ∷ frames) ≡ what
         → verdict_by_visit job prefix (names_to frames) (Listed (inside_at (pairtree_of source) (names_to frames))) ≡ verdict_there job source (frame ∷ frames) (judged_by_finding job prefix (names_to frames) what)
@@ -256,7 +210,7 @@ filled_there job source frame frames None id proper fits is gathered =
     some_left 0 (inside_at top (names_to frames))
     (some_found (form_of job) (listing_of (inside_at top (names_to frames))) (at_of (names_to frames)) (found_there job top frame frames proper fits is))
 
-long_at : (index : Option ℕ) (trail : List Frame) → length (at_object index trail) ≡ length trail
+pub long_at : (index : Option ℕ) (trail : List Frame) → length (at_object index trail) ≡ length trail
 long_at None trail = refl
 long_at (Some i) [] = refl
 long_at (Some i) (frame ∷ frames) = refl

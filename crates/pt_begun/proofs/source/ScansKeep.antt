@@ -15,7 +15,7 @@ use Rattle.pt_tree.specs.declared.kind.Kind.TheVariants as kind
 use Rattle.pt_walk.proofs.ObjectSteps as step
 use Rattle.pt_walk.proofs.TrailSteps.{directory_there, file_there, path_grows}
 use Rattle.pt_walk.specs.Left.{Fits, bytes_at, entries_left, inside_at}
-use Rattle.pt_walk.specs.Object.{emptiness, entries, entry_cause, without_shorties}
+use Rattle.pt_walk.specs.Object.{Entry, emptiness, entries, entry_cause, without_shorties}
 use Rattle.pt_walk.specs.Trail.{advanced, current_entry, entered, is_dir_entry, is_trail, names_to, parent, sought}
 use Rattle.pt_walk.specs.declared.cause.Cause.TheVariants as cause
 use Rattle.pt_walk.specs.declared.frame.Frame.{Frame}
@@ -51,6 +51,9 @@ given_up {job} {prefix} {object} held {count} same started it =
 
 -- ---- the scan goes on
 
+scanned_as : {job : Job} {object other : PairtreeObject} {rows : List Row} {empty : ℕ} {left : List Entry} → object ≡ other → HasScanned job object rows empty left → HasScanned job other rows empty left
+scanned_as {job} {rows} {empty} {left} same it = subst (λ o. HasScanned job o rows empty left) same it
+
 -- where an entry that isn't of the object is passed, or a listing is left
 scans_on : (job : Job) {source : Forest} {prefix : List ℕ} {object : Object} {held : Held} {trail : List Frame} {count : ℕ} → IsInObject job source prefix object trail count
     → object_at source object (to_site object held.trail) ≡ object_at source object (to_site object trail) → 0 < own_listings object trail → left_of source object held.trail ≡ left_of source object trail
@@ -59,7 +62,7 @@ scans_on job {source} {object} {held} {trail} stands same inside left it = recor
   stands = stands;
   inside = inside;
   scanned =
-      subst (λ (o : PairtreeObject). HasScanned job o held.rows object.empty (left_of source object trail)) same
+      scanned_as same
       (scans_same left it.scanned);
 }
 
@@ -98,7 +101,7 @@ enters_directory job {source} {object} held (frame ∷ frames) {name} {items} pr
       stands = still_counted _ step_in.stands;
       inside = omega (arith, grown);
       scanned =
-          subst (λ (o : PairtreeObject). HasScanned job o held.rows (object.empty + none_listed items) (left_of source object (entered items trail))) step_in.same
+          scanned_as step_in.same
           (subst (λ (l : List Row). HasScanned job object_is l (object.empty + none_listed items) (left_of source object (entered items trail))) (append-nil held.rows) next);
     }
 
@@ -152,7 +155,7 @@ enters_object job {source} {object} held (frame ∷ frames) {items} proper is_on
     record {
       stands = still_counted _ step_in.stands;
       inside = omega (arith, own);
-      scanned = subst (λ (o : PairtreeObject). HasScanned job o held.rows (object.empty + none_listed items) (left_of source object (entered items trail))) step_in.same first;
+      scanned = scanned_as step_in.same first;
     }
 
 starts_in_site : (job : Job) {source : Forest} {prefix : List ℕ} {object : Object} (held : Held) (trail : List Frame) {count : ℕ}
@@ -184,7 +187,7 @@ starts_in_site job {source} {prefix} {object} held (frame ∷ frames) {count} ga
     record {
       stands = step_to.stands;
       inside = omega (arith, own);
-      scanned = subst (λ (o : PairtreeObject). HasScanned job o held.rows object.empty (left_of source object (sought 0 trail))) step_to.same first;
+      scanned = scanned_as step_to.same first;
     }
 
 -- ---- at the end of a listing
@@ -241,7 +244,7 @@ ends_object job {source} {object} held (frame ∷ frames) is e apart own stands 
       stands = moved.stands;
       at_site = same;
       scanned =
-          subst (λ (o : PairtreeObject). HasScanned job o held.rows object.empty []) moved.same
+          scanned_as moved.same
           (scans_same (left_none source object trail stands.fits e one) scanned);
     }
 
@@ -295,7 +298,7 @@ ends_file job {source} {prefix} {object} held (frame ∷ frames) {name} {read} {
     let moved = moved_on job source prefix object trail count inside stands in (
       moved.stands,
       own_advanced object trail inside,
-      subst (λ (o : PairtreeObject). HasScanned job o (held.rows ++ row_of (logical_path object trail) (digest_of job.algorithm held.fed) read ∷ []) object.empty (left_of source object (advanced trail))) moved.same
+      scanned_as moved.same
           (subst (λ (r : Row). HasScanned job object_is (held.rows ++ r ∷ []) object.empty (left_of source object (advanced trail))) row_is next),
     )
 

@@ -36,7 +36,7 @@ use Rattle.pt_begun.proofs.source.ScanSteps.{moved_behind, moved_on, moved_out}
 use Rattle.pt_begun.proofs.held.ScansHold.{here_behind}
 use Rattle.pt_begun.proofs.held.TrailKeeps as trail
 use Rattle.pt_begun.proofs.source.ScansKeep.{below_site_of, scans_keep, some_around}
-use Rattle.pt_begun.proofs.source.SourceKeeps.{BesideAt, with_beside}
+use Rattle.pt_begun.proofs.source.SourceKeeps.{BesideAt, behind_parent, with_beside}
 use Rattle.pt_begun.proofs.held.WithBytes.{rows_push}
 
 -- ---- the bytes of the rows
@@ -117,9 +117,6 @@ room_below job source prefix object held items name count proper is_one e apart 
     (directory_scanned job source object held.rows object.empty t name items proper is_one e apart shallow listing before.stands.fits before.stands.within before.inside before.scanned))
 
 -- ---- each turn
-
-behind_parent : (t : List Frame) → entries_held (advanced (parent t)) ≤ entries_held t
-behind_parent t = let one = entries_advanced (parent t) in let two = entries_parent t in omega (arith, one, two)
 
 same_entries : (t : List Frame) → entries_held (advanced t) ≤ entries_held t
 same_entries t = let one = entries_advanced t in omega (arith, one)

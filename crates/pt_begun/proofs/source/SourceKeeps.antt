@@ -84,7 +84,7 @@ object_sought : (index : Option ℕ) (t : List Frame) → entries_held (at_objec
 object_sought None t = refl
 object_sought (Some index) t = entries_sought index t
 
-behind_parent : (t : List Frame) → entries_held (advanced (parent t)) ≤ entries_held t
+pub behind_parent : (t : List Frame) → entries_held (advanced (parent t)) ≤ entries_held t
 behind_parent t = let one = entries_advanced (parent t) in let two = entries_parent t in omega (arith, one, two)
 
 -- at a site nothing is held but its listings
