@@ -226,13 +226,13 @@ scans_rest {job} {after} (EntersObject was object items apart shallow) at = reco
   numbers = tt;
 }
 scans_rest (IsTooDeep was object apart deep) at = no_object_rest object was
-scans_rest {job} {after} (PassesShorty was object item e passed) at = record {
+scans_rest {after} (PassesShorty was object item e passed) at = record {
   ends = (at.ends.0, ends_advanced was.trail at.ends.1);
   rows = moved_rows after.trail at.rows;
   behind = all_advanced _ object was.trail at.behind;
   numbers = tt;
 }
-scans_rest {job} {after} (EntersDirectory was object name items e apart shallow) at = record {
+scans_rest {after} (EntersDirectory was object name items e apart shallow) at = record {
   ends = (counted items at.ends.0, counted_ends items after.trail (ends_entered object items was.trail at.ends.1));
   rows = moved_rows after.trail at.rows;
   behind = all_entered _ was.trail items e at.ends.1 at.behind;
@@ -243,9 +243,9 @@ scans_rest {job} {past} (OpensFile was object name e room) at = record { ends = 
 scans_rest (MeetsLimit was object name e room) at = no_object_rest object was
 scans_rest (MeetsOther was object name e) at = no_object_rest object was
 scans_rest (EndsSite was object e there) at = record { ends = (at.ends.0, eqb-true (length was.trail) object.site there); rows = at.rows; behind = tt; numbers = tt }
-scans_rest {job} (EndsObject was object e apart own) at =
+scans_rest (EndsObject was object e apart own) at =
     record { ends = (at.ends.0, at_site_again object was.trail own); rows = moved_rows (parent was.trail) at.rows; behind = tt; numbers = tt }
-scans_rest {job} {after} (LeavesDirectory was object e apart outside) at = record {
+scans_rest {after} (LeavesDirectory was object e apart outside) at = record {
   ends = (at.ends.0, ends_left object was.trail apart outside at.ends.1);
   rows = moved_rows after.trail at.rows;
   behind = all_left _ object was.trail (below_site_of object was.trail apart at.ends.1.within) at.behind;

@@ -58,7 +58,7 @@ scanned_as {job} {rows} {empty} {left} same it = subst (λ o. HasScanned job o r
 scans_on : (job : Job) {source : Forest} {prefix : List ℕ} {object : Object} {held : Held} {trail : List Frame} {count : ℕ} → IsInObject job source prefix object trail count
     → object_at source object (to_site object held.trail) ≡ object_at source object (to_site object trail) → 0 < own_listings object trail → left_of source object held.trail ≡ left_of source object trail
     → IsScanning job source prefix object held count → IsScanning job source prefix object (with_trail held trail) count
-scans_on job {source} {object} {held} {trail} stands same inside left it = record {
+scans_on job stands same inside left it = record {
   stands = stands;
   inside = inside;
   scanned =
@@ -324,7 +324,7 @@ scans_keep {job} s new prefix count {after} proper is_one (StartsInSite was obje
 scans_keep {job} s new prefix count {after} proper is_one (EntersObject was object items apart shallow) at answers =
     stays (InScan job prefix (with_directory object items) count after) answers.2
     (at.1, enters_object job was was.trail (pairtree_proper s.tree at.1.store proper) is_one apart shallow (sym (listing_in s.tree (names_to was.trail) at.1.store) ∙ answers.0 s refl) at.2 at.3 at.4 at.0.rows)
-scans_keep s new prefix count {after} proper is_one (IsTooDeep was object apart deep) at answers =
+scans_keep s new prefix count proper is_one (IsTooDeep was object apart deep) at answers =
     given_up was answers at.1 at.2
 scans_keep {job} s new prefix count {after} proper is_one (PassesShorty was object item e passed) at answers =
     stays (InScan job prefix object count after) answers
@@ -332,7 +332,7 @@ scans_keep {job} s new prefix count {after} proper is_one (PassesShorty was obje
 scans_keep {job} s new prefix count {after} proper is_one (EntersDirectory was object name items e apart shallow) at answers =
     stays (InScan job prefix (with_directory object items) count after) answers.2
     (at.0, enters_directory job was was.trail (pairtree_proper s.tree at.0.store proper) is_one e apart shallow (sym (listing_in s.tree (names_to was.trail) at.0.store) ∙ answers.0 s refl) at.1.stands at.1.inside at.1.scanned)
-scans_keep s new prefix count {after} proper is_one (MeetsDeep was object name e apart deep) at answers =
+scans_keep s new prefix count proper is_one (MeetsDeep was object name e apart deep) at answers =
     given_up was answers at.0 at.1.stands
 scans_keep {job} s new prefix count {after} proper is_one (OpensFile was object name e room) at answers =
     let path = pairtree_root ∷ names_to was.trail in
@@ -348,9 +348,9 @@ scans_keep {job} s new prefix count {after} proper is_one (OpensFile was object 
         read = reads_first (opened s.tree was.trail name at.0.store top_proper at.1.stands.fits e);
       },
     )
-scans_keep s new prefix count {after} proper is_one (MeetsLimit was object name e room) at answers =
+scans_keep s new prefix count proper is_one (MeetsLimit was object name e room) at answers =
     given_up was answers at.0 at.1.stands
-scans_keep s new prefix count {after} proper is_one (MeetsOther was object name e) at answers =
+scans_keep s new prefix count proper is_one (MeetsOther was object name e) at answers =
     given_up was answers at.0 at.1.stands
 scans_keep {job} s new prefix count {after} proper is_one (EndsSite was object e there) at answers =
     stays (AllScanned job prefix object count after) answers (at.0, ends_site s.tree object was e there at.1)
@@ -372,7 +372,7 @@ scans_keep {job} s new prefix count {after} proper is_one (ReadsOn was object by
         read = reads_block 8192 whole bytes was.fed _ s.unread at.2.read (answers.0 s refl);
       },
     )
-scans_keep s new prefix count {after} proper is_one (IsTooLong was object bytes byte block long) at answers =
+scans_keep s new prefix count proper is_one (IsTooLong was object bytes byte block long) at answers =
     given_up was answers.1 at.0 at.1.stands
 scans_keep {job} s new prefix count {after} proper is_one (EndsFile was object bytes) at answers =
     let whole = bytes_at (pairtree_of s.tree) (names_to was.trail) in

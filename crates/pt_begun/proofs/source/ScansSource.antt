@@ -129,53 +129,60 @@ moved_beside job {source} {bytes} {object} held t same less there room = record 
   few = room_moved job source object held (with_trail held t) same less room;
 }
 
+-- where a turn goes on with the scan, what it keeps of the trail and of the object
+in_scan : {job : Job} {past : Past} (s : Reading) {prefix : List ℕ} {here : Phase} {held after : Held} {calls : Calls} {object : Object} → Scans job here held after calls (Ok (phase.Scan object))
+    → Answers calls.asked (Some s) (Some s) → HeldAt job past here held → SourcePart job past here prefix held s → (is_trail after.trail ≡ true) × IsScanning job s.tree prefix object after past.count
+in_scan {past} s {prefix} turn answers at part =
+    ((trail.scans_keep (Some s) (Some s) turn answers at.trail).is_one, (scans_keep s s prefix past.count part.proper at.trail.is_one turn part.at answers).1)
+
 scans_beside : (job : Job) {past : Past} (s new : Reading) {prefix : List ℕ} {here next : Phase} {held after : Held} {calls : Calls} → Scans job here held after calls (Ok next) → Answers calls.asked (Some s) (Some new) → HeldAt job past here held
     → SourcePart job past here prefix held s → BesideAt job s.tree (bytes_after here next held past.bytes) next after
 unfolding Answers IsListed IsRead
-scans_beside job {past} s new {prefix} {after} (StartsInSite was object gathered) answers at part =
+scans_beside job {past} s new {after} (StartsInSite was object gathered) answers at part =
+    let now = in_scan s (StartsInSite was object gathered) refl at part in
     record {
-      bytes_are = none_there s.tree object (to_site object (sought 0 was.trail)) past.bytes at.rows.rows;
-      few = room_in_site job was was.trail gathered at.ends.1 part.at.1 (trail.scans_keep {job = job} (Some s) (Some s) (StartsInSite was object gathered) refl at.trail).is_one (scans_keep s s prefix past.count part.proper at.trail.is_one (StartsInSite was object gathered) part.at refl).1;
+      bytes_are = none_there s.tree object (to_site object after.trail) past.bytes at.rows.rows;
+      few = room_in_site job was was.trail gathered at.ends.1 part.at.1 now.0 now.1;
     }
 scans_beside job {past} s new {prefix} {after} (EntersObject was object items apart shallow) answers at part =
+    let now = in_scan s (EntersObject was object items apart shallow) (answers.0, answers.1, refl) at part in
     record {
-      bytes_are = none_there s.tree (with_directory object items) (to_site object (entered items was.trail)) past.bytes at.rows.rows;
-      few = room_in_directory job s.tree prefix object was items was.trail past.count apart at.ends.1 part.at.1 (trail.scans_keep {job = job} (Some s) (Some s) (EntersObject was object items apart shallow) (answers.0, answers.1, refl) at.trail).is_one
-          (scans_keep s s prefix past.count part.proper at.trail.is_one (EntersObject was object items apart shallow) part.at (answers.0, answers.1, refl)).1;
+      bytes_are = none_there s.tree (with_directory object items) (to_site object after.trail) past.bytes at.rows.rows;
+      few = room_in_directory job s.tree prefix object was items was.trail past.count apart at.ends.1 part.at.1 now.0 now.1;
     }
-scans_beside job s new {after} (IsTooDeep was object apart deep) answers at part =
+scans_beside job s new (IsTooDeep was object apart deep) answers at part =
     record { bytes_are = tt; few = early_room job s.tree object was part.few }
-scans_beside job {past} s new {prefix} {after} (PassesShorty was object item e passed) answers at part =
+scans_beside job {past} s new {prefix} (PassesShorty was object item e passed) answers at part =
     moved_beside job was _ (moved_on job s.tree prefix object was.trail past.count part.at.1.inside part.at.1.stands).same (same_entries was.trail) part.bytes part.few
 scans_beside job {past} s new {prefix} {after} (EntersDirectory was object name items e apart shallow) answers at part =
+    let now = in_scan s (EntersDirectory was object name items e apart shallow) (answers.0, answers.1, refl) at part in
     record {
-      bytes_are = still_there s.tree object (to_site object was.trail) (to_site object (entered items was.trail)) past.bytes was.rows (ap (object_at s.tree object) (sym (site_entered object items was.trail part.at.1.stands.within))) part.bytes;
-      few = room_below job s.tree prefix object was items name past.count (pairtree_proper s.tree part.at.0.store part.proper) at.trail.is_one e apart shallow (sym (listing_in s.tree _ part.at.0.store) ∙ answers.0 s refl) part.at.0
-          (trail.scans_keep {job = job} (Some s) (Some s) (EntersDirectory was object name items e apart shallow) (answers.0, answers.1, refl) at.trail).is_one part.at.1 (scans_keep s s prefix past.count part.proper at.trail.is_one (EntersDirectory was object name items e apart shallow) part.at (answers.0, answers.1, refl)).1;
+      bytes_are = still_there s.tree object (to_site object was.trail) (to_site object after.trail) past.bytes was.rows (ap (object_at s.tree object) (sym (site_entered object items was.trail part.at.1.stands.within))) part.bytes;
+      few = room_below job s.tree prefix object was items name past.count (pairtree_proper s.tree part.at.0.store part.proper) at.trail.is_one e apart shallow (sym (listing_in s.tree _ part.at.0.store) ∙ answers.0 s refl) part.at.0 now.0 part.at.1 now.1;
     }
-scans_beside job s new {after} (MeetsDeep was object name e apart deep) answers at part =
+scans_beside job s new (MeetsDeep was object name e apart deep) answers at part =
     record { bytes_are = tt; few = given_room job s.tree object was part.few }
-scans_beside job s new {after} (OpensFile was object name e room) answers at part =
+scans_beside job s new (OpensFile was object name e room) answers at part =
     record { bytes_are = part.bytes; few = part.few }
-scans_beside job s new {after} (MeetsLimit was object name e room) answers at part =
+scans_beside job s new (MeetsLimit was object name e room) answers at part =
     record { bytes_are = tt; few = given_room job s.tree object was part.few }
-scans_beside job s new {after} (MeetsOther was object name e) answers at part =
+scans_beside job s new (MeetsOther was object name e) answers at part =
     record { bytes_are = tt; few = given_room job s.tree object was part.few }
-scans_beside job s new {after} (EndsSite was object e there) answers at part =
+scans_beside job s new (EndsSite was object e there) answers at part =
     record { bytes_are = part.bytes; few = made_room job was.trail at part.at.1 (omega arith) part.few }
-scans_beside job {past} s new {after} (EndsObject was object e apart own) answers at part =
+scans_beside job {past} s new (EndsObject was object e apart own) answers at part =
     record {
       bytes_are = still_there s.tree object (to_site object was.trail) (to_site object (parent was.trail)) past.bytes was.rows (moved_out was.trail (below_site_of object was.trail apart part.at.1.stands.within) part.at.1.stands).same part.bytes;
       few = made_room job (parent was.trail) at part.at.1 (entries_parent was.trail) part.few;
     }
-scans_beside job {past} s new {prefix} {after} (LeavesDirectory was object e apart outside) answers at part =
+scans_beside job {past} s new {prefix} (LeavesDirectory was object e apart outside) answers at part =
     let below = below_site_of object was.trail apart part.at.1.stands.within in
     moved_beside job was _ (moved_behind job s.tree prefix object was.trail past.count below (some_around object was.trail outside below) part.at.1.stands).same (behind_parent was.trail) part.bytes part.few
-scans_beside job s new {after} (ReadsOn was object bytes byte block short) answers at part =
+scans_beside job s new (ReadsOn was object bytes byte block short) answers at part =
     record { bytes_are = part.bytes; few = part.few }
-scans_beside job s new {after} (IsTooLong was object bytes byte block long) answers at part =
+scans_beside job s new (IsTooLong was object bytes byte block long) answers at part =
     record { bytes_are = tt; few = given_room job s.tree object was part.few }
-scans_beside job {past} s new {prefix} {after} (EndsFile was object bytes) answers at part =
+scans_beside job {past} s new {prefix} (EndsFile was object bytes) answers at part =
     let whole = (reads_end 8192 _ bytes was.fed s.unread (omega arith) part.at.2.read (answers.0 s refl)).all in
     let same = (moved_on job s.tree prefix object was.trail past.count part.at.1.inside part.at.1.stands).same in
     record {

@@ -167,7 +167,7 @@ copied_whole s object held row is ended it =
 makes_beside : {job : Job} (past : Past) (s new : Reading) {prefix : List ℕ} {here : Phase} {held after : Held} {calls : Calls} {next : Phase} → Makings job here held after calls (Ok next) → Answers calls.asked (Some s) (Some new)
     → HeldAt job past here held → SourcePart job past here prefix held s → BesideAt job s.tree (bytes_after here next held past.bytes) next after
 unfolding Answers IsRead
-makes_beside {job} past s new (EndsCopy was object position row left is same) answers at part = record {
+makes_beside past s new (EndsCopy was object position row left is same) answers at part = record {
   bytes_are =
       read_again s past.bytes object was position.row row is at.rows.order (site_itself object was.trail at.ends.1)
       (copied_whole s object was row is answers.0 part.at.2) part.bytes;

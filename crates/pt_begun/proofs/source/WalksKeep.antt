@@ -218,7 +218,7 @@ pub walks_keep : (job : Job) (s new : Reading) {prefix : List ℕ} (count : ℕ)
     → is_proper s.tree ≡ true → is_trail held.trail ≡ true → Walks job prefix here held after calls (Ok next) → SourceAt job s prefix count here held
     → Answers calls.asked (Some s) (Some new) → SourceAt job new prefix (done_after here held.trail next count) next after
 unfolding Answers IsListed
-walks_keep job s new count {after} proper is_one (OpensRoot was items) at answers =
+walks_keep job s new count proper is_one (OpensRoot was items) at answers =
     let listed : listing_at (pairtree_of s.tree) [] ≡ Some items = sym (listing_in s.tree [] at.2.store) ∙ answers.0 s refl in
     at_site job was answers.2 at.0.rows at.0.contents at.2 (opens_root job s.tree was.trail items at.2.store at.0.trail at.1 listed)
 walks_keep job s new {prefix} count {after} proper is_one (IsNew was index id is) at answers =
@@ -226,16 +226,16 @@ walks_keep job s new {prefix} count {after} proper is_one (IsNew was index id is
     let it = new_object_there job s.tree prefix was.trail index id count (pairtree_proper s.tree at.1.store proper) is at.2 in
     stays (λ r. HoldsNoObject after × HasStarted r.tree prefix × IsInObject job r.tree prefix object after.trail count × (length after.trail ≡ length was.trail) × (object.empty ≡ 0)) answers
     (record { rows = at.0.rows; contents = at.0.contents }, at.1, it.stands, it.at_site, refl)
-walks_keep job s new count {after} proper is_one (IsPast was name e short last) at answers =
+walks_keep job s new count proper is_one (IsPast was name e short last) at answers =
     walked _ (done_at_shorty was.trail name count e short) answers at.0 at.1 (passes_past job was.trail (pairtree_proper s.tree at.1.store proper) e short last at.2)
-walks_keep job s new count {after} proper is_one (IsDeep was name e short last deep) at answers =
+walks_keep job s new count proper is_one (IsDeep was name e short last deep) at answers =
     walked _ (done_at_shorty was.trail name count e short) answers at.0 at.1 (passes_deep job was.trail (pairtree_proper s.tree at.1.store proper) is_one e short last deep at.2)
-walks_keep job s new count {after} proper is_one (EntersSite was name items e short last deep) at answers =
+walks_keep job s new count proper is_one (EntersSite was name items e short last deep) at answers =
     let listed : listing_at (pairtree_of s.tree) (names_to was.trail) ≡ Some items = sym (listing_in s.tree (names_to was.trail) at.1.store) ∙ answers.0 s refl in
     at_site job was answers.2 at.0.rows at.0.contents at.1 (enters_site job was.trail (pairtree_proper s.tree at.1.store proper) is_one e short last deep listed at.2)
-walks_keep job s new count {after} proper is_one (PassesEntry was item e apart) at answers =
+walks_keep job s new count proper is_one (PassesEntry was item e apart) at answers =
     walked _ (none_at_entry was.trail item count e apart) answers at.0 at.1 (passes_entry job was.trail (pairtree_proper s.tree at.1.store proper) e apart at.2)
-walks_keep job s new count {after} proper is_one (LeavesSite was e long) at answers =
+walks_keep job s new count proper is_one (LeavesSite was e long) at answers =
     walked _ (none_at_end was.trail count e) answers at.0 at.1 (leaves_site was.trail e long at.2)
 walks_keep job s new {prefix} count proper is_one (EndsWalk was e short) at answers =
     stays (λ r. HoldsNoObject was × HasStarted r.tree prefix × (drop count (sites_of job.limits.depth r.tree) ≡ [])) answers (at.0, at.1, ends_walk was.trail e short at.2)
