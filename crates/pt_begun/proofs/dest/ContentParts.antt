@@ -72,7 +72,7 @@ pub record IsHere (rows : List Row) (contents : List Content) (position : Positi
   pub at : IsAtRow rows position
 
 distinct_here : {rows : List Row} {contents : List Content} {position : Position} {row : Row} → IsHere rows contents position row → slice_get (distinct rows) position.stored ≡ Some row
-distinct_here {row} it = its_content row it.are it.order it.is it.stored it.at
+distinct_here {row} it = its_content _ it.are it.order it.is it.stored it.at
 
 module _ (job : Job) (object : Object) (rows : List Row) (contents : List Content) (bytes : Path → List ℕ) (position : Position) (row : Row) where
   pub folder_next : IsHere rows contents position row → position.directories < length row.path

@@ -84,7 +84,7 @@ part_made {job} {past} {start} {object} {held} {old} {new} {item} {next} at rows
     let may = item_may job start past.placed object held.rows past.bytes _ item old part.started at.rows.order is part.at in
     record {
       started = part.started;
-      tree = subst IsTree (sym tree_is) (tree_put old.tree _ (item_entry item) part.tree may);
+      tree = subst IsTree (sym tree_is) (tree_put _ _ (item_entry item) part.tree may);
       at = said (more ∙ ap (λ (l : List Row). made_before job object l past.bytes next) (sym rows))
           (with_item job start past.placed object _ item old new tree_is part.at);
     }
@@ -114,7 +114,7 @@ opened job past start object position held old new row at is stored all change p
     let tree_is : new.tree ≡ done (MakeFile (in_content row.path) []) old.tree = ap (λ (w : Writing). w.tree) change in
     record {
       started = part.started;
-      tree = subst IsTree (sym tree_is) (tree_put old.tree _ (Bytes []) part.tree may);
+      tree = subst IsTree (sym tree_is) (tree_put _ _ (Bytes []) part.tree may);
       at = record {
         writes = record { row = row; is_row = is; writing = ap (λ (w : Writing). w.writing) change };
         making = with_item job start past.placed object front _ old new tree_is part.at;
@@ -194,7 +194,7 @@ finished job past start object held old new at change part =
     let front = made_before job object held.rows past.bytes a_part.Sidecar in
     let tree_is : new.tree ≡ done item old.tree = ap (λ (w : Writing). w.tree) (some_same new (after_make item old) change) ∙ tree_made item old in
     let may = item_may job start past.placed object held.rows past.bytes front item old part.started at.rows.order (next_fourth job object held.rows past.bytes) part.at in
-    let tree = subst IsTree (sym tree_is) (tree_put old.tree _ (item_entry item) part.tree may) in
+    let tree = subst IsTree (sym tree_is) (tree_put _ _ (item_entry item) part.tree may) in
     let all = said (sym (after_fourth job object held.rows past.bytes)) (with_item job start past.placed object front item old new tree_is part.at) in
     let folders = no_folders_yet job past.placed object.place part.started part.at.root in
     either_phase (λ p. DestAfter job past (phase.Make object a_part.Sidecar) p held (with_fed held []) start new) (job.tuples.count == 0) (phase.Rename object) (phase.Tuples object 0)

@@ -42,7 +42,7 @@ order_push (p ∷ paths) path order behind =
     let parts = and_parts _ _ order in
     let first = and_parts _ _ behind in
     and_from _ _
-    (list_all-append (parts_before p) paths (path ∷ []) ∙ and_from _ _ parts.0 (and_from _ true first.0 refl))
+    (list_all-append (parts_before p) paths (path ∷ []) ∙ and_from _ _ parts.0 (and_from _ _ first.0 refl))
     (order_push paths path parts.1 first.1)
 
 -- the first ones of paths in order are

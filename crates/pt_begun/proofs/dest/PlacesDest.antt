@@ -147,7 +147,7 @@ tuple_made job past start object held number old new at none change part =
     ∙ put_beside start inside root p Folder
     ∙ ap (λ (t : Tree). in_place (with_root start t) staging inside) grown
     ∙ sym (whole job past _ object part.started part.at.0.root.free at.rows) in
-    let tree = subst IsTree (sym tree_is) (tree_put old.tree _ Folder part.tree (record { absent = none; in_folder = tuple_parent job past start object held number old few at part })) in
+    let tree = subst IsTree (sym tree_is) (tree_put _ _ Folder part.tree (record { absent = none; in_folder = tuple_parent job past start object held number old few at part })) in
     next_tuple job past held new few part.started tree
     (record { root = part.at.0.root; came = part.at.0.came; free = part.at.0.free; tree = now }, made_folders job start past.placed place number name.0 name.1 absent part.at.1)
 
@@ -239,7 +239,7 @@ renamed job past start object held old new at change part =
     let tree_is : new.tree ≡ moved old.tree staging (in_root object.place) = ap (λ (w : Writing). w.tree) change in
     record {
       started = part.started;
-      tree = subst IsTree (sym tree_is) (tree_moved old.tree _ part.tree (object_may_move job past start object held old at part));
+      tree = subst IsTree (sym tree_is) (tree_moved _ _ part.tree (object_may_move job past start object held old at part));
       at = record {
         root = part.at.0.root;
         came = came_there job past start held at part;

@@ -99,7 +99,7 @@ way_made job start placed place n name more none =
 
         by : (s : Bool) → same_path q p ≡ s → cond s (Some Folder) (option_or (root q) (folder_where (leads q (take n place)))) ≡ option_or (root q) (folder_where (leads q (take n place) || s))
         by true same =
-            let here : root q ≡ None = ap root (is_same q p same) ∙ or_none (root p) _ none in
+            let here : root q ≡ None = ap root (is_same q p same) ∙ or_none _ _ none in
             sym (ap (λ (o : Option Entry). option_or o (folder_where (leads q (take n place) || true))) here ∙ ap folder_where (or_true (leads q (take n place))))
         by false other = ap (λ b. option_or (root q) (folder_where b)) (sym (or_false (leads q (take n place))))
 

@@ -108,7 +108,7 @@ made_next : (job : Job) (past : Past) (start : Tree) (held : Held) (old new : Wr
 made_next job past start held old new number item change item_is part =
     let can = root_item_made job start number item old part.started item_is part.at in
     let tree_is : new.tree ≡ done item old.tree = ap (λ (w : Writing). w.tree) (some_same new (after_make item old) change) ∙ tree_made item old in
-    let tree = subst IsTree (sym tree_is) (tree_put old.tree _ (item_entry item) part.tree can) in
+    let tree = subst IsTree (sym tree_is) (tree_put _ _ (item_entry item) part.tree can) in
     let now : new.tree ≡ made (take (suc number) (root_script job.tuples)) start =
     tree_is ∙ ap (done item) part.at.tree ∙ sym (made_more (root_script job.tuples) number item start item_is) in
     let next : suc number ≡ number + 1 = omega arith in
@@ -154,7 +154,7 @@ starts_dest job past start old new prefix read here next held calls layout (Rena
     subst (λ (w : Writing). DestAfter job past here next held held start w) (sym is)
     (record {
       started = part.started;
-      tree = tree_moved old.tree storage_root part.tree (root_may_move job start old part.started part.at);
+      tree = tree_moved _ _ part.tree (root_may_move job start old part.started part.at);
       at = record { root = record { free = part.at.free; root = inl part.at.root }; came = refl; tree = moved_root job start part.started part.at };
     })
 starts_dest job past start old new prefix read here next held calls layout (IsSame was number path bytes is) change at part = unchanged change.2 (checked_next job past start held number path bytes layout is (change.1 old refl) part)

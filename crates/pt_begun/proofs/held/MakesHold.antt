@@ -33,8 +33,8 @@ use Rattle.pt_begun.proofs.held.WithBytes.{rows_again}
 rows_copied : (job : Job) (bytes : Path → List ℕ) (held : Held) (n left : ℕ) (row : Row) → slice_get held.rows n ≡ Some row → is_as_read job row left held.fed ≡ true → AreRows job bytes held
     → AreRows job (with_bytes_of (slice_get held.rows n) held.fed bytes) (with_fed held [])
 rows_copied job bytes held n left row is same rows =
-    let digest = same_name _ row.digest (and_parts (left == 0) _ same).1 in
-    record { order = rows.order; digests = rows_again (λ b r. digest_of job.algorithm b ≡ r.digest) bytes held.fed held.rows n row is rows.order digest rows.digests; contents = rows.contents }
+    let digest = same_name _ _ (and_parts _ _ same).1 in
+    record { order = rows.order; digests = rows_again (λ b r. digest_of job.algorithm b ≡ r.digest) bytes held.fed held.rows n _ is rows.order digest rows.digests; contents = rows.contents }
 
 -- ---- from part to part
 

@@ -163,7 +163,7 @@ new_after rows stored row order is (Some next) there =
     take_one (suc stored) paths (stored_at next) later ∙ ap (λ (l : List Path). l ++ stored_at next ∷ []) front ∙ append_assoc (take stored paths) (stored_at row ∷ []) (stored_at next ∷ []) in
     let in_order : part_in_order (take stored paths ++ stored_at row ∷ stored_at next ∷ []) ≡ true =
     ap part_in_order (sym two) ∙ order_front (take (suc (suc stored)) paths) (drop (suc (suc stored)) paths) (ap part_in_order (take-append-drop (suc (suc stored)) paths) ∙ contents_in_order rows order) in
-    let parts : parts_before row.path next.path ≡ true = (and_parts _ true (order_behind (take stored paths) (stored_at row) _ in_order)).0 in
+    let parts : parts_before row.path next.path ≡ true = (and_parts _ _ (order_behind (take stored paths) (stored_at row) _ in_order)).0 in
     subst (λ (o : Option Path). AreNewFrom (take (suc stored) paths) (standing row.path (slice_get (map content_of_row rows) (suc stored))) o) (sym later)
     (subst (λ (o : Option Content). list_all (λ folder. not (is_above_one (take (suc stored) paths) folder)) (drop (standing row.path o) (folders_above (stored_at next))) ≡ true) (sym (get_map content_of_row rows (suc stored) next there))
     (subst (λ (l : List Path). list_all (λ folder. not (is_above_one l folder)) (drop (suc (shared (parent row.path) (parent next.path))) (folders_above (stored_at next))) ≡ true) (sym front)
@@ -186,7 +186,7 @@ pub its_content : {rows : List Row} {contents : List Content} {position : Positi
     → is_stored contents position.stored row.path ≡ true → IsAtRow rows position → slice_get (distinct rows) position.stored ≡ Some row
 its_content {rows} {contents} {position} row contents_are order is stored at =
     let front = distinct (take position.row rows) in
-    ap (λ (l : List Row). slice_get l position.stored) (distinct_around rows position.row row is ∙ ap (λ t. front ++ (unless_known t row ++ distinct_after (take position.row rows ++ row ∷ []) (drop (suc position.row) rows))) (is_new rows contents position row contents_are order is stored at))
+    ap (λ (l : List Row). slice_get l position.stored) (distinct_around rows position.row row is ∙ ap (λ t. front ++ (unless_known t row ++ distinct_after (take position.row rows ++ row ∷ []) (drop (suc position.row) rows))) (is_new _ _ _ _ contents_are order is stored at))
     ∙ ap (slice_get (front ++ row ∷ distinct_after (take position.row rows ++ row ∷ []) (drop (suc position.row) rows))) at.stored
     ∙ get_behind front (row ∷ distinct_after (take position.row rows ++ row ∷ []) (drop (suc position.row) rows))
 
@@ -247,7 +247,7 @@ module _ (rows : List Row) (contents : List Content) (position : Position) (row 
       let next : position.row + 1 ≡ suc position.row = omega arith in
       ap (λ n. n + 1) at.stored
       ∙ sym (ap (λ n. length (distinct (take n rows))) next
-      ∙ ap length (distinct_more rows position.row row is ∙ ap (λ t. distinct (take position.row rows) ++ unless_known t row) (is_new rows contents position row contents_are order is stored at))
+      ∙ ap length (distinct_more rows position.row row is ∙ ap (λ t. distinct (take position.row rows) ++ unless_known t row) (is_new _ _ _ _ contents_are order is stored at))
       ∙ length-append (distinct (take position.row rows)) (row ∷ []))
 
   -- of the others the content has just been stored
@@ -258,7 +258,7 @@ module _ (rows : List Row) (contents : List Content) (position : Position) (row 
     stored = stored_more contents_are order is stored at;
     new = subst (λ (n : ℕ). AreNewFrom (take n (content_paths rows)) (standing row.path (slice_get contents n)) (slice_get (content_paths rows) n)) (sym (add_one position.stored))
         (subst (λ (l : List Content). AreNewFrom (take (suc position.stored) (content_paths rows)) (standing row.path (slice_get l (suc position.stored))) (slice_get (content_paths rows) (suc position.stored))) (sym contents_are)
-        (new_after (distinct rows) position.stored row (order_distinct [] rows order) (its_content row contents_are order is stored at) _ refl));
+        (new_after (distinct rows) position.stored row (order_distinct [] rows order) (its_content _ contents_are order is stored at) _ refl));
   }
     where
       add_one : (n : ℕ) → n + 1 ≡ suc n

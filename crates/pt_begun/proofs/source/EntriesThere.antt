@@ -43,7 +43,7 @@ lifted n node after directory base more comes proper (entry ∷ some) there =
         path = it.path;
         stands = ap (option_and_then (λ node. node_at node it.rest)) (more it.name ∙ ap (λ b. cond b (Some node) (find after it.name)) other) ∙ it.stands;
       },
-      lifted n node after directory base more comes proper some there.1,
+      lifted n _ _ _ base more comes proper some there.1,
     )
 
 -- what stands in a directory of it
@@ -68,19 +68,19 @@ all_there none base proper = tt
 all_there (file n bytes after) base proper =
     let parts = proper_file n bytes after proper in (
       record { name = n; rest = []; path = refl; stands = ap (option_and_then (λ node. node_at node [])) (first_found n (find after n)) },
-      lifted n (File bytes) after _ base (λ m. refl) parts.1 parts.2 (entries_in base after) (all_there after base parts.2),
+      lifted n _ _ _ base (λ m. refl) parts.1 parts.2 (entries_in base after) (all_there after base parts.2),
     )
 all_there (other n after) base proper =
     let parts = proper_other n after proper in (
       record { name = n; rest = []; path = refl; stands = ap (option_and_then (λ node. node_at node [])) (first_found n (find after n)) },
-      lifted n Other after _ base (λ m. refl) parts.1 parts.2 (entries_in base after) (all_there after base parts.2),
+      lifted n _ _ _ base (λ m. refl) parts.1 parts.2 (entries_in base after) (all_there after base parts.2),
     )
 all_there (dir n inside after) base proper =
     let parts = proper_dir n inside after proper in (
       record { name = n; rest = []; path = refl; stands = ap (option_and_then (λ node. node_at node [])) (first_found n (find after n)) },
       both_there _ base _ _
           (inner n inside _ base (first_found n (find after n)) (entries_in (base ++ n ∷ []) inside) (all_there inside (base ++ n ∷ []) parts.3))
-          (lifted n (Dir inside) after _ base (λ m. refl) parts.1 parts.2 (entries_in base after) (all_there after base parts.2)),
+          (lifted n _ _ _ base (λ m. refl) parts.1 parts.2 (entries_in base after) (all_there after base parts.2)),
     )
 
 -- what a site holds beside its shorties stands in the site
@@ -89,19 +89,19 @@ gathered_there none base proper = tt
 gathered_there (file n bytes after) base proper =
     let parts = proper_file n bytes after proper in (
       record { name = n; rest = []; path = refl; stands = ap (option_and_then (λ node. node_at node [])) (first_found n (find after n)) },
-      lifted n (File bytes) after _ base (λ m. refl) parts.1 parts.2 (entries_in base (without_shorties after)) (gathered_there after base parts.2),
+      lifted n _ _ _ base (λ m. refl) parts.1 parts.2 (entries_in base (without_shorties after)) (gathered_there after base parts.2),
     )
 gathered_there (other n after) base proper =
     let parts = proper_other n after proper in (
       record { name = n; rest = []; path = refl; stands = ap (option_and_then (λ node. node_at node [])) (first_found n (find after n)) },
-      lifted n Other after _ base (λ m. refl) parts.1 parts.2 (entries_in base (without_shorties after)) (gathered_there after base parts.2),
+      lifted n _ _ _ base (λ m. refl) parts.1 parts.2 (entries_in base (without_shorties after)) (gathered_there after base parts.2),
     )
 gathered_there (dir n inside after) base proper =
     let parts = proper_dir n inside after proper in
     by (is_short n)
     (record { name = n; rest = []; path = refl; stands = ap (option_and_then (λ node. node_at node [])) (first_found n (find after n)) })
     (inner n inside _ base (first_found n (find after n)) (entries_in (base ++ n ∷ []) inside) (all_there inside (base ++ n ∷ []) parts.3))
-    (lifted n (Dir inside) after _ base (λ m. refl) parts.1 parts.2 (entries_in base (without_shorties after)) (gathered_there after base parts.2))
+    (lifted n _ _ _ base (λ m. refl) parts.1 parts.2 (entries_in base (without_shorties after)) (gathered_there after base parts.2))
   where
     by : (short : Bool) → IsThere (dir n inside after) base (base ++ n ∷ [], Dir inside) → AreThere (dir n inside after) base (entries_in (base ++ n ∷ []) inside) → AreThere (dir n inside after) base (entries_in base (without_shorties after))
         → AreThere (dir n inside after) base (entries_in base (cond short (without_shorties after) (dir n inside (without_shorties after))))

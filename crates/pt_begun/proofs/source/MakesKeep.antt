@@ -45,7 +45,7 @@ module _ (job : Job) (s : Reading) (prefix : List ℕ) (object : Object) (held :
   pub file_of_row : (n : ℕ) (row : Row) → is_proper s.tree ≡ true → slice_get held.rows n ≡ Some row → Scanned job prefix object count held s
       → RowFile job (pairtree_of s.tree) (path_of_source object held.trail) row
   file_of_row n row proper is it =
-      subst (λ (t : List Frame). RowFile job (pairtree_of s.tree) (path_of_source object t) row) (site_itself object held.trail it.1.at_site)
+      subst (λ (t : List Frame). RowFile job (pairtree_of s.tree) (path_of_source object t) row) (site_itself object _ it.1.at_site)
       (row_file job s.tree object (to_site object held.trail) [] n row (pairtree_proper s.tree it.0.store proper) it.1.scanned is)
 
   opens_copy : (position : Position) (row : Row) → is_proper s.tree ≡ true → slice_get held.rows position.row ≡ Some row → Scanned job prefix object count held s

@@ -67,7 +67,7 @@ encapsulated_is site (other n after) inside e = absurd (let nodes : Rattle.pt_tr
 encapsulated_is site (dir n d after) {name} inside e =
     let head = heads _ _ _ _ e in
     let names : n ≡ name = heads n name [] [] (ap (λ (x : Entry). x.0) head) in
-    let insides : d ≡ inside = dirs_same d inside (ap (λ (x : Entry). x.1) head) in
+    let insides : d ≡ inside = dirs_same d _ (ap (λ (x : Entry). x.1) head) in
     ap (λ (m : List ℕ). Some (record { at = site ++ m ∷ []; gathered = false; inside = d })) names
     ∙ ap (λ (f : Forest). Some (record { at = site ++ name ∷ []; gathered = false; inside = f })) insides
 

@@ -53,8 +53,8 @@ moved_at_site job source prefix object [] place count gathered at_site it = absu
 moved_at_site job source prefix object (frame ∷ frames) place count gathered at_site it =
     let old = frame ∷ frames in
     let new = sought place (frame ∷ frames) in
-    let here = site_itself object old at_site in
-    let there = site_itself object new at_site in
+    let here = site_itself object _ at_site in
+    let there = site_itself object _ at_site in
     let was = subst (λ (t : List Frame). IsSiteOf job source prefix object t count) here it.site in
     record {
       stands = record {

@@ -153,7 +153,7 @@ read_again : (s : Reading) (bytes : Path → List ℕ) (object : Object) (held :
     → held.fed ≡ bytes_at (pairtree_of s.tree) (path_of_source object held.trail ++ row.path) → AreHeldThere s.tree object (to_site object held.trail) bytes held.rows
     → AreHeldThere s.tree object (to_site object held.trail) (with_bytes_of (slice_get held.rows n) held.fed bytes) held.rows
 read_again s bytes object held n row is order site whole there =
-    rows_again (λ b r. b ≡ bytes_at (pairtree_of s.tree) (path_of_source object (to_site object held.trail) ++ r.path)) bytes held.fed held.rows n row is order
+    rows_again (λ b r. b ≡ bytes_at (pairtree_of s.tree) (path_of_source object (to_site object held.trail) ++ r.path)) bytes held.fed held.rows n _ is order
     (whole ∙ ap (λ (t : List Frame). bytes_at (pairtree_of s.tree) (path_of_source object t ++ row.path)) (sym site)) there
 
 -- at its end all of it was read
@@ -169,7 +169,7 @@ makes_beside : {job : Job} (past : Past) (s new : Reading) {prefix : List ℕ} {
 unfolding Answers IsRead
 makes_beside past s new (EndsCopy was object position row left is same) answers at part = record {
   bytes_are =
-      read_again s past.bytes object was position.row row is at.rows.order (site_itself object was.trail at.ends.1)
+      read_again s past.bytes object was position.row row is at.rows.order (site_itself object _ at.ends.1)
       (copied_whole s object was row is answers.0 part.at.2) part.bytes;
   few = part.few;
 }
