@@ -31,7 +31,7 @@ use Rattle.pt_begun.specs.BegunHeld.{HeldAt}
 use Rattle.pt_begun.specs.DestLaws.{MakingKeepsDest}
 use Rattle.pt_begun.specs.PartsMade.{IsAtStoredRow, made_before, script_of_object}
 use Rattle.pt_begun.specs.Past.{Past, with_bytes_of}
-use Rattle.pt_begun.proofs.held.EitherPhase.{either_phase}
+use Rattle.pt_begun.proofs.held.EitherPhase.{after_sidecar}
 use Rattle.pt_begun.proofs.dest.DestKeeps.{DestAfter}
 use Rattle.pt_begun.proofs.dest.ContentParts.{IsHere, copy_made, file_next, folder_made, folder_next, made_at, made_first}
 use Rattle.pt_begun.proofs.source.InPairtree.{some_same}
@@ -197,7 +197,7 @@ finished job past start object held old new at change part =
     let tree = subst IsTree (sym tree_is) (tree_put _ _ (item_entry item) part.tree may) in
     let all = said (sym (after_fourth job object held.rows past.bytes)) (with_item job start past.placed object front item old new tree_is part.at) in
     let folders = no_folders_yet job past.placed object.place part.started part.at.root in
-    either_phase (λ p. DestAfter job past (phase.Make object a_part.Sidecar) p held (with_fed held []) start new) (job.tuples.count == 0) (phase.Rename object) (phase.Tuples object 0)
+    after_sidecar (λ p. DestAfter job past (phase.Make object a_part.Sidecar) p held (with_fed held []) start new) job object
     (λ flat. record {
       started = part.started;
       tree = tree;

@@ -35,7 +35,7 @@ use Rattle.pt_begun.specs.BegunHeld.{AreRows, HeldAt, IsObject}
 use Rattle.pt_begun.specs.DestLaws.{PlacingKeepsDest}
 use Rattle.pt_begun.specs.PartsMade.{script_of_object}
 use Rattle.pt_begun.specs.Past.{Past, object_held}
-use Rattle.pt_begun.proofs.held.EitherPhase.{either_phase}
+use Rattle.pt_begun.proofs.held.EitherPhase.{after_tuple_folder}
 use Rattle.pt_begun.proofs.dest.DestKeeps.{DestAfter, no_kind}
 use Rattle.pt_begun.proofs.source.InPairtree.{some_same}
 use Rattle.pt_begun.proofs.dest.MakesDest.{fresh_root, top_folder}
@@ -119,7 +119,7 @@ next_tuple : (job : Job) (past : Past) {start : Tree} {object : Object} (held : 
 next_tuple job past {start} {object} held {number} new few started tree it =
     let stands = λ (n : ℕ). IsMakingObject job start past.placed object (script_of_object job object held.rows past.bytes) n new × HasFoldersTo job start past.placed object.place n in
     let next : suc number ≡ number + 1 = omega arith in
-    either_phase (λ p. DestAfter job past (phase.Tuples object number) p held held start new) (nat_lt (number + 1) job.tuples.count) (phase.Tuples object (number + 1)) (phase.Rename object)
+    after_tuple_folder (λ p. DestAfter job past (phase.Tuples object number) p held held start new) job object number
     (λ more. record { started = started; tree = tree; at = subst stands next it })
     (λ last.
     let past_it = ltb-false (number + 1) job.tuples.count last in

@@ -28,7 +28,7 @@ use Rattle.pt_plan.specs.declared.phase.Phase.TheVariants as phase
 use Rattle.pt_begun.specs.BegunDest.{DestPart, HasRootFiles, IsMakingRoot, root_now}
 use Rattle.pt_begun.specs.DestLaws.{StartingKeepsDest}
 use Rattle.pt_begun.specs.Past.{Past}
-use Rattle.pt_begun.proofs.held.EitherPhase.{either_phase}
+use Rattle.pt_begun.proofs.held.EitherPhase.{after_root_file, after_root_item}
 use Rattle.pt_begun.proofs.dest.DestKeeps.{DestAfter, no_kind, or_nothing}
 use Rattle.pt_begun.proofs.source.InPairtree.{some_same}
 use Rattle.pt_begun.proofs.dest.MadeItems.{made_more, tree_made}
@@ -112,7 +112,7 @@ made_next job past start held old new number item change item_is part =
     let now : new.tree ≡ made (take (suc number) (root_script job.tuples)) start =
     tree_is ∙ ap (done item) part.at.tree ∙ sym (made_more (root_script job.tuples) number item start item_is) in
     let next : suc number ≡ number + 1 = omega arith in
-    either_phase (λ p. DestAfter job past (phase.RootMake number) p held held start new) (number == 5) phase.RootRename (phase.RootMake (number + 1))
+    after_root_item (λ p. DestAfter job past (phase.RootMake number) p held held start new) number
     (λ last. record {
       started = part.started;
       tree = tree;
@@ -127,7 +127,7 @@ checked_next job past start held {old} number path bytes layout file read part =
     let stands = peeked_whole _ read (file_short job.tuples number path bytes layout file) in
     let here : root_in start path ≡ Some (Bytes bytes) = sym (ap (λ (t : Tree). t (storage_root ++ path)) part.at.tree) ∙ stands in
     let files = one_more_file job (root_in start) number path bytes file here part.at.files in
-    either_phase (λ p. DestAfter job past (phase.RootCheck number) p held held start old) (number == 2) phase.OpenRoot (phase.RootCheck (number + 1))
+    after_root_file (λ p. DestAfter job past (phase.RootCheck number) p held held start old) number
     (λ last.
     let all : HasRootFiles job (root_in start) 3 = subst (λ (n : ℕ). HasRootFiles job (root_in start) (n + 1)) (eqb-true number 2 last) files in
     record { started = part.started; tree = part.tree; at = record { root = record { free = part.at.free; root = inr all }; came = refl; tree = part.at.tree ∙ own_root job start part.started all } })

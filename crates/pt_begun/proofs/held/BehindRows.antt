@@ -94,7 +94,7 @@ later_rise (x ∷ y ∷ items) (suc place) rise is = later_rise (y ∷ items) pl
 -- what stands at or below a place comes before the entries behind it
 before_later : (frame : Frame) (frames : List Frame) {item : Item} (more : Path) → is_frame frame ≡ true → entry_at frame ≡ Some item → come_behind ((names_to frames ++ item.0 ∷ more) ∷ []) (names_to frames) (drop (frame.place + 1) frame.listing) ≡ true
 before_later frame frames {item} more is e =
-    let rise = (and_parts _ _ is).0 in
+    let rise = (and_parts (names_rise frame.listing) _ is).0 in
     let next : frame.place + 1 ≡ suc frame.place = omega arith in
     ap (λ n. come_behind ((names_to frames ++ item.0 ∷ more) ∷ []) (names_to frames) (drop n frame.listing)) next
     ∙ all_then (λ (other : Item). is_before item.0 other.0) (λ (other : Item). parts_before (names_to frames ++ item.0 ∷ more) (names_to frames ++ other.0 ∷ []) && true)

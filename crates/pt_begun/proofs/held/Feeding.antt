@@ -1,9 +1,9 @@
 -- After each turn that goes on, what the next one takes a digest of was fed.
-use Rattle.std.proofs.Common.{ℕ, ◌+◌, ◌==◌, Bool, true, false, List, refl, cond, length}
+use Rattle.std.proofs.Common.{ℕ, Bool, true, false, List, refl, cond, length}
 use Rattle.std.specs.Prelude.{nat_lt, Ok}
 use Rattle.pt_object.specs.declared.rows.Row.{Row}
 use Rattle.pt_begun.specs.BegunHeld.{FedAt, IsFedBefore}
-use Rattle.pt_begun.proofs.held.EitherPhase.{either_phase}
+use Rattle.pt_begun.proofs.held.EitherPhase.{after_root_file, after_root_item, after_sidecar, after_tuple_folder}
 use Rattle.pt_plan.specs.Job.{Job}
 use Rattle.pt_plan.specs.Run.{Counts, Held}
 use Rattle.pt_plan.specs.TurnMake.{Makings, MakesVersion, PassesRow, EndsCopy, MakesVersionInventory, MakesVersionSidecar, MakesInventory, MakesSidecar, behind, behind_stored, content_at}
@@ -15,7 +15,6 @@ use Rattle.pt_plan.specs.World.{Calls}
 use Rattle.pt_plan.specs.declared.object.Object.{Object}
 use Rattle.pt_plan.specs.declared.phase.Part.TheVariants as part
 use Rattle.pt_plan.specs.declared.phase.Phase.{Phase}
-use Rattle.pt_plan.specs.declared.phase.Phase.TheVariants as phase
 use Rattle.pt_plan.specs.declared.phase.Position.{Position}
 
 fed_content : (job : Job) (object : Object) (rows : List Row) (position : Position) (held : Held) → IsFedBefore job object (content_at rows position) held
@@ -27,8 +26,8 @@ fed_content job object rows position held = fed_part (nat_lt position.row (lengt
 
 -- only where an object is made is anything said of the hasher
 pub starts_feed : {job : Job} {here next : Phase} {prefix read : List ℕ} (held : Held) {calls : Calls} → Starts job here prefix read calls (Ok next) → FedAt job next held
-starts_feed {job} held (MakesRoot was number item is) = either_phase (λ p. FedAt job p held) (number == 5) phase.RootRename _ (λ last. tt) (λ more. tt)
-starts_feed {job} held (IsSame was number path bytes is) = either_phase (λ p. FedAt job p held) (number == 2) phase.OpenRoot _ (λ last. tt) (λ more. tt)
+starts_feed {job} held (MakesRoot was number item is) = after_root_item (λ p. FedAt job p held) number (λ last. tt) (λ more. tt)
+starts_feed {job} held (IsSame was number path bytes is) = after_root_file (λ p. FedAt job p held) number (λ last. tt) (λ more. tt)
 starts_feed held turn = tt
 
 pub walks_feed : {job : Job} {here : Phase} {prefix : List ℕ} {held after : Held} {calls : Calls} {next : Phase} → Walks job prefix here held after calls (Ok next) → FedAt job next after
@@ -47,11 +46,11 @@ makes_feed {job} {after} (EndsCopy was object position row left is same) = fed_c
 makes_feed (MakesVersionInventory was object) = refl
 makes_feed (MakesVersionSidecar was object) = refl
 makes_feed (MakesInventory was object) = refl
-makes_feed {job} {after} (MakesSidecar was object) = either_phase (λ p. FedAt job p after) (job.tuples.count == 0) (phase.Rename object) (phase.Tuples object 0) (λ flat. tt) (λ some. tt)
+makes_feed {job} {after} (MakesSidecar was object) = after_sidecar (λ p. FedAt job p after) job object (λ flat. tt) (λ some. tt)
 makes_feed turn = tt
 
 after_a_tuple : (job : Job) (held : Held) (object : Object) (number : ℕ) → FedAt job (after_tuple job object number) held
-after_a_tuple job held object number = either_phase (λ p. FedAt job p held) (nat_lt (number + 1) job.tuples.count) (phase.Tuples object (number + 1)) (phase.Rename object) (λ more. tt) (λ last. tt)
+after_a_tuple job held object number = after_tuple_folder (λ p. FedAt job p held) job object number (λ more. tt) (λ last. tt)
 
 pub places_feed : {job : Job} {counts : Counts} {here : Phase} {held after : Held} {calls : Calls} {next : Phase} → Places job counts here held after calls (Ok next) → FedAt job next after
 places_feed {job} (MakesTuple was object number) = after_a_tuple job was object number

@@ -12,12 +12,11 @@ use Rattle.pt_plan.specs.TurnWalk.{Walks, IsNew, found_at, has_object}
 use Rattle.pt_plan.specs.World.{Calls}
 use Rattle.pt_plan.specs.declared.object.Object.{Object}
 use Rattle.pt_plan.specs.declared.phase.Phase.{Phase}
-use Rattle.pt_plan.specs.declared.phase.Phase.TheVariants as phase
 use Rattle.pt_begun.proofs.source.NewObject.{long_at, named_found}
 use Rattle.pt_begun.specs.BegunHeld.{AreRows, EndsAt, FedAt, HeldAt, IsObject, NumbersAt, RowsAt, ScansInOrder, TrailAt}
 use Rattle.pt_begun.specs.Past.{Past, bytes_after}
 use Rattle.pt_begun.specs.HeldLaws.{PlacingKeepsHeld, StartingKeepsHeld, WalkingKeepsHeld}
-use Rattle.pt_begun.proofs.held.EitherPhase.{either_phase}
+use Rattle.pt_begun.proofs.held.EitherPhase.{after_root_file, after_root_item, after_tuple_folder}
 use Rattle.pt_begun.proofs.held.Feeding.{places_feed, starts_feed, walks_feed}
 use Rattle.pt_begun.proofs.held.TrailKeeps as trail
 
@@ -41,11 +40,11 @@ starts_rest : {job : Job} {past : Past} {prefix read : List ℕ} {here next : Ph
 starts_rest (HasNoRoot was) at = record { ends = tt; rows = at.rows; behind = tt; numbers = omega arith }
 starts_rest (HasRoot was) at = record { ends = tt; rows = at.rows; behind = tt; numbers = omega arith }
 starts_rest {job} {past} {held} (MakesRoot was number item is) at =
-    either_phase (λ p. RestAt job past.bytes p held) (number == 5) phase.RootRename _
+    after_root_item (λ p. RestAt job past.bytes p held) number
     (λ last. record { ends = tt; rows = at.rows; behind = tt; numbers = tt })
     (λ more. record { ends = tt; rows = at.rows; behind = tt; numbers = one_more number 5 more at.numbers })
 starts_rest {job} {past} {held} (IsSame was number path bytes is) at =
-    either_phase (λ p. RestAt job past.bytes p held) (number == 2) phase.OpenRoot _
+    after_root_file (λ p. RestAt job past.bytes p held) number
     (λ last. record { ends = tt; rows = at.rows; behind = tt; numbers = tt })
     (λ more. record { ends = tt; rows = at.rows; behind = tt; numbers = one_more number 2 more at.numbers })
 starts_rest turn at = record { ends = tt; rows = at.rows; behind = tt; numbers = tt }
@@ -77,8 +76,8 @@ walks_hold job past old new prefix here next held after calls turn answers at = 
 -- ---- an object at its place
 
 after_a_tuple : (job : Job) {bytes : Path → List ℕ} {held : Held} {object : Object} (number : ℕ) → IsObject job object × (length held.trail ≡ object.site) → AreRows job bytes held → RestAt job bytes (after_tuple job object number) held
-after_a_tuple job {bytes} {held} number ends rows =
-    either_phase (λ p. RestAt job bytes p held) _ _ _
+after_a_tuple job {bytes} {held} {object} number ends rows =
+    after_tuple_folder (λ p. RestAt job bytes p held) job object number
     (λ more. record { ends = ends; rows = rows; behind = tt; numbers = ltb-true (number + 1) job.tuples.count more })
     (λ last. record { ends = ends; rows = rows; behind = tt; numbers = tt })
 

@@ -19,7 +19,7 @@ use Rattle.pt_begun.specs.BegunHeld.{AreRows, HeldAt, NumbersAt}
 use Rattle.pt_begun.specs.HeldLaws.{MakingKeepsHeld}
 use Rattle.pt_begun.specs.PartsMade.{IsAtRow, IsAtStoredRow}
 use Rattle.pt_begun.specs.Past.{Past, bytes_after, with_bytes_of}
-use Rattle.pt_begun.proofs.held.EitherPhase.{either_phase}
+use Rattle.pt_begun.proofs.held.EitherPhase.{after_sidecar}
 use Rattle.pt_begun.proofs.held.Feeding.{makes_feed}
 use Rattle.pt_begun.proofs.held.HeldKeeps.{RestAt, with_rest}
 use Rattle.pt_begun.proofs.source.InPairtree.{some_same}
@@ -89,7 +89,7 @@ makes_rest {job} {past} (MakesVersionSidecar was object) at = record { ends = at
 makes_rest {job} {past} (MakesInventory was object) at = record { ends = at.ends; rows = fed_rows job past.bytes was _ at.rows; behind = tt; numbers = tt }
 makes_rest {job} {past} {after} (MakesSidecar was object) at =
     let rows = fed_rows job past.bytes was [] at.rows in
-    either_phase (λ p. RestAt job past.bytes p after) _ _ _
+    after_sidecar (λ p. RestAt job past.bytes p after) job object
     (λ flat. record { ends = at.ends; rows = rows; behind = tt; numbers = tt })
     (λ some. record { ends = at.ends; rows = rows; behind = tt; numbers = above_none job.tuples.count some })
 makes_rest turn at = record { ends = at.ends; rows = at.rows; behind = tt; numbers = tt }

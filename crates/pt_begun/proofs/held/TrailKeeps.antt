@@ -1,6 +1,6 @@
 -- Each turn that goes on keeps the trail one.
-use Rattle.std.proofs.Common.{◌≡◌, ◌≤◌, ℕ, zero, suc, ◌+◌, ◌-◌, ◌==◌, true, false, List, [], ◌∷◌, refl, ap, sym, ◌∙◌, subst, length, arith, drop}
-use Rattle.std.specs.Prelude.{Option, None, Some, Ok, is_none, nat_lt}
+use Rattle.std.proofs.Common.{◌≡◌, ◌≤◌, ℕ, zero, suc, ◌+◌, ◌-◌, true, false, List, [], ◌∷◌, refl, ap, sym, ◌∙◌, subst, length, arith, drop}
+use Rattle.std.specs.Prelude.{Option, None, Some, Ok, is_none}
 use Rattle.std.proofs.lemmas.Bool.{and_from, and_parts, le-leb}
 use Rattle.std.proofs.lemmas.Option.{slice_get_within}
 use Rattle.pt_tree.specs.Listing.{Item, names_rise}
@@ -12,7 +12,7 @@ use Rattle.pt_walk.specs.Trail.{advanced, are_outer, current_entry, entered, ent
 use Rattle.pt_walk.specs.declared.frame.Frame.{Frame}
 use Rattle.pt_begun.proofs.source.NewObject.{named_found}
 use Rattle.pt_begun.specs.BegunHeld.{TrailAt}
-use Rattle.pt_begun.proofs.held.EitherPhase.{either_phase}
+use Rattle.pt_begun.proofs.held.EitherPhase.{after_root_file, after_root_item, after_sidecar, after_tuple_folder}
 use Rattle.pt_plan.specs.Job.{Job, form_of}
 use Rattle.pt_plan.specs.Run.{Counts, Held}
 use Rattle.pt_plan.specs.TurnMake.{Makings, MakesSidecar}
@@ -100,10 +100,10 @@ back object trail is_one = trail_first (to_site object trail) (trail_dropped (le
 
 pub starts_keep : {job : Job} {prefix read : List ℕ} {here next : Phase} {held : Held} {calls : Calls} → Starts job here prefix read calls (Ok next) → TrailAt here held → TrailAt next held
 starts_keep {held} (MakesRoot was number item is) at =
-    either_phase (λ p. TrailAt p held) (number == 5) phase.RootRename _
+    after_root_item (λ p. TrailAt p held) number
     (λ last. record { is_one = at.is_one; none = at.none; entry = tt }) (λ more. record { is_one = at.is_one; none = at.none; entry = tt })
 starts_keep {held} (IsSame was number path bytes is) at =
-    either_phase (λ p. TrailAt p held) (number == 2) phase.OpenRoot _
+    after_root_file (λ p. TrailAt p held) number
     (λ last. record { is_one = at.is_one; none = at.none; entry = tt }) (λ more. record { is_one = at.is_one; none = at.none; entry = tt })
 starts_keep turn at = record { is_one = at.is_one; none = at.none; entry = tt }
 
@@ -175,13 +175,13 @@ scans_keep old new (EndsFile was object bytes) answers at = record { is_one = tr
 
 pub makes_keep : {job : Job} {here : Phase} {held after : Held} {calls : Calls} {next : Phase} → Makings job here held after calls (Ok next) → TrailAt here held → TrailAt next after
 makes_keep {job} {after} (MakesSidecar was object) at =
-    either_phase (λ p. TrailAt p after) (job.tuples.count == 0) (phase.Rename object) (phase.Tuples object 0)
+    after_sidecar (λ p. TrailAt p after) job object
     (λ flat. record { is_one = at.is_one; none = tt; entry = tt }) (λ some. record { is_one = at.is_one; none = tt; entry = tt })
 makes_keep turn at = record { is_one = at.is_one; none = tt; entry = tt }
 
 after_a_tuple : (job : Job) {held : Held} (object : Object) (number : ℕ) → is_trail held.trail ≡ true → TrailAt (after_tuple job object number) held
 after_a_tuple job {held} object number is_one =
-    either_phase (λ p. TrailAt p held) (nat_lt (number + 1) job.tuples.count) (phase.Tuples object (number + 1)) (phase.Rename object)
+    after_tuple_folder (λ p. TrailAt p held) job object number
     (λ more. record { is_one = is_one; none = tt; entry = tt }) (λ last. record { is_one = is_one; none = tt; entry = tt })
 
 pub places_keep : {job : Job} {counts : Counts} {here next : Phase} {held after : Held} {calls : Calls} → Places job counts here held after calls (Ok next) → TrailAt here held → TrailAt next after

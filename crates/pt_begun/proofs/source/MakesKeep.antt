@@ -21,7 +21,7 @@ use Rattle.pt_plan.specs.declared.phase.Phase.TheVariants as phase
 use Rattle.pt_plan.specs.declared.phase.Position.{Position}
 use Rattle.pt_begun.specs.BegunSource.{HasStarted, IsCopyingFile, IsReading, IsScanned, SourceAt}
 use Rattle.pt_begun.specs.Past.{done_after}
-use Rattle.pt_begun.proofs.held.EitherPhase.{either_phase}
+use Rattle.pt_begun.proofs.held.EitherPhase.{after_sidecar}
 use Rattle.pt_begun.proofs.source.InObject.{site_itself}
 use Rattle.pt_begun.proofs.source.InPairtree.{file_in_pairtree, pairtree_proper, stays}
 use Rattle.pt_begun.proofs.source.ReadsOn.{reads_block, reads_first}
@@ -99,5 +99,5 @@ makes_keep job s new prefix count proper (MakesInventory was object) at answers 
 makes_keep job s new prefix count proper (MakesSidecar was object) at answers =
     let next = λ (p : Phase). SourceAt job new prefix (done_after (phase.Make object part.Sidecar) was.trail p count) p (with_fed was []) in
     let it = fed_stays job prefix object was count answers at in
-    either_phase next _ (phase.Rename object) (phase.Tuples object 0) (λ flat. it) (λ some. it)
+    after_sidecar next job object (λ flat. it) (λ some. it)
 makes_keep job s new prefix count {after} {next} proper turn at answers = stays (λ r. SourceAt job r prefix count next after) answers at

@@ -1,5 +1,5 @@
 -- The turns that place an object, and that tell of it and of the end, keep what holds where the source tells.
-use Rattle.std.proofs.Common.{◌≡◌, ℕ, suc, ◌+◌, List, refl, subst}
+use Rattle.std.proofs.Common.{◌≡◌, ℕ, suc, List, refl, subst}
 use Rattle.std.specs.Prelude.{Some, Ok}
 use Rattle.pt_tree.specs.Source.{Reading}
 use Rattle.pt_walk.specs.Trail.{sought}
@@ -13,7 +13,7 @@ use Rattle.pt_plan.specs.World.{Answers, Calls}
 use Rattle.pt_plan.specs.declared.object.Object.{Object}
 use Rattle.pt_plan.specs.declared.phase.Phase.{Phase}
 use Rattle.pt_plan.specs.declared.phase.Phase.TheVariants as phase
-use Rattle.pt_begun.proofs.held.EitherPhase.{either_phase}
+use Rattle.pt_begun.proofs.held.EitherPhase.{after_tuple_folder}
 use Rattle.pt_begun.proofs.source.InObject.{site_itself}
 use Rattle.pt_begun.proofs.source.InPairtree.{stays}
 
@@ -22,7 +22,7 @@ after_a_tuple : (job : Job) {s new : Reading} {prefix : List ℕ} {object : Obje
 after_a_tuple job {new} {prefix} {object} {held} {count} number same at =
     let next = λ (p : Phase). SourceAt job new prefix (done_after (phase.Tuples object number) held.trail p count) p held in
     let it = stays (λ r. HasStarted r.tree prefix × IsScanned job r.tree prefix object held count) same at in
-    either_phase next _ (phase.Tuples object (number + 1)) (phase.Rename object) (λ more. it) (λ last. it)
+    after_tuple_folder next job object number (λ more. it) (λ last. it)
 
 pub places_keep : (job : Job) {counts : Counts} (s new : Reading) (prefix : List ℕ) (count : ℕ) {here next : Phase} {held after : Held} {calls : Calls}
     → Places job counts here held after calls (Ok next) → SourceAt job s prefix count here held

@@ -1,6 +1,6 @@
 -- Each turn that goes on keeps what holds where the source tells: the turns of the start and of the walk, and those that make and place an object.
-use Rattle.std.proofs.Common.{◌≡◌, ◌≤◌, ℕ, ◌+◌, ◌==◌, true, List, [], ◌++◌, refl, ap, sym, ◌∙◌, subst, arith, length}
-use Rattle.std.specs.Prelude.{Option, None, Some, Ok, nat_lt, slice_get, take}
+use Rattle.std.proofs.Common.{◌≡◌, ◌≤◌, ℕ, true, List, [], ◌++◌, refl, ap, sym, ◌∙◌, subst, arith, length}
+use Rattle.std.specs.Prelude.{Option, None, Some, Ok, slice_get, take}
 use Rattle.std.specs.Option.{ForSome, option_map}
 use Rattle.pt_object.specs.FilePaths.{part_in_order, row_paths}
 use Rattle.pt_object.specs.declared.rows.Row.{Row}
@@ -27,7 +27,7 @@ use Rattle.pt_begun.specs.BegunHeld.{HeldAt}
 use Rattle.pt_begun.specs.BegunSource.{AreHeldThere, BytesAt, FewAt, IsCopyingFile, IsWithinBound, SourceAt, SourcePart}
 use Rattle.pt_begun.specs.Past.{Past, bytes_after, past_after, with_bytes_of}
 use Rattle.pt_begun.specs.SourceLaws.{MakingKeepsSource, PlacingKeepsSource, StartingKeepsSource, WalkingKeepsSource}
-use Rattle.pt_begun.proofs.held.EitherPhase.{either_phase}
+use Rattle.pt_begun.proofs.held.EitherPhase.{after_root_file, after_root_item, after_sidecar, after_tuple_folder}
 use Rattle.pt_begun.proofs.held.TrailKeeps as trail
 use Rattle.pt_begun.proofs.source.InObject.{site_itself}
 use Rattle.pt_begun.proofs.source.InPairtree.{some_same}
@@ -64,9 +64,9 @@ module _ {job : Job} (past : Past) {here : Phase} {prefix : List ℕ} {held : He
 
 starts_beside : {job : Job} {source : Forest} {bytes : Path → List ℕ} {prefix read : List ℕ} {here next : Phase} {held : Held} {calls : Calls} → Starts job here prefix read calls (Ok next) → FewAt job source here held → BesideAt job source bytes next held
 starts_beside {job} {source} {bytes} {held} (MakesRoot was number item is) few =
-    either_phase (λ p. BesideAt job source bytes p held) (number == 5) phase.RootRename _ (λ last. record { bytes_are = tt; few = few }) (λ more. record { bytes_are = tt; few = few })
+    after_root_item (λ p. BesideAt job source bytes p held) number (λ last. record { bytes_are = tt; few = few }) (λ more. record { bytes_are = tt; few = few })
 starts_beside {job} {source} {bytes} {held} (IsSame was number path read is) few =
-    either_phase (λ p. BesideAt job source bytes p held) (number == 2) phase.OpenRoot _ (λ last. record { bytes_are = tt; few = few }) (λ more. record { bytes_are = tt; few = few })
+    after_root_file (λ p. BesideAt job source bytes p held) number (λ last. record { bytes_are = tt; few = few }) (λ more. record { bytes_are = tt; few = few })
 starts_beside turn few = record { bytes_are = tt; few = few }
 
 pub starts_source : StartingKeepsSource
@@ -128,7 +128,7 @@ walks_source job past s new prefix here next held after calls turn answers at pa
 after_a_tuple : (job : Job) {source : Forest} {bytes : Path → List ℕ} (object : Object) {held : Held} (number : ℕ) → AreHeldThere source object (to_site object held.trail) bytes held.rows → IsWithinBound job source held
     → BesideAt job source bytes (after_tuple job object number) held
 after_a_tuple job {source} {bytes} object {held} number there few =
-    either_phase (λ p. BesideAt job source bytes p held) (nat_lt (number + 1) job.tuples.count) (phase.Tuples object (number + 1)) (phase.Rename object)
+    after_tuple_folder (λ p. BesideAt job source bytes p held) job object number
     (λ more. record { bytes_are = there; few = few }) (λ last. record { bytes_are = there; few = few })
 
 at_site_again : (job : Job) (source : Forest) (held : Held) → IsWithinBound job source held → IsWithinBound job source (restarted held)
@@ -174,7 +174,7 @@ makes_beside past s new (EndsCopy was object position row left is same) answers 
   few = part.few;
 }
 makes_beside {job} past s new {after} (MakesSidecar was object) answers at part =
-    either_phase (λ p. BesideAt job s.tree past.bytes p after) (job.tuples.count == 0) (phase.Rename object) (phase.Tuples object 0)
+    after_sidecar (λ p. BesideAt job s.tree past.bytes p after) job object
     (λ flat. record { bytes_are = part.bytes; few = part.few }) (λ some. record { bytes_are = part.bytes; few = part.few })
 makes_beside past s new turn answers at part = record { bytes_are = part.bytes; few = part.few }
 

@@ -1,5 +1,5 @@
 -- The turns of the start keep what holds where the source tells.
-use Rattle.std.proofs.Common.{inl, inr, ◌≡◌, ◌≤◌, ℕ, ◌+◌, ◌==◌, ◌&&◌, Bool, true, false, List, [], ◌∷◌, refl, ap, sym, ◌∙◌, cond, length, arith, take}
+use Rattle.std.proofs.Common.{inl, inr, ◌≡◌, ◌≤◌, ℕ, ◌&&◌, Bool, true, false, List, [], ◌∷◌, refl, ap, sym, ◌∙◌, cond, length, arith, take}
 use Rattle.std.specs.Prelude.{Option, None, Some, Ok, is_none, is_some, nat_lt, min}
 use Rattle.std.specs.Option.{option_and_then, option_map}
 use Rattle.std.specs.Str.{bytes_eq, is_utf8}
@@ -20,7 +20,7 @@ use Rattle.pt_plan.specs.TurnStart.{Starts, IsStore, HasNoPrefix, HasPrefix, Mak
 use Rattle.pt_plan.specs.World.{Answers, Calls}
 use Rattle.pt_plan.specs.declared.phase.Phase.{Phase}
 use Rattle.pt_plan.specs.declared.phase.Phase.TheVariants as phase
-use Rattle.pt_begun.proofs.held.EitherPhase.{either_phase}
+use Rattle.pt_begun.proofs.held.EitherPhase.{after_root_file, after_root_item}
 use Rattle.pt_begun.proofs.source.InPairtree.{some_same, stays}
 
 -- ---- the top
@@ -108,9 +108,9 @@ starts_keep s new count held (HasPrefix was block good) at answers =
 starts_keep {job} s new {prefix} count held (MakesRoot was number item is) at answers =
     let next = λ (p : Phase). SourceAt job new prefix (done_after (phase.RootMake number) held.trail p count) p held in
     let it = stays (Started prefix count held) answers at in
-    either_phase next (number == 5) phase.RootRename (phase.RootMake (number + 1)) (λ last. it) (λ more. it)
+    after_root_item next number (λ last. it) (λ more. it)
 starts_keep {job} s new {prefix} count held (IsSame was number path bytes is) at answers =
     let next = λ (p : Phase). SourceAt job new prefix (done_after (phase.RootCheck number) held.trail p count) p held in
     let it = stays (Started prefix count held) answers at in
-    either_phase next (number == 2) phase.OpenRoot (phase.RootCheck (number + 1)) (λ last. it) (λ more. it)
+    after_root_file next number (λ last. it) (λ more. it)
 starts_keep s new {prefix} count held turn at answers = stays (Started prefix count held) answers at
