@@ -108,12 +108,16 @@ scans_keep start past old (MeetsOther was object name e) at = given_up at
 scans_keep start past old (IsTooLong was object bytes byte block long) at = given_up at
 scans_keep start past old turn at = at
 
+-- with the destination as it was
+pub unchanged : {job : Job} {past : Past} {here : Phase} {held : Held} {start : Tree} {old new : Writing} → Some new ≡ Some old → DestPart job past here held start old → DestPart job past here held start new
+unchanged {job} {past} {here} {held} {start} {old} {new} same part = subst (DestPart job past here held start) (sym (some_same new old same)) part
+
 pub walks_dest : WalkingKeepsDest
 walks_dest job past start old new prefix here next held after calls turn change at part =
-    subst (DestAfter job past here next held after start) (sym (some_same new old (walks_same turn change)))
+    unchanged (walks_same turn change)
     (record { started = part.started; tree = part.tree; at = walks_keep start past old new turn change part.at })
 
 pub scans_dest : ScanningKeepsDest
 scans_dest job past start old new here next held after calls turn change at part =
-    subst (DestAfter job past here next held after start) (sym (some_same new old (scans_same turn change)))
+    unchanged (scans_same turn change)
     (record { started = part.started; tree = part.tree; at = scans_keep start past old turn part.at })

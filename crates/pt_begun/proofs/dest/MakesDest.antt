@@ -32,7 +32,7 @@ use Rattle.pt_begun.specs.DestLaws.{MakingKeepsDest}
 use Rattle.pt_begun.specs.PartsMade.{IsAtStoredRow, made_before, script_of_object}
 use Rattle.pt_begun.specs.Past.{Past, with_bytes_of}
 use Rattle.pt_begun.proofs.held.EitherPhase.{after_sidecar}
-use Rattle.pt_begun.proofs.dest.DestKeeps.{DestAfter}
+use Rattle.pt_begun.proofs.dest.DestKeeps.{unchanged, DestAfter}
 use Rattle.pt_begun.proofs.dest.ContentParts.{IsHere, copy_made, file_next, folder_made, folder_next, made_at, made_first}
 use Rattle.pt_begun.proofs.source.InPairtree.{some_same}
 use Rattle.pt_begun.proofs.dest.MadeItems.{made_in_turn, tree_made}
@@ -217,7 +217,7 @@ makes_dest job past start old new here held after calls next (MakesVersion was o
 makes_dest job past start old new here held after calls next (PassesRow was object position row is other) change at dest =
     let same : made_before job object was.rows past.bytes (a_part.Content position) ≡ made_before job object was.rows past.bytes (content_at was.rows (behind position)) =
     sym (made_at job object was.rows past.bytes (behind position) (stored_passed was.rows was.contents position row at.rows.contents at.rows.order is other at.numbers)) in
-    subst (λ (w : Writing). DestAfter job past here next was was start w) (sym (some_same new old change))
+    unchanged change
     (record { started = dest.started; tree = dest.tree; at = said same dest.at })
 makes_dest job past start old new here held after calls next (MakesFolder was object position row is stored more) change at dest =
     let one = is_here job past object position was row at is stored in

@@ -25,7 +25,7 @@ use Rattle.pt_plan.specs.Fixity.{Holding, IsKept}
 use Rattle.pt_plan.specs.Job.{Job}
 use Rattle.pt_plan.specs.Roots.{root_in, storage_root, tuple_folders, with_folders, with_root}
 use Rattle.pt_plan.specs.Run.{Held}
-use Rattle.pt_plan.specs.TurnPlace.{MakesTuple, FindsTuple, RenamesObject, TellsDone, TellsEnd, after_tuple, restarted, tuple_folder}
+use Rattle.pt_plan.specs.TurnPlace.{MakesTuple, FindsTuple, RenamesObject, TellsDone, TellsEnd, after_tuple, tuple_folder}
 use Rattle.pt_plan.specs.TurnWalk.{in_root}
 use Rattle.pt_plan.specs.World.{Changes}
 use Rattle.pt_plan.specs.declared.object.Object.{Object}
@@ -36,7 +36,7 @@ use Rattle.pt_begun.specs.DestLaws.{PlacingKeepsDest}
 use Rattle.pt_begun.specs.PartsMade.{script_of_object}
 use Rattle.pt_begun.specs.Past.{Past, object_held}
 use Rattle.pt_begun.proofs.held.EitherPhase.{after_tuple_folder}
-use Rattle.pt_begun.proofs.dest.DestKeeps.{DestAfter, no_kind}
+use Rattle.pt_begun.proofs.dest.DestKeeps.{unchanged, DestAfter, no_kind}
 use Rattle.pt_begun.proofs.source.InPairtree.{some_same}
 use Rattle.pt_begun.proofs.dest.MakesDest.{fresh_root, top_folder}
 use Rattle.pt_begun.proofs.held.OwnFiles.{own_files, paths_held}
@@ -264,6 +264,6 @@ places_dest job counts past start old new here next held after calls (FindsTuple
     tuple_found job past start object was number old new at (folder_kind _ (change.0 old refl)) (some_same new old change.1) part
 places_dest job counts past start old new here next held after calls (RenamesObject was object) change at part = renamed job past start object was old new at (some_same new (after_rename staging (in_root object.place) old) change) part
 places_dest job counts past start old new here next held after calls (TellsDone was object) change at part =
-    subst (λ (w : Writing). DestAfter job past here next was (restarted was) start w) (sym (some_same new old change)) (record { started = part.started; tree = part.tree; at = record { root = part.at.root; came = part.at.came; tree = part.at.tree } })
+    unchanged change (record { started = part.started; tree = part.tree; at = record { root = part.at.root; came = part.at.came; tree = part.at.tree } })
 places_dest job counts past start old new here next held after calls (TellsEnd was) change at part =
-    subst (λ (w : Writing). DestAfter job past here next was was start w) (sym (some_same new old change)) (record { started = part.started; tree = part.tree; at = record { kept = held_so job start past.placed old part.at; stood = inl part.at.root } })
+    unchanged change (record { started = part.started; tree = part.tree; at = record { kept = held_so job start past.placed old part.at; stood = inl part.at.root } })

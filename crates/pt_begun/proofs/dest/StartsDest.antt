@@ -23,13 +23,12 @@ use Rattle.pt_plan.specs.Roots.{root_in, storage_root, with_root}
 use Rattle.pt_plan.specs.Run.{Held}
 use Rattle.pt_plan.specs.TurnStart.{HasNoStaging, HasNoRoot, HasRoot, MakesRoot, RenamesRoot, IsSame}
 use Rattle.pt_plan.specs.World.{Changes, after_make}
-use Rattle.pt_plan.specs.declared.phase.Phase.{Phase}
 use Rattle.pt_plan.specs.declared.phase.Phase.TheVariants as phase
 use Rattle.pt_begun.specs.BegunDest.{DestPart, HasRootFiles, IsMakingRoot, root_now}
 use Rattle.pt_begun.specs.DestLaws.{StartingKeepsDest}
 use Rattle.pt_begun.specs.Past.{Past}
 use Rattle.pt_begun.proofs.held.EitherPhase.{after_root_file, after_root_item}
-use Rattle.pt_begun.proofs.dest.DestKeeps.{DestAfter, no_kind, or_nothing}
+use Rattle.pt_begun.proofs.dest.DestKeeps.{DestAfter, unchanged, no_kind, or_nothing}
 use Rattle.pt_begun.proofs.source.InPairtree.{some_same}
 use Rattle.pt_begun.proofs.dest.MadeItems.{made_more, tree_made}
 use Rattle.pt_begun.proofs.dest.PlacesOnWay.{folder_kind}
@@ -132,10 +131,6 @@ checked_next job past start held {old} number path bytes layout file read part =
     let all : HasRootFiles job (root_in start) 3 = subst (λ (n : ℕ). HasRootFiles job (root_in start) (n + 1)) (eqb-true number 2 last) files in
     record { started = part.started; tree = part.tree; at = record { root = record { free = part.at.free; root = inr all }; came = refl; tree = part.at.tree ∙ own_root job start part.started all } })
     (λ more. record { started = part.started; tree = part.tree; at = record { free = part.at.free; top = part.at.top; files = files; tree = part.at.tree } })
-
--- with the destination as it was
-unchanged : {job : Job} {past : Past} {here : Phase} {held : Held} {start : Tree} {old new : Writing} → Some new ≡ Some old → DestPart job past here held start old → DestPart job past here held start new
-unchanged {job} {past} {here} {held} {start} {old} {new} same part = subst (DestPart job past here held start) (sym (some_same new old same)) part
 
 pub starts_dest : StartingKeepsDest
 unfolding Changes IsKindAt IsPeeked
