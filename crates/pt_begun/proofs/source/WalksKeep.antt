@@ -1,5 +1,5 @@
 -- The turns of the walk keep what holds where the source tells.
-use Rattle.std.proofs.Common.{◌≡◌, ◌<◌, ℕ, suc, ◌+◌, Bool, true, false, List, [], ◌∷◌, ◌++◌, refl, ap, sym, ◌∙◌, subst, cond, length, arith, drop}
+use Rattle.std.proofs.Common.{◌≡◌, ℕ, suc, ◌+◌, Bool, true, false, List, [], ◌∷◌, ◌++◌, refl, ap, sym, ◌∙◌, subst, cond, length, arith, drop}
 use Rattle.std.specs.Prelude.{Option, None, Some, Ok, nat_lt, slice_get}
 use Rattle.std.proofs.lemmas.Bool.{ltb-false}
 use Rattle.pt_tree.specs.Forest.{Forest, is_proper, listing_at, listing_of}
@@ -62,36 +62,19 @@ deep_as depth frame frames is_one deep_is =
     let same : length (names_to frames) + 1 ≡ length (frame ∷ frames) = omega (arith, names) in
     ap (nat_lt depth) same ∙ deep_is
 
--- ---- from one entry to the next
-
-long_advanced : (trail : List Frame) → 0 < length trail → 0 < length (advanced trail)
-long_advanced [] some = absurd (omega (arith, some))
-long_advanced (frame ∷ frames) some = omega arith
-
--- a shorty that isn't listed
+-- a shorty that isn't listed is the next site, and is passed
 passes_by : (job : Job) {source : Forest} {frame : Frame} {frames : List Frame} {name : List ℕ} {count : ℕ} → is_proper (pairtree_of source) ≡ true → entry_at frame ≡ Some (name, kind.Dir) → is_short name ≡ true
     → is_listed (visit_of job.limits.depth (names_to frames) (inside_at (pairtree_of source) (names_to frames ++ name ∷ []))) ≡ false
-    → IsOnWay job source (frame ∷ frames) count → IsOnWay job source (advanced (frame ∷ frames)) (suc count)
-passes_by job {source} {frame} {frames} {name} {count} proper e short unlisted way =
-    let top = pairtree_of source in
-    let path = names_to frames ++ name ∷ [] in
-    let next = passes job.limits.depth top frame frames name path (inside_at top path) proper way.fits e short refl refl unlisted in
-    record {
-      entered = omega arith;
-      fits = (fits_moved top (frame ∷ frames) 0 way.fits).1;
-      left = (split_left count (sites_of job.limits.depth source) (path, visit_of job.limits.depth (names_to frames) (inside_at top path)) (sites_left job.limits.depth top (advanced (frame ∷ frames))) (sym next ∙ way.left)).1;
-    }
-
--- it is the next site
-shorty_next : (job : Job) {source : Forest} {frame : Frame} {frames : List Frame} {name : List ℕ} {count : ℕ} → is_proper (pairtree_of source) ≡ true → entry_at frame ≡ Some (name, kind.Dir) → is_short name ≡ true
-    → is_listed (visit_of job.limits.depth (names_to frames) (inside_at (pairtree_of source) (names_to frames ++ name ∷ []))) ≡ false
     → IsOnWay job source (frame ∷ frames) count
-    → slice_get (sites_of job.limits.depth source) count ≡ Some (names_to frames ++ name ∷ [], visit_of job.limits.depth (names_to frames) (inside_at (pairtree_of source) (names_to frames ++ name ∷ [])))
-shorty_next job {source} {frame} {frames} {name} {count} proper e short unlisted way =
+    → (slice_get (sites_of job.limits.depth source) count ≡ Some (names_to frames ++ name ∷ [], visit_of job.limits.depth (names_to frames) (inside_at (pairtree_of source) (names_to frames ++ name ∷ []))))
+    × IsOnWay job source (advanced (frame ∷ frames)) (suc count)
+passes_by job {source} {frame} {frames} {name} {count} proper e short unlisted way =
+    let depth = job.limits.depth in
     let top = pairtree_of source in
     let path = names_to frames ++ name ∷ [] in
-    let next = passes job.limits.depth top frame frames name path (inside_at top path) proper way.fits e short refl refl unlisted in
-    (split_left count (sites_of job.limits.depth source) (path, visit_of job.limits.depth (names_to frames) (inside_at top path)) (sites_left job.limits.depth top (advanced (frame ∷ frames))) (sym next ∙ way.left)).0
+    let next = passes depth top frame frames name path (inside_at top path) proper way.fits e short refl refl unlisted in
+    let split = split_left count (sites_of depth source) (path, visit_of depth (names_to frames) (inside_at top path)) (sites_left depth top (advanced (frame ∷ frames))) (sym next ∙ way.left) in
+    (split.0, record { entered = omega arith; fits = (fits_moved top (frame ∷ frames) 0 way.fits).1; left = split.1 })
 
 pub past_next : (job : Job) (source : Forest) (trail : List Frame) (name : List ℕ) (count : ℕ) → is_proper (pairtree_of source) ≡ true → current_entry trail ≡ Some (name, kind.Dir) → is_short name ≡ true
     → is_last (at_of (trail_path trail)) ≡ true → IsOnWay job source trail count → slice_get (sites_of job.limits.depth source) count ≡ Some (names_to trail, Past)
@@ -99,7 +82,7 @@ past_next job source [] name count proper e short last way = absurd (cc)
 past_next job source (frame ∷ frames) name count proper e short last way =
     let path = names_to frames ++ name ∷ [] in
     let met = met_past job.limits.depth (names_to frames) _ last in
-    shorty_next job proper e short (ap is_listed met) way ∙ ap (λ (v : Visit). Some (path, v)) met ∙ ap (λ (p : Path). Some (p, Past)) (sym (path_grows frame frames (name, kind.Dir) e))
+    (passes_by job proper e short (ap is_listed met) way).0 ∙ ap (λ (v : Visit). Some (path, v)) met ∙ ap (λ (p : Path). Some (p, Past)) (sym (path_grows frame frames (name, kind.Dir) e))
 
 pub deep_next : (job : Job) (source : Forest) (trail : List Frame) (name : List ℕ) (count : ℕ) → is_proper (pairtree_of source) ≡ true → is_trail trail ≡ true → current_entry trail ≡ Some (name, kind.Dir) → is_short name ≡ true
     → is_last (at_of (trail_path trail)) ≡ false → nat_lt job.limits.depth (length trail) ≡ true → IsOnWay job source trail count → slice_get (sites_of job.limits.depth source) count ≡ Some (names_to trail, Deep)
@@ -107,22 +90,21 @@ deep_next job source [] name count proper is_one e short last deep way = absurd 
 deep_next job source (frame ∷ frames) name count proper is_one e short last deep way =
     let path = names_to frames ++ name ∷ [] in
     let met = met_else job.limits.depth (names_to frames) _ last (deep_as job.limits.depth frame frames is_one deep) in
-    shorty_next job proper e short (ap is_listed met) way ∙ ap (λ (v : Visit). Some (path, v)) met ∙ ap (λ (p : Path). Some (p, Deep)) (sym (path_grows frame frames (name, kind.Dir) e))
+    (passes_by job proper e short (ap is_listed met) way).0 ∙ ap (λ (v : Visit). Some (path, v)) met ∙ ap (λ (p : Path). Some (p, Deep)) (sym (path_grows frame frames (name, kind.Dir) e))
 
 pub passes_past : (job : Job) {source : Forest} (trail : List Frame) {name : List ℕ} {count : ℕ} → is_proper (pairtree_of source) ≡ true → current_entry trail ≡ Some (name, kind.Dir) → is_short name ≡ true
     → is_last (at_of (trail_path trail)) ≡ true → IsOnWay job source trail count → IsOnWay job source (advanced trail) (suc count)
 passes_past job [] proper e short last way = absurd (cc)
 passes_past job {source} (frame ∷ frames) {name} proper e short last way =
     let inside = inside_at (pairtree_of source) (names_to frames ++ name ∷ []) in
-    passes_by job proper e short (ap is_listed (met_past job.limits.depth (names_to frames) inside last)) way
+    (passes_by job proper e short (ap is_listed (met_past job.limits.depth (names_to frames) inside last)) way).1
 
 pub passes_deep : (job : Job) {source : Forest} (trail : List Frame) {name : List ℕ} {count : ℕ} → is_proper (pairtree_of source) ≡ true → is_trail trail ≡ true → current_entry trail ≡ Some (name, kind.Dir) → is_short name ≡ true
     → is_last (at_of (trail_path trail)) ≡ false → nat_lt job.limits.depth (length trail) ≡ true → IsOnWay job source trail count → IsOnWay job source (advanced trail) (suc count)
 passes_deep job [] proper is_one e short last deep way = absurd (cc)
 passes_deep job {source} (frame ∷ frames) {name} proper is_one e short last deep way =
     let inside = inside_at (pairtree_of source) (names_to frames ++ name ∷ []) in
-    passes_by job proper e short
-    (ap is_listed (met_else job.limits.depth (names_to frames) inside last (deep_as job.limits.depth frame frames is_one deep))) way
+    (passes_by job proper e short (ap is_listed (met_else job.limits.depth (names_to frames) inside last (deep_as job.limits.depth frame frames is_one deep))) way).1
 
 pub enters_site : (job : Job) {source : Forest} (trail : List Frame) {name : List ℕ} {items : List Item} {count : ℕ} → is_proper (pairtree_of source) ≡ true → is_trail trail ≡ true → current_entry trail ≡ Some (name, kind.Dir) → is_short name ≡ true
     → is_last (at_of (trail_path trail)) ≡ false → nat_lt job.limits.depth (length trail) ≡ false → listing_at (pairtree_of source) (names_to trail) ≡ Some items
