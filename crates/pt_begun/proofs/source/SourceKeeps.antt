@@ -162,7 +162,7 @@ copied_whole : (s : Reading) (object : Object) (held : Held) {position : Positio
 copied_whole s object held row is ended it =
     let same : it.row ≡ row = some_same it.row row (sym it.is_row ∙ is) in
     (reads_end 8192 _ _ held.fed s.unread (omega arith) it.read (ended s refl)).all
-    ∙ ap (λ (r : Row). bytes_at _ (path_of_source object held.trail ++ r.path)) same
+    ∙ ap (λ (r : Row). bytes_at (pairtree_of s.tree) (path_of_source object held.trail ++ r.path)) same
 
 makes_beside : {job : Job} (past : Past) (s new : Reading) {prefix : List ℕ} {here : Phase} {held after : Held} {calls : Calls} {next : Phase} → Makings job here held after calls (Ok next) → Answers calls.asked (Some s) (Some new)
     → HeldAt job past here held → SourcePart job past here prefix held s → BesideAt job s.tree (bytes_after here next held past.bytes) next after
