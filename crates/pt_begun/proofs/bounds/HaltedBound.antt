@@ -15,10 +15,10 @@ use Rattle.pt_plan.specs.Bound.{bound}
 use Rattle.pt_plan.specs.Job.{Job}
 use Rattle.pt_plan.specs.Run.{Counts, Held, Kept, turning}
 use Rattle.pt_plan.specs.Turn.{FailsAtFirst, FailsLater, Follows, IsHalted, IsRefused, Make, Place, Scan, Start as a_start, Walk}
-use Rattle.pt_plan.specs.TurnMake.{CopiesOn, EndsCopy, MakesDeclaration, MakesFolder, MakesInventory, MakesSidecar, MakesStaging, MakesVersion, MakesVersionInventory, MakesVersionSidecar, Makings, OpensCopy, PassesRow, ReadsMore, ReadsOther}
-use Rattle.pt_plan.specs.TurnPlace.{FindsTuple, IsInTheWay, MakesTuple, Places, RenamesObject, TellsDone, TellsEnd}
-use Rattle.pt_plan.specs.TurnScan.{EndsFile, EndsObject, EndsSite, EntersDirectory, EntersObject, IsTooDeep, IsTooLong, LeavesDirectory, MeetsDeep, MeetsLimit, MeetsOther, OpensFile, PassesShorty, ReadsOn, Scans, StartsInSite, logical_path, with_file}
-use Rattle.pt_plan.specs.TurnWalk.{EndsWalk, EntersSite, IsDeep, IsNew, IsPast, IsPresent, IsSkipped, LeadsOn, LeavesSite, OpensRoot, PassesEntry, Walks}
+use Rattle.pt_plan.specs.TurnMake.{MakesStaging, Makings}
+use Rattle.pt_plan.specs.TurnPlace.{Places, TellsDone}
+use Rattle.pt_plan.specs.TurnScan.{EndsFile, IsTooDeep, IsTooLong, MeetsDeep, MeetsLimit, MeetsOther, Scans, logical_path, with_file}
+use Rattle.pt_plan.specs.TurnWalk.{OpensRoot, Walks}
 use Rattle.pt_plan.specs.World.{Answers, Calls, Reads, asks}
 use Rattle.pt_plan.specs.declared.object.Object.{Object}
 use Rattle.pt_plan.specs.declared.phase.Phase.{Phase}
@@ -70,59 +70,26 @@ few_with_file job past prefix held object bytes s new at known answers =
     omega (arith, few, same, fewer)
 
 walks_few : (job : Job) (source : Forest) (prefix : List ℕ) (here : Phase) (held new : Held) (calls : Calls) (answer : Answer) → Walks job prefix here held new calls answer → IsWithinBound job source held → AreFew job source held new.rows
-walks_few job source prefix here held new calls answer (OpensRoot was items) few = few
-walks_few job source prefix here held new calls answer (LeadsOn was found) few = few
-walks_few job source prefix here held new calls answer (IsSkipped was why found) few = few
-walks_few job source prefix here held new calls answer (IsPresent was index id kind found) few = few
-walks_few job source prefix here held new calls answer (IsNew was index id found) few = few
-walks_few job source prefix here held new calls answer (IsPast was name e short last) few = few
-walks_few job source prefix here held new calls answer (IsDeep was name e short last deep) few = few
-walks_few job source prefix here held new calls answer (EntersSite was name items e short last shallow) few = few
-walks_few job source prefix here held new calls answer (PassesEntry was item e other) few = few
-walks_few job source prefix here held new calls answer (LeavesSite was e inner) few = few
-walks_few job source prefix here held new calls answer (EndsWalk was e outer) few = few
+walks_few job source prefix here held new calls answer (OpensRoot _ _) few = few
+walks_few job source prefix here held new calls answer _ few = few
 
 scans_few : (job : Job) (past : Past) (prefix : List ℕ) (here : Phase) (held new : Held) (calls : Calls) (answer : Answer) (s : Reading) (now : Option Reading) → Scans job here held new calls answer → HeldAt job past here held → SourcePart job past here prefix held s
     → Answers calls.asked (Some s) now → IsWithinBound job s.tree held → AreFew job s.tree held new.rows
-scans_few job past prefix here held new calls answer s now (StartsInSite was object gathered) at known answers few = few
-scans_few job past prefix here held new calls answer s now (EntersObject was object items apart shallow) at known answers few = few
 scans_few job past prefix here held new calls answer s now (IsTooDeep was object apart deep) at known answers few = few_none job s.tree was few
-scans_few job past prefix here held new calls answer s now (PassesShorty was object item e passed) at known answers few = few
-scans_few job past prefix here held new calls answer s now (EntersDirectory was object name items e apart shallow) at known answers few = few
 scans_few job past prefix here held new calls answer s now (MeetsDeep was object name e apart deep) at known answers few = few_none job s.tree was few
-scans_few job past prefix here held new calls answer s now (OpensFile was object name e room) at known answers few = few
 scans_few job past prefix here held new calls answer s now (MeetsLimit was object name e room) at known answers few = few_none job s.tree was few
 scans_few job past prefix here held new calls answer s now (MeetsOther was object name e) at known answers few = few_none job s.tree was few
-scans_few job past prefix here held new calls answer s now (EndsSite was object e in_site) at known answers few = few
-scans_few job past prefix here held new calls answer s now (EndsObject was object e in_site own) at known answers few = few
-scans_few job past prefix here held new calls answer s now (LeavesDirectory was object e in_site own) at known answers few = few
-scans_few job past prefix here held new calls answer s now (ReadsOn was object bytes byte block short) at known answers few = few
 scans_few job past prefix here held new calls answer s now (IsTooLong was object bytes byte block long) at known answers few = few_none job s.tree was few
 scans_few job past prefix here held new calls answer s now (EndsFile was object bytes) at known answers few = few_with_file job past prefix was object bytes s now at known answers
+scans_few job past prefix here held new calls answer s now _ at known answers few = few
 
 makes_few : (job : Job) (source : Forest) (here : Phase) (held new : Held) (calls : Calls) (answer : Answer) → Makings job here held new calls answer → IsWithinBound job source held → AreFew job source held new.rows
-makes_few job source here held new calls answer (MakesStaging was object) few = few
-makes_few job source here held new calls answer (MakesDeclaration was object) few = few
-makes_few job source here held new calls answer (MakesVersion was object) few = few
-makes_few job source here held new calls answer (PassesRow was object position row is stored) few = few
-makes_few job source here held new calls answer (MakesFolder was object position row is stored more) few = few
-makes_few job source here held new calls answer (OpensCopy was object position row is stored all) few = few
-makes_few job source here held new calls answer (CopiesOn was object position left byte block enough) few = few
-makes_few job source here held new calls answer (ReadsMore was object position left byte block more) few = few
-makes_few job source here held new calls answer (EndsCopy was object position row left is same) few = few
-makes_few job source here held new calls answer (ReadsOther was object position row left is other) few = few
-makes_few job source here held new calls answer (MakesVersionInventory was object) few = few
-makes_few job source here held new calls answer (MakesVersionSidecar was object) few = few
-makes_few job source here held new calls answer (MakesInventory was object) few = few
-makes_few job source here held new calls answer (MakesSidecar was object) few = few
+makes_few job source here held new calls answer (MakesStaging _ _) few = few
+makes_few job source here held new calls answer _ few = few
 
 places_few : (job : Job) (source : Forest) (counts : Counts) (here : Phase) (held new : Held) (calls : Calls) (answer : Answer) → Places job counts here held new calls answer → IsWithinBound job source held → AreFew job source held new.rows
-places_few job source counts here held new calls answer (MakesTuple was object number) few = few
-places_few job source counts here held new calls answer (FindsTuple was object number) few = few
-places_few job source counts here held new calls answer (IsInTheWay was object number kind other) few = few
-places_few job source counts here held new calls answer (RenamesObject was object) few = few
 places_few job source counts here held new calls answer (TellsDone was object) few = few_none job source was few
-places_few job source counts here held new calls answer (TellsEnd was) few = few
+places_few job source counts here held new calls answer _ few = few
 
 -- ---- a turn that halts
 

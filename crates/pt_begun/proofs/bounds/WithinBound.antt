@@ -23,26 +23,10 @@ in_object job source prefix past object held count rows it room =
     omega (arith, few, room)
 
 pub within : (job : Job) (past : Past) (here : Phase) (prefix : List ℕ) (held : Held) (s : Reading) → HeldAt job past here held → SourcePart job past here prefix held s → is_ended here ≡ false → IsWithinBound job s.tree held
-within job past phase.Begin prefix held s has it not = it.few
-within job past (phase.Prefix here) prefix held s has it not = it.few
-within job past phase.Staging prefix held s has it not = it.few
-within job past phase.Root prefix held s has it not = it.few
-within job past (phase.RootMake number) prefix held s has it not = it.few
-within job past phase.RootRename prefix held s has it not = it.few
-within job past (phase.RootCheck number) prefix held s has it not = it.few
-within job past phase.OpenRoot prefix held s has it not = it.few
-within job past phase.Judge prefix held s has it not = it.few
-within job past (phase.OpenObject object) prefix held s has it not = it.few
 within job past (phase.Scan object) prefix held s has it not = in_object job s.tree prefix past object held past.count has.rows it.at.1 it.few
 within job past (phase.Read object bytes) prefix held s has it not = in_object job s.tree prefix past object held past.count has.rows it.at.1 it.few
-within job past (phase.Make object part) prefix held s has it not = it.few
-within job past (phase.Copy object position left) prefix held s has it not = it.few
-within job past (phase.Tuples object number) prefix held s has it not = it.few
-within job past (phase.Rename object) prefix held s has it not = it.few
-within job past (phase.Line object) prefix held s has it not = it.few
-within job past phase.Walk prefix held s has it not = it.few
-within job past phase.End prefix held s has it not = it.few
 within job past phase.Ended prefix held s has it not = absurd (true≢false not)
+within job past _ prefix held s has it not = it.few
 
 pub begun_is_within_bound : BegunIsWithinBound
 unfolding Begun

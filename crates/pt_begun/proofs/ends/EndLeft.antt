@@ -33,23 +33,5 @@ end_left job source start now first last told log is =
 
 -- of a run that hasn't ended nothing is said
 pub left_unless : (here : Phase) (job : Job) (source : Forest) (start now : Tree) (first last : List ℕ) → (here ≡ phase.Ended → IsLeftByFault job source start now first last) → LeftAt here job source start now first last
-left_unless phase.Begin job source start now first last at_end = tt
-left_unless (phase.Prefix here) job source start now first last at_end = tt
-left_unless phase.Staging job source start now first last at_end = tt
-left_unless phase.Root job source start now first last at_end = tt
-left_unless (phase.RootMake number) job source start now first last at_end = tt
-left_unless phase.RootRename job source start now first last at_end = tt
-left_unless (phase.RootCheck number) job source start now first last at_end = tt
-left_unless phase.OpenRoot job source start now first last at_end = tt
-left_unless phase.Judge job source start now first last at_end = tt
-left_unless (phase.OpenObject object) job source start now first last at_end = tt
-left_unless (phase.Scan object) job source start now first last at_end = tt
-left_unless (phase.Read object bytes) job source start now first last at_end = tt
-left_unless (phase.Make object here) job source start now first last at_end = tt
-left_unless (phase.Copy object position left) job source start now first last at_end = tt
-left_unless (phase.Tuples object number) job source start now first last at_end = tt
-left_unless (phase.Rename object) job source start now first last at_end = tt
-left_unless (phase.Line object) job source start now first last at_end = tt
-left_unless phase.Walk job source start now first last at_end = tt
-left_unless phase.End job source start now first last at_end = tt
 left_unless phase.Ended job source start now first last at_end = at_end refl
+left_unless _ job source start now first last at_end = tt

@@ -22,11 +22,11 @@ use Rattle.pt_plan.specs.Roots.{root_in, storage_root, with_root}
 use Rattle.pt_plan.specs.Run.{Counts, Held, Kept, Run, turning}
 use Rattle.pt_plan.specs.Store.{prefix_of, sites_of}
 use Rattle.pt_plan.specs.Turn.{Did, Happens, Follows, GoesOn, Start as a_start, Walk, Scan, Make, Place, counted}
-use Rattle.pt_plan.specs.TurnMake.{Makings, MakesStaging, MakesDeclaration, MakesVersion, PassesRow, MakesFolder, OpensCopy, CopiesOn, EndsCopy, MakesVersionInventory, MakesVersionSidecar, MakesInventory, MakesSidecar}
-use Rattle.pt_plan.specs.TurnPlace.{Places, MakesTuple, FindsTuple, RenamesObject, TellsDone, TellsEnd, last_line}
-use Rattle.pt_plan.specs.TurnScan.{Scans, StartsInSite, EntersObject, IsTooDeep, PassesShorty, EntersDirectory, MeetsDeep, OpensFile, MeetsLimit, MeetsOther, EndsSite, EndsObject, LeavesDirectory, ReadsOn, IsTooLong, EndsFile}
-use Rattle.pt_plan.specs.TurnStart.{Starts, IsStore, HasNoPrefix, HasPrefix, HasNoStaging, HasNoRoot, HasRoot, MakesRoot, RenamesRoot, IsSame}
-use Rattle.pt_plan.specs.TurnWalk.{Walks, OpensRoot, LeadsOn, IsSkipped, IsPresent, IsNew, IsPast as is_past, IsDeep, EntersSite, PassesEntry, LeavesSite, EndsWalk}
+use Rattle.pt_plan.specs.TurnMake.{Makings, MakesSidecar}
+use Rattle.pt_plan.specs.TurnPlace.{Places, MakesTuple, FindsTuple, TellsEnd, last_line}
+use Rattle.pt_plan.specs.TurnScan.{Scans, StartsInSite}
+use Rattle.pt_plan.specs.TurnStart.{Starts, MakesRoot, IsSame}
+use Rattle.pt_plan.specs.TurnWalk.{Walks, OpensRoot}
 use Rattle.pt_plan.specs.World.{Calls, Changes, ChangesNothing, Puts, World, tells}
 use Rattle.pt_plan.specs.declared.phase.Phase.{Phase}
 use Rattle.pt_plan.specs.declared.phase.Phase.TheVariants as phase
@@ -52,66 +52,27 @@ pub record IsLastTurn (counts : Counts) (here : Phase) (held after : Held) (call
   pub held_is : after ≡ held
 
 starts_go : (job : Job) (prefix read : List ℕ) (here next : Phase) (calls : Calls) → Starts job here prefix read calls (Ok next) → is_ended next ≡ false
-starts_go job prefix read here next calls (IsStore was entries is) = refl
-starts_go job prefix read here next calls (HasNoPrefix was) = refl
-starts_go job prefix read here next calls (HasPrefix was block good) = refl
-starts_go job prefix read here next calls (HasNoStaging was) = refl
-starts_go job prefix read here next calls (HasNoRoot was) = refl
-starts_go job prefix read here next calls (HasRoot was) = refl
 starts_go job prefix read here next calls (MakesRoot was number item is) = either_not (number == 5) phase.RootRename (phase.RootMake (number + 1)) refl refl
-starts_go job prefix read here next calls (RenamesRoot was) = refl
 starts_go job prefix read here next calls (IsSame was number path bytes is) = either_not (number == 2) phase.OpenRoot (phase.RootCheck (number + 1)) refl refl
+starts_go job prefix read here next calls _ = refl
 
 walks_go : (job : Job) (prefix : List ℕ) (here next : Phase) (held after : Held) (calls : Calls) → Walks job prefix here held after calls (Ok next) → is_ended next ≡ false
-walks_go job prefix here next held after calls (OpensRoot was items) = refl
-walks_go job prefix here next held after calls (LeadsOn was is) = refl
-walks_go job prefix here next held after calls (IsSkipped was why is) = refl
-walks_go job prefix here next held after calls (IsPresent was index id kind is) = refl
-walks_go job prefix here next held after calls (IsNew was index id is) = refl
-walks_go job prefix here next held after calls (is_past was name e short last) = refl
-walks_go job prefix here next held after calls (IsDeep was name e short last deep) = refl
-walks_go job prefix here next held after calls (EntersSite was name items e short last deep) = refl
-walks_go job prefix here next held after calls (PassesEntry was item e apart) = refl
-walks_go job prefix here next held after calls (LeavesSite was e long) = refl
-walks_go job prefix here next held after calls (EndsWalk was e short) = refl
+walks_go job prefix here next held after calls (OpensRoot _ _) = refl
+walks_go job prefix here next held after calls _ = refl
 
 scans_go : (job : Job) (here next : Phase) (held after : Held) (calls : Calls) → Scans job here held after calls (Ok next) → is_ended next ≡ false
-scans_go job here next held after calls (StartsInSite was object gathered) = refl
-scans_go job here next held after calls (EntersObject was object items apart shallow) = refl
-scans_go job here next held after calls (IsTooDeep was object apart deep) = refl
-scans_go job here next held after calls (PassesShorty was object item e passed) = refl
-scans_go job here next held after calls (EntersDirectory was object name items e apart shallow) = refl
-scans_go job here next held after calls (MeetsDeep was object name e apart deep) = refl
-scans_go job here next held after calls (OpensFile was object name e room) = refl
-scans_go job here next held after calls (MeetsLimit was object name e room) = refl
-scans_go job here next held after calls (MeetsOther was object name e) = refl
-scans_go job here next held after calls (EndsSite was object e there) = refl
-scans_go job here next held after calls (EndsObject was object e apart own) = refl
-scans_go job here next held after calls (LeavesDirectory was object e apart outside) = refl
-scans_go job here next held after calls (ReadsOn was object bytes byte block short) = refl
-scans_go job here next held after calls (IsTooLong was object bytes byte block long) = refl
-scans_go job here next held after calls (EndsFile was object bytes) = refl
+scans_go job here next held after calls (StartsInSite _ _ _) = refl
+scans_go job here next held after calls _ = refl
 
 makes_go : (job : Job) (here : Phase) (held after : Held) (calls : Calls) (next : Phase) → Makings job here held after calls (Ok next) → is_ended next ≡ false
-makes_go job here held after calls next (MakesStaging was object) = refl
-makes_go job here held after calls next (MakesDeclaration was object) = refl
-makes_go job here held after calls next (MakesVersion was object) = refl
-makes_go job here held after calls next (PassesRow was object position row is other) = refl
-makes_go job here held after calls next (MakesFolder was object position row is stored more) = refl
-makes_go job here held after calls next (OpensCopy was object position row is stored all) = refl
-makes_go job here held after calls next (CopiesOn was object position left byte block fits) = refl
-makes_go job here held after calls next (EndsCopy was object position row left is same) = refl
-makes_go job here held after calls next (MakesVersionInventory was object) = refl
-makes_go job here held after calls next (MakesVersionSidecar was object) = refl
-makes_go job here held after calls next (MakesInventory was object) = refl
 makes_go job here held after calls next (MakesSidecar was object) = either_not (job.tuples.count == 0) (phase.Rename object) (phase.Tuples object 0) refl refl
+makes_go job here held after calls next _ = refl
 
 places_last : (job : Job) (counts : Counts) (here next : Phase) (held after : Held) (calls : Calls) → Places job counts here held after calls (Ok next) → is_ended next ≡ true → IsLastTurn counts here held after calls
 places_last job counts here next held after calls (MakesTuple was object number) ended = absurd (let no = either_not (nat_lt (number + 1) job.tuples.count) (phase.Tuples object (number + 1)) (phase.Rename object) refl refl in true≢false (sym ended ∙ no))
 places_last job counts here next held after calls (FindsTuple was object number) ended = absurd (let no = either_not (nat_lt (number + 1) job.tuples.count) (phase.Tuples object (number + 1)) (phase.Rename object) refl refl in true≢false (sym ended ∙ no))
-places_last job counts here next held after calls (RenamesObject was object) ended = absurd (false≢true ended)
-places_last job counts here next held after calls (TellsDone was object) ended = absurd (false≢true ended)
 places_last job counts here next held after calls (TellsEnd was) ended = record { phase_is = refl; calls_are = refl; held_is = refl }
+places_last job counts here next held after calls _ ended = absurd (false≢true ended)
 
 pub last_turn : (job : Job) (counts : Counts) (here : Phase) (prefix : List ℕ) (held : Held) (read : List ℕ) (after : Held) (calls : Calls) (next : Phase) → Follows job counts here prefix held read after calls (Ok next) → is_ended next ≡ true → IsLastTurn counts here held after calls
 last_turn job counts here prefix held read after calls next (a_start h p r w c a turn) ended = absurd (true≢false (sym ended ∙ starts_go job prefix read here next calls turn))

@@ -9,7 +9,7 @@ use Rattle.pt_object.specs.Object.{object_declaration_name}
 use Rattle.pt_object.specs.Scripts.{root_script, staging}
 use Rattle.pt_object.specs.declared.rows.Row.{Row}
 use Rattle.pt_tree.specs.Dest.{Writing, CanWrite, MayMake, MayMove}
-use Rattle.pt_tree.specs.Forest.{Forest, Node, File, Dir, Other, as_dir, as_file, dir_at, find, is_proper, kind_of, node_at}
+use Rattle.pt_tree.specs.Forest.{Forest, Node, File, as_dir, as_file, dir_at, find, is_proper, kind_of, node_at}
 use Rattle.pt_tree.specs.Path.{Path, parent}
 use Rattle.pt_tree.specs.Source.{Reading, CanList, CanOpen, CanRead}
 use Rattle.pt_tree.specs.Tree.{CanMake, CanMove, Folder, Tree}
@@ -88,10 +88,8 @@ may_open reading t knows name e s is = let it = knows s is in ap is_some (opened
 
 -- the prefix file is there, where it is a file
 prefix_there : (o : Option Node) → option_map kind_of o ≡ Some kind.File → IsSome (option_and_then as_file (option_and_then (λ node. node_at node []) o))
-prefix_there None is = absurd (cc)
 prefix_there (Some (File bytes)) is = refl
-prefix_there (Some (Dir inside)) is = absurd (cc)
-prefix_there (Some Other) is = absurd (cc)
+prefix_there _ is = absurd (cc)
 
 may_open_prefix : (reading : Option Reading) (here : Option Kind) → ForSome reading (λ s. here ≡ option_map kind_of (find s.tree prefix_file)) → MayOpenPrefix reading here
 unfolding MayOpenPrefix CanOpen
@@ -175,13 +173,9 @@ may_make_part job past object a_part.Sidecar prefix held reading writing at sour
 permits : (job : Job) (past : Past) (here : Phase) (prefix : List ℕ) (held : Held) (reading : Option Reading) (writing : Option Writing) → HeldAt job past here held → KnowsSource job past here prefix held reading → KnowsDest job past here held writing → Permits job here held reading writing
 permits job past phase.Begin prefix held reading writing at source dest = top_listed reading
 permits job past (phase.Prefix here) prefix held reading writing at source dest = may_open_prefix reading here (λ s is. (source s is).at.3)
-permits job past phase.Staging prefix held reading writing at source dest = tt
-permits job past phase.Root prefix held reading writing at source dest = tt
 permits job past (phase.RootMake number) prefix held reading writing at source dest = may_make_root job writing number (λ item is now same. let known = dest now same in root_item_made job known.0 number item now known.1.started is known.1.at)
 permits job past phase.RootRename prefix held reading writing at source dest = may_move writing staging storage_root (λ now is. let known = dest now is in root_may_move job known.0 now known.1.started known.1.at)
-permits job past (phase.RootCheck number) prefix held reading writing at source dest = tt
 permits job past phase.OpenRoot prefix held reading writing at source dest = enters_root reading (λ s is. (source s is).at.2.store)
-permits job past phase.Judge prefix held reading writing at source dest = tt
 permits job past (phase.OpenObject object) prefix held reading writing at source dest = λ apart. may_enter reading held.trail (λ s is. let known = source s is in (known.at.1.store, known.proper, known.at.2.fits))
 permits job past (phase.Scan object) prefix held reading writing at source dest = (
   may_enter reading held.trail (λ s is. let known = source s is in (known.at.0.store, known.proper, known.at.1.stands.fits)),
@@ -192,10 +186,8 @@ permits job past (phase.Make object here) prefix held reading writing at source 
 permits job past (phase.Copy object position left) prefix held reading writing at source dest = (may_read reading (λ s is. (_, (source s is).at.2.read.left)), may_write writing (λ now is. ap is_some (dest now is).1.at.writes.writing))
 permits job past (phase.Tuples object number) prefix held reading writing at source dest = has_parent writing (tuple_folder object number) (λ now is. let known = dest now is in tuple_parent job past known.0 object held number now at.numbers at known.1)
 permits job past (phase.Rename object) prefix held reading writing at source dest = may_move writing staging (in_root object.place) (λ now is. let known = dest now is in object_may_move job past known.0 object held now at known.1)
-permits job past (phase.Line object) prefix held reading writing at source dest = tt
 permits job past phase.Walk prefix held reading writing at source dest = may_enter reading held.trail (λ s is. let known = source s is in (known.at.1.store, known.proper, known.at.2.fits))
-permits job past phase.End prefix held reading writing at source dest = tt
-permits job past phase.Ended prefix held reading writing at source dest = tt
+permits job past _ prefix held reading writing at source dest = tt
 
 -- a destination that tells told at the start
 told_both : {A B : Type 0} → (P : A → B → Type 0) (start : Option A) (now : Option B) → TellsAsBefore start now P → ForSome now (λ b. (a : A) × P a b)

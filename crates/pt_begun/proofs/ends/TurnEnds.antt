@@ -12,11 +12,11 @@ use Rattle.pt_plan.specs.Lines.{Line}
 use Rattle.pt_plan.specs.Roots.{root_in}
 use Rattle.pt_plan.specs.Run.{Counts, Held, Kept, Run, turning}
 use Rattle.pt_plan.specs.Turn.{Did, FailsAtFirst, FailsLater, Follows, IsRefused, LeavesSome, Start as a_start, Stays, Turn, Walk, Scan, Make, Place}
-use Rattle.pt_plan.specs.TurnMake.{Makings, MakesStaging, MakesDeclaration, MakesVersion, PassesRow, MakesFolder, OpensCopy, CopiesOn, ReadsMore, EndsCopy, ReadsOther, MakesVersionInventory, MakesVersionSidecar, MakesInventory, MakesSidecar}
-use Rattle.pt_plan.specs.TurnPlace.{Places, MakesTuple, FindsTuple, IsInTheWay, RenamesObject, TellsDone, TellsEnd}
-use Rattle.pt_plan.specs.TurnScan.{Scans, StartsInSite, EntersObject, IsTooDeep, PassesShorty, EntersDirectory, MeetsDeep, OpensFile, MeetsLimit, MeetsOther, EndsSite, EndsObject, LeavesDirectory, ReadsOn, IsTooLong, EndsFile}
-use Rattle.pt_plan.specs.TurnStart.{Starts, IsStore, IsNoStore, HasNoPrefix, IsNoPrefixFile, HasPrefix, IsNoPrefix, HasNoStaging, HasStaging, HasNoRoot, HasRoot, IsNoRoot, MakesRoot, RenamesRoot, IsSame, IsNoFile, Differs}
-use Rattle.pt_plan.specs.TurnWalk.{Walks, OpensRoot, LeadsOn, IsSkipped, IsPresent, IsNew, IsPast, IsDeep, EntersSite, PassesEntry, LeavesSite, EndsWalk}
+use Rattle.pt_plan.specs.TurnMake.{Makings, ReadsMore, ReadsOther}
+use Rattle.pt_plan.specs.TurnPlace.{Places, IsInTheWay}
+use Rattle.pt_plan.specs.TurnScan.{Scans, StartsInSite}
+use Rattle.pt_plan.specs.TurnStart.{Starts, IsNoStore, IsNoPrefixFile, IsNoPrefix, HasStaging, IsNoRoot, IsNoFile, Differs}
+use Rattle.pt_plan.specs.TurnWalk.{Walks, OpensRoot}
 use Rattle.pt_plan.specs.World.{Answers, Asked, AsksNothing, Calls, Change, Changes, LeavesFront, LeavesPart, Lists, NewFile, OfFile, OfPiece, Opens, OpensAndReads, Puts, Reads, Untouched, World, source_tree}
 use Rattle.pt_plan.specs.declared.halt.Halt.{Halt}
 use Rattle.pt_plan.specs.declared.phase.Phase.{Phase}
@@ -43,15 +43,6 @@ is_halt (Err why) = true
 
 starts_same : (job : Job) (prefix read : List ℕ) (here : Phase) (calls : Calls) (answer : Answer) (old new : Option Writing) → Starts job here prefix read calls answer → is_halt answer ≡ true → Changes calls.change old new → new ≡ old
 unfolding Changes
-starts_same job prefix read here calls answer old new (IsStore was entries is) halts change = absurd (cc)
-starts_same job prefix read here calls answer old new (HasNoPrefix was) halts change = absurd (cc)
-starts_same job prefix read here calls answer old new (HasPrefix was block good) halts change = absurd (cc)
-starts_same job prefix read here calls answer old new (HasNoStaging was) halts change = absurd (cc)
-starts_same job prefix read here calls answer old new (HasNoRoot was) halts change = absurd (cc)
-starts_same job prefix read here calls answer old new (HasRoot was) halts change = absurd (cc)
-starts_same job prefix read here calls answer old new (MakesRoot was number item is) halts change = absurd (cc)
-starts_same job prefix read here calls answer old new (RenamesRoot was) halts change = absurd (cc)
-starts_same job prefix read here calls answer old new (IsSame was number path bytes is) halts change = absurd (cc)
 starts_same job prefix read here calls answer old new (IsNoStore was entries e) halts change = change
 starts_same job prefix read here calls answer old new (IsNoPrefixFile was kind some e) halts change = change
 starts_same job prefix read here calls answer old new (IsNoPrefix was block why e) halts change = change
@@ -59,64 +50,28 @@ starts_same job prefix read here calls answer old new (HasStaging was kind) halt
 starts_same job prefix read here calls answer old new (IsNoRoot was kind e) halts change = change.1
 starts_same job prefix read here calls answer old new (IsNoFile was number path bytes kind is e) halts change = change.1
 starts_same job prefix read here calls answer old new (Differs was number path bytes block is e) halts change = change.2
+starts_same job prefix read here calls answer old new _ halts change = absurd (cc)
 
 walks_same : (job : Job) (prefix : List ℕ) (here : Phase) (held after : Held) (calls : Calls) (answer : Answer) (old new : Option Writing) → Walks job prefix here held after calls answer → is_halt answer ≡ true → Changes calls.change old new → new ≡ old
 unfolding Changes
-walks_same job prefix here held after calls answer old new (OpensRoot was items) halts change = absurd (cc)
-walks_same job prefix here held after calls answer old new (LeadsOn was is) halts change = absurd (cc)
-walks_same job prefix here held after calls answer old new (IsSkipped was why is) halts change = absurd (cc)
-walks_same job prefix here held after calls answer old new (IsPresent was index id kind is) halts change = absurd (cc)
-walks_same job prefix here held after calls answer old new (IsNew was index id is) halts change = absurd (cc)
-walks_same job prefix here held after calls answer old new (IsPast was name e short last) halts change = absurd (cc)
-walks_same job prefix here held after calls answer old new (IsDeep was name e short last deep) halts change = absurd (cc)
-walks_same job prefix here held after calls answer old new (EntersSite was name items e short last deep) halts change = absurd (cc)
-walks_same job prefix here held after calls answer old new (PassesEntry was item e apart) halts change = absurd (cc)
-walks_same job prefix here held after calls answer old new (LeavesSite was e long) halts change = absurd (cc)
-walks_same job prefix here held after calls answer old new (EndsWalk was e short) halts change = absurd (cc)
+walks_same job prefix here held after calls answer old new (OpensRoot _ _) halts change = absurd (cc)
+walks_same job prefix here held after calls answer old new _ halts change = absurd (cc)
 
 scans_same : (job : Job) (here : Phase) (held after : Held) (calls : Calls) (answer : Answer) (old new : Option Writing) → Scans job here held after calls answer → is_halt answer ≡ true → Changes calls.change old new → new ≡ old
 unfolding Changes
-scans_same job here held after calls answer old new (StartsInSite was object gathered) halts change = absurd (cc)
-scans_same job here held after calls answer old new (EntersObject was object items apart shallow) halts change = absurd (cc)
-scans_same job here held after calls answer old new (IsTooDeep was object apart deep) halts change = absurd (cc)
-scans_same job here held after calls answer old new (PassesShorty was object item e passed) halts change = absurd (cc)
-scans_same job here held after calls answer old new (EntersDirectory was object name items e apart shallow) halts change = absurd (cc)
-scans_same job here held after calls answer old new (MeetsDeep was object name e apart deep) halts change = absurd (cc)
-scans_same job here held after calls answer old new (OpensFile was object name e room) halts change = absurd (cc)
-scans_same job here held after calls answer old new (MeetsLimit was object name e room) halts change = absurd (cc)
-scans_same job here held after calls answer old new (MeetsOther was object name e) halts change = absurd (cc)
-scans_same job here held after calls answer old new (EndsSite was object e there) halts change = absurd (cc)
-scans_same job here held after calls answer old new (EndsObject was object e apart own) halts change = absurd (cc)
-scans_same job here held after calls answer old new (LeavesDirectory was object e apart outside) halts change = absurd (cc)
-scans_same job here held after calls answer old new (ReadsOn was object bytes byte block short) halts change = absurd (cc)
-scans_same job here held after calls answer old new (IsTooLong was object bytes byte block long) halts change = absurd (cc)
-scans_same job here held after calls answer old new (EndsFile was object bytes) halts change = absurd (cc)
+scans_same job here held after calls answer old new (StartsInSite _ _ _) halts change = absurd (cc)
+scans_same job here held after calls answer old new _ halts change = absurd (cc)
 
 makes_same : (job : Job) (here : Phase) (held after : Held) (calls : Calls) (answer : Answer) (old new : Option Writing) → Makings job here held after calls answer → is_halt answer ≡ true → Changes calls.change old new → new ≡ old
 unfolding Changes
-makes_same job here held after calls answer old new (MakesStaging was object) halts change = absurd (cc)
-makes_same job here held after calls answer old new (MakesDeclaration was object) halts change = absurd (cc)
-makes_same job here held after calls answer old new (MakesVersion was object) halts change = absurd (cc)
-makes_same job here held after calls answer old new (PassesRow was object position row is other) halts change = absurd (cc)
-makes_same job here held after calls answer old new (MakesFolder was object position row is stored more) halts change = absurd (cc)
-makes_same job here held after calls answer old new (OpensCopy was object position row is stored all) halts change = absurd (cc)
-makes_same job here held after calls answer old new (CopiesOn was object position left byte block fits) halts change = absurd (cc)
-makes_same job here held after calls answer old new (EndsCopy was object position row left is same) halts change = absurd (cc)
-makes_same job here held after calls answer old new (MakesVersionInventory was object) halts change = absurd (cc)
-makes_same job here held after calls answer old new (MakesVersionSidecar was object) halts change = absurd (cc)
-makes_same job here held after calls answer old new (MakesInventory was object) halts change = absurd (cc)
-makes_same job here held after calls answer old new (MakesSidecar was object) halts change = absurd (cc)
 makes_same job here held after calls answer old new (ReadsMore was object position left byte block e) halts change = change
 makes_same job here held after calls answer old new (ReadsOther was object position row left is e) halts change = change
+makes_same job here held after calls answer old new _ halts change = absurd (cc)
 
 places_same : (job : Job) (counts : Counts) (here : Phase) (held after : Held) (calls : Calls) (answer : Answer) (old new : Option Writing) → Places job counts here held after calls answer → is_halt answer ≡ true → Changes calls.change old new → new ≡ old
 unfolding Changes
-places_same job counts here held after calls answer old new (MakesTuple was object number) halts change = absurd (cc)
-places_same job counts here held after calls answer old new (FindsTuple was object number) halts change = absurd (cc)
-places_same job counts here held after calls answer old new (RenamesObject was object) halts change = absurd (cc)
-places_same job counts here held after calls answer old new (TellsDone was object) halts change = absurd (cc)
-places_same job counts here held after calls answer old new (TellsEnd was) halts change = absurd (cc)
 places_same job counts here held after calls answer old new (IsInTheWay was object number kind e) halts change = change.1
+places_same job counts here held after calls answer old new _ halts change = absurd (cc)
 
 pub refused_same : (job : Job) (counts : Counts) (here : Phase) (prefix : List ℕ) (held : Held) (read : List ℕ) (after : Held) (calls : Calls) (why : Halt) (old new : Option Writing) → Follows job counts here prefix held read after calls (Err why) → Changes calls.change old new → new ≡ old
 refused_same job counts here prefix held read after calls why old new (a_start h p r w c a turn) change = starts_same job prefix read here calls (Err why) old new turn refl change

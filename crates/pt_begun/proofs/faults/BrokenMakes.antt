@@ -17,8 +17,8 @@ use Rattle.pt_plan.specs.Job.{Job}
 use Rattle.pt_plan.specs.Lines.{text}
 use Rattle.pt_plan.specs.Roots.{root_in, with_root}
 use Rattle.pt_plan.specs.Run.{Counts, Held}
-use Rattle.pt_plan.specs.TurnMake.{Makings, MakesStaging, MakesDeclaration, MakesVersion, PassesRow, MakesFolder, OpensCopy, CopiesOn, EndsCopy, ReadsMore, ReadsOther, MakesVersionInventory, MakesVersionSidecar, MakesInventory, MakesSidecar, in_content, in_version, text_of_inventory}
-use Rattle.pt_plan.specs.TurnStart.{Starts, IsStore, IsNoStore, HasNoPrefix, IsNoPrefixFile, HasPrefix, IsNoPrefix, HasNoStaging, HasStaging, HasNoRoot, HasRoot, IsNoRoot, MakesRoot, RenamesRoot, IsSame, IsNoFile, Differs}
+use Rattle.pt_plan.specs.TurnMake.{Makings, MakesDeclaration, OpensCopy, CopiesOn, MakesVersionInventory, MakesVersionSidecar, MakesInventory, MakesSidecar, in_content, in_version, text_of_inventory}
+use Rattle.pt_plan.specs.TurnStart.{Starts, MakesRoot}
 use Rattle.pt_plan.specs.World.{Adds, Calls, Creates, LeavesFront, LeavesPart, Makes, NewFile, OfFile, OfPiece, Untouched}
 use Rattle.pt_plan.specs.declared.object.Object.{Object}
 use Rattle.pt_plan.specs.declared.phase.Part.{Part}
@@ -72,22 +72,8 @@ module _ (job : Job) (past : Past) (s : Reading) (start : Tree) (prefix : List �
       (stands_cut script (take number script) path bytes count start new.tree next (tree_is ∙ ap (done (MakeFile path (take count bytes))) at.tree)))
 
   pub starts_broken : (read : List ℕ) (here : Phase) (held : Held) (calls : Calls) (answer : Answer) → Starts job here prefix read calls answer → Before held here → LeavesPart (Some old) (Some new) calls.change → LeavesFront calls.line (Some log) (Some last) → Left
-  starts_broken read here held calls answer (IsStore was entries is) before left put = left_quiet job past s start prefix counts old new first log last held here before (plain_same calls.change old new refl left) put
-  starts_broken read here held calls answer (HasNoPrefix was) before left put = left_quiet job past s start prefix counts old new first log last held here before (plain_same calls.change old new refl left) put
-  starts_broken read here held calls answer (HasPrefix was block good) before left put = left_quiet job past s start prefix counts old new first log last held here before (plain_same calls.change old new refl left) put
-  starts_broken read here held calls answer (HasNoStaging was) before left put = left_quiet job past s start prefix counts old new first log last held here before (plain_same calls.change old new refl left) put
-  starts_broken read here held calls answer (HasNoRoot was) before left put = left_quiet job past s start prefix counts old new first log last held here before (plain_same calls.change old new refl left) put
-  starts_broken read here held calls answer (HasRoot was) before left put = left_quiet job past s start prefix counts old new first log last held here before (plain_same calls.change old new refl left) put
   starts_broken read here held calls answer (MakesRoot was number item is) before left put = root_broken number item held before is left put
-  starts_broken read here held calls answer (RenamesRoot was) before left put = left_quiet job past s start prefix counts old new first log last held here before (plain_same calls.change old new refl left) put
-  starts_broken read here held calls answer (IsSame was number path bytes is) before left put = left_quiet job past s start prefix counts old new first log last held here before (plain_same calls.change old new refl left) put
-  starts_broken read here held calls answer (IsNoStore was entries is) before left put = left_quiet job past s start prefix counts old new first log last held here before (plain_same calls.change old new refl left) put
-  starts_broken read here held calls answer (IsNoPrefixFile was kind some is) before left put = left_quiet job past s start prefix counts old new first log last held here before (plain_same calls.change old new refl left) put
-  starts_broken read here held calls answer (IsNoPrefix was block why is) before left put = left_quiet job past s start prefix counts old new first log last held here before (plain_same calls.change old new refl left) put
-  starts_broken read here held calls answer (HasStaging was kind) before left put = left_quiet job past s start prefix counts old new first log last held here before (plain_same calls.change old new refl left) put
-  starts_broken read here held calls answer (IsNoRoot was kind is) before left put = left_quiet job past s start prefix counts old new first log last held here before (plain_same calls.change old new refl left) put
-  starts_broken read here held calls answer (IsNoFile was number path bytes kind is e) before left put = left_quiet job past s start prefix counts old new first log last held here before (plain_same calls.change old new refl left) put
-  starts_broken read here held calls answer (Differs was number path bytes block is e) before left put = left_quiet job past s start prefix counts old new first log last held here before (plain_same calls.change old new refl left) put
+  starts_broken read here held calls answer _ before left put = left_quiet job past s start prefix counts old new first log last held here before (plain_same calls.change old new refl left) put
 
   -- ---- a part of an object
 
@@ -145,17 +131,11 @@ module _ (job : Job) (past : Past) (s : Reading) (start : Tree) (prefix : List �
       (it.at.making.tree ∙ made_in_turn front (MakeFile (in_content row.path) (held.fed ++ more) ∷ []) root)))
 
   pub makes_broken : (here : Phase) (held after : Held) (calls : Calls) (answer : Answer) → Makings job here held after calls answer → Before held here → WereAnswered calls s old → LeavesPart (Some old) (Some new) calls.change → LeavesFront calls.line (Some log) (Some last) → Left
-  makes_broken here held after calls answer (MakesStaging was object) before answered left put = left_quiet job past s start prefix counts old new first log last held here before (plain_same calls.change old new refl left) put
   makes_broken here held after calls answer (MakesDeclaration was object) before answered left put = part_broken object a_part.Declaration (staging ++ object_declaration_name ∷ []) object_declaration_bytes was before (next_declaration job object was.rows past.bytes) left put
-  makes_broken here held after calls answer (MakesVersion was object) before answered left put = left_quiet job past s start prefix counts old new first log last held here before (plain_same calls.change old new refl left) put
-  makes_broken here held after calls answer (PassesRow was object position row is other) before answered left put = left_quiet job past s start prefix counts old new first log last held here before (plain_same calls.change old new refl left) put
-  makes_broken here held after calls answer (MakesFolder was object position row is stored more) before answered left put = left_quiet job past s start prefix counts old new first log last held here before (plain_same calls.change old new refl left) put
   makes_broken here held after calls answer (OpensCopy was object position row is stored all) before answered left put = opened_broken object position was row before (file_next job object was.rows was.contents past.bytes position row (is_here job past object position was row before.known.held_at is stored) (ltb-false position.directories (length row.path) all)) left put
   makes_broken here held after calls answer (CopiesOn was object position n byte block fits) before answered left put = copied_broken object position n (byte ∷ block) was before answered.read left put
-  makes_broken here held after calls answer (EndsCopy was object position row n is same) before answered left put = left_quiet job past s start prefix counts old new first log last held here before (plain_same calls.change old new refl left) put
   makes_broken here held after calls answer (MakesVersionInventory was object) before answered left put = part_broken object a_part.VersionInventory (in_version [] ++ inventory_name ∷ []) (text_of_inventory job object was.rows) was before (next_first job object was.rows past.bytes) left put
   makes_broken here held after calls answer (MakesVersionSidecar was object) before answered left put = part_broken object a_part.VersionSidecar (in_version [] ++ sidecar_name job.algorithm ∷ []) (sidecar_text job.algorithm (text_of_inventory job object was.rows)) was before (next_second job object was.rows past.bytes) left put
   makes_broken here held after calls answer (MakesInventory was object) before answered left put = part_broken object a_part.Inventory (staging ++ inventory_name ∷ []) (text_of_inventory job object was.rows) was before (next_third job object was.rows past.bytes) left put
   makes_broken here held after calls answer (MakesSidecar was object) before answered left put = part_broken object a_part.Sidecar (staging ++ sidecar_name job.algorithm ∷ []) (sidecar_text job.algorithm (text_of_inventory job object was.rows)) was before (next_fourth job object was.rows past.bytes) left put
-  makes_broken here held after calls answer (ReadsMore was object position n byte block e) before answered left put = left_quiet job past s start prefix counts old new first log last held here before (plain_same calls.change old new refl left) put
-  makes_broken here held after calls answer (ReadsOther was object position row n is e) before answered left put = left_quiet job past s start prefix counts old new first log last held here before (plain_same calls.change old new refl left) put
+  makes_broken here held after calls answer _ before answered left put = left_quiet job past s start prefix counts old new first log last held here before (plain_same calls.change old new refl left) put

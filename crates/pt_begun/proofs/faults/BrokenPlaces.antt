@@ -14,7 +14,7 @@ use Rattle.pt_plan.specs.Lines.{End, end_line, line_text, lines, text}
 use Rattle.pt_plan.specs.Roots.{root_in, with_root}
 use Rattle.pt_plan.specs.Run.{Counts, Held}
 use Rattle.pt_plan.specs.Turn.{Follows, Start as a_start, Walk, Scan, Make, Place}
-use Rattle.pt_plan.specs.TurnPlace.{Places, MakesTuple, FindsTuple, IsInTheWay, RenamesObject, TellsDone, TellsEnd, done_line, last_line}
+use Rattle.pt_plan.specs.TurnPlace.{Places, TellsDone, TellsEnd, done_line, last_line}
 use Rattle.pt_plan.specs.World.{Calls, LeavesFront, LeavesPart}
 use Rattle.pt_plan.specs.declared.object.Object.{Object}
 use Rattle.pt_plan.specs.declared.phase.Phase.{Phase}
@@ -70,12 +70,9 @@ module _ (job : Job) (past : Past) (s : Reading) (start : Tree) (prefix : List �
       known.dest.at.root.free (same ∙ tree_between job s.tree start past.placed (suc past.count) old known.items.places.placed known.dest.at) put
 
   places_broken : (here : Phase) (held later : Held) (calls : Calls) (answer : Answer) → Places job counts here held later calls answer → Before held here → LeavesPart (Some old) (Some new) calls.change → LeavesFront calls.line (Some log) (Some last) → Left
-  places_broken here held later calls answer (MakesTuple was object number) before left put = left_quiet job past s start prefix counts old new first log last held here before (plain_same calls.change old new refl left) put
-  places_broken here held later calls answer (FindsTuple was object number) before left put = left_quiet job past s start prefix counts old new first log last held here before (plain_same calls.change old new refl left) put
-  places_broken here held later calls answer (RenamesObject was object) before left put = left_quiet job past s start prefix counts old new first log last held here before (plain_same calls.change old new refl left) put
   places_broken here held later calls answer (TellsDone was object) before left put = done_told object was before (plain_same calls.change old new refl left) put
   places_broken here held later calls answer (TellsEnd was) before left put = end_told was before (plain_same calls.change old new refl left) put
-  places_broken here held later calls answer (IsInTheWay was object number kind e) before left put = left_quiet job past s start prefix counts old new first log last held here before (plain_same calls.change old new refl left) put
+  places_broken here held later calls answer _ before left put = left_quiet job past s start prefix counts old new first log last held here before (plain_same calls.change old new refl left) put
 
   pub follows_broken : (here : Phase) (held : Held) (read : List ℕ) (later : Held) (calls : Calls) (answer : Answer) → Follows job counts here prefix held read later calls answer → Before held here → WereAnswered calls s old
       → LeavesPart (Some old) (Some new) calls.change → LeavesFront calls.line (Some log) (Some last) → Left

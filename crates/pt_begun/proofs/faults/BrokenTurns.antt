@@ -3,7 +3,6 @@ use Rattle.std.proofs.Common.{◌≡◌, ℕ, suc, false, List, [], ◌++◌, re
 use Rattle.std.specs.Prelude.{Option, Some, flat_map}
 use Rattle.std.proofs.lemmas.List.{take-append-drop}
 use Rattle.pt_object.specs.Holding.{IsFree}
-use Rattle.pt_object.specs.Script.{done}
 use Rattle.pt_object.specs.Scripts.{staging}
 use Rattle.pt_tree.specs.Dest.{Writing}
 use Rattle.pt_tree.specs.Forest.{Forest}
@@ -16,7 +15,6 @@ use Rattle.pt_plan.specs.Job.{Job}
 use Rattle.pt_plan.specs.Lines.{Line, line_text, text}
 use Rattle.pt_plan.specs.Roots.{root_in, with_root}
 use Rattle.pt_plan.specs.Run.{Counts, Held}
-use Rattle.pt_plan.specs.TurnScan.{skipped}
 use Rattle.pt_plan.specs.World.{Calls, LeavesFront, WasFound, WasRead}
 use Rattle.pt_plan.specs.declared.phase.Phase.{Phase}
 use Rattle.pt_begun.specs.EndLaws.{is_ended}
@@ -24,7 +22,7 @@ use Rattle.pt_begun.specs.FaultLeft.{IsLeftByFault}
 use Rattle.pt_begun.specs.ItemLaws.{KnowsItems}
 use Rattle.pt_begun.specs.Past.{Past}
 use Rattle.pt_begun.proofs.source.InPairtree.{some_same}
-use Rattle.pt_begun.proofs.items.ItemLines.{EndsItem, Last, Nothing, OneItem, Tells}
+use Rattle.pt_begun.proofs.items.ItemLines.{EndsItem, OneItem, Tells}
 use Rattle.pt_begun.proofs.faults.LeftNow.{between_left, left_now}
 use Rattle.pt_begun.proofs.faults.LogsLeft.{marked_within, told_in_part}
 
@@ -41,9 +39,8 @@ pub record IsBefore (job : Job) (past : Past) (s : Reading) (start : Tree) (pref
 
 -- a turn that tells a line of an item ends that item
 pub ends_item : (job : Job) (source : Forest) (root : Tree) (count : ℕ) (next : Phase) (told : Option Line) (n : ℕ) (gained : List Carried) → Tells job source root count next told n gained → (line : Line) → told ≡ Some line → is_ended next ≡ false → EndsItem job source root count (Some line) gained
-ends_item job source root count _ _ _ _ (Nothing next) line is runs = absurd (cc)
 ends_item job source root count _ _ _ _ (OneItem next told more it) line is runs = subst (λ o. EndsItem job source root count o more) is it
-ends_item job source root count _ _ _ _ (Last done present skipped) line is runs = absurd (cc)
+ends_item job source root count _ _ _ _ _ line is runs = absurd (cc)
 
 -- ---- by what is left
 

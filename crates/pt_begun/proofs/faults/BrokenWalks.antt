@@ -14,8 +14,8 @@ use Rattle.pt_plan.specs.Job.{Job}
 use Rattle.pt_plan.specs.Lines.{Line}
 use Rattle.pt_plan.specs.Roots.{root_in, with_root}
 use Rattle.pt_plan.specs.Run.{Counts, Held}
-use Rattle.pt_plan.specs.TurnScan.{Scans, StartsInSite, EntersObject, IsTooDeep, PassesShorty, EntersDirectory, MeetsDeep, OpensFile, MeetsLimit, MeetsOther, EndsSite, EndsObject, LeavesDirectory, ReadsOn, IsTooLong, EndsFile}
-use Rattle.pt_plan.specs.TurnWalk.{Walks, OpensRoot, LeadsOn, IsSkipped, IsPresent, IsNew, IsPast, IsDeep, EntersSite, PassesEntry, LeavesSite, EndsWalk}
+use Rattle.pt_plan.specs.TurnScan.{Scans, IsTooDeep, MeetsDeep, MeetsLimit, MeetsOther, IsTooLong}
+use Rattle.pt_plan.specs.TurnWalk.{Walks, IsSkipped, IsPresent, IsPast, IsDeep}
 use Rattle.pt_plan.specs.World.{Answers, Calls, Changes, LeavesFront, LeavesPart}
 use Rattle.pt_plan.specs.declared.object.Object.{Object}
 use Rattle.pt_plan.specs.declared.phase.Phase.{Phase}
@@ -57,23 +57,17 @@ module _ (job : Job) (past : Past) (s : Reading) (start : Tree) (prefix : List �
 
   pub walks_broken : (here : Phase) (held later : Held) (calls : Calls) (answer : Answer) → Walks job prefix here held later calls answer → Before held here → WereAnswered calls s old → LeavesPart (Some old) (Some new) calls.change → LeavesFront calls.line (Some log) (Some last) → Left
   unfolding Changes
-  walks_broken here held later calls answer (OpensRoot was items) before answered left put = left_quiet job past s start prefix counts old new first log last held here before (plain_same calls.change old new refl left) put
-  walks_broken here held later calls answer (LeadsOn was is) before answered left put = left_quiet job past s start prefix counts old new first log last held here before (plain_same calls.change old new refl left) put
   walks_broken here held later calls answer (IsSkipped was why is) before answered left put =
       walk_told held later here calls _ (IsSkipped was why is) before refl before.known.items.places.placed refl before.known.dest.at.root.free (tree_between job s.tree start past.placed past.count old before.known.items.places.placed before.known.dest.at) (plain_same calls.change old new refl left) put
   walks_broken here held later calls answer (IsPresent was index id kind is) before answered left put =
       walk_told held later here calls _ (IsPresent was index id kind is) before refl before.known.items.places.placed (answered.found, refl) before.known.dest.at.root.free (tree_between job s.tree start past.placed past.count old before.known.items.places.placed before.known.dest.at) (plain_same calls.change old new refl left) put
-  walks_broken here held later calls answer (IsNew was index id is) before answered left put = left_quiet job past s start prefix counts old new first log last held here before (plain_same calls.change old new refl left) put
   walks_broken here held later calls answer (IsPast was name e short outermost) before answered left put =
       walk_passed (is_first job.share) held later here calls _ (IsPast was name e short outermost) before refl before.known.items.places.placed refl before.known.dest.at.root.free (tree_between job s.tree start past.placed past.count old before.known.items.places.placed before.known.dest.at) (plain_same calls.change old new refl left) put
       (left_quiet job past s start prefix counts old new first log last held here before (plain_same calls.change old new refl left))
   walks_broken here held later calls answer (IsDeep was name e short inner deep) before answered left put =
       walk_passed (is_first job.share) held later here calls _ (IsDeep was name e short inner deep) before refl before.known.items.places.placed refl before.known.dest.at.root.free (tree_between job s.tree start past.placed past.count old before.known.items.places.placed before.known.dest.at) (plain_same calls.change old new refl left) put
       (left_quiet job past s start prefix counts old new first log last held here before (plain_same calls.change old new refl left))
-  walks_broken here held later calls answer (EntersSite was name items e short inner deep) before answered left put = left_quiet job past s start prefix counts old new first log last held here before (plain_same calls.change old new refl left) put
-  walks_broken here held later calls answer (PassesEntry was item e apart) before answered left put = left_quiet job past s start prefix counts old new first log last held here before (plain_same calls.change old new refl left) put
-  walks_broken here held later calls answer (LeavesSite was e long) before answered left put = left_quiet job past s start prefix counts old new first log last held here before (plain_same calls.change old new refl left) put
-  walks_broken here held later calls answer (EndsWalk was e short) before answered left put = left_quiet job past s start prefix counts old new first log last held here before (plain_same calls.change old new refl left) put
+  walks_broken here held later calls answer _ before answered left put = left_quiet job past s start prefix counts old new first log last held here before (plain_same calls.change old new refl left) put
 
   -- ---- the scan of an object
 
@@ -87,23 +81,14 @@ module _ (job : Job) (past : Past) (s : Reading) (start : Tree) (prefix : List �
 
   pub scans_broken : (here : Phase) (held later : Held) (calls : Calls) (answer : Answer) → Scans job here held later calls answer → Before held here → WereAnswered calls s old → LeavesPart (Some old) (Some new) calls.change → LeavesFront calls.line (Some log) (Some last) → Left
   unfolding Answers
-  scans_broken here held later calls answer (StartsInSite was object gathered) before answered left put = left_quiet job past s start prefix counts old new first log last held here before (plain_same calls.change old new refl left) put
-  scans_broken here held later calls answer (EntersObject was object items apart shallow) before answered left put = left_quiet job past s start prefix counts old new first log last held here before (plain_same calls.change old new refl left) put
   scans_broken here held later calls answer (IsTooDeep was object apart deep) before answered left put =
       scan_told held later here object calls _ s (IsTooDeep was object apart deep) before refl refl before.known.items.places.placed before.known.dest.at (plain_same calls.change old new refl left) put
-  scans_broken here held later calls answer (PassesShorty was object item e passed) before answered left put = left_quiet job past s start prefix counts old new first log last held here before (plain_same calls.change old new refl left) put
-  scans_broken here held later calls answer (EntersDirectory was object name items e apart shallow) before answered left put = left_quiet job past s start prefix counts old new first log last held here before (plain_same calls.change old new refl left) put
   scans_broken here held later calls answer (MeetsDeep was object name e apart deep) before answered left put =
       scan_told held later here object calls _ s (MeetsDeep was object name e apart deep) before refl refl before.known.items.places.placed before.known.dest.at (plain_same calls.change old new refl left) put
-  scans_broken here held later calls answer (OpensFile was object name e room) before answered left put = left_quiet job past s start prefix counts old new first log last held here before (plain_same calls.change old new refl left) put
   scans_broken here held later calls answer (MeetsLimit was object name e room) before answered left put =
       scan_told held later here object calls _ s (MeetsLimit was object name e room) before refl refl before.known.items.places.placed before.known.dest.at (plain_same calls.change old new refl left) put
   scans_broken here held later calls answer (MeetsOther was object name e) before answered left put =
       scan_told held later here object calls _ s (MeetsOther was object name e) before refl refl before.known.items.places.placed before.known.dest.at (plain_same calls.change old new refl left) put
-  scans_broken here held later calls answer (EndsSite was object e there) before answered left put = left_quiet job past s start prefix counts old new first log last held here before (plain_same calls.change old new refl left) put
-  scans_broken here held later calls answer (EndsObject was object e apart own) before answered left put = left_quiet job past s start prefix counts old new first log last held here before (plain_same calls.change old new refl left) put
-  scans_broken here held later calls answer (LeavesDirectory was object e apart outside) before answered left put = left_quiet job past s start prefix counts old new first log last held here before (plain_same calls.change old new refl left) put
-  scans_broken here held later calls answer (ReadsOn was object bytes byte block short) before answered left put = left_quiet job past s start prefix counts old new first log last held here before (plain_same calls.change old new refl left) put
   scans_broken here held later calls answer (IsTooLong was object bytes byte block long) before answered left put =
       scan_told held later here object calls _ (after_next s) (IsTooLong was object bytes byte block long) before refl (answered.read, refl) before.known.items.places.placed before.known.dest.at (plain_same calls.change old new refl left) put
-  scans_broken here held later calls answer (EndsFile was object bytes) before answered left put = left_quiet job past s start prefix counts old new first log last held here before (plain_same calls.change old new refl left) put
+  scans_broken here held later calls answer _ before answered left put = left_quiet job past s start prefix counts old new first log last held here before (plain_same calls.change old new refl left) put

@@ -26,26 +26,8 @@ use Rattle.pt_begun.proofs.ends.TurnKeeps.{still_counts}
 
 -- a run that hasn't ended has told the lines of the items done
 pub told_now : (job : Job) (s : Reading) (t : Tree) (past : Past) (here : Phase) (first now : List ℕ) → is_ended here ≡ false → HasTold job s.tree (root_in t) past here first now → now ≡ first ++ text job s.tree (root_in t) past.count
-told_now job s t past phase.Begin first now runs had = had
-told_now job s t past (phase.Prefix here) first now runs had = had
-told_now job s t past phase.Staging first now runs had = had
-told_now job s t past phase.Root first now runs had = had
-told_now job s t past (phase.RootMake number) first now runs had = had
-told_now job s t past phase.RootRename first now runs had = had
-told_now job s t past (phase.RootCheck number) first now runs had = had
-told_now job s t past phase.OpenRoot first now runs had = had
-told_now job s t past phase.Judge first now runs had = had
-told_now job s t past (phase.OpenObject object) first now runs had = had
-told_now job s t past (phase.Scan object) first now runs had = had
-told_now job s t past (phase.Read object bytes) first now runs had = had
-told_now job s t past (phase.Make object here) first now runs had = had
-told_now job s t past (phase.Copy object position left) first now runs had = had
-told_now job s t past (phase.Tuples object number) first now runs had = had
-told_now job s t past (phase.Rename object) first now runs had = had
-told_now job s t past (phase.Line object) first now runs had = had
-told_now job s t past phase.Walk first now runs had = had
-told_now job s t past phase.End first now runs had = had
 told_now job s t past phase.Ended first now runs had = absurd (cc)
+told_now job s t past _ first now runs had = had
 
 module _ (job : Job) (past : Past) (start : Start) (old : World) (run : Run) (s : Reading) (t : Tree) (first : List ℕ) where
   -- all three tell, and this is what is known of them

@@ -185,8 +185,6 @@ kept_now job past start (phase.RootMake number) held now at dest = record {
 }
 kept_now job past start phase.RootRename held now at dest = record { kept = root_kept job start now.tree (root_script job.tuples) now dest.at (stands_whole (root_script job.tuples) 6 start now.tree dest.at.tree); stood = inl (record { free = dest.at.free; root = inl dest.at.root }) }
 kept_now job past start (phase.RootCheck number) held now at dest = record { kept = as_it_was job start now dest.at.tree; stood = inr dest.at.tree }
-kept_now job past start phase.OpenRoot held now at dest = record { kept = held_so job start past.placed now dest.at; stood = inl dest.at.root }
-kept_now job past start phase.Judge held now at dest = record { kept = held_so job start past.placed now dest.at; stood = inl dest.at.root }
 kept_now job past start (phase.OpenObject object) held now at dest = record { kept = not_begun job past start object held now dest.at; stood = inl dest.at.root }
 kept_now job past start (phase.Scan object) held now at dest = record { kept = not_begun job past start object held now dest.at; stood = inl dest.at.root }
 kept_now job past start (phase.Read object count) held now at dest = record { kept = not_begun job past start object held now dest.at; stood = inl dest.at.root }
@@ -196,7 +194,5 @@ kept_now job past start (phase.Tuples object number) held now at dest =
     let few = at.numbers in
     record { kept = whole_kept job past start object held number now dest.started at.ends.0 at.rows (omega (arith, few)) dest.at.0; stood = inl dest.at.0.root }
 kept_now job past start (phase.Rename object) held now at dest = record { kept = whole_kept job past start object held job.tuples.count now dest.started at.ends.0 at.rows (omega arith) dest.at.0; stood = inl dest.at.0.root }
-kept_now job past start (phase.Line object) held now at dest = record { kept = held_so job start past.placed now dest.at; stood = inl dest.at.root }
-kept_now job past start phase.Walk held now at dest = record { kept = held_so job start past.placed now dest.at; stood = inl dest.at.root }
-kept_now job past start phase.End held now at dest = record { kept = held_so job start past.placed now dest.at; stood = inl dest.at.root }
 kept_now job past start phase.Ended held now at dest = dest.at
+kept_now job past start _ held now at dest = record { kept = held_so job start past.placed now dest.at; stood = inl dest.at.root }

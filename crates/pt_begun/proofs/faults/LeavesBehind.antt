@@ -3,7 +3,6 @@ use Rattle.std.proofs.Common.{inl, inr, ◌≡◌, ℕ, suc, Bool, true, false, 
 use Rattle.std.specs.Prelude.{◌⊎◌, None, Some, slice_get}
 use Rattle.std.proofs.lemmas.Bool.{ltb-false}
 use Rattle.pt_object.specs.Files.{object_declaration_bytes, sidecar_text}
-use Rattle.pt_object.specs.Holding.{IsFree}
 use Rattle.pt_object.specs.Object.{inventory_name, object_declaration_name, sidecar_name}
 use Rattle.pt_object.specs.Script.{Item, MakeFile, MakeFolder, done}
 use Rattle.pt_object.specs.Scripts.{root_script, staging}
@@ -18,10 +17,10 @@ use Rattle.pt_plan.specs.Roots.{with_root}
 use Rattle.pt_plan.specs.Run.{Counts, Held, with_fed}
 use Rattle.pt_plan.specs.Turn.{Follows, Start as a_start, Walk, Scan, Make, Place}
 use Rattle.pt_plan.specs.TurnMake.{Makings, MakesStaging, MakesDeclaration, MakesVersion, PassesRow, MakesFolder, OpensCopy, CopiesOn, ReadsMore, EndsCopy, ReadsOther, MakesVersionInventory, MakesVersionSidecar, MakesInventory, MakesSidecar, in_content, in_version, text_of_inventory}
-use Rattle.pt_plan.specs.TurnPlace.{Places, MakesTuple, FindsTuple, IsInTheWay, RenamesObject, TellsDone, TellsEnd}
-use Rattle.pt_plan.specs.TurnScan.{Scans, StartsInSite, EntersObject, IsTooDeep, PassesShorty, EntersDirectory, MeetsDeep, OpensFile, MeetsLimit, MeetsOther, EndsSite, EndsObject, LeavesDirectory, ReadsOn, IsTooLong, EndsFile}
-use Rattle.pt_plan.specs.TurnStart.{Starts, IsStore, IsNoStore, HasNoPrefix, IsNoPrefixFile, HasPrefix, IsNoPrefix, HasNoStaging, HasStaging, HasNoRoot, HasRoot, IsNoRoot, MakesRoot, RenamesRoot, IsSame, IsNoFile, Differs}
-use Rattle.pt_plan.specs.TurnWalk.{Walks, OpensRoot, LeadsOn, IsSkipped, IsPresent, IsNew, IsPast, IsDeep, EntersSite, PassesEntry, LeavesSite, EndsWalk}
+use Rattle.pt_plan.specs.TurnPlace.{Places, MakesTuple}
+use Rattle.pt_plan.specs.TurnScan.{Scans, StartsInSite}
+use Rattle.pt_plan.specs.TurnStart.{Starts, MakesRoot}
+use Rattle.pt_plan.specs.TurnWalk.{Walks, OpensRoot}
 use Rattle.pt_plan.specs.World.{Adds, Calls, Change, ChangesNothing, Creates, Finds, FindsNoneAndMakes, Finishes, LeavesPart, Makes, NewFile, OfFile, OfPiece, Peeks, Renames, Untouched}
 use Rattle.pt_plan.specs.declared.object.Object.{Object}
 use Rattle.pt_plan.specs.declared.phase.Part.{Part}
@@ -75,9 +74,7 @@ is_plain (Renames from to) = true
 
 pub plain_same : (change : Change) (old new : Writing) → is_plain change ≡ true → LeavesPart (Some old) (Some new) change → new.tree ≡ old.tree
 plain_same _ old new plain (Untouched change same) = some_same new.tree old.tree same
-plain_same _ old new plain (OfFile path bytes count same) = absurd (cc)
-plain_same _ old new plain (NewFile path same) = absurd (cc)
-plain_same _ old new plain (OfPiece piece count same) = absurd (cc)
+plain_same _ old new plain _ = absurd (cc)
 
 -- ---- a new root
 
@@ -153,60 +150,20 @@ copied_left job past start object position left piece held old new at dest (OfPi
 
 starts_left : (job : Job) (past : Past) (start : Tree) (prefix read : List ℕ) (here : Phase) (held : Held) (calls : Calls) (answer : Answer) (old new : Writing) → Starts job here prefix read calls answer → HeldAt job past here held → DestPart job past here held start old
     → LeavesPart (Some old) (Some new) calls.change → IsLeftTree job start new
-starts_left job past start prefix read here held calls answer old new (IsStore was entries is) at dest left = same_left job past start here held old new at dest (plain_same calls.change old new refl left)
-starts_left job past start prefix read here held calls answer old new (HasNoPrefix was) at dest left = same_left job past start here held old new at dest (plain_same calls.change old new refl left)
-starts_left job past start prefix read here held calls answer old new (HasPrefix was block good) at dest left = same_left job past start here held old new at dest (plain_same calls.change old new refl left)
-starts_left job past start prefix read here held calls answer old new (HasNoStaging was) at dest left = same_left job past start here held old new at dest (plain_same calls.change old new refl left)
-starts_left job past start prefix read here held calls answer old new (HasNoRoot was) at dest left = same_left job past start here held old new at dest (plain_same calls.change old new refl left)
-starts_left job past start prefix read here held calls answer old new (HasRoot was) at dest left = same_left job past start here held old new at dest (plain_same calls.change old new refl left)
 starts_left job past start prefix read here held calls answer old new (MakesRoot was number item is) at dest left = root_left job past start number item held old new at dest is left
-starts_left job past start prefix read here held calls answer old new (RenamesRoot was) at dest left = same_left job past start here held old new at dest (plain_same calls.change old new refl left)
-starts_left job past start prefix read here held calls answer old new (IsSame was number path bytes is) at dest left = same_left job past start here held old new at dest (plain_same calls.change old new refl left)
-starts_left job past start prefix read here held calls answer old new (IsNoStore was entries e) at dest left = same_left job past start here held old new at dest (plain_same calls.change old new refl left)
-starts_left job past start prefix read here held calls answer old new (IsNoPrefixFile was kind some e) at dest left = same_left job past start here held old new at dest (plain_same calls.change old new refl left)
-starts_left job past start prefix read here held calls answer old new (IsNoPrefix was block why e) at dest left = same_left job past start here held old new at dest (plain_same calls.change old new refl left)
-starts_left job past start prefix read here held calls answer old new (HasStaging was kind) at dest left = same_left job past start here held old new at dest (plain_same calls.change old new refl left)
-starts_left job past start prefix read here held calls answer old new (IsNoRoot was kind e) at dest left = same_left job past start here held old new at dest (plain_same calls.change old new refl left)
-starts_left job past start prefix read here held calls answer old new (IsNoFile was number path bytes kind is e) at dest left = same_left job past start here held old new at dest (plain_same calls.change old new refl left)
-starts_left job past start prefix read here held calls answer old new (Differs was number path bytes block is e) at dest left = same_left job past start here held old new at dest (plain_same calls.change old new refl left)
+starts_left job past start prefix read here held calls answer old new _ at dest left = same_left job past start here held old new at dest (plain_same calls.change old new refl left)
 
 walks_left : (job : Job) (past : Past) (start : Tree) (prefix : List ℕ) (here : Phase) (held after : Held) (calls : Calls) (answer : Answer) (old new : Writing) → Walks job prefix here held after calls answer → HeldAt job past here held → DestPart job past here held start old → LeavesPart (Some old) (Some new) calls.change → IsLeftTree job start new
-walks_left job past start prefix here held after calls answer old new (OpensRoot was items) at dest left = same_left job past start here held old new at dest (plain_same calls.change old new refl left)
-walks_left job past start prefix here held after calls answer old new (LeadsOn was is) at dest left = same_left job past start here held old new at dest (plain_same calls.change old new refl left)
-walks_left job past start prefix here held after calls answer old new (IsSkipped was why is) at dest left = same_left job past start here held old new at dest (plain_same calls.change old new refl left)
-walks_left job past start prefix here held after calls answer old new (IsPresent was index id kind is) at dest left = same_left job past start here held old new at dest (plain_same calls.change old new refl left)
-walks_left job past start prefix here held after calls answer old new (IsNew was index id is) at dest left = same_left job past start here held old new at dest (plain_same calls.change old new refl left)
-walks_left job past start prefix here held after calls answer old new (IsPast was name e short last) at dest left = same_left job past start here held old new at dest (plain_same calls.change old new refl left)
-walks_left job past start prefix here held after calls answer old new (IsDeep was name e short last deep) at dest left = same_left job past start here held old new at dest (plain_same calls.change old new refl left)
-walks_left job past start prefix here held after calls answer old new (EntersSite was name items e short last deep) at dest left = same_left job past start here held old new at dest (plain_same calls.change old new refl left)
-walks_left job past start prefix here held after calls answer old new (PassesEntry was item e apart) at dest left = same_left job past start here held old new at dest (plain_same calls.change old new refl left)
-walks_left job past start prefix here held after calls answer old new (LeavesSite was e long) at dest left = same_left job past start here held old new at dest (plain_same calls.change old new refl left)
-walks_left job past start prefix here held after calls answer old new (EndsWalk was e short) at dest left = same_left job past start here held old new at dest (plain_same calls.change old new refl left)
+walks_left job past start prefix here held after calls answer old new (OpensRoot _ _) at dest left = same_left job past start here held old new at dest (plain_same calls.change old new refl left)
+walks_left job past start prefix here held after calls answer old new _ at dest left = same_left job past start here held old new at dest (plain_same calls.change old new refl left)
 
 scans_left : (job : Job) (past : Past) (start : Tree) (here : Phase) (held after : Held) (calls : Calls) (answer : Answer) (old new : Writing) → Scans job here held after calls answer → HeldAt job past here held → DestPart job past here held start old → LeavesPart (Some old) (Some new) calls.change → IsLeftTree job start new
-scans_left job past start here held after calls answer old new (StartsInSite was object gathered) at dest left = same_left job past start here held old new at dest (plain_same calls.change old new refl left)
-scans_left job past start here held after calls answer old new (EntersObject was object items apart shallow) at dest left = same_left job past start here held old new at dest (plain_same calls.change old new refl left)
-scans_left job past start here held after calls answer old new (IsTooDeep was object apart deep) at dest left = same_left job past start here held old new at dest (plain_same calls.change old new refl left)
-scans_left job past start here held after calls answer old new (PassesShorty was object item e passed) at dest left = same_left job past start here held old new at dest (plain_same calls.change old new refl left)
-scans_left job past start here held after calls answer old new (EntersDirectory was object name items e apart shallow) at dest left = same_left job past start here held old new at dest (plain_same calls.change old new refl left)
-scans_left job past start here held after calls answer old new (MeetsDeep was object name e apart deep) at dest left = same_left job past start here held old new at dest (plain_same calls.change old new refl left)
-scans_left job past start here held after calls answer old new (OpensFile was object name e room) at dest left = same_left job past start here held old new at dest (plain_same calls.change old new refl left)
-scans_left job past start here held after calls answer old new (MeetsLimit was object name e room) at dest left = same_left job past start here held old new at dest (plain_same calls.change old new refl left)
-scans_left job past start here held after calls answer old new (MeetsOther was object name e) at dest left = same_left job past start here held old new at dest (plain_same calls.change old new refl left)
-scans_left job past start here held after calls answer old new (EndsSite was object e there) at dest left = same_left job past start here held old new at dest (plain_same calls.change old new refl left)
-scans_left job past start here held after calls answer old new (EndsObject was object e apart own) at dest left = same_left job past start here held old new at dest (plain_same calls.change old new refl left)
-scans_left job past start here held after calls answer old new (LeavesDirectory was object e apart outside) at dest left = same_left job past start here held old new at dest (plain_same calls.change old new refl left)
-scans_left job past start here held after calls answer old new (ReadsOn was object bytes byte block short) at dest left = same_left job past start here held old new at dest (plain_same calls.change old new refl left)
-scans_left job past start here held after calls answer old new (IsTooLong was object bytes byte block long) at dest left = same_left job past start here held old new at dest (plain_same calls.change old new refl left)
-scans_left job past start here held after calls answer old new (EndsFile was object bytes) at dest left = same_left job past start here held old new at dest (plain_same calls.change old new refl left)
+scans_left job past start here held after calls answer old new (StartsInSite _ _ _) at dest left = same_left job past start here held old new at dest (plain_same calls.change old new refl left)
+scans_left job past start here held after calls answer old new _ at dest left = same_left job past start here held old new at dest (plain_same calls.change old new refl left)
 
 places_left : (job : Job) (counts : Counts) (past : Past) (start : Tree) (here : Phase) (held after : Held) (calls : Calls) (answer : Answer) (old new : Writing) → Places job counts here held after calls answer → HeldAt job past here held → DestPart job past here held start old → LeavesPart (Some old) (Some new) calls.change → IsLeftTree job start new
-places_left job counts past start here held after calls answer old new (MakesTuple was object number) at dest left = same_left job past start here held old new at dest (plain_same calls.change old new refl left)
-places_left job counts past start here held after calls answer old new (FindsTuple was object number) at dest left = same_left job past start here held old new at dest (plain_same calls.change old new refl left)
-places_left job counts past start here held after calls answer old new (RenamesObject was object) at dest left = same_left job past start here held old new at dest (plain_same calls.change old new refl left)
-places_left job counts past start here held after calls answer old new (TellsDone was object) at dest left = same_left job past start here held old new at dest (plain_same calls.change old new refl left)
-places_left job counts past start here held after calls answer old new (TellsEnd was) at dest left = same_left job past start here held old new at dest (plain_same calls.change old new refl left)
-places_left job counts past start here held after calls answer old new (IsInTheWay was object number kind e) at dest left = same_left job past start here held old new at dest (plain_same calls.change old new refl left)
+places_left job counts past start here held after calls answer old new (MakesTuple _ _ _) at dest left = same_left job past start here held old new at dest (plain_same calls.change old new refl left)
+places_left job counts past start here held after calls answer old new _ at dest left = same_left job past start here held old new at dest (plain_same calls.change old new refl left)
 
 makes_left : (job : Job) (past : Past) (start : Tree) (here : Phase) (held after : Held) (calls : Calls) (answer : Answer) (old new : Writing) → Makings job here held after calls answer → HeldAt job past here held → DestPart job past here held start old
     → LeavesPart (Some old) (Some new) calls.change → IsLeftTree job start new

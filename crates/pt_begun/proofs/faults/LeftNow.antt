@@ -148,8 +148,6 @@ module _ (job : Job) (past : Past) (s : Reading) (start : Tree) (prefix : List â
       root_left job s.tree start now.tree past.count (take number (root_script job.tuples)) now known.source.at.1 known.dest.at (stands_whole (root_script job.tuples) number start now.tree known.dest.at.tree)
   left_now phase.RootRename runs known = root_left job s.tree start now.tree past.count (root_script job.tuples) now known.source.at.1 known.dest.at (stands_whole (root_script job.tuples) 6 start now.tree known.dest.at.tree)
   left_now (phase.RootCheck number) runs known = as_it_was job s.tree start now.tree past.count known.source.at.1 known.dest.at.tree
-  left_now phase.OpenRoot runs known = counted_left job s.tree start now.tree past.count known.dest.at.root.free (tree_between job s.tree start past.placed past.count now known.items.places.placed known.dest.at)
-  left_now phase.Judge runs known = counted_left job s.tree start now.tree past.count known.dest.at.root.free (tree_between job s.tree start past.placed past.count now known.items.places.placed known.dest.at)
   left_now (phase.OpenObject object) runs known = counted_left job s.tree start now.tree past.count known.dest.at.root.free (tree_entered job s.tree start past.placed past.count object now known.items.places.placed known.dest.at)
   left_now (phase.Scan object) runs known = counted_left job s.tree start now.tree past.count known.dest.at.root.free (tree_entered job s.tree start past.placed past.count object now known.items.places.placed known.dest.at)
   left_now (phase.Read object bytes) runs known = counted_left job s.tree start now.tree past.count known.dest.at.root.free (tree_entered job s.tree start past.placed past.count object now known.items.places.placed known.dest.at)
@@ -158,6 +156,5 @@ module _ (job : Job) (past : Past) (s : Reading) (start : Tree) (prefix : List â
   left_now (phase.Tuples object number) runs known = tuples_left object number known
   left_now (phase.Rename object) runs known = rename_left object known
   left_now (phase.Line object) runs known = line_left object known
-  left_now phase.Walk runs known = counted_left job s.tree start now.tree past.count known.dest.at.root.free (tree_between job s.tree start past.placed past.count now known.items.places.placed known.dest.at)
-  left_now phase.End runs known = counted_left job s.tree start now.tree past.count known.dest.at.root.free (tree_between job s.tree start past.placed past.count now known.items.places.placed known.dest.at)
   left_now phase.Ended runs known = absurd (cc)
+  left_now _ runs known = counted_left job s.tree start now.tree past.count known.dest.at.root.free (tree_between job s.tree start past.placed past.count now known.items.places.placed known.dest.at)

@@ -1,6 +1,6 @@
 -- Where the log fails nothing stands at `staging`.
 use Rattle.std.proofs.Common.{◌≡◌, ℕ, Bool, true, false, List, [], ◌++◌, refl, ap, sym, ◌∙◌, subst}
-use Rattle.std.specs.Prelude.{Option, None, Some, Err}
+use Rattle.std.specs.Prelude.{Option, None, Some}
 use Rattle.pt_object.specs.Holding.{IsFree}
 use Rattle.pt_object.specs.Scripts.{staging}
 use Rattle.pt_tree.specs.Dest.{Writing}
@@ -20,7 +20,7 @@ use Rattle.pt_plan.specs.TurnStart.{Starts}
 use Rattle.pt_plan.specs.TurnStart as start
 use Rattle.pt_plan.specs.TurnWalk.{Walks}
 use Rattle.pt_plan.specs.TurnWalk as walk
-use Rattle.pt_plan.specs.World.{Calls, Change, ChangesNothing, Finds, LeavesPart, NewFile, OfFile, OfPiece, Untouched, dest_tree}
+use Rattle.pt_plan.specs.World.{Calls, Change, ChangesNothing, Finds, LeavesPart, Untouched, dest_tree}
 use Rattle.pt_plan.specs.declared.object.Object.{Object}
 use Rattle.pt_plan.specs.declared.phase.Phase.{Phase}
 use Rattle.pt_plan.specs.declared.phase.Phase.TheVariants as phase
@@ -40,26 +40,15 @@ before_making : (job : Job) (t : Tree) (placed : List Carried) (object : Object)
 before_making job t placed object now at = λ q. ap (λ (x : Tree). x (staging ++ q)) at.tree ∙ at.root.free q
 
 free_there : (job : Job) (past : Past) (here : Phase) (held : Held) (t : Tree) (now : Writing) → may_tell here ≡ true → DestPart job past here held t now → IsFree now.tree staging
-free_there job past phase.Begin held t now tells dest = absurd (cc)
-free_there job past (phase.Prefix here) held t now tells dest = absurd (cc)
-free_there job past phase.Staging held t now tells dest = absurd (cc)
-free_there job past phase.Root held t now tells dest = absurd (cc)
-free_there job past (phase.RootMake number) held t now tells dest = absurd (cc)
-free_there job past phase.RootRename held t now tells dest = absurd (cc)
-free_there job past (phase.RootCheck number) held t now tells dest = absurd (cc)
 free_there job past phase.OpenRoot held t now tells dest = between job t past.placed now dest.at
 free_there job past phase.Judge held t now tells dest = between job t past.placed now dest.at
 free_there job past (phase.OpenObject object) held t now tells dest = before_making job t past.placed object now dest.at
 free_there job past (phase.Scan object) held t now tells dest = before_making job t past.placed object now dest.at
 free_there job past (phase.Read object bytes) held t now tells dest = before_making job t past.placed object now dest.at
-free_there job past (phase.Make object here) held t now tells dest = absurd (cc)
-free_there job past (phase.Copy object position left) held t now tells dest = absurd (cc)
-free_there job past (phase.Tuples object number) held t now tells dest = absurd (cc)
-free_there job past (phase.Rename object) held t now tells dest = absurd (cc)
 free_there job past (phase.Line object) held t now tells dest = between job t past.placed now dest.at
 free_there job past phase.Walk held t now tells dest = between job t past.placed now dest.at
 free_there job past phase.End held t now tells dest = between job t past.placed now dest.at
-free_there job past phase.Ended held t now tells dest = absurd (cc)
+free_there job past _ held t now tells dest = absurd (cc)
 
 -- ---- what its turn does
 
@@ -71,81 +60,28 @@ is_quiet _ = false
 
 quiet_leaves : (old new : Option Writing) (change : Change) → LeavesPart old new change → is_quiet change ≡ true → dest_tree new ≡ dest_tree old
 quiet_leaves old new _ (Untouched change same) quiet = same
-quiet_leaves old new _ (OfFile path bytes count made) quiet = absurd (cc)
-quiet_leaves old new _ (NewFile path made) quiet = absurd (cc)
-quiet_leaves old new _ (OfPiece piece count added) quiet = absurd (cc)
+quiet_leaves old new _ _ quiet = absurd (cc)
 
 starts_late : (job : Job) (here : Phase) (prefix read : List ℕ) (calls : Calls) (answer : Answer) → Starts job here prefix read calls answer → may_tell here ≡ false
-starts_late job _ _ _ _ _ (start.IsStore _ entries is) = refl
-starts_late job _ _ _ _ _ (start.IsNoStore _ entries is) = refl
-starts_late job _ _ _ _ _ (start.HasNoPrefix _) = refl
-starts_late job _ _ _ _ _ (start.IsNoPrefixFile _ kind some is) = refl
-starts_late job _ _ _ _ _ (start.HasPrefix _ block is) = refl
-starts_late job _ _ _ _ _ (start.IsNoPrefix _ block why is) = refl
-starts_late job _ _ _ _ _ (start.HasNoStaging _) = refl
-starts_late job _ _ _ _ _ (start.HasStaging _ kind) = refl
-starts_late job _ _ _ _ _ (start.HasNoRoot _) = refl
-starts_late job _ _ _ _ _ (start.HasRoot _) = refl
-starts_late job _ _ _ _ _ (start.IsNoRoot _ kind is) = refl
-starts_late job _ _ _ _ _ (start.MakesRoot _ number item is) = refl
-starts_late job _ _ _ _ _ (start.RenamesRoot _) = refl
-starts_late job _ _ _ _ _ (start.IsNoFile _ number path bytes kind is other) = refl
-starts_late job _ _ _ _ _ (start.IsSame _ number path bytes is) = refl
-starts_late job _ _ _ _ _ (start.Differs _ number path bytes block is other) = refl
+starts_late job _ _ _ _ _ (start.IsStore _ _ _) = refl
+starts_late job _ _ _ _ _ _ = refl
 
 walks_quiet : (job : Job) (prefix : List ℕ) (here : Phase) (held new : Held) (calls : Calls) (answer : Answer) → Walks job prefix here held new calls answer → is_quiet calls.change ≡ true
-walks_quiet job prefix _ held _ _ _ (walk.OpensRoot _ items) = refl
-walks_quiet job prefix _ held _ _ _ (walk.LeadsOn _ found) = refl
-walks_quiet job prefix _ held _ _ _ (walk.IsSkipped _ why found) = refl
-walks_quiet job prefix _ held _ _ _ (walk.IsPresent _ index id here found) = refl
-walks_quiet job prefix _ held _ _ _ (walk.IsNew _ index id found) = refl
-walks_quiet job prefix _ held _ _ _ (walk.IsPast _ name at short last) = refl
-walks_quiet job prefix _ held _ _ _ (walk.IsDeep _ name at short last deep) = refl
-walks_quiet job prefix _ held _ _ _ (walk.EntersSite _ name items at short last shallow) = refl
-walks_quiet job prefix _ held _ _ _ (walk.PassesEntry _ item at other) = refl
-walks_quiet job prefix _ held _ _ _ (walk.LeavesSite _ at more) = refl
-walks_quiet job prefix _ held _ _ _ (walk.EndsWalk _ at last) = refl
+walks_quiet job prefix _ held _ _ _ (walk.OpensRoot _ _) = refl
+walks_quiet job prefix _ held _ _ _ _ = refl
 
 scans_quiet : (job : Job) (here : Phase) (held new : Held) (calls : Calls) (answer : Answer) → Scans job here held new calls answer → is_quiet calls.change ≡ true
-scans_quiet job _ held _ _ _ (scan.StartsInSite _ object gathered) = refl
-scans_quiet job _ held _ _ _ (scan.EntersObject _ object items apart shallow) = refl
-scans_quiet job _ held _ _ _ (scan.IsTooDeep _ object apart deep) = refl
-scans_quiet job _ held _ _ _ (scan.PassesShorty _ object item at passed) = refl
-scans_quiet job _ held _ _ _ (scan.EntersDirectory _ object name items at own shallow) = refl
-scans_quiet job _ held _ _ _ (scan.MeetsDeep _ object name at own deep) = refl
-scans_quiet job _ held _ _ _ (scan.OpensFile _ object name at room) = refl
-scans_quiet job _ held _ _ _ (scan.MeetsLimit _ object name at beyond) = refl
-scans_quiet job _ held _ _ _ (scan.MeetsOther _ object name at) = refl
-scans_quiet job _ held _ _ _ (scan.EndsSite _ object at site) = refl
-scans_quiet job _ held _ _ _ (scan.EndsObject _ object at site own) = refl
-scans_quiet job _ held _ _ _ (scan.LeavesDirectory _ object at site own) = refl
-scans_quiet job _ held _ _ _ (scan.ReadsOn _ object bytes byte block short) = refl
-scans_quiet job _ held _ _ _ (scan.IsTooLong _ object bytes byte block long) = refl
-scans_quiet job _ held _ _ _ (scan.EndsFile _ object bytes) = refl
+scans_quiet job _ held _ _ _ (scan.StartsInSite _ _ _) = refl
+scans_quiet job _ held _ _ _ _ = refl
 
 makes_late : (job : Job) (here : Phase) (held new : Held) (calls : Calls) (answer : Answer) → Makings job here held new calls answer → may_tell here ≡ false
-makes_late job _ held _ _ _ (make.MakesStaging _ object) = refl
-makes_late job _ held _ _ _ (make.MakesDeclaration _ object) = refl
-makes_late job _ held _ _ _ (make.MakesVersion _ object) = refl
-makes_late job _ held _ _ _ (make.PassesRow _ object position row at stored) = refl
-makes_late job _ held _ _ _ (make.MakesFolder _ object position row at stored next) = refl
-makes_late job _ held _ _ _ (make.OpensCopy _ object position row at stored next) = refl
-makes_late job _ held _ _ _ (make.CopiesOn _ object position left byte block short) = refl
-makes_late job _ held _ _ _ (make.ReadsMore _ object position left byte block long) = refl
-makes_late job _ held _ _ _ (make.EndsCopy _ object position row left at same) = refl
-makes_late job _ held _ _ _ (make.ReadsOther _ object position row left at other) = refl
-makes_late job _ held _ _ _ (make.MakesVersionInventory _ object) = refl
-makes_late job _ held _ _ _ (make.MakesVersionSidecar _ object) = refl
-makes_late job _ held _ _ _ (make.MakesInventory _ object) = refl
-makes_late job _ held _ _ _ (make.MakesSidecar _ object) = refl
+makes_late job _ held _ _ _ (make.MakesStaging _ _) = refl
+makes_late job _ held _ _ _ _ = refl
 
 places_quiet : (job : Job) (counts : Counts) (here : Phase) (held new : Held) (calls : Calls) (answer : Answer) → Places job counts here held new calls answer → may_tell here ≡ true → is_quiet calls.change ≡ true
-places_quiet job counts _ held _ _ _ (place.MakesTuple _ object number) tells = absurd (cc)
-places_quiet job counts _ held _ _ _ (place.FindsTuple _ object number) tells = absurd (cc)
-places_quiet job counts _ held _ _ _ (place.IsInTheWay _ object number here other) tells = absurd (cc)
-places_quiet job counts _ held _ _ _ (place.RenamesObject _ object) tells = absurd (cc)
 places_quiet job counts _ held _ _ _ (place.TellsDone _ object) tells = refl
 places_quiet job counts _ held _ _ _ (place.TellsEnd _) tells = refl
+places_quiet job counts _ held _ _ _ _ tells = absurd (cc)
 
 follows_quiet : (job : Job) (counts : Counts) (here : Phase) (prefix : List ℕ) (held : Held) (read : List ℕ) (after : Held) (calls : Calls) (answer : Answer) → Follows job counts here prefix held read after calls answer → may_tell here ≡ true → is_quiet calls.change ≡ true
 follows_quiet job counts here prefix held read after calls answer (a_start h p r w c a turn) tells = let late = starts_late job here prefix read calls answer turn in absurd (let no : true ≡ false = sym tells ∙ late in cc)

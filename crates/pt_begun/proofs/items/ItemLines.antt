@@ -60,9 +60,8 @@ counts_after line job source root count counts more it are = by line (number_aft
     by (Some (End done present skipped)) a b c = let x = are.done in let y = are.present in let z = are.skipped in record { done = omega (arith, a, x); present = omega (arith, b, y); skipped = omega (arith, c, z) }
 
 pub counts_kept : (job : Job) (source : Forest) (root : Tree) (count new : ℕ) (next : Phase) (line : Option Line) (counts : Counts) (gained : List Carried) → Tells job source root count next line new gained → CountsLines job source root count counts → CountsLines job source root new (counted line counts)
-counts_kept job source root count new next line counts gained (Nothing after) are = are
 counts_kept job source root count new next line counts gained (OneItem after told more it) are = counts_after told job source root count counts more it are
-counts_kept job source root count new next line counts gained (Last done present skipped) are = are
+counts_kept job source root count new next line counts gained _ are = are
 
 -- ---- the log
 
@@ -97,10 +96,9 @@ log_kept job source root past later next line n old now new gained is (Last done
 -- nothing more is carried of an item that ends so
 pub placed_kept : (job : Job) (source : Forest) (root : Tree) (count new : ℕ) (next : Phase) (line : Option Line) (gained placed : List Carried) → gained ≡ [] → Tells job source root count next line new gained → placed ≡ carried_among job source root count
     → placed ≡ carried_among job source root new
-placed_kept job source root count new next line gained placed none (Nothing after) are = are
 placed_kept job source root count new next line gained placed none (OneItem after told more it) are =
     are ∙ sym (carried_grows job source root count it.m it.is ∙ ap (λ (l : List Carried). carried_among job source root count ++ l) (it.gained ∙ none) ∙ append-nil (carried_among job source root count))
-placed_kept job source root count new next line gained placed none (Last done present skipped) are = are
+placed_kept job source root count new next line gained placed none _ are = are
 
 -- ---- each kind of item
 

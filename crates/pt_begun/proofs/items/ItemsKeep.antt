@@ -16,9 +16,9 @@ use Rattle.pt_plan.specs.Run.{Counts, Held}
 use Rattle.pt_plan.specs.Store.{prefix_file}
 use Rattle.pt_plan.specs.TurnMake.{Makings, MakesStaging, MakesDeclaration, MakesVersion, PassesRow, MakesFolder, OpensCopy, CopiesOn, EndsCopy, MakesVersionInventory, MakesVersionSidecar, MakesInventory, MakesSidecar, behind, behind_stored, content_at, sidecar_file, with_folder}
 use Rattle.pt_plan.specs.TurnPlace.{Places, MakesTuple, FindsTuple, RenamesObject, TellsDone, TellsEnd, tuple_folder}
-use Rattle.pt_plan.specs.TurnScan.{Scans, StartsInSite, EntersObject, IsTooDeep, PassesShorty, EntersDirectory, MeetsDeep, OpensFile, MeetsLimit, MeetsOther, EndsSite, EndsObject, LeavesDirectory, ReadsOn, IsTooLong, EndsFile}
-use Rattle.pt_plan.specs.TurnStart.{Starts, IsStore, HasNoPrefix, HasPrefix, HasNoStaging, HasNoRoot, HasRoot, MakesRoot, RenamesRoot, IsSame, kind_in}
-use Rattle.pt_plan.specs.TurnWalk.{Walks, OpensRoot, LeadsOn, IsSkipped, IsPresent, IsNew, IsPast, IsDeep, EntersSite, PassesEntry, LeavesSite, EndsWalk}
+use Rattle.pt_plan.specs.TurnScan.{Scans, StartsInSite, IsTooDeep, MeetsDeep, MeetsLimit, MeetsOther, IsTooLong}
+use Rattle.pt_plan.specs.TurnStart.{Starts, IsStore, HasNoStaging, HasNoRoot, HasRoot, MakesRoot, RenamesRoot, IsSame, kind_in}
+use Rattle.pt_plan.specs.TurnWalk.{Walks, OpensRoot, IsNew}
 use Rattle.pt_plan.specs.World.{Calls, Change, Changes, Finds, FindsNoneAndMakes, Makes, Peeks, does}
 use Rattle.pt_plan.specs.declared.object.Object.{Object}
 use Rattle.pt_plan.specs.declared.phase.Part.TheVariants as part
@@ -48,66 +48,24 @@ kept job past s start here next held counts calls gained tells told items places
 -- ---- the turns begin where the run hasn't ended
 
 starts_told : (job : Job) (source : Forest) (root : Tree) (past : Past) (prefix read : List ℕ) (here next : Phase) (calls : Calls) → Starts job here prefix read calls (Ok next) → ToldBefore job source root past here
-starts_told job source root past prefix read here next calls (IsStore was entries is) = λ log old had. had
-starts_told job source root past prefix read here next calls (HasNoPrefix was) = λ log old had. had
-starts_told job source root past prefix read here next calls (HasPrefix was block good) = λ log old had. had
-starts_told job source root past prefix read here next calls (HasNoStaging was) = λ log old had. had
-starts_told job source root past prefix read here next calls (HasNoRoot was) = λ log old had. had
-starts_told job source root past prefix read here next calls (HasRoot was) = λ log old had. had
-starts_told job source root past prefix read here next calls (MakesRoot was number item is) = λ log old had. had
-starts_told job source root past prefix read here next calls (RenamesRoot was) = λ log old had. had
-starts_told job source root past prefix read here next calls (IsSame was number path bytes is) = λ log old had. had
+starts_told job source root past prefix read here next calls (IsStore _ _ _) = λ log old had. had
+starts_told job source root past prefix read here next calls _ = λ log old had. had
 
 walks_told : (job : Job) (source : Forest) (root : Tree) (past : Past) (prefix : List ℕ) (here next : Phase) (held after : Held) (calls : Calls) → Walks job prefix here held after calls (Ok next) → ToldBefore job source root past here
-walks_told job source root past prefix here next held after calls (OpensRoot was items) = λ log old had. had
-walks_told job source root past prefix here next held after calls (LeadsOn was is) = λ log old had. had
-walks_told job source root past prefix here next held after calls (IsSkipped was why is) = λ log old had. had
-walks_told job source root past prefix here next held after calls (IsPresent was index id kind is) = λ log old had. had
-walks_told job source root past prefix here next held after calls (IsNew was index id is) = λ log old had. had
-walks_told job source root past prefix here next held after calls (IsPast was name e short last) = λ log old had. had
-walks_told job source root past prefix here next held after calls (IsDeep was name e short last deep) = λ log old had. had
-walks_told job source root past prefix here next held after calls (EntersSite was name items e short last deep) = λ log old had. had
-walks_told job source root past prefix here next held after calls (PassesEntry was item e apart) = λ log old had. had
-walks_told job source root past prefix here next held after calls (LeavesSite was e long) = λ log old had. had
-walks_told job source root past prefix here next held after calls (EndsWalk was e short) = λ log old had. had
+walks_told job source root past prefix here next held after calls (OpensRoot _ _) = λ log old had. had
+walks_told job source root past prefix here next held after calls _ = λ log old had. had
 
 scans_told : (job : Job) (source : Forest) (root : Tree) (past : Past) (here next : Phase) (held after : Held) (calls : Calls) → Scans job here held after calls (Ok next) → ToldBefore job source root past here
-scans_told job source root past here next held after calls (StartsInSite was object gathered) = λ log old had. had
-scans_told job source root past here next held after calls (EntersObject was object items apart shallow) = λ log old had. had
-scans_told job source root past here next held after calls (IsTooDeep was object apart deep) = λ log old had. had
-scans_told job source root past here next held after calls (PassesShorty was object item e passed) = λ log old had. had
-scans_told job source root past here next held after calls (EntersDirectory was object name items e apart shallow) = λ log old had. had
-scans_told job source root past here next held after calls (MeetsDeep was object name e apart deep) = λ log old had. had
-scans_told job source root past here next held after calls (OpensFile was object name e room) = λ log old had. had
-scans_told job source root past here next held after calls (MeetsLimit was object name e room) = λ log old had. had
-scans_told job source root past here next held after calls (MeetsOther was object name e) = λ log old had. had
-scans_told job source root past here next held after calls (EndsSite was object e there) = λ log old had. had
-scans_told job source root past here next held after calls (EndsObject was object e apart own) = λ log old had. had
-scans_told job source root past here next held after calls (LeavesDirectory was object e apart outside) = λ log old had. had
-scans_told job source root past here next held after calls (ReadsOn was object bytes byte block short) = λ log old had. had
-scans_told job source root past here next held after calls (IsTooLong was object bytes byte block long) = λ log old had. had
-scans_told job source root past here next held after calls (EndsFile was object bytes) = λ log old had. had
+scans_told job source root past here next held after calls (StartsInSite _ _ _) = λ log old had. had
+scans_told job source root past here next held after calls _ = λ log old had. had
 
 makes_told : (job : Job) (source : Forest) (root : Tree) (past : Past) (here : Phase) (held after : Held) (calls : Calls) (next : Phase) → Makings job here held after calls (Ok next) → ToldBefore job source root past here
-makes_told job source root past here held after calls next (MakesStaging was object) = λ log old had. had
-makes_told job source root past here held after calls next (MakesDeclaration was object) = λ log old had. had
-makes_told job source root past here held after calls next (MakesVersion was object) = λ log old had. had
-makes_told job source root past here held after calls next (PassesRow was object position row is other) = λ log old had. had
-makes_told job source root past here held after calls next (MakesFolder was object position row is stored more) = λ log old had. had
-makes_told job source root past here held after calls next (OpensCopy was object position row is stored all) = λ log old had. had
-makes_told job source root past here held after calls next (CopiesOn was object position left byte block fits) = λ log old had. had
-makes_told job source root past here held after calls next (EndsCopy was object position row left is same) = λ log old had. had
-makes_told job source root past here held after calls next (MakesVersionInventory was object) = λ log old had. had
-makes_told job source root past here held after calls next (MakesVersionSidecar was object) = λ log old had. had
-makes_told job source root past here held after calls next (MakesInventory was object) = λ log old had. had
-makes_told job source root past here held after calls next (MakesSidecar was object) = λ log old had. had
+makes_told job source root past here held after calls next (MakesStaging _ _) = λ log old had. had
+makes_told job source root past here held after calls next _ = λ log old had. had
 
 places_told : (job : Job) (counts : Counts) (source : Forest) (root : Tree) (past : Past) (here next : Phase) (held after : Held) (calls : Calls) → Places job counts here held after calls (Ok next) → ToldBefore job source root past here
-places_told job counts source root past here next held after calls (MakesTuple was object number) = λ log old had. had
-places_told job counts source root past here next held after calls (FindsTuple was object number) = λ log old had. had
-places_told job counts source root past here next held after calls (RenamesObject was object) = λ log old had. had
-places_told job counts source root past here next held after calls (TellsDone was object) = λ log old had. had
-places_told job counts source root past here next held after calls (TellsEnd was) = λ log old had. had
+places_told job counts source root past here next held after calls (MakesTuple _ _ _) = λ log old had. had
+places_told job counts source root past here next held after calls _ = λ log old had. had
 
 -- ---- the start
 
@@ -136,10 +94,6 @@ checks_root job past s start held counts number change false first items =
 pub starts_items : StartingKeepsItems
 starts_items job past s prefix read start now here next held counts calls (IsStore was entries is) known =
     kept job past s start here next held counts calls [] (Nothing (phase.Prefix (kind_in entries prefix_file))) (starts_told job s.tree (root_in start) past prefix read here next calls (IsStore was entries is)) known.items (record { placed = known.items.places.placed; next = tt })
-starts_items job past s prefix read start now here next held counts calls (HasNoPrefix was) known =
-    kept job past s start here next held counts calls [] (Nothing phase.Staging) (starts_told job s.tree (root_in start) past prefix read here next calls (HasNoPrefix was)) known.items (record { placed = known.items.places.placed; next = tt })
-starts_items job past s prefix read start now here next held counts calls (HasPrefix was block good) known =
-    kept job past s start here next held counts calls [] (Nothing phase.Staging) (starts_told job s.tree (root_in start) past prefix read here next calls (HasPrefix was block good)) known.items (record { placed = known.items.places.placed; next = tt })
 starts_items job past s prefix read start now here next held counts calls (HasNoStaging was) known =
     kept job past s start here next held counts calls [] (Nothing phase.Root) (starts_told job s.tree (root_in start) past prefix read here next calls (HasNoStaging was)) known.items (record { placed = known.items.places.placed; next = tt })
 starts_items job past s prefix read start now here next held counts calls (HasNoRoot was) known =
@@ -152,87 +106,33 @@ starts_items job past s prefix read start now here next held counts calls (Renam
     kept job past s start here next held counts calls [] (Nothing phase.OpenRoot) (starts_told job s.tree (root_in start) past prefix read here next calls (RenamesRoot was)) known.items (record { placed = none_placed job s.tree (root_in start) past.count known.source.at.1; next = tt })
 starts_items job past s prefix read start now here next held counts calls (IsSame was number path bytes is) known =
     checks_root job past s start held counts number (Peeks (storage_root ++ path) bytes) (number == 2) known.source.at.1 known.items
+starts_items job past s prefix read start now here next held counts calls turn known =
+    kept job past s start here next held counts calls [] (Nothing phase.Staging) (starts_told job s.tree (root_in start) past prefix read here next calls turn) known.items (record { placed = known.items.places.placed; next = tt })
 
 -- ---- the walk
 
 pub walks_items : WalkingKeepsItems
 unfolding Changes IsKindAt
-walks_items job past s prefix start now new here next held after counts calls (OpensRoot was items) change known =
-    let tells = walks_tell job past s prefix start now new here next held after calls (OpensRoot was items) known.held_at.trail.is_one known.source (roots_have_no_gaps start known.dest.started).1 known.items.places.placed known.dest.at change in
-    kept job past s start here next held counts calls [] tells (walks_told job s.tree (root_in start) past prefix here next held after calls (OpensRoot was items)) known.items
-    (record { placed = placed_kept job s.tree (root_in start) past.count (done_after here held.trail next past.count) next calls.line [] past.placed refl tells known.items.places.placed; next = tt })
-walks_items job past s prefix start now new here next held after counts calls (LeadsOn was is) change known =
-    let tells = walks_tell job past s prefix start now new here next held after calls (LeadsOn was is) known.held_at.trail.is_one known.source (roots_have_no_gaps start known.dest.started).1 known.items.places.placed known.dest.at change in
-    kept job past s start here next held counts calls [] tells (walks_told job s.tree (root_in start) past prefix here next held after calls (LeadsOn was is)) known.items
-    (record { placed = placed_kept job s.tree (root_in start) past.count (done_after here held.trail next past.count) next calls.line [] past.placed refl tells known.items.places.placed; next = tt })
-walks_items job past s prefix start now new here next held after counts calls (IsSkipped was why is) change known =
-    let tells = walks_tell job past s prefix start now new here next held after calls (IsSkipped was why is) known.held_at.trail.is_one known.source (roots_have_no_gaps start known.dest.started).1 known.items.places.placed known.dest.at change in
-    kept job past s start here next held counts calls [] tells (walks_told job s.tree (root_in start) past prefix here next held after calls (IsSkipped was why is)) known.items
-    (record { placed = placed_kept job s.tree (root_in start) past.count (done_after here held.trail next past.count) next calls.line [] past.placed refl tells known.items.places.placed; next = tt })
-walks_items job past s prefix start now new here next held after counts calls (IsPresent was index id kind is) change known =
-    let tells = walks_tell job past s prefix start now new here next held after calls (IsPresent was index id kind is) known.held_at.trail.is_one known.source (roots_have_no_gaps start known.dest.started).1 known.items.places.placed known.dest.at change in
-    kept job past s start here next held counts calls [] tells (walks_told job s.tree (root_in start) past prefix here next held after calls (IsPresent was index id kind is)) known.items
-    (record { placed = placed_kept job s.tree (root_in start) past.count (done_after here held.trail next past.count) next calls.line [] past.placed refl tells known.items.places.placed; next = tt })
 walks_items job past s prefix start now new here next held after counts calls (IsNew was index id is) change known =
     let tells = walks_tell job past s prefix start now new here next held after calls (IsNew was index id is) known.held_at.trail.is_one known.source (roots_have_no_gaps start known.dest.started).1 known.items.places.placed known.dest.at change in
     kept job past s start here next held counts calls [] tells (walks_told job s.tree (root_in start) past prefix here next held after calls (IsNew was index id is)) known.items
     (record { placed = placed_kept job s.tree (root_in start) past.count (done_after here held.trail next past.count) next calls.line [] past.placed refl tells known.items.places.placed; next = new_is_free job past s prefix start now was index id known.source is (roots_have_no_gaps start known.dest.started).1 known.items.places.placed known.dest.at (change.0 now refl) })
-walks_items job past s prefix start now new here next held after counts calls (IsPast was name e short last) change known =
-    let tells = walks_tell job past s prefix start now new here next held after calls (IsPast was name e short last) known.held_at.trail.is_one known.source (roots_have_no_gaps start known.dest.started).1 known.items.places.placed known.dest.at change in
-    kept job past s start here next held counts calls [] tells (walks_told job s.tree (root_in start) past prefix here next held after calls (IsPast was name e short last)) known.items
-    (record { placed = placed_kept job s.tree (root_in start) past.count (done_after here held.trail next past.count) next calls.line [] past.placed refl tells known.items.places.placed; next = tt })
-walks_items job past s prefix start now new here next held after counts calls (IsDeep was name e short last deep) change known =
-    let tells = walks_tell job past s prefix start now new here next held after calls (IsDeep was name e short last deep) known.held_at.trail.is_one known.source (roots_have_no_gaps start known.dest.started).1 known.items.places.placed known.dest.at change in
-    kept job past s start here next held counts calls [] tells (walks_told job s.tree (root_in start) past prefix here next held after calls (IsDeep was name e short last deep)) known.items
-    (record { placed = placed_kept job s.tree (root_in start) past.count (done_after here held.trail next past.count) next calls.line [] past.placed refl tells known.items.places.placed; next = tt })
-walks_items job past s prefix start now new here next held after counts calls (EntersSite was name items e short last deep) change known =
-    let tells = walks_tell job past s prefix start now new here next held after calls (EntersSite was name items e short last deep) known.held_at.trail.is_one known.source (roots_have_no_gaps start known.dest.started).1 known.items.places.placed known.dest.at change in
-    kept job past s start here next held counts calls [] tells (walks_told job s.tree (root_in start) past prefix here next held after calls (EntersSite was name items e short last deep)) known.items
-    (record { placed = placed_kept job s.tree (root_in start) past.count (done_after here held.trail next past.count) next calls.line [] past.placed refl tells known.items.places.placed; next = tt })
-walks_items job past s prefix start now new here next held after counts calls (PassesEntry was item e apart) change known =
-    let tells = walks_tell job past s prefix start now new here next held after calls (PassesEntry was item e apart) known.held_at.trail.is_one known.source (roots_have_no_gaps start known.dest.started).1 known.items.places.placed known.dest.at change in
-    kept job past s start here next held counts calls [] tells (walks_told job s.tree (root_in start) past prefix here next held after calls (PassesEntry was item e apart)) known.items
-    (record { placed = placed_kept job s.tree (root_in start) past.count (done_after here held.trail next past.count) next calls.line [] past.placed refl tells known.items.places.placed; next = tt })
-walks_items job past s prefix start now new here next held after counts calls (LeavesSite was e long) change known =
-    let tells = walks_tell job past s prefix start now new here next held after calls (LeavesSite was e long) known.held_at.trail.is_one known.source (roots_have_no_gaps start known.dest.started).1 known.items.places.placed known.dest.at change in
-    kept job past s start here next held counts calls [] tells (walks_told job s.tree (root_in start) past prefix here next held after calls (LeavesSite was e long)) known.items
-    (record { placed = placed_kept job s.tree (root_in start) past.count (done_after here held.trail next past.count) next calls.line [] past.placed refl tells known.items.places.placed; next = tt })
-walks_items job past s prefix start now new here next held after counts calls (EndsWalk was e short) change known =
-    let tells = walks_tell job past s prefix start now new here next held after calls (EndsWalk was e short) known.held_at.trail.is_one known.source (roots_have_no_gaps start known.dest.started).1 known.items.places.placed known.dest.at change in
-    kept job past s start here next held counts calls [] tells (walks_told job s.tree (root_in start) past prefix here next held after calls (EndsWalk was e short)) known.items
+walks_items job past s prefix start now new here next held after counts calls turn change known =
+    let tells = walks_tell job past s prefix start now new here next held after calls turn known.held_at.trail.is_one known.source (roots_have_no_gaps start known.dest.started).1 known.items.places.placed known.dest.at change in
+    kept job past s start here next held counts calls [] tells (walks_told job s.tree (root_in start) past prefix here next held after calls turn) known.items
     (record { placed = placed_kept job s.tree (root_in start) past.count (done_after here held.trail next past.count) next calls.line [] past.placed refl tells known.items.places.placed; next = tt })
 
 -- ---- the scan
 
 pub scans_items : ScanningKeepsItems
-scans_items job past s new prefix start now here next held after counts calls (StartsInSite was object gathered) answers known =
-    let tells = scans_tell job past s prefix (root_in start) here next held after calls (StartsInSite was object gathered) known.held_at.trail.is_one known.source known.items.places.next new answers in
-    kept job past s start here next held counts calls [] tells (scans_told job s.tree (root_in start) past here next held after calls (StartsInSite was object gathered)) known.items
-    (record { placed = placed_kept job s.tree (root_in start) past.count (done_after here held.trail next past.count) next calls.line [] past.placed refl tells known.items.places.placed; next = known.items.places.next })
-scans_items job past s new prefix start now here next held after counts calls (EntersObject was object items apart shallow) answers known =
-    let tells = scans_tell job past s prefix (root_in start) here next held after calls (EntersObject was object items apart shallow) known.held_at.trail.is_one known.source known.items.places.next new answers in
-    kept job past s start here next held counts calls [] tells (scans_told job s.tree (root_in start) past here next held after calls (EntersObject was object items apart shallow)) known.items
-    (record { placed = placed_kept job s.tree (root_in start) past.count (done_after here held.trail next past.count) next calls.line [] past.placed refl tells known.items.places.placed; next = known.items.places.next })
 scans_items job past s new prefix start now here next held after counts calls (IsTooDeep was object apart deep) answers known =
     let tells = scans_tell job past s prefix (root_in start) here next held after calls (IsTooDeep was object apart deep) known.held_at.trail.is_one known.source known.items.places.next new answers in
     kept job past s start here next held counts calls [] tells (scans_told job s.tree (root_in start) past here next held after calls (IsTooDeep was object apart deep)) known.items
     (record { placed = placed_kept job s.tree (root_in start) past.count (done_after here held.trail next past.count) next calls.line [] past.placed refl tells known.items.places.placed; next = tt })
-scans_items job past s new prefix start now here next held after counts calls (PassesShorty was object item e passed) answers known =
-    let tells = scans_tell job past s prefix (root_in start) here next held after calls (PassesShorty was object item e passed) known.held_at.trail.is_one known.source known.items.places.next new answers in
-    kept job past s start here next held counts calls [] tells (scans_told job s.tree (root_in start) past here next held after calls (PassesShorty was object item e passed)) known.items
-    (record { placed = placed_kept job s.tree (root_in start) past.count (done_after here held.trail next past.count) next calls.line [] past.placed refl tells known.items.places.placed; next = known.items.places.next })
-scans_items job past s new prefix start now here next held after counts calls (EntersDirectory was object name items e apart shallow) answers known =
-    let tells = scans_tell job past s prefix (root_in start) here next held after calls (EntersDirectory was object name items e apart shallow) known.held_at.trail.is_one known.source known.items.places.next new answers in
-    kept job past s start here next held counts calls [] tells (scans_told job s.tree (root_in start) past here next held after calls (EntersDirectory was object name items e apart shallow)) known.items
-    (record { placed = placed_kept job s.tree (root_in start) past.count (done_after here held.trail next past.count) next calls.line [] past.placed refl tells known.items.places.placed; next = known.items.places.next })
 scans_items job past s new prefix start now here next held after counts calls (MeetsDeep was object name e apart deep) answers known =
     let tells = scans_tell job past s prefix (root_in start) here next held after calls (MeetsDeep was object name e apart deep) known.held_at.trail.is_one known.source known.items.places.next new answers in
     kept job past s start here next held counts calls [] tells (scans_told job s.tree (root_in start) past here next held after calls (MeetsDeep was object name e apart deep)) known.items
     (record { placed = placed_kept job s.tree (root_in start) past.count (done_after here held.trail next past.count) next calls.line [] past.placed refl tells known.items.places.placed; next = tt })
-scans_items job past s new prefix start now here next held after counts calls (OpensFile was object name e room) answers known =
-    let tells = scans_tell job past s prefix (root_in start) here next held after calls (OpensFile was object name e room) known.held_at.trail.is_one known.source known.items.places.next new answers in
-    kept job past s start here next held counts calls [] tells (scans_told job s.tree (root_in start) past here next held after calls (OpensFile was object name e room)) known.items
-    (record { placed = placed_kept job s.tree (root_in start) past.count (done_after here held.trail next past.count) next calls.line [] past.placed refl tells known.items.places.placed; next = known.items.places.next })
 scans_items job past s new prefix start now here next held after counts calls (MeetsLimit was object name e room) answers known =
     let tells = scans_tell job past s prefix (root_in start) here next held after calls (MeetsLimit was object name e room) known.held_at.trail.is_one known.source known.items.places.next new answers in
     kept job past s start here next held counts calls [] tells (scans_told job s.tree (root_in start) past here next held after calls (MeetsLimit was object name e room)) known.items
@@ -241,29 +141,13 @@ scans_items job past s new prefix start now here next held after counts calls (M
     let tells = scans_tell job past s prefix (root_in start) here next held after calls (MeetsOther was object name e) known.held_at.trail.is_one known.source known.items.places.next new answers in
     kept job past s start here next held counts calls [] tells (scans_told job s.tree (root_in start) past here next held after calls (MeetsOther was object name e)) known.items
     (record { placed = placed_kept job s.tree (root_in start) past.count (done_after here held.trail next past.count) next calls.line [] past.placed refl tells known.items.places.placed; next = tt })
-scans_items job past s new prefix start now here next held after counts calls (EndsSite was object e there) answers known =
-    let tells = scans_tell job past s prefix (root_in start) here next held after calls (EndsSite was object e there) known.held_at.trail.is_one known.source known.items.places.next new answers in
-    kept job past s start here next held counts calls [] tells (scans_told job s.tree (root_in start) past here next held after calls (EndsSite was object e there)) known.items
-    (record { placed = placed_kept job s.tree (root_in start) past.count (done_after here held.trail next past.count) next calls.line [] past.placed refl tells known.items.places.placed; next = known.items.places.next })
-scans_items job past s new prefix start now here next held after counts calls (EndsObject was object e apart own) answers known =
-    let tells = scans_tell job past s prefix (root_in start) here next held after calls (EndsObject was object e apart own) known.held_at.trail.is_one known.source known.items.places.next new answers in
-    kept job past s start here next held counts calls [] tells (scans_told job s.tree (root_in start) past here next held after calls (EndsObject was object e apart own)) known.items
-    (record { placed = placed_kept job s.tree (root_in start) past.count (done_after here held.trail next past.count) next calls.line [] past.placed refl tells known.items.places.placed; next = known.items.places.next })
-scans_items job past s new prefix start now here next held after counts calls (LeavesDirectory was object e apart outside) answers known =
-    let tells = scans_tell job past s prefix (root_in start) here next held after calls (LeavesDirectory was object e apart outside) known.held_at.trail.is_one known.source known.items.places.next new answers in
-    kept job past s start here next held counts calls [] tells (scans_told job s.tree (root_in start) past here next held after calls (LeavesDirectory was object e apart outside)) known.items
-    (record { placed = placed_kept job s.tree (root_in start) past.count (done_after here held.trail next past.count) next calls.line [] past.placed refl tells known.items.places.placed; next = known.items.places.next })
-scans_items job past s new prefix start now here next held after counts calls (ReadsOn was object bytes byte block short) answers known =
-    let tells = scans_tell job past s prefix (root_in start) here next held after calls (ReadsOn was object bytes byte block short) known.held_at.trail.is_one known.source known.items.places.next new answers in
-    kept job past s start here next held counts calls [] tells (scans_told job s.tree (root_in start) past here next held after calls (ReadsOn was object bytes byte block short)) known.items
-    (record { placed = placed_kept job s.tree (root_in start) past.count (done_after here held.trail next past.count) next calls.line [] past.placed refl tells known.items.places.placed; next = known.items.places.next })
 scans_items job past s new prefix start now here next held after counts calls (IsTooLong was object bytes byte block long) answers known =
     let tells = scans_tell job past s prefix (root_in start) here next held after calls (IsTooLong was object bytes byte block long) known.held_at.trail.is_one known.source known.items.places.next new answers in
     kept job past s start here next held counts calls [] tells (scans_told job s.tree (root_in start) past here next held after calls (IsTooLong was object bytes byte block long)) known.items
     (record { placed = placed_kept job s.tree (root_in start) past.count (done_after here held.trail next past.count) next calls.line [] past.placed refl tells known.items.places.placed; next = tt })
-scans_items job past s new prefix start now here next held after counts calls (EndsFile was object bytes) answers known =
-    let tells = scans_tell job past s prefix (root_in start) here next held after calls (EndsFile was object bytes) known.held_at.trail.is_one known.source known.items.places.next new answers in
-    kept job past s start here next held counts calls [] tells (scans_told job s.tree (root_in start) past here next held after calls (EndsFile was object bytes)) known.items
+scans_items job past s new prefix start now here next held after counts calls turn answers known =
+    let tells = scans_tell job past s prefix (root_in start) here next held after calls turn known.held_at.trail.is_one known.source known.items.places.next new answers in
+    kept job past s start here next held counts calls [] tells (scans_told job s.tree (root_in start) past here next held after calls turn) known.items
     (record { placed = placed_kept job s.tree (root_in start) past.count (done_after here held.trail next past.count) next calls.line [] past.placed refl tells known.items.places.placed; next = known.items.places.next })
 
 -- ---- an object is made

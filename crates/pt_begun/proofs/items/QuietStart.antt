@@ -5,11 +5,11 @@ use Rattle.std.proofs.lemmas.Bool.{true≢false}
 use Rattle.pt_plan.specs.Job.{Job}
 use Rattle.pt_plan.specs.Run.{Counts, Held}
 use Rattle.pt_plan.specs.Turn.{Follows, Start as a_start, Walk, Scan, Make, Place}
-use Rattle.pt_plan.specs.TurnMake.{Makings, MakesStaging, MakesDeclaration, MakesVersion, PassesRow, MakesFolder, OpensCopy, CopiesOn, EndsCopy, MakesVersionInventory, MakesVersionSidecar, MakesInventory, MakesSidecar}
-use Rattle.pt_plan.specs.TurnPlace.{Places, MakesTuple, FindsTuple, RenamesObject, TellsDone, TellsEnd}
-use Rattle.pt_plan.specs.TurnScan.{Scans, StartsInSite, EntersObject, IsTooDeep, PassesShorty, EntersDirectory, MeetsDeep, OpensFile, MeetsLimit, MeetsOther, EndsSite, EndsObject, LeavesDirectory, ReadsOn, IsTooLong, EndsFile}
-use Rattle.pt_plan.specs.TurnStart.{Starts, IsStore, HasNoPrefix, HasPrefix, HasNoStaging, HasNoRoot, HasRoot, MakesRoot, RenamesRoot, IsSame}
-use Rattle.pt_plan.specs.TurnWalk.{Walks, OpensRoot, LeadsOn, IsSkipped, IsPresent, IsNew, IsPast, IsDeep, EntersSite, PassesEntry, LeavesSite, EndsWalk}
+use Rattle.pt_plan.specs.TurnMake.{Makings, MakesSidecar}
+use Rattle.pt_plan.specs.TurnPlace.{Places, MakesTuple, FindsTuple}
+use Rattle.pt_plan.specs.TurnScan.{Scans, StartsInSite}
+use Rattle.pt_plan.specs.TurnStart.{Starts, IsStore}
+use Rattle.pt_plan.specs.TurnWalk.{Walks, OpensRoot}
 use Rattle.pt_plan.specs.World.{Calls}
 use Rattle.pt_plan.specs.declared.phase.Phase.{Phase}
 use Rattle.pt_plan.specs.declared.phase.Phase.TheVariants as phase
@@ -38,18 +38,7 @@ quiet_if (phase.RootMake number) old now same = same refl
 quiet_if phase.RootRename old now same = same refl
 quiet_if (phase.RootCheck number) old now same = same refl
 quiet_if phase.OpenRoot old now same = same refl
-quiet_if phase.Judge old now same = tt
-quiet_if (phase.OpenObject object) old now same = tt
-quiet_if (phase.Scan object) old now same = tt
-quiet_if (phase.Read object bytes) old now same = tt
-quiet_if (phase.Make object part) old now same = tt
-quiet_if (phase.Copy object position left) old now same = tt
-quiet_if (phase.Tuples object number) old now same = tt
-quiet_if (phase.Rename object) old now same = tt
-quiet_if (phase.Line object) old now same = tt
-quiet_if phase.Walk old now same = tt
-quiet_if phase.End old now same = tt
-quiet_if phase.Ended old now same = tt
+quiet_if _ old now same = tt
 
 pub quiet_is : (here : Phase) (old now : List ℕ) → is_start here ≡ true → IsQuiet here old now → now ≡ old
 quiet_is phase.Begin old now start is = is
@@ -60,18 +49,7 @@ quiet_is (phase.RootMake number) old now start is = is
 quiet_is phase.RootRename old now start is = is
 quiet_is (phase.RootCheck number) old now start is = is
 quiet_is phase.OpenRoot old now start is = is
-quiet_is phase.Judge old now start is = absurd (cc)
-quiet_is (phase.OpenObject object) old now start is = absurd (cc)
-quiet_is (phase.Scan object) old now start is = absurd (cc)
-quiet_is (phase.Read object bytes) old now start is = absurd (cc)
-quiet_is (phase.Make object part) old now start is = absurd (cc)
-quiet_is (phase.Copy object position left) old now start is = absurd (cc)
-quiet_is (phase.Tuples object number) old now start is = absurd (cc)
-quiet_is (phase.Rename object) old now start is = absurd (cc)
-quiet_is (phase.Line object) old now start is = absurd (cc)
-quiet_is phase.Walk old now start is = absurd (cc)
-quiet_is phase.End old now start is = absurd (cc)
-quiet_is phase.Ended old now start is = absurd (cc)
+quiet_is _ old now start is = absurd (cc)
 
 -- ---- a turn that leads to one begins at one, and tells nothing
 
@@ -84,66 +62,25 @@ either_later true p q one two = one
 either_later false p q one two = two
 
 starts_quietly : (job : Job) (prefix read : List ℕ) (here next : Phase) (calls : Calls) → Starts job here prefix read calls (Ok next) → StartsQuietly here calls
-starts_quietly job prefix read here next calls (IsStore was entries is) = record { start = refl; line = refl }
-starts_quietly job prefix read here next calls (HasNoPrefix was) = record { start = refl; line = refl }
-starts_quietly job prefix read here next calls (HasPrefix was block good) = record { start = refl; line = refl }
-starts_quietly job prefix read here next calls (HasNoStaging was) = record { start = refl; line = refl }
-starts_quietly job prefix read here next calls (HasNoRoot was) = record { start = refl; line = refl }
-starts_quietly job prefix read here next calls (HasRoot was) = record { start = refl; line = refl }
-starts_quietly job prefix read here next calls (MakesRoot was number item is) = record { start = refl; line = refl }
-starts_quietly job prefix read here next calls (RenamesRoot was) = record { start = refl; line = refl }
-starts_quietly job prefix read here next calls (IsSame was number path bytes is) = record { start = refl; line = refl }
+starts_quietly job prefix read here next calls (IsStore _ _ _) = record { start = refl; line = refl }
+starts_quietly job prefix read here next calls _ = record { start = refl; line = refl }
 
 walks_later : (job : Job) (prefix : List ℕ) (here next : Phase) (held after : Held) (calls : Calls) → Walks job prefix here held after calls (Ok next) → is_start next ≡ false
-walks_later job prefix here next held after calls (OpensRoot was items) = refl
-walks_later job prefix here next held after calls (LeadsOn was is) = refl
-walks_later job prefix here next held after calls (IsSkipped was why is) = refl
-walks_later job prefix here next held after calls (IsPresent was index id kind is) = refl
-walks_later job prefix here next held after calls (IsNew was index id is) = refl
-walks_later job prefix here next held after calls (IsPast was name e short last) = refl
-walks_later job prefix here next held after calls (IsDeep was name e short last deep) = refl
-walks_later job prefix here next held after calls (EntersSite was name items e short last deep) = refl
-walks_later job prefix here next held after calls (PassesEntry was item e apart) = refl
-walks_later job prefix here next held after calls (LeavesSite was e long) = refl
-walks_later job prefix here next held after calls (EndsWalk was e short) = refl
+walks_later job prefix here next held after calls (OpensRoot _ _) = refl
+walks_later job prefix here next held after calls _ = refl
 
 scans_later : (job : Job) (here next : Phase) (held after : Held) (calls : Calls) → Scans job here held after calls (Ok next) → is_start next ≡ false
-scans_later job here next held after calls (StartsInSite was object gathered) = refl
-scans_later job here next held after calls (EntersObject was object items apart shallow) = refl
-scans_later job here next held after calls (IsTooDeep was object apart deep) = refl
-scans_later job here next held after calls (PassesShorty was object item e passed) = refl
-scans_later job here next held after calls (EntersDirectory was object name items e apart shallow) = refl
-scans_later job here next held after calls (MeetsDeep was object name e apart deep) = refl
-scans_later job here next held after calls (OpensFile was object name e room) = refl
-scans_later job here next held after calls (MeetsLimit was object name e room) = refl
-scans_later job here next held after calls (MeetsOther was object name e) = refl
-scans_later job here next held after calls (EndsSite was object e there) = refl
-scans_later job here next held after calls (EndsObject was object e apart own) = refl
-scans_later job here next held after calls (LeavesDirectory was object e apart outside) = refl
-scans_later job here next held after calls (ReadsOn was object bytes byte block short) = refl
-scans_later job here next held after calls (IsTooLong was object bytes byte block long) = refl
-scans_later job here next held after calls (EndsFile was object bytes) = refl
+scans_later job here next held after calls (StartsInSite _ _ _) = refl
+scans_later job here next held after calls _ = refl
 
 makes_later : (job : Job) (here : Phase) (held after : Held) (calls : Calls) (next : Phase) → Makings job here held after calls (Ok next) → is_start next ≡ false
-makes_later job here held after calls next (MakesStaging was object) = refl
-makes_later job here held after calls next (MakesDeclaration was object) = refl
-makes_later job here held after calls next (MakesVersion was object) = refl
-makes_later job here held after calls next (PassesRow was object position row is other) = refl
-makes_later job here held after calls next (MakesFolder was object position row is stored more) = refl
-makes_later job here held after calls next (OpensCopy was object position row is stored all) = refl
-makes_later job here held after calls next (CopiesOn was object position left byte block fits) = refl
-makes_later job here held after calls next (EndsCopy was object position row left is same) = refl
-makes_later job here held after calls next (MakesVersionInventory was object) = refl
-makes_later job here held after calls next (MakesVersionSidecar was object) = refl
-makes_later job here held after calls next (MakesInventory was object) = refl
 makes_later job here held after calls next (MakesSidecar was object) = either_later (job.tuples.count == 0) (phase.Rename object) (phase.Tuples object 0) refl refl
+makes_later job here held after calls next _ = refl
 
 places_later : (job : Job) (counts : Counts) (here next : Phase) (held after : Held) (calls : Calls) → Places job counts here held after calls (Ok next) → is_start next ≡ false
 places_later job counts here next held after calls (MakesTuple was object number) = either_later (nat_lt (number + 1) job.tuples.count) (phase.Tuples object (number + 1)) (phase.Rename object) refl refl
 places_later job counts here next held after calls (FindsTuple was object number) = either_later (nat_lt (number + 1) job.tuples.count) (phase.Tuples object (number + 1)) (phase.Rename object) refl refl
-places_later job counts here next held after calls (RenamesObject was object) = refl
-places_later job counts here next held after calls (TellsDone was object) = refl
-places_later job counts here next held after calls (TellsEnd was) = refl
+places_later job counts here next held after calls _ = refl
 
 pub follows_quietly : (job : Job) (counts : Counts) (here : Phase) (prefix : List ℕ) (held : Held) (read : List ℕ) (after : Held) (calls : Calls) (next : Phase) → Follows job counts here prefix held read after calls (Ok next) → is_start next ≡ true → StartsQuietly here calls
 follows_quietly job counts here prefix held read after calls next (a_start h p r w c a turn) start = starts_quietly job prefix read here next calls turn

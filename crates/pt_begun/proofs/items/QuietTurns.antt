@@ -7,7 +7,7 @@ use Rattle.pt_plan.specs.Run.{Counts, Held}
 use Rattle.pt_plan.specs.Turn.{Follows, Start as a_start, Walk, Scan, Make, Place}
 use Rattle.pt_plan.specs.TurnMake.{Makings, ReadsMore, ReadsOther}
 use Rattle.pt_plan.specs.TurnPlace.{Places, IsInTheWay}
-use Rattle.pt_plan.specs.TurnStart.{Starts, IsNoStore, IsNoPrefixFile, IsNoPrefix, HasStaging, IsNoRoot, IsNoFile, Differs}
+use Rattle.pt_plan.specs.TurnStart.{Starts, IsNoStore}
 use Rattle.pt_plan.specs.World.{Calls}
 use Rattle.pt_plan.specs.declared.halt.Halt.{Halt}
 use Rattle.pt_plan.specs.declared.phase.Phase.{Phase}
@@ -25,26 +25,8 @@ none_follows job counts prefix held read after calls answer (Place h p w n c a t
 
 -- what leads to nothing at the end holds where the run goes on
 pub unless_ended : (P : Phase → Type 0) (here : Phase) → (P phase.Ended → ⊥) → P here → is_ended here ≡ false
-unless_ended P phase.Begin none it = refl
-unless_ended P (phase.Prefix here) none it = refl
-unless_ended P phase.Staging none it = refl
-unless_ended P phase.Root none it = refl
-unless_ended P (phase.RootMake number) none it = refl
-unless_ended P phase.RootRename none it = refl
-unless_ended P (phase.RootCheck number) none it = refl
-unless_ended P phase.OpenRoot none it = refl
-unless_ended P phase.Judge none it = refl
-unless_ended P (phase.OpenObject object) none it = refl
-unless_ended P (phase.Scan object) none it = refl
-unless_ended P (phase.Read object bytes) none it = refl
-unless_ended P (phase.Make object here) none it = refl
-unless_ended P (phase.Copy object position left) none it = refl
-unless_ended P (phase.Tuples object number) none it = refl
-unless_ended P (phase.Rename object) none it = refl
-unless_ended P (phase.Line object) none it = refl
-unless_ended P phase.Walk none it = refl
-unless_ended P phase.End none it = refl
 unless_ended P phase.Ended none it = absurd (none it)
+unless_ended P _ none it = refl
 
 pub follows_runs : (job : Job) (counts : Counts) (here : Phase) (prefix : List ℕ) (held : Held) (read : List ℕ) (after : Held) (calls : Calls) (answer : Answer) → Follows job counts here prefix held read after calls answer → is_ended here ≡ false
 follows_runs job counts here prefix held read after calls answer turn = unless_ended (λ h. Follows job counts h prefix held read after calls answer) here (none_follows job counts prefix held read after calls answer) turn
@@ -52,13 +34,8 @@ follows_runs job counts here prefix held read after calls answer turn = unless_e
 -- ---- what it tells
 
 starts_quiet : (job : Job) (prefix read : List ℕ) (here : Phase) (calls : Calls) (why : Halt) → Starts job here prefix read calls (Err why) → calls.line ≡ None
-starts_quiet job prefix read here calls why (IsNoStore was entries e) = refl
-starts_quiet job prefix read here calls why (IsNoPrefixFile was kind some e) = refl
-starts_quiet job prefix read here calls why (IsNoPrefix was block reason e) = refl
-starts_quiet job prefix read here calls why (HasStaging was kind) = refl
-starts_quiet job prefix read here calls why (IsNoRoot was kind e) = refl
-starts_quiet job prefix read here calls why (IsNoFile was number path bytes kind is e) = refl
-starts_quiet job prefix read here calls why (Differs was number path bytes block is e) = refl
+starts_quiet job prefix read here calls why (IsNoStore _ _ _) = refl
+starts_quiet job prefix read here calls why _ = refl
 
 makes_quiet : (job : Job) (here : Phase) (held after : Held) (calls : Calls) (why : Halt) → Makings job here held after calls (Err why) → calls.line ≡ None
 makes_quiet job here held after calls why (ReadsMore was object position left byte block more) = refl

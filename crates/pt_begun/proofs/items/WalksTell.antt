@@ -1,6 +1,6 @@
 -- What the turns of the walk tell is the line of the item that they end.
 use Rattle.std.proofs.Common.{◌≡◌, ℕ, suc, true, List, [], ◌∷◌, refl, ap, sym, ◌∙◌, subst, arith, cond, length, take, ◌<◌}
-use Rattle.std.specs.Prelude.{Option, None, Some, Ok, Err, is_some, slice_get}
+use Rattle.std.specs.Prelude.{Option, None, Some, Ok, is_some, slice_get}
 use Rattle.std.specs.Option.{option_map}
 use Rattle.pt_name.specs.Place.{place_of}
 use Rattle.pt_name.specs.Share.{is_first}
@@ -15,11 +15,8 @@ use Rattle.pt_walk.specs.Left.{Fits, inside_at}
 use Rattle.pt_walk.specs.Sites.{Listed, Past as past_visit, Deep}
 use Rattle.pt_walk.specs.Site.{is_short}
 use Rattle.pt_walk.specs.Trail.{current_entry, is_trail, names_to, trail_path}
-use Rattle.pt_walk.specs.declared.cause.Cause.{Cause}
 use Rattle.pt_walk.specs.declared.cause.Cause.TheVariants as cause
 use Rattle.pt_walk.specs.declared.frame.Frame.{Frame}
-use Rattle.pt_walk.specs.declared.site.Finding.{Finding}
-use Rattle.pt_walk.specs.declared.site.Finding.TheVariants as finding
 use Rattle.pt_plan.specs.Carried.{Carried, after, carried_among, is_taken}
 use Rattle.pt_plan.specs.Items.{Interior, Item, Named, PairtreeObject, Skip, Verdict, VerdictOn, item_of, items, verdict_of}
 use Rattle.pt_plan.specs.Job.{Job}
@@ -29,7 +26,7 @@ use Rattle.pt_plan.specs.Roots.{root_in}
 use Rattle.pt_plan.specs.Run.{Held}
 use Rattle.pt_plan.specs.Store.{pairtree_of, prefix_of, sites_of}
 use Rattle.pt_plan.specs.TurnMake.{path_of_source}
-use Rattle.pt_plan.specs.TurnWalk.{Walks, OpensRoot, LeadsOn, IsSkipped, IsPresent, IsNew, IsPast, IsDeep, EntersSite, PassesEntry, LeavesSite, EndsWalk, at_object, in_root, judged_at, new_object, path_of_object}
+use Rattle.pt_plan.specs.TurnWalk.{Walks, LeadsOn, IsSkipped, IsPresent, IsNew, IsPast, IsDeep, PassesEntry, LeavesSite, EndsWalk, at_object, in_root, judged_at, new_object, path_of_object}
 use Rattle.pt_plan.specs.World.{Calls, Changes}
 use Rattle.pt_plan.specs.declared.phase.Phase.{Phase}
 use Rattle.pt_plan.specs.declared.phase.Phase.TheVariants as phase
@@ -95,7 +92,6 @@ pub walks_tell : (job : Job) (past : Past) (s : Reading) (prefix : List ℕ) (st
     → IsRooted (root_in start) → past.placed ≡ carried_among job s.tree (root_in start) (items_placed here past.count) → DestAt job start past here held w → Changes calls.change (Some w) (Some new)
     → Tells job s.tree (root_in start) past.count next calls.line (done_after here held.trail next past.count) []
 unfolding Changes IsKindAt
-walks_tell job past s prefix start w new here next held after calls (OpensRoot was items) is_one part rooted placed dest change = Nothing phase.Judge
 walks_tell job past s prefix start w new here next held after calls (LeadsOn was is) is_one part rooted placed dest change = OneItem phase.Walk None [] (interior_item job s.tree (root_in start) past.count (item_judged job s.tree was.trail) (judged_next job s.tree was.trail past.count part.at.2) (with_prefix job s.tree prefix was.trail (Interior) part.at.1 (judged_verdict job s.tree prefix was.trail Interior (pairtree_proper s.tree part.at.1.store part.proper) part.at.2.way.entered part.at.2.way.fits is)))
 walks_tell job past s prefix start w new here next held after calls (IsSkipped was why is) is_one part rooted placed dest change = OneItem phase.Walk (Some (Skipped (trail_path was.trail) why)) [] (skipped_item job s.tree (root_in start) past.count (item_judged job s.tree was.trail) why (judged_next job s.tree was.trail past.count part.at.2) (with_prefix job s.tree prefix was.trail (Skip why) part.at.1 (judged_verdict job s.tree prefix was.trail (Skip why) (pairtree_proper s.tree part.at.1.store part.proper) part.at.2.way.entered part.at.2.way.fits is)))
 walks_tell job past s prefix start w new here next held after calls (IsPresent was index id here_is is) is_one part rooted placed dest change =
@@ -114,12 +110,12 @@ walks_tell job past s prefix start w new here next held after calls (IsDeep was 
     at_shorty job s.tree (root_in start) past.count was.trail name _ e short
     (OneItem phase.Walk (cond (is_first job.share) (Some (Skipped (names_to was.trail) cause.Limit)) None) [] (passed_item (is_first job.share) job s.tree (root_in start) past.count (item_of job (prefix_of s.tree) (names_to was.trail, Deep)) cause.Limit
     (get_map (item_of job (prefix_of s.tree)) (sites_of job.limits.depth s.tree) past.count (names_to was.trail, Deep) (deep_next job s.tree was.trail name past.count (pairtree_proper s.tree part.at.1.store part.proper) is_one e short last deep part.at.2)) refl))
-walks_tell job past s prefix start w new here next held after calls (EntersSite was name items e short last deep) is_one part rooted placed dest change = Nothing phase.Judge
 walks_tell job past s prefix start w new here next held after calls (PassesEntry was item e apart) is_one part rooted placed dest change =
     subst (λ (n : ℕ). Tells job s.tree (root_in start) past.count phase.Walk None n []) (sym (none_at_entry was.trail item past.count e apart)) (Nothing phase.Walk)
 walks_tell job past s prefix start w new here next held after calls (LeavesSite was e long) is_one part rooted placed dest change =
     subst (λ (n : ℕ). Tells job s.tree (root_in start) past.count phase.Walk None n []) (sym (none_at_end was.trail past.count e)) (Nothing phase.Walk)
 walks_tell job past s prefix start w new here next held after calls (EndsWalk was e short) is_one part rooted placed dest change = Nothing phase.End
+walks_tell job past s prefix start w new here next held after calls _ is_one part rooted placed dest change = Nothing phase.Judge
 
 -- the place of a new object isn't taken
 pub new_is_free : (job : Job) (past : Past) (s : Reading) (prefix : List ℕ) (start : Tree) (w : Writing) (held : Held) (index : Option ℕ) (id : List ℕ) → SourcePart job past phase.Judge prefix held s

@@ -9,7 +9,7 @@ use Rattle.pt_plan.specs.Run.{Counts, Held, turning}
 use Rattle.pt_plan.specs.Turn.{Did, FailsAtFirst, FailsLater, Follows, HasFailed, IsRefused, LeavesSome, Start as a_start, Stays, Walk, Scan, Make, Place}
 use Rattle.pt_plan.specs.TurnMake.{Makings, ReadsMore, ReadsOther}
 use Rattle.pt_plan.specs.TurnPlace.{Places, IsInTheWay}
-use Rattle.pt_plan.specs.TurnStart.{Starts, IsNoStore, IsNoPrefixFile, IsNoPrefix, HasStaging, IsNoRoot, IsNoFile, Differs}
+use Rattle.pt_plan.specs.TurnStart.{Starts, IsNoRoot, IsNoFile, Differs}
 use Rattle.pt_plan.specs.World.{Calls, Failures}
 use Rattle.pt_plan.specs.declared.halt.Halt.{Halt}
 use Rattle.pt_plan.specs.declared.halt.Halt.TheVariants as halt
@@ -35,13 +35,10 @@ is_first phase.Staging = true
 is_first _ = false
 
 starts_first : (job : Job) (prefix read : List ℕ) (here : Phase) (calls : Calls) (why : Halt) → Starts job here prefix read calls (Err why) → is_early why ≡ true → is_first here ≡ true
-starts_first job prefix read here calls why (IsNoStore was entries e) early = refl
-starts_first job prefix read here calls why (IsNoPrefixFile was kind some e) early = refl
-starts_first job prefix read here calls why (IsNoPrefix was block reason e) early = refl
-starts_first job prefix read here calls why (HasStaging was kind) early = refl
 starts_first job prefix read here calls why (IsNoRoot was kind e) early = absurd (cc)
 starts_first job prefix read here calls why (IsNoFile was number path bytes kind is e) early = absurd (cc)
 starts_first job prefix read here calls why (Differs was number path bytes block is e) early = absurd (cc)
+starts_first job prefix read here calls why _ early = refl
 
 makes_late : (job : Job) (here : Phase) (held after : Held) (calls : Calls) (why : Halt) → Makings job here held after calls (Err why) → is_early why ≡ false
 makes_late job here held after calls why (ReadsMore was object position left byte block more) = refl
@@ -75,45 +72,13 @@ first_tree : (job : Job) (past : Past) (here : Phase) (held : Held) (t : Tree) (
 first_tree job past phase.Begin held t now first dest = dest.at.tree
 first_tree job past (phase.Prefix here) held t now first dest = dest.at.tree
 first_tree job past phase.Staging held t now first dest = dest.at.tree
-first_tree job past phase.Root held t now first dest = absurd (cc)
-first_tree job past (phase.RootMake number) held t now first dest = absurd (cc)
-first_tree job past phase.RootRename held t now first dest = absurd (cc)
-first_tree job past (phase.RootCheck number) held t now first dest = absurd (cc)
-first_tree job past phase.OpenRoot held t now first dest = absurd (cc)
-first_tree job past phase.Judge held t now first dest = absurd (cc)
-first_tree job past (phase.OpenObject object) held t now first dest = absurd (cc)
-first_tree job past (phase.Scan object) held t now first dest = absurd (cc)
-first_tree job past (phase.Read object bytes) held t now first dest = absurd (cc)
-first_tree job past (phase.Make object here) held t now first dest = absurd (cc)
-first_tree job past (phase.Copy object position left) held t now first dest = absurd (cc)
-first_tree job past (phase.Tuples object number) held t now first dest = absurd (cc)
-first_tree job past (phase.Rename object) held t now first dest = absurd (cc)
-first_tree job past (phase.Line object) held t now first dest = absurd (cc)
-first_tree job past phase.Walk held t now first dest = absurd (cc)
-first_tree job past phase.End held t now first dest = absurd (cc)
-first_tree job past phase.Ended held t now first dest = absurd (cc)
+first_tree job past _ held t now first dest = absurd (cc)
 
 first_starts : (here : Phase) → is_first here ≡ true → is_start here ≡ true
 first_starts phase.Begin first = refl
 first_starts (phase.Prefix here) first = refl
 first_starts phase.Staging first = refl
-first_starts phase.Root first = absurd (cc)
-first_starts (phase.RootMake number) first = absurd (cc)
-first_starts phase.RootRename first = absurd (cc)
-first_starts (phase.RootCheck number) first = absurd (cc)
-first_starts phase.OpenRoot first = absurd (cc)
-first_starts phase.Judge first = absurd (cc)
-first_starts (phase.OpenObject object) first = absurd (cc)
-first_starts (phase.Scan object) first = absurd (cc)
-first_starts (phase.Read object bytes) first = absurd (cc)
-first_starts (phase.Make object part) first = absurd (cc)
-first_starts (phase.Copy object position left) first = absurd (cc)
-first_starts (phase.Tuples object number) first = absurd (cc)
-first_starts (phase.Rename object) first = absurd (cc)
-first_starts (phase.Line object) first = absurd (cc)
-first_starts phase.Walk first = absurd (cc)
-first_starts phase.End first = absurd (cc)
-first_starts phase.Ended first = absurd (cc)
+first_starts _ first = absurd (cc)
 
 -- ---- the laws
 

@@ -17,7 +17,7 @@ use Rattle.pt_plan.specs.Run.{Counts, Held, Kept, Run, turning}
 use Rattle.pt_plan.specs.Turn.{FailsAtFirst, FailsLater, Follows, HasFailed, IsRefused, LeavesSome, Make, Place, Scan, Start as a_start, Stays, Turn, Walk}
 use Rattle.pt_plan.specs.TurnMake.{Makings, ReadsMore, ReadsOther}
 use Rattle.pt_plan.specs.TurnPlace.{IsInTheWay, Places}
-use Rattle.pt_plan.specs.TurnStart.{Differs, HasStaging, IsNoFile, IsNoPrefix, IsNoPrefixFile, IsNoRoot, IsNoStore, Starts}
+use Rattle.pt_plan.specs.TurnStart.{IsNoStore, Starts}
 use Rattle.pt_plan.specs.World.{Calls, World}
 use Rattle.pt_plan.specs.declared.halt.Halt.{Halt}
 use Rattle.pt_plan.specs.declared.halt.Halt.TheVariants as halt
@@ -46,13 +46,8 @@ is_refusal halt.Changed = true
 is_refusal _ = false
 
 starts_for : (job : Job) (here : Phase) (prefix read : List ℕ) (calls : Calls) (why : Halt) → Starts job here prefix read calls (Err why) → is_refusal why ≡ true
-starts_for job here prefix read calls why (IsNoStore was entries is) = refl
-starts_for job here prefix read calls why (IsNoPrefixFile was kind some is) = refl
-starts_for job here prefix read calls why (IsNoPrefix was block reason is) = refl
-starts_for job here prefix read calls why (HasStaging was kind) = refl
-starts_for job here prefix read calls why (IsNoRoot was kind is) = refl
-starts_for job here prefix read calls why (IsNoFile was number path bytes kind is other) = refl
-starts_for job here prefix read calls why (Differs was number path bytes block is other) = refl
+starts_for job here prefix read calls why (IsNoStore _ _ _) = refl
+starts_for job here prefix read calls why _ = refl
 
 makes_for : (job : Job) (here : Phase) (held new : Held) (calls : Calls) (why : Halt) → Makings job here held new calls (Err why) → is_refusal why ≡ true
 makes_for job here held new calls why (ReadsMore was object position left byte block more) = refl

@@ -23,7 +23,7 @@ use Rattle.pt_plan.specs.Store.{is_prefix, pairtree_of, prefix_file}
 use Rattle.pt_plan.specs.Turn.{Did, Follows, Turn, IsRefused, FailsAtFirst, FailsLater, HasFailed, LeavesSome, Stays, Start as a_start, Walk, Scan, Make, Place}
 use Rattle.pt_plan.specs.TurnMake.{Makings, ReadsMore, ReadsOther, is_as_read, path_of_source}
 use Rattle.pt_plan.specs.TurnPlace.{Places, IsInTheWay}
-use Rattle.pt_plan.specs.TurnStart.{Starts, IsNoStore, IsNoPrefixFile, IsNoPrefix, HasStaging, IsNoRoot, IsNoFile, Differs, is_file_kind, lists_store}
+use Rattle.pt_plan.specs.TurnStart.{Starts, IsNoStore, IsNoPrefixFile, IsNoPrefix, is_file_kind, lists_store}
 use Rattle.pt_plan.specs.World.{Answers, Calls, Failures, World}
 use Rattle.pt_plan.specs.declared.halt.Halt.{Halt}
 use Rattle.pt_plan.specs.declared.halt.Halt.TheVariants as halt
@@ -59,10 +59,8 @@ block_refused bytes block why read bad = elim (cases_lt 1024 (length bytes)) [
 ]
 
 bad_prefix : (o : Option Node) (block : List ℕ) (why : PrefixFault) → Some kind.File ≡ option_map kind_of o → option_map (take 8192) (option_and_then as_file (option_and_then (λ node. node_at node []) o)) ≡ Some block → prefix_refusal block ≡ Some why → is_prefix o ≡ false
-bad_prefix None block why is read bad = absurd (cc)
-bad_prefix (Some (Dir inside)) block why is read bad = absurd (cc)
-bad_prefix (Some Other) block why is read bad = absurd (cc)
 bad_prefix (Some (File bytes)) block why is read bad = block_refused bytes block why (some_same (take 8192 bytes) block read) bad
+bad_prefix _ block why is read bad = absurd (cc)
 
 -- ---- the copy
 
@@ -113,10 +111,7 @@ starts_refuse job s new prefix read count here held calls why (IsNoStore was ent
 starts_refuse job s new prefix read count here held calls why (IsNoPrefixFile was kind some is) at answers = (at.2, no_file (find s.tree prefix_file) kind some is at.3)
 starts_refuse job s new prefix read count here held calls why (IsNoPrefix was block reason is) at answers =
     (at.2, bad_prefix (find s.tree prefix_file) block reason at.3 (answers.0 (after_open (prefix_file ∷ []) s) refl) is)
-starts_refuse job s new prefix read count here held calls why (HasStaging was kind) at answers = (at.2.store, at.2.good)
-starts_refuse job s new prefix read count here held calls why (IsNoRoot was kind is) at answers = (at.2.store, at.2.good)
-starts_refuse job s new prefix read count here held calls why (IsNoFile was number path bytes kind is other) at answers = (at.2.store, at.2.good)
-starts_refuse job s new prefix read count here held calls why (Differs was number path bytes block is other) at answers = (at.2.store, at.2.good)
+starts_refuse job s new prefix read count here held calls why _ at answers = (at.2.store, at.2.good)
 
 makes_refuse : (job : Job) (s : Reading) (new : Option Reading) (prefix : List ℕ) (count : ℕ) (here : Phase) (held after : Held) (calls : Calls) (why : Halt)
     → is_proper s.tree ≡ true → Makings job here held after calls (Err why) → SourceAt job s prefix count here held → Answers calls.asked (Some s) new → SaysOfSource why s.tree

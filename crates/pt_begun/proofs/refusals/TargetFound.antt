@@ -14,7 +14,7 @@ use Rattle.pt_object.specs.Script.{folders_above}
 use Rattle.pt_object.specs.Scripts.{staging}
 use Rattle.pt_tree.specs.Dest.{IsKindAt, IsPeeked, Writing}
 use Rattle.pt_tree.specs.Path.{Path}
-use Rattle.pt_tree.specs.Tree.{Bytes, Entry, Folder, Special, Tree, bytes_of, kind_of_entry}
+use Rattle.pt_tree.specs.Tree.{Bytes, Entry, Folder, Tree, bytes_of, kind_of_entry}
 use Rattle.pt_tree.specs.declared.kind.Kind.{Kind}
 use Rattle.pt_plan.proofs.FreeWays.{way_in_base, way_with_objects}
 use Rattle.pt_plan.proofs.MovedIn.{roots_have_no_gaps}
@@ -49,8 +49,7 @@ use Rattle.pt_begun.proofs.items.Telling.{both_tell}
 no_folder : (o : Option Entry) (here : Kind) → option_map kind_of_entry o ≡ Some here → is_dir_kind (Some here) ≡ false → is_folder_or_free o ≡ false
 no_folder None here is other = absurd (cc)
 no_folder (Some Folder) here is other = absurd (true≢false (ap is_dir_kind is ∙ other))
-no_folder (Some (Bytes bytes)) here is other = refl
-no_folder (Some Special) here is other = refl
+no_folder _ here is other = refl
 
 -- no file
 no_file : (o : Option Entry) (here : Option Kind) (bytes : List ℕ) → option_map kind_of_entry o ≡ here → is_file_kind here ≡ false → o ≢ Some (Bytes bytes)

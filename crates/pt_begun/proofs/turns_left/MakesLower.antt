@@ -1,6 +1,6 @@
 -- The turns that make an object lower what is left.
 use Rattle.std.proofs.Common.{◌≡◌, ◌<◌, ◌≤◌, ◌-◌, ℕ, ◌+◌, ◌==◌, Bool, true, false, List, [], ◌∷◌, ◌++◌, refl, ap, sym, ◌∙◌, arith, cond, length, map, take}
-use Rattle.std.specs.Prelude.{None, Some, nat_lt, slice_get}
+use Rattle.std.specs.Prelude.{Some, nat_lt, slice_get}
 use Rattle.std.specs.Option.{option_map}
 use Rattle.std.proofs.lemmas.Bool.{ltb-false, ltb-true, true≢false}
 use Rattle.std.proofs.lemmas.List.{length-append}

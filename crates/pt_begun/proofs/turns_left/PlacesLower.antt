@@ -1,13 +1,13 @@
 -- The turns that bring an object to its place, and that tell of it and of the end, lower what is left.
 use Rattle.std.proofs.Common.{◌<◌, ℕ, ◌+◌, Bool, true, false, List, ap, arith, cond}
-use Rattle.std.specs.Prelude.{None, nat_lt}
+use Rattle.std.specs.Prelude.{nat_lt}
 use Rattle.pt_tree.specs.Forest.{Forest}
 use Rattle.pt_tree.specs.Tree.{Tree}
 use Rattle.pt_walk.specs.Trail.{sought}
 use Rattle.pt_walk.specs.declared.frame.Frame.{Frame}
 use Rattle.pt_plan.specs.Job.{Job}
 use Rattle.pt_plan.specs.Run.{Held}
-use Rattle.pt_plan.specs.TurnPlace.{FindsTuple, MakesTuple, RenamesObject, TellsDone, TellsEnd}
+use Rattle.pt_plan.specs.TurnPlace.{FindsTuple, MakesTuple, TellsDone}
 use Rattle.pt_plan.specs.declared.object.Object.{Object}
 use Rattle.pt_plan.specs.declared.phase.Phase.TheVariants as phase
 use Rattle.pt_begun.proofs.source.InObject.{site_itself}
@@ -22,8 +22,7 @@ passes_tuple job source root count held object number false within = omega (arit
 pub places_lower : PlacingLowers
 places_lower job counts past source root here next held after calls (MakesTuple was object number) at = passes_tuple job source root past.count was object number (nat_lt (number + 1) job.tuples.count) at.numbers
 places_lower job counts past source root here next held after calls (FindsTuple was object number) at = passes_tuple job source root past.count was object number (nat_lt (number + 1) job.tuples.count) at.numbers
-places_lower job counts past source root here next held after calls (RenamesObject was object) at = omega arith
 places_lower job counts past source root here next held after calls (TellsDone was object) at =
     let same = ap (λ (t : List Frame). still_listed (sought 0 t)) (site_itself object was.trail at.ends.1) in
     omega (arith, same)
-places_lower job counts past source root here next held after calls (TellsEnd was) at = omega arith
+places_lower job counts past source root here next held after calls _ at = omega arith

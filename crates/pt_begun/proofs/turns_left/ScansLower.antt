@@ -12,7 +12,7 @@ use Rattle.pt_walk.specs.declared.frame.Frame.{Frame}
 use Rattle.pt_plan.specs.Items.{PairtreeObject, outcome}
 use Rattle.pt_plan.specs.Job.{Job}
 use Rattle.pt_plan.specs.Store.{pairtree_of}
-use Rattle.pt_plan.specs.TurnScan.{EndsFile, EndsObject, EndsSite, EntersDirectory, EntersObject, IsTooDeep, IsTooLong, LeavesDirectory, MeetsDeep, MeetsLimit, MeetsOther, OpensFile, PassesShorty, ReadsOn, StartsInSite, logical_path, to_site, with_directory}
+use Rattle.pt_plan.specs.TurnScan.{EndsFile, EndsObject, EndsSite, EntersDirectory, EntersObject, IsTooDeep, LeavesDirectory, OpensFile, PassesShorty, ReadsOn, StartsInSite, logical_path, to_site, with_directory}
 use Rattle.pt_plan.specs.Work.{met, reads, work_at, work_by_outcome}
 use Rattle.pt_plan.specs.World.{Answers}
 use Rattle.pt_plan.specs.declared.object.Object.{Object}
@@ -97,7 +97,6 @@ scans_lower job past s new root prefix here next held after calls (EntersDirecto
     let here_is = ap (λ (l : List Frame). cond object.gathered (still_here l) 0) site in
     let behind = ap (after_scan job s.tree root past.count object) site in
     omega (arith, meets, other, own, here_is, behind)
-scans_lower job past s new root prefix here next held after calls (MeetsDeep was object name e apart deep) answers at known = let some = known.at.1.inside in omega (arith, some)
 scans_lower job past s new root prefix here next held after calls (OpensFile was object name e room) answers at known =
     let t = was.trail in
     let it = known.at.1 in
@@ -106,8 +105,6 @@ scans_lower job past s new root prefix here next held after calls (OpensFile was
     let none : length bytes - 0 ≡ length bytes = omega arith in
     let whole = ap reads none in
     omega (arith, meets, whole)
-scans_lower job past s new root prefix here next held after calls (MeetsLimit was object name e room) answers at known = let some = known.at.1.inside in omega (arith, some)
-scans_lower job past s new root prefix here next held after calls (MeetsOther was object name e) answers at known = let some = known.at.1.inside in omega (arith, some)
 scans_lower job past s new root prefix here next held after calls (EndsSite was object e in_site) answers at known =
     let later = scans_source job past s s prefix here next held after calls (EndsSite was object e in_site) refl at known in
     let comes = comes_to job s.tree object was (to_site object was.trail) past.bytes (pairtree_proper s.tree known.at.0.store known.proper) later.at.1.scanned at.rows known.bytes in
@@ -139,7 +136,6 @@ scans_lower job past s new root prefix here next held after calls (ReadsOn was o
     let whole = bytes_at (pairtree_of s.tree) (names_to was.trail) in
     let less = block_read whole bytes was.fed byte block s.unread known.at.2.read (answers.0 s refl) in
     omega (arith, less)
-scans_lower job past s new root prefix here next held after calls (IsTooLong was object bytes byte block long) answers at known = let some = known.at.1.inside in omega (arith, some)
 scans_lower job past s new root prefix here next held after calls (EndsFile was object bytes) answers at known =
     let t = was.trail in
     let it = known.at.1 in
@@ -158,3 +154,4 @@ scans_lower job past s new root prefix here next held after calls (EndsFile was 
     let work = same_work job object one other same in
     let walk = (site_on object t).0 in
     omega (arith, meets, moved, rows, leave, work, walk)
+scans_lower job past s new root prefix here next held after calls _ answers at known = let some = known.at.1.inside in omega (arith, some)

@@ -1,12 +1,11 @@
 -- The turns of the start lower what is left.
 use Rattle.std.proofs.Common.{◌≡◌, ◌<◌, ℕ, ◌+◌, ◌==◌, Bool, true, false, refl, arith, cond}
-use Rattle.std.specs.Prelude.{None}
 use Rattle.std.proofs.lemmas.Bool.{eqb-true}
 use Rattle.pt_tree.specs.Forest.{Forest}
 use Rattle.pt_tree.specs.Tree.{Tree}
 use Rattle.pt_plan.specs.Job.{Job}
 use Rattle.pt_plan.specs.Run.{Held}
-use Rattle.pt_plan.specs.TurnStart.{HasNoPrefix, HasNoRoot, HasNoStaging, HasPrefix, HasRoot, IsSame, IsStore, MakesRoot, RenamesRoot}
+use Rattle.pt_plan.specs.TurnStart.{IsSame, MakesRoot}
 use Rattle.pt_plan.specs.declared.phase.Phase.TheVariants as phase
 use Rattle.pt_begun.specs.WorkLaws.{Lowers, StartingLowers}
 
@@ -19,12 +18,6 @@ compares_file job source root count number held true is within = let two = eqb-t
 compares_file job source root count number held false is within = omega (arith, within)
 
 pub starts_lower : StartingLowers
-starts_lower job past source root prefix read here next held calls (IsStore was entries is) at = omega arith
-starts_lower job past source root prefix read here next held calls (HasNoPrefix was) at = omega arith
-starts_lower job past source root prefix read here next held calls (HasPrefix was block good) at = omega arith
-starts_lower job past source root prefix read here next held calls (HasNoStaging was) at = omega arith
-starts_lower job past source root prefix read here next held calls (HasNoRoot was) at = omega arith
-starts_lower job past source root prefix read here next held calls (HasRoot was) at = omega arith
 starts_lower job past source root prefix read here next held calls (MakesRoot was number item is) at = makes_item job source root past.count number held (number == 5) refl at.numbers
-starts_lower job past source root prefix read here next held calls (RenamesRoot was) at = omega arith
 starts_lower job past source root prefix read here next held calls (IsSame was number path bytes is) at = compares_file job source root past.count number held (number == 2) refl at.numbers
+starts_lower job past source root prefix read here next held calls _ at = omega arith

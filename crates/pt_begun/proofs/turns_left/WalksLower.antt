@@ -18,7 +18,7 @@ use Rattle.pt_plan.specs.Job.{Job}
 use Rattle.pt_plan.specs.Run.{Held, with_trail}
 use Rattle.pt_plan.specs.Store.{pairtree_of, prefix_of, sites_of}
 use Rattle.pt_plan.specs.TurnScan.{to_site}
-use Rattle.pt_plan.specs.TurnWalk.{EndsWalk, EntersSite, IsDeep, IsNew, IsPast, IsPresent, IsSkipped, LeadsOn, LeavesSite, OpensRoot, PassesEntry, at_object, new_object}
+use Rattle.pt_plan.specs.TurnWalk.{IsDeep, IsNew, IsPast, IsPresent, IsSkipped, LeadsOn, LeavesSite, OpensRoot, PassesEntry, at_object, new_object}
 use Rattle.pt_plan.specs.Work.{work_on_item, work_on_object}
 use Rattle.pt_plan.specs.World.{Answers}
 use Rattle.pt_plan.specs.declared.object.Object.{Object}
@@ -145,7 +145,6 @@ walks_lower job past s new root prefix here next held after calls (IsDeep was na
     let few = items_fewer job s.tree root past.count in
     let more = ap (items_left job s.tree root) (done_at_shorty was.trail name past.count e short) in
     omega (arith, less, few, more)
-walks_lower job past s new root prefix here next held after calls (EntersSite was name items e short last shallow) answers at part free = omega arith
 walks_lower job past s new root prefix here next held after calls (PassesEntry was item e other) answers at part free =
     let less = advanced_less was.trail item e in
     let same = ap (items_left job s.tree root) (none_at_entry was.trail item past.count e other) in
@@ -154,4 +153,4 @@ walks_lower job past s new root prefix here next held after calls (LeavesSite wa
     let less = left_less was.trail at.trail.is_one long in
     let same = ap (items_left job s.tree root) (none_at_end was.trail past.count e) in
     omega (arith, less, same)
-walks_lower job past s new root prefix here next held after calls (EndsWalk was e outer) answers at part free = omega arith
+walks_lower job past s new root prefix here next held after calls _ answers at part free = omega arith

@@ -42,26 +42,8 @@ follows_lower job past s new root counts here prefix held read after calls next 
 
 -- before the end one turn is left at least
 some_left : (job : Job) (source : Forest) (root : Tree) (count : ℕ) (here : Phase) (held : Held) → is_ended here ≡ false → 0 < left job source root count here held
-some_left job source root count phase.Begin held not = omega arith
-some_left job source root count (phase.Prefix here) held not = omega arith
-some_left job source root count phase.Staging held not = omega arith
-some_left job source root count phase.Root held not = omega arith
-some_left job source root count (phase.RootMake number) held not = omega arith
-some_left job source root count phase.RootRename held not = omega arith
-some_left job source root count (phase.RootCheck number) held not = omega arith
-some_left job source root count phase.OpenRoot held not = omega arith
-some_left job source root count phase.Judge held not = omega arith
-some_left job source root count (phase.OpenObject object) held not = omega arith
-some_left job source root count (phase.Scan object) held not = omega arith
-some_left job source root count (phase.Read object bytes) held not = omega arith
-some_left job source root count (phase.Make object here) held not = omega arith
-some_left job source root count (phase.Copy object position bytes) held not = omega arith
-some_left job source root count (phase.Tuples object number) held not = omega arith
-some_left job source root count (phase.Rename object) held not = omega arith
-some_left job source root count (phase.Line object) held not = omega arith
-some_left job source root count phase.Walk held not = omega arith
-some_left job source root count phase.End held not = omega arith
 some_left job source root count phase.Ended held not = absurd (true≢false not)
+some_left job source root count _ held not = omega arith
 
 -- ---- the turns
 
