@@ -24,22 +24,22 @@ pub record IsOne {X : Type 0} (x : X) (xs : List X) : Type 0 where
   pub index : ℕ
   pub is : slice_get xs index ≡ Some x
 
-front_one : {X : Type 0} → (x : X) (xs ys : List X) (n : ℕ) → slice_get xs n ≡ Some x → slice_get (xs ++ ys) n ≡ Some x
-front_one x [] ys n is = absurd (cc)
-front_one x (y ∷ xs) ys zero is = is
-front_one x (y ∷ xs) ys (suc n) is = front_one x xs ys n is
+front_one : {X : Type 0} → {x : X} (xs ys : List X) (n : ℕ) → slice_get xs n ≡ Some x → slice_get (xs ++ ys) n ≡ Some x
+front_one [] ys n is = absurd (cc)
+front_one (y ∷ xs) ys zero is = is
+front_one (y ∷ xs) ys (suc n) is = front_one xs ys n is
 
-pub one_in_front : {X : Type 0} → (x : X) (xs ys : List X) → IsOne x xs → IsOne x (xs ++ ys)
-one_in_front x xs ys it = record { index = it.index; is = front_one x xs ys it.index it.is }
+pub one_in_front : {X : Type 0} → {x : X} {xs : List X} (ys : List X) → IsOne x xs → IsOne x (xs ++ ys)
+one_in_front {xs} ys it = record { index = it.index; is = front_one xs ys it.index it.is }
 
-pub one_behind : {X : Type 0} → (x : X) (xs ys : List X) → IsOne x ys → IsOne x (xs ++ ys)
-one_behind x [] ys it = it
-one_behind x (y ∷ xs) ys it = let later = one_behind x xs ys it in record { index = suc later.index; is = later.is }
+pub one_behind : {X : Type 0} → {x : X} (xs : List X) {ys : List X} → IsOne x ys → IsOne x (xs ++ ys)
+one_behind [] it = it
+one_behind (y ∷ xs) it = let later = one_behind xs it in record { index = suc later.index; is = later.is }
 
-one_in_all : {X : Type 0} → (h : X → List ℕ) (x : X) (n : ℕ) (xs : List X) (k : ℕ) → slice_get xs k ≡ Some x → IsOne n (h x) → IsOne n (flat_map h xs)
-one_in_all h x n [] k is it = absurd (cc)
-one_in_all h x n (y ∷ xs) zero is it = one_in_front n (h y) (flat_map h xs) (subst (λ z. IsOne n (h z)) (sym (let same : y ≡ x = cc in same)) it)
-one_in_all h x n (y ∷ xs) (suc k) is it = one_behind n (h y) (flat_map h xs) (one_in_all h x n xs k is it)
+one_in_all : {X : Type 0} → (h : X → List ℕ) {x : X} {n : ℕ} (xs : List X) (k : ℕ) → slice_get xs k ≡ Some x → IsOne n (h x) → IsOne n (flat_map h xs)
+one_in_all h [] k is it = absurd (cc)
+one_in_all h {x} {n} (y ∷ xs) zero is it = one_in_front (flat_map h xs) (subst (λ z. IsOne n (h z)) (sym (let same : y ≡ x = cc in same)) it)
+one_in_all h (y ∷ xs) (suc k) is it = one_behind (h y) (one_in_all h xs k is it)
 
 -- ---- the greatest number
 
@@ -47,13 +47,13 @@ from_there : (start : ℕ) (xs : List ℕ) → start ≤ fold max start xs
 from_there start [] = omega arith
 from_there start (x ∷ xs) = let later = from_there (max start x) xs in omega (arith, later)
 
-not_above : (start : ℕ) (xs : List ℕ) (k n : ℕ) → slice_get xs k ≡ Some n → n ≤ fold max start xs
-not_above start [] k n is = absurd (cc)
-not_above start (x ∷ xs) zero n is = let same : x ≡ n = cc in let later = from_there (max start x) xs in omega (arith, later, same)
-not_above start (x ∷ xs) (suc k) n is = not_above (max start x) xs k n is
+not_above : (start : ℕ) (xs : List ℕ) (k : ℕ) {n : ℕ} → slice_get xs k ≡ Some n → n ≤ fold max start xs
+not_above start [] k is = absurd (cc)
+not_above start (x ∷ xs) zero {n} is = let same : x ≡ n = cc in let later = from_there (max start x) xs in omega (arith, later, same)
+not_above start (x ∷ xs) (suc k) is = not_above (max start x) xs k is
 
-pub below_greatest : (xs : List ℕ) (n : ℕ) → IsOne n xs → n ≤ greatest xs
-below_greatest xs n it = not_above 0 xs it.index n it.is
+pub below_greatest : {xs : List ℕ} {n : ℕ} → IsOne n xs → n ≤ greatest xs
+below_greatest {xs} it = not_above 0 xs it.index it.is
 
 -- ---- at a site and in its object
 
@@ -61,24 +61,24 @@ below_greatest xs n it = not_above 0 xs it.index n it.is
 abbrev item_here : Job → Forest → Path → Item
 item_here job source path = item_of job (prefix_of source) (path, Listed (inside_at (pairtree_of source) path))
 
-within_item : (job : Job) (source : Forest) (path : Path) (count n : ℕ) → slice_get (sites_of job.limits.depth source) count ≡ Some (path, Listed (inside_at (pairtree_of source) path))
+within_item : (job : Job) (source : Forest) (path : Path) (count : ℕ) {n : ℕ} → slice_get (sites_of job.limits.depth source) count ≡ Some (path, Listed (inside_at (pairtree_of source) path))
     → IsOne n (held_at_item job (pairtree_of source) (item_here job source path)) → n ≤ bound job source
-within_item job source path count n site it =
-    below_greatest (flat_map (held_at_item job (pairtree_of source)) (items job source)) n
-    (one_in_all (held_at_item job (pairtree_of source)) (item_here job source path) n (items job source) count (get_map (item_of job (prefix_of source)) (sites_of job.limits.depth source) count (path, Listed (inside_at (pairtree_of source) path)) site) it)
+within_item job source path count site it =
+    below_greatest
+    (one_in_all (held_at_item job (pairtree_of source)) (items job source) count (get_map (item_of job (prefix_of source)) (sites_of job.limits.depth source) count (path, Listed (inside_at (pairtree_of source) path)) site) it)
 
 -- what is listed on the way to a site that is listed
 pub site_within : (job : Job) (source : Forest) (path : Path) (count : ℕ) → slice_get (sites_of job.limits.depth source) count ≡ Some (path, Listed (inside_at (pairtree_of source) path))
     → listed (pairtree_of source) path ≤ bound job source
-site_within job source path count site = within_item job source path count (listed (pairtree_of source) path) site (record { index = 0; is = refl })
+site_within job source path count site = within_item job source path count site (record { index = 0; is = refl })
 
 -- and, with all records of the object, at a directory of it
-pub object_within : (job : Job) (source : Forest) (path : Path) (count : ℕ) (id : List ℕ) (object : PairtreeObject) (directory : Path) → slice_get (sites_of job.limits.depth source) count ≡ Some (path, Listed (inside_at (pairtree_of source) path))
+pub object_within : (job : Job) (source : Forest) (path : Path) (count : ℕ) (id : List ℕ) (object : PairtreeObject) {directory : Path} → slice_get (sites_of job.limits.depth source) count ≡ Some (path, Listed (inside_at (pairtree_of source) path))
     → verdict_of job (prefix_of source) path (Listed (inside_at (pairtree_of source) path)) ≡ Named id object → is_too_deep job.limits object ≡ false → IsOne directory ([] ∷ dirs (scanned job.limits object))
     → listed (pairtree_of source) (object.at ++ directory) + records_of job (files (scanned job.limits object)) ≤ bound job source
-object_within job source path count id object directory site named shallow one =
-    within_item job source path count n site
-    (one_behind n (listed top path ∷ []) (held_by_verdict job top (verdict_of job (prefix_of source) path (Listed (inside_at top path))))
+object_within job source path count id object {directory} site named shallow one =
+    within_item job source path count site
+    (one_behind (listed top path ∷ [])
     (subst (λ (v : Verdict). IsOne n (held_by_verdict job top v)) (sym named)
     (subst (λ (b : Bool). IsOne n (cond b [] (held_in_object job top object))) (sym shallow)
     (record { index = one.index; is = get_map (λ (p : Path). listed top (object.at ++ p) + records_of job (files (scanned job.limits object))) ([] ∷ dirs (scanned job.limits object)) one.index directory one.is }))))
@@ -126,5 +126,5 @@ one_directory job object front left path inside all good =
     let same : dirs (scanned job.limits object) ≡ (dirs front ++ path ∷ []) ++ dirs more =
     ap dirs (scanned_front job object (front ++ (path, Dir inside) ∷ []) left all good) ∙ dirs_in_turn (front ++ (path, Dir inside) ∷ []) more ∙ ap (λ (l : List Path). l ++ dirs more) (dirs_in_turn front ((path, Dir inside) ∷ [])) in
     subst (λ (l : List Path). IsOne path ([] ∷ l)) (sym same)
-    (one_behind path ([] ∷ []) ((dirs front ++ path ∷ []) ++ dirs more)
-    (one_in_front path (dirs front ++ path ∷ []) (dirs more) (one_behind path (dirs front) (path ∷ []) (record { index = 0; is = refl }))))
+    (one_behind ([] ∷ [])
+    (one_in_front (dirs more) (one_behind (dirs front) (record { index = 0; is = refl }))))

@@ -13,7 +13,7 @@ use Rattle.pt_walk.specs.Trail.{entries_held}
 use Rattle.pt_plan.specs.Answer.{Answer}
 use Rattle.pt_plan.specs.Bound.{bound}
 use Rattle.pt_plan.specs.Job.{Job}
-use Rattle.pt_plan.specs.Run.{Counts, Held, Kept, turning}
+use Rattle.pt_plan.specs.Run.{Counts, Held, Kept}
 use Rattle.pt_plan.specs.Turn.{FailsAtFirst, FailsLater, Follows, IsHalted, IsRefused, Make, Place, Scan, Start as a_start, Walk}
 use Rattle.pt_plan.specs.TurnMake.{MakesStaging, Makings}
 use Rattle.pt_plan.specs.TurnPlace.{Places, TellsDone}
@@ -51,10 +51,10 @@ no_fewer contents digest path = by (is_noted contents digest)
     by false = let more = length-append contents (content_of digest path ∷ []) in omega (arith, more)
 
 -- the row of a file that was read to its end
-few_with_file : (job : Job) (past : Past) (prefix : List ℕ) (held : Held) (object : Object) (bytes : ℕ) (s : Reading) (new : Option Reading) → HeldAt job past (phase.Read object bytes) held → SourcePart job past (phase.Read object bytes) prefix held s
+few_with_file : {job : Job} {past : Past} {prefix : List ℕ} {held : Held} {object : Object} {bytes : ℕ} {s : Reading} (new : Option Reading) → HeldAt job past (phase.Read object bytes) held → SourcePart job past (phase.Read object bytes) prefix held s
     → Answers (Reads []) (Some s) new → AreFew job s.tree held (with_file job object held bytes).rows
 unfolding Answers
-few_with_file job past prefix held object bytes s new at known answers =
+few_with_file {job} {past} {prefix} {held} {object} {bytes} {s} new at known answers =
     let here = phase.Read object bytes in
     let next = phase.Scan object in
     let after = with_file job object held bytes in
@@ -69,40 +69,40 @@ few_with_file job past prefix held object bytes s new at known answers =
     let fewer = no_fewer held.contents (digest_of job.algorithm held.fed) (logical_path object held.trail) in
     omega (arith, few, same, fewer)
 
-walks_few : (job : Job) (source : Forest) (prefix : List ℕ) (here : Phase) (held new : Held) (calls : Calls) (answer : Answer) → Walks job prefix here held new calls answer → IsWithinBound job source held → AreFew job source held new.rows
-walks_few job source prefix here held new calls answer (OpensRoot _ _) few = few
-walks_few job source prefix here held new calls answer _ few = few
+walks_few : {job : Job} (source : Forest) {prefix : List ℕ} {here : Phase} {held new : Held} {calls : Calls} {answer : Answer} → Walks job prefix here held new calls answer → IsWithinBound job source held → AreFew job source held new.rows
+walks_few source (OpensRoot _ _) few = few
+walks_few source _ few = few
 
-scans_few : (job : Job) (past : Past) (prefix : List ℕ) (here : Phase) (held new : Held) (calls : Calls) (answer : Answer) (s : Reading) (now : Option Reading) → Scans job here held new calls answer → HeldAt job past here held → SourcePart job past here prefix held s
+scans_few : {job : Job} {past : Past} {prefix : List ℕ} {here : Phase} {held new : Held} {calls : Calls} {answer : Answer} {s : Reading} (now : Option Reading) → Scans job here held new calls answer → HeldAt job past here held → SourcePart job past here prefix held s
     → Answers calls.asked (Some s) now → IsWithinBound job s.tree held → AreFew job s.tree held new.rows
-scans_few job past prefix here held new calls answer s now (IsTooDeep was object apart deep) at known answers few = few_none job s.tree was few
-scans_few job past prefix here held new calls answer s now (MeetsDeep was object name e apart deep) at known answers few = few_none job s.tree was few
-scans_few job past prefix here held new calls answer s now (MeetsLimit was object name e room) at known answers few = few_none job s.tree was few
-scans_few job past prefix here held new calls answer s now (MeetsOther was object name e) at known answers few = few_none job s.tree was few
-scans_few job past prefix here held new calls answer s now (IsTooLong was object bytes byte block long) at known answers few = few_none job s.tree was few
-scans_few job past prefix here held new calls answer s now (EndsFile was object bytes) at known answers few = few_with_file job past prefix was object bytes s now at known answers
-scans_few job past prefix here held new calls answer s now _ at known answers few = few
+scans_few {job} {s} now (IsTooDeep was object apart deep) at known answers few = few_none job s.tree was few
+scans_few {job} {s} now (MeetsDeep was object name e apart deep) at known answers few = few_none job s.tree was few
+scans_few {job} {s} now (MeetsLimit was object name e room) at known answers few = few_none job s.tree was few
+scans_few {job} {s} now (MeetsOther was object name e) at known answers few = few_none job s.tree was few
+scans_few {job} {s} now (IsTooLong was object bytes byte block long) at known answers few = few_none job s.tree was few
+scans_few now (EndsFile was object bytes) at known answers few = few_with_file now at known answers
+scans_few now _ at known answers few = few
 
-makes_few : (job : Job) (source : Forest) (here : Phase) (held new : Held) (calls : Calls) (answer : Answer) → Makings job here held new calls answer → IsWithinBound job source held → AreFew job source held new.rows
-makes_few job source here held new calls answer (MakesStaging _ _) few = few
-makes_few job source here held new calls answer _ few = few
+makes_few : {job : Job} (source : Forest) {here : Phase} {held new : Held} {calls : Calls} {answer : Answer} → Makings job here held new calls answer → IsWithinBound job source held → AreFew job source held new.rows
+makes_few source (MakesStaging _ _) few = few
+makes_few source _ few = few
 
-places_few : (job : Job) (source : Forest) (counts : Counts) (here : Phase) (held new : Held) (calls : Calls) (answer : Answer) → Places job counts here held new calls answer → IsWithinBound job source held → AreFew job source held new.rows
-places_few job source counts here held new calls answer (TellsDone was object) few = few_none job source was few
-places_few job source counts here held new calls answer _ few = few
+places_few : {job : Job} (source : Forest) {counts : Counts} {here : Phase} {held new : Held} {calls : Calls} {answer : Answer} → Places job counts here held new calls answer → IsWithinBound job source held → AreFew job source held new.rows
+places_few {job} source (TellsDone was object) few = few_none job source was few
+places_few source _ few = few
 
 -- ---- a turn that halts
 
-follows_few : (job : Job) (past : Past) (counts : Counts) (here : Phase) (prefix : List ℕ) (held : Held) (read : List ℕ) (new : Held) (calls : Calls) (answer : Answer) (s : Reading) (now : Option Reading) → Follows job counts here prefix held read new calls answer
+follows_few : {job : Job} {past : Past} {counts : Counts} {here : Phase} {prefix : List ℕ} {held : Held} {read : List ℕ} {new : Held} {calls : Calls} {answer : Answer} {s : Reading} (now : Option Reading) → Follows job counts here prefix held read new calls answer
     → HeldAt job past here held → SourcePart job past here prefix held s → Answers calls.asked (Some s) now → IsWithinBound job s.tree held → AreFew job s.tree held new.rows
-follows_few job past counts here prefix held read new calls answer s now (a_start h p r x c a turn) at known answers few = few
-follows_few job past counts here prefix held read new calls answer s now (Walk h p x n c a turn) at known answers few = walks_few job s.tree prefix here held new calls answer turn few
-follows_few job past counts here prefix held read new calls answer s now (Scan h p x n c a turn) at known answers few = scans_few job past prefix here held new calls answer s now turn at known answers few
-follows_few job past counts here prefix held read new calls answer s now (Make h p x n c a turn) at known answers few = makes_few job s.tree here held new calls answer turn few
-follows_few job past counts here prefix held read new calls answer s now (Place h p x n c a turn) at known answers few = places_few job s.tree counts here held new calls answer turn few
+follows_few now (a_start h p r x c a turn) at known answers few = few
+follows_few {s} now (Walk h p x n c a turn) at known answers few = walks_few s.tree turn few
+follows_few now (Scan h p x n c a turn) at known answers few = scans_few now turn at known answers few
+follows_few {s} now (Make h p x n c a turn) at known answers few = makes_few s.tree turn few
+follows_few {s} now (Place h p x n c a turn) at known answers few = places_few s.tree turn few
 
-halted_few : (job : Job) (source : Forest) (rows : List Row) (before after : Kept) → IsHalted rows before after → AreFew job source before.held rows → IsWithinBound job source after.held
-halted_few job source rows before after halted few =
+halted_few : (job : Job) (source : Forest) {rows : List Row} {before after : Kept} → IsHalted rows before after → AreFew job source before.held rows → IsWithinBound job source after.held
+halted_few job source halted few =
     let trail = ap entries_held halted.trail in
     let same = ap length halted.rows_are in
     let contents = ap length halted.contents in
@@ -111,15 +111,15 @@ halted_few job source rows before after halted few =
 pub halted_is_within_bound : HaltedIsWithinBound
 unfolding Begun
 halted_is_within_bound job start old new run after why s (past, is) not (IsRefused prefix held calls reason turn did halted) told =
-    halted_few job s.tree run.kept.held.rows (turning run.kept) after halted (within job past run.phase run.kept.prefix run.kept.held s is.held (is.source s told) not)
+    halted_few job s.tree halted (within job past run.phase run.kept.prefix run.kept.held s is.held (is.source s told) not)
 halted_is_within_bound job start old new run after why s (past, is) not (FailsAtFirst reason stays halted) told =
-    halted_few job s.tree run.kept.held.rows (turning run.kept) after halted (within job past run.phase run.kept.prefix run.kept.held s is.held (is.source s told) not)
+    halted_few job s.tree halted (within job past run.phase run.kept.prefix run.kept.held s is.held (is.source s told) not)
 halted_is_within_bound job start old new run after why s (past, is) not (FailsLater prefix held calls answer rows reason turn leaves which halted) told =
-    halted_few job s.tree rows (turning run.kept) after halted
+    halted_few job s.tree halted
     (elim which [
       | inl same ↦ subst (AreFew job s.tree run.kept.held) (sym same) few
       | inr more ↦ subst (AreFew job s.tree run.kept.held) (sym more.0)
-          (follows_few job past (turning run.kept).counts run.phase run.kept.prefix run.kept.held prefix held calls answer s new.source turn is.held (is.source s told) (subst (λ o. Answers calls.asked o new.source) told more.1) few)
+          (follows_few new.source turn is.held (is.source s told) (subst (λ o. Answers calls.asked o new.source) told more.1) few)
     ])
   where
     few : IsWithinBound job s.tree run.kept.held

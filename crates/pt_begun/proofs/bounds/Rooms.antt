@@ -75,7 +75,7 @@ room_at job source prefix object held count directory started it is_one path one
     let long = it.stands.within in
     let same = lists (pairtree_of source) held.trail (omega (arith, some, long)) is_one it.stands.fits ∙ ap (listed (pairtree_of source)) path in
     let named = ap (λ (p : List ℕ). verdict_of job p (trail_path site) (Listed (inside_at (pairtree_of source) (trail_path site)))) (sym started.read) ∙ it.stands.site.named in
-    let within = object_within job source (trail_path site) count object.id what directory it.stands.site.here.site named it.scanned.shallow one in
+    let within = object_within job source (trail_path site) count object.id what it.stands.site.here.site named it.scanned.shallow one in
     omega (arith, same, within)
 
 -- with the trail moved so that it lists no more, in the same object

@@ -17,14 +17,14 @@ use Rattle.pt_begun.specs.Past.{Past}
 use Rattle.pt_begun.proofs.bounds.Rooms.{records_held}
 
 -- with room for all the object's files there is room for those held
-in_object : (job : Job) (source : Forest) (prefix : List ℕ) (past : Past) (object : Object) (held : Held) (count : ℕ) → AreRows job past.bytes held → IsScanning job source prefix object held count → HasRoom job source object held → IsWithinBound job source held
-in_object job source prefix past object held count rows it room =
+in_object : {job : Job} {source : Forest} {prefix : List ℕ} (past : Past) {object : Object} {held : Held} {count : ℕ} → AreRows job past.bytes held → IsScanning job source prefix object held count → HasRoom job source object held → IsWithinBound job source held
+in_object {job} {source} past {object} {held} rows it room =
     let few = records_held job (object_at source object (to_site object held.trail)) held object.empty (left_of source object held.trail) rows.contents it.scanned in
     omega (arith, few, room)
 
 pub within : (job : Job) (past : Past) (here : Phase) (prefix : List ℕ) (held : Held) (s : Reading) → HeldAt job past here held → SourcePart job past here prefix held s → is_ended here ≡ false → IsWithinBound job s.tree held
-within job past (phase.Scan object) prefix held s has it not = in_object job s.tree prefix past object held past.count has.rows it.at.1 it.few
-within job past (phase.Read object bytes) prefix held s has it not = in_object job s.tree prefix past object held past.count has.rows it.at.1 it.few
+within job past (phase.Scan object) prefix held s has it not = in_object past has.rows it.at.1 it.few
+within job past (phase.Read object bytes) prefix held s has it not = in_object past has.rows it.at.1 it.few
 within job past phase.Ended prefix held s has it not = absurd (true≢false not)
 within job past _ prefix held s has it not = it.few
 

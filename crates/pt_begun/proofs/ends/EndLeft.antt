@@ -15,8 +15,8 @@ use Rattle.pt_begun.specs.FaultLeft.{IsLeftByFault}
 use Rattle.pt_begun.proofs.faults.LeftNow.{between_left}
 use Rattle.pt_begun.proofs.faults.LogsLeft.{end_in_part, some_items}
 
-pub end_left : (job : Job) (source : Forest) (start now : Tree) (first last told : List ℕ) → last ≡ first ++ told → IsEnd job source start now told → IsLeftByFault job source start now first last
-end_left job source start now first last told log is =
+pub end_left : {job : Job} {source : Forest} {start now : Tree} (first : List ℕ) {last told : List ℕ} → last ≡ first ++ told → IsEnd job source start now told → IsLeftByFault job source start now first last
+end_left {job} {source} {start} first {told} log is =
     let root = root_in start in
     let some = some_items job source is.begins.store in
     let n = suc some.0 in
@@ -26,12 +26,12 @@ end_left job source start now first last told log is =
     record {
       told = told;
       log = log;
-      left = between_left job source start now n told is.free (omega (arith, long))
-          (end_in_part job source root some.0 n whole [] told long all (sym (append-nil whole)) (is.log ∙ (all_items_are_all job source root n all).3))
+      left = between_left job source start n told is.free (omega (arith, long))
+          (end_in_part job source root some.0 n whole [] long all (sym (append-nil whole)) (is.log ∙ (all_items_are_all job source root n all).3))
           (is.tree ∙ ap (with_root start) (sym (all_items_are_all job source root n all).1));
     }
 
 -- of a run that hasn't ended nothing is said
-pub left_unless : (here : Phase) (job : Job) (source : Forest) (start now : Tree) (first last : List ℕ) → (here ≡ phase.Ended → IsLeftByFault job source start now first last) → LeftAt here job source start now first last
-left_unless phase.Ended job source start now first last at_end = at_end refl
-left_unless _ job source start now first last at_end = tt
+pub left_unless : (here : Phase) {job : Job} {source : Forest} {start now : Tree} {first last : List ℕ} → (here ≡ phase.Ended → IsLeftByFault job source start now first last) → LeftAt here job source start now first last
+left_unless phase.Ended at_end = at_end refl
+left_unless _ at_end = tt

@@ -18,13 +18,13 @@ use Rattle.pt_begun.proofs.ends.Ending.{ends_well}
 use Rattle.pt_begun.proofs.items.Telling.{both_tell}
 
 -- what told at the start was a tree, and the names in the source rise
-well_told : (job : Job) (start : Start) (world : World) (run : Run) (s : Reading) (t : Tree) → Begun job start world run → world.source ≡ Some s → start.dest ≡ Some t → (is_proper s.tree ≡ true) × IsTree t
+well_told : (job : Job) (start : Start) (world : World) (run : Run) {s : Reading} {t : Tree} → Begun job start world run → world.source ≡ Some s → start.dest ≡ Some t → (is_proper s.tree ≡ true) × IsTree t
 unfolding Begun
-well_told job start world run s t (past, is) source_is start_is =
-    ((is.source s source_is).proper, (both_tell (DestPart job past run.phase run.kept.held) start.dest world.dest t start_is is.dest).2.started)
+well_told job start world run {s} (past, is) source_is start_is =
+    ((is.source s source_is).proper, (both_tell (DestPart job past run.phase run.kept.held) start.dest world.dest start_is is.dest).2.started)
 
 pub ends_with_states : EndsWithStates
 ends_with_states job start old new run after s t now first last begun turn source_is start_is dest_is first_is last_is =
-    let well = well_told job start old run s t begun source_is start_is in
+    let well = well_told job start old run begun source_is start_is in
     let ends = ends_well job start old new run after s t now first last begun turn source_is start_is dest_is first_is last_is in
     subst (λ (u : Tree). All (HasItsFiles job u) (all_carried job s.tree (root_in t))) (sym ends.0.2.tree) (carried_have_their_files job s.tree t well.0 well.1)

@@ -51,35 +51,35 @@ pub record IsLastTurn (counts : Counts) (here : Phase) (held after : Held) (call
   pub calls_are : calls ≡ tells (last_line counts)
   pub held_is : after ≡ held
 
-starts_go : (job : Job) (prefix read : List ℕ) (here next : Phase) (calls : Calls) → Starts job here prefix read calls (Ok next) → is_ended next ≡ false
-starts_go job prefix read here next calls (MakesRoot was number item is) = either_not (number == 5) phase.RootRename (phase.RootMake (number + 1)) refl refl
-starts_go job prefix read here next calls (IsSame was number path bytes is) = either_not (number == 2) phase.OpenRoot (phase.RootCheck (number + 1)) refl refl
-starts_go job prefix read here next calls _ = refl
+starts_go : {job : Job} {prefix read : List ℕ} {here next : Phase} {calls : Calls} → Starts job here prefix read calls (Ok next) → is_ended next ≡ false
+starts_go (MakesRoot was number item is) = either_not (number == 5) phase.RootRename (phase.RootMake (number + 1)) refl refl
+starts_go (IsSame was number path bytes is) = either_not (number == 2) phase.OpenRoot (phase.RootCheck (number + 1)) refl refl
+starts_go _ = refl
 
-walks_go : (job : Job) (prefix : List ℕ) (here next : Phase) (held after : Held) (calls : Calls) → Walks job prefix here held after calls (Ok next) → is_ended next ≡ false
-walks_go job prefix here next held after calls (OpensRoot _ _) = refl
-walks_go job prefix here next held after calls _ = refl
+walks_go : {job : Job} {prefix : List ℕ} {here next : Phase} {held after : Held} {calls : Calls} → Walks job prefix here held after calls (Ok next) → is_ended next ≡ false
+walks_go (OpensRoot _ _) = refl
+walks_go _ = refl
 
-scans_go : (job : Job) (here next : Phase) (held after : Held) (calls : Calls) → Scans job here held after calls (Ok next) → is_ended next ≡ false
-scans_go job here next held after calls (StartsInSite _ _ _) = refl
-scans_go job here next held after calls _ = refl
+scans_go : {job : Job} {here next : Phase} {held after : Held} {calls : Calls} → Scans job here held after calls (Ok next) → is_ended next ≡ false
+scans_go (StartsInSite _ _ _) = refl
+scans_go _ = refl
 
-makes_go : (job : Job) (here : Phase) (held after : Held) (calls : Calls) (next : Phase) → Makings job here held after calls (Ok next) → is_ended next ≡ false
-makes_go job here held after calls next (MakesSidecar was object) = either_not (job.tuples.count == 0) (phase.Rename object) (phase.Tuples object 0) refl refl
-makes_go job here held after calls next _ = refl
+makes_go : {job : Job} {here : Phase} {held after : Held} {calls : Calls} {next : Phase} → Makings job here held after calls (Ok next) → is_ended next ≡ false
+makes_go {job} (MakesSidecar was object) = either_not (job.tuples.count == 0) (phase.Rename object) (phase.Tuples object 0) refl refl
+makes_go _ = refl
 
-places_last : (job : Job) (counts : Counts) (here next : Phase) (held after : Held) (calls : Calls) → Places job counts here held after calls (Ok next) → is_ended next ≡ true → IsLastTurn counts here held after calls
-places_last job counts here next held after calls (MakesTuple was object number) ended = absurd (let no = either_not (nat_lt (number + 1) job.tuples.count) (phase.Tuples object (number + 1)) (phase.Rename object) refl refl in true≢false (sym ended ∙ no))
-places_last job counts here next held after calls (FindsTuple was object number) ended = absurd (let no = either_not (nat_lt (number + 1) job.tuples.count) (phase.Tuples object (number + 1)) (phase.Rename object) refl refl in true≢false (sym ended ∙ no))
-places_last job counts here next held after calls (TellsEnd was) ended = record { phase_is = refl; calls_are = refl; held_is = refl }
-places_last job counts here next held after calls _ ended = absurd (false≢true ended)
+places_last : {job : Job} {counts : Counts} {here next : Phase} {held after : Held} {calls : Calls} → Places job counts here held after calls (Ok next) → is_ended next ≡ true → IsLastTurn counts here held after calls
+places_last {job} (MakesTuple was object number) ended = absurd (let no = either_not (nat_lt (number + 1) job.tuples.count) (phase.Tuples object (number + 1)) (phase.Rename object) refl refl in true≢false (sym ended ∙ no))
+places_last {job} (FindsTuple was object number) ended = absurd (let no = either_not (nat_lt (number + 1) job.tuples.count) (phase.Tuples object (number + 1)) (phase.Rename object) refl refl in true≢false (sym ended ∙ no))
+places_last (TellsEnd was) ended = record { phase_is = refl; calls_are = refl; held_is = refl }
+places_last _ ended = absurd (false≢true ended)
 
-pub last_turn : (job : Job) (counts : Counts) (here : Phase) (prefix : List ℕ) (held : Held) (read : List ℕ) (after : Held) (calls : Calls) (next : Phase) → Follows job counts here prefix held read after calls (Ok next) → is_ended next ≡ true → IsLastTurn counts here held after calls
-last_turn job counts here prefix held read after calls next (a_start h p r w c a turn) ended = absurd (true≢false (sym ended ∙ starts_go job prefix read here next calls turn))
-last_turn job counts here prefix held read after calls next (Walk h p w n c a turn) ended = absurd (true≢false (sym ended ∙ walks_go job prefix here next held after calls turn))
-last_turn job counts here prefix held read after calls next (Scan h p w n c a turn) ended = absurd (true≢false (sym ended ∙ scans_go job here next held after calls turn))
-last_turn job counts here prefix held read after calls next (Make h p w n c a turn) ended = absurd (true≢false (sym ended ∙ makes_go job here held after calls next turn))
-last_turn job counts here prefix held read after calls next (Place h p w n c a turn) ended = places_last job counts here next held after calls turn ended
+pub last_turn : {job : Job} {counts : Counts} {here : Phase} {prefix : List ℕ} {held : Held} {read : List ℕ} {after : Held} {calls : Calls} {next : Phase} → Follows job counts here prefix held read after calls (Ok next) → is_ended next ≡ true → IsLastTurn counts here held after calls
+last_turn (a_start h p r w c a turn) ended = absurd (true≢false (sym ended ∙ starts_go turn))
+last_turn (Walk h p w n c a turn) ended = absurd (true≢false (sym ended ∙ walks_go turn))
+last_turn (Scan h p w n c a turn) ended = absurd (true≢false (sym ended ∙ scans_go turn))
+last_turn (Make h p w n c a turn) ended = absurd (true≢false (sym ended ∙ makes_go turn))
+last_turn (Place h p w n c a turn) ended = places_last turn ended
 
 -- ---- all items are done
 
@@ -152,9 +152,9 @@ put_behind : (line : Line) (old new : List ℕ) → Puts (Some line) (Some old) 
 unfolding Puts
 put_behind line old new puts = puts
 
-dest_same : (old new : Option Writing) → Changes ChangesNothing old new → new ≡ old
+dest_same : {old new : Option Writing} → Changes ChangesNothing old new → new ≡ old
 unfolding Changes
-dest_same old new change = change
+dest_same change = change
 
 module _ (job : Job) (past : Past) (start : Start) (old new : World) (run : Run) (after : Kept) (s : Reading) (t : Tree) (now : Writing) (first last : List ℕ) (calls : Calls) where
   pub ended : IsPast job start old run past → Follows job (turning run.kept).counts run.phase run.kept.prefix run.kept.held after.prefix after.held calls (Ok phase.Ended) → Happens calls old new
@@ -173,16 +173,16 @@ module _ (job : Job) (past : Past) (start : Start) (old new : World) (run : Run)
       counts = run.kept.counts
 
       at : IsLastTurn (turning run.kept).counts run.phase held after.held calls
-      at = last_turn job (turning run.kept).counts run.phase run.kept.prefix held after.prefix after.held calls phase.Ended turn refl
+      at = last_turn turn refl
 
       source : SourcePart job past phase.End run.kept.prefix held s
       source = subst (λ here. SourcePart job past here run.kept.prefix held s) at.phase_is (is.source s source_is)
 
       had : (w : Writing) × (old.dest ≡ Some w) × DestPart job past run.phase held t w
-      had = both_tell (DestPart job past run.phase held) start.dest old.dest t start_is is.dest
+      had = both_tell (DestPart job past run.phase held) start.dest old.dest start_is is.dest
 
       same : (had).0 ≡ now
-      same = some_same (had).0 now (sym (had).1 ∙ sym (dest_same old.dest new.dest (subst (λ (c : Calls). Changes c.change old.dest new.dest) at.calls_are did.dest)) ∙ dest_is)
+      same = some_same (had).0 now (sym (had).1 ∙ sym (dest_same (subst (λ (c : Calls). Changes c.change old.dest new.dest) at.calls_are did.dest)) ∙ dest_is)
 
       dest : DestPart job past phase.End held t now
       dest = subst (λ w. DestPart job past phase.End held t w) same (subst (λ here. DestPart job past here held t (had).0) at.phase_is (had).2)
@@ -191,7 +191,7 @@ module _ (job : Job) (past : Past) (start : Start) (old new : World) (run : Run)
       items_are = subst (λ here. ItemsPart job past here counts s.tree (root_in t)) at.phase_is (is.items s source_is t start_is)
 
       logged : (b : List ℕ) × (old.log ≡ Some b) × HasTold job s.tree (root_in t) past run.phase first b
-      logged = log_tells (HasTold job s.tree (root_in t) past run.phase) start.log old.log first first_is (is.log s source_is t start_is)
+      logged = log_tells (HasTold job s.tree (root_in t) past run.phase) start.log old.log first_is (is.log s source_is t start_is)
 
       has_told : (logged).0 ≡ first ++ text job s.tree (root_in t) past.count
       has_told = subst (λ here. HasTold job s.tree (root_in t) past here first (logged).0) at.phase_is (logged).2

@@ -50,8 +50,8 @@ quiet_new None = tt
 quiet_new (Some bytes) = refl
 
 -- nothing is behind it
-pub new_past : (job : Job) (world : World) → IsLayout job.tuples → IsWorld world → IsPast job (start_of world) world new_run no_past
-new_past job world layout is = record {
+pub new_past : (job : Job) {world : World} → IsLayout job.tuples → IsWorld world → IsPast job (start_of world) world new_run no_past
+new_past job {world} layout is = record {
   layout = layout;
   held = held_new job;
   source = λ s e. source_new job s (is.source s e);
@@ -64,4 +64,4 @@ new_past job world layout is = record {
 
 pub new_run_is_begun : NewRunIsBegun
 unfolding Begun
-new_run_is_begun job world layout is = (no_past, new_past job world layout is)
+new_run_is_begun job world layout is = (no_past, new_past job layout is)

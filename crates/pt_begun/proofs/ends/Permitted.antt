@@ -1,11 +1,9 @@
 -- A run in progress permits the calls of its next turn.
-use Rattle.std.proofs.Common.{◌≡◌, ℕ, true, List, [], ◌∷◌, ◌++◌, refl, ap, sym, ◌∙◌, subst, length, take}
+use Rattle.std.proofs.Common.{◌≡◌, ℕ, true, List, [], ◌∷◌, ◌++◌, refl, ap, sym, ◌∙◌, subst, length}
 use Rattle.std.specs.Prelude.{Option, None, Some, IsSome, is_some, slice_get}
 use Rattle.std.specs.Option.{ForSome, option_and_then, option_map}
 use Rattle.std.proofs.lemmas.Bool.{ltb-false, ltb-true}
-use Rattle.pt_object.specs.Script.{Item, MakeFile, MakeFolder, item_path}
-use Rattle.pt_object.specs.Files.{object_declaration_bytes}
-use Rattle.pt_object.specs.Object.{object_declaration_name}
+use Rattle.pt_object.specs.Script.{Item, item_path}
 use Rattle.pt_object.specs.Scripts.{root_script, staging}
 use Rattle.pt_object.specs.declared.rows.Row.{Row}
 use Rattle.pt_tree.specs.Dest.{Writing, CanWrite, MayMake, MayMove}
@@ -25,7 +23,7 @@ use Rattle.pt_plan.specs.Permits.{HasParent, MayEnter, MayMakeContent, MayMakePa
 use Rattle.pt_plan.specs.Roots.{storage_root}
 use Rattle.pt_plan.specs.Run.{Held}
 use Rattle.pt_plan.specs.Store.{is_store, pairtree_of, pairtree_root, prefix_file}
-use Rattle.pt_plan.specs.TurnMake.{in_content, in_version, inventory_file, path_of_source, sidecar_file}
+use Rattle.pt_plan.specs.TurnMake.{path_of_source}
 use Rattle.pt_plan.specs.TurnPlace.{tuple_folder}
 use Rattle.pt_plan.specs.TurnWalk.{in_root}
 use Rattle.pt_plan.specs.declared.object.Object.{Object}
@@ -117,9 +115,9 @@ may_write : (writing : Option Writing) → ForSome writing (λ now. IsSome now.w
 unfolding CanWrite
 may_write writing knows now is = knows now is
 
-may_make_root : (job : Job) (writing : Option Writing) (number : ℕ) → ((item : Item) → slice_get (root_script job.tuples) number ≡ Some item → ForSome writing (λ now. CanMake now.tree (item_path item))) → MayMakeRootItem writing job.tuples number
+may_make_root : (job : Job) {writing : Option Writing} (number : ℕ) → ((item : Item) → slice_get (root_script job.tuples) number ≡ Some item → ForSome writing (λ now. CanMake now.tree (item_path item))) → MayMakeRootItem writing job.tuples number
 unfolding MayMakeRootItem
-may_make_root job writing number knows item is = may_make writing (item_path item) (knows item is)
+may_make_root job {writing} number knows item is = may_make writing (item_path item) (knows item is)
 
 has_parent : (writing : Option Writing) (path : Path) → ForSome writing (λ now. now.tree (parent path) ≡ Some Folder) → HasParent writing path
 unfolding HasParent
@@ -128,66 +126,66 @@ has_parent writing path knows now is = knows now is
 -- ---- an object that is made
 
 -- the next item of its script
-next_item : (job : Job) (past : Past) (object : Object) (here : Part) (held : Held) (item : Item) (writing : Option Writing) → HeldAt job past (phase.Make object here) held → KnowsDest job past (phase.Make object here) held writing
+next_item : {job : Job} {past : Past} {object : Object} {here : Part} {held : Held} {item : Item} (writing : Option Writing) → HeldAt job past (phase.Make object here) held → KnowsDest job past (phase.Make object here) held writing
     → IsNext (script_of_object job object held.rows past.bytes) (made_before job object held.rows past.bytes here) item → MayMake writing (item_path item)
-next_item job past object here held item writing at dest next =
+next_item {job} {past} {object} {here} {held} {item} writing at dest next =
     may_make writing (item_path item)
     (λ now is. let known = dest now is in item_may job known.0 past.placed object held.rows past.bytes (made_before job object held.rows past.bytes here) item now known.1.started at.rows.order next known.1.at)
 
-may_open_row : (job : Job) (past : Past) (object : Object) (here : Part) (prefix : List ℕ) (held : Held) (n : ℕ) (row : Row) (reading : Option Reading) → KnowsSource job past (phase.Make object here) prefix held reading → slice_get held.rows n ≡ Some row → MayOpenRow reading object held.trail row.path
+may_open_row : (job : Job) (past : Past) (object : Object) (here : Part) (prefix : List ℕ) (held : Held) (n : ℕ) {row : Row} (reading : Option Reading) → KnowsSource job past (phase.Make object here) prefix held reading → slice_get held.rows n ≡ Some row → MayOpenRow reading object held.trail row.path
 unfolding MayOpenRow CanOpen
-may_open_row job past object here prefix held n row reading source is s same =
+may_open_row job past object here prefix held n {row} reading source is s same =
     let known = source s same in
     ap is_some (file_in_pairtree s.tree (path_of_source object held.trail ++ row.path) known.at.0.store ∙ (file_of_row job s prefix object held past.count n row known.proper is known.at).stands)
 
-may_make_content : (job : Job) (past : Past) (object : Object) (position : Position) (prefix : List ℕ) (held : Held) (reading : Option Reading) (writing : Option Writing) → HeldAt job past (phase.Make object (a_part.Content position)) held
+may_make_content : {job : Job} {past : Past} {object : Object} {position : Position} (prefix : List ℕ) {held : Held} (reading : Option Reading) (writing : Option Writing) → HeldAt job past (phase.Make object (a_part.Content position)) held
     → KnowsSource job past (phase.Make object (a_part.Content position)) prefix held reading → KnowsDest job past (phase.Make object (a_part.Content position)) held writing → MayMakeContent reading writing object held position
 unfolding MayMakeContent
-may_make_content job past object position prefix held reading writing at source dest row is stored =
+may_make_content {job} {past} {object} {position} prefix {held} reading writing at source dest row is stored =
     let here = is_here job past object position held row at is stored in (
-      λ more. next_item job past object (a_part.Content position) held (MakeFolder (in_content (take position.directories row.path))) writing at dest
+      λ more. next_item writing at dest
           (folder_next job object held.rows held.contents past.bytes position row here (ltb-true position.directories (length row.path) more)),
       λ all. (
-        next_item job past object (a_part.Content position) held (MakeFile (in_content row.path) (past.bytes row.path)) writing at dest
+        next_item writing at dest
             (file_next job object held.rows held.contents past.bytes position row here (ltb-false position.directories (length row.path) all)),
-        may_open_row job past object (a_part.Content position) prefix held position.row row reading source is,
+        may_open_row job past object (a_part.Content position) prefix held position.row reading source is,
       ),
     )
 
-may_make_part : (job : Job) (past : Past) (object : Object) (here : Part) (prefix : List ℕ) (held : Held) (reading : Option Reading) (writing : Option Writing) → HeldAt job past (phase.Make object here) held
+may_make_part : {job : Job} {past : Past} {object : Object} (here : Part) (prefix : List ℕ) {held : Held} (reading : Option Reading) (writing : Option Writing) → HeldAt job past (phase.Make object here) held
     → KnowsSource job past (phase.Make object here) prefix held reading → KnowsDest job past (phase.Make object here) held writing → MayMakePart job object here held reading writing
-may_make_part job past object a_part.Staging prefix held reading writing at source dest = next_item job past object a_part.Staging held (MakeFolder staging) writing at dest (next_staging job object held.rows past.bytes)
-may_make_part job past object a_part.Declaration prefix held reading writing at source dest =
-    next_item job past object a_part.Declaration held (MakeFile (staging ++ object_declaration_name ∷ []) object_declaration_bytes) writing at dest (next_declaration job object held.rows past.bytes)
-may_make_part job past object a_part.Version prefix held reading writing at source dest = next_item job past object a_part.Version held (MakeFolder (in_version [])) writing at dest (next_version job object held.rows past.bytes)
-may_make_part job past object (a_part.Content position) prefix held reading writing at source dest = may_make_content job past object position prefix held reading writing at source dest
-may_make_part job past object a_part.VersionInventory prefix held reading writing at source dest =
-    next_item job past object a_part.VersionInventory held (inventory_file job object held.rows (in_version [])) writing at dest (next_first job object held.rows past.bytes)
-may_make_part job past object a_part.VersionSidecar prefix held reading writing at source dest =
-    next_item job past object a_part.VersionSidecar held (sidecar_file job object held.rows (in_version [])) writing at dest (next_second job object held.rows past.bytes)
-may_make_part job past object a_part.Inventory prefix held reading writing at source dest = next_item job past object a_part.Inventory held (inventory_file job object held.rows staging) writing at dest (next_third job object held.rows past.bytes)
-may_make_part job past object a_part.Sidecar prefix held reading writing at source dest = next_item job past object a_part.Sidecar held (sidecar_file job object held.rows staging) writing at dest (next_fourth job object held.rows past.bytes)
+may_make_part {job} {past} {object} a_part.Staging prefix {held} reading writing at source dest = next_item writing at dest (next_staging job object held.rows past.bytes)
+may_make_part {job} {past} {object} a_part.Declaration prefix {held} reading writing at source dest =
+    next_item writing at dest (next_declaration job object held.rows past.bytes)
+may_make_part {job} {past} {object} a_part.Version prefix {held} reading writing at source dest = next_item writing at dest (next_version job object held.rows past.bytes)
+may_make_part (a_part.Content position) prefix reading writing at source dest = may_make_content prefix reading writing at source dest
+may_make_part {job} {past} {object} a_part.VersionInventory prefix {held} reading writing at source dest =
+    next_item writing at dest (next_first job object held.rows past.bytes)
+may_make_part {job} {past} {object} a_part.VersionSidecar prefix {held} reading writing at source dest =
+    next_item writing at dest (next_second job object held.rows past.bytes)
+may_make_part {job} {past} {object} a_part.Inventory prefix {held} reading writing at source dest = next_item writing at dest (next_third job object held.rows past.bytes)
+may_make_part {job} {past} {object} a_part.Sidecar prefix {held} reading writing at source dest = next_item writing at dest (next_fourth job object held.rows past.bytes)
 
 -- ---- by the phase
 
-permits : (job : Job) (past : Past) (here : Phase) (prefix : List ℕ) (held : Held) (reading : Option Reading) (writing : Option Writing) → HeldAt job past here held → KnowsSource job past here prefix held reading → KnowsDest job past here held writing → Permits job here held reading writing
-permits job past phase.Begin prefix held reading writing at source dest = top_listed reading
-permits job past (phase.Prefix here) prefix held reading writing at source dest = may_open_prefix reading here (λ s is. (source s is).at.3)
-permits job past (phase.RootMake number) prefix held reading writing at source dest = may_make_root job writing number (λ item is now same. let known = dest now same in root_item_made job known.0 number item now known.1.started is known.1.at)
-permits job past phase.RootRename prefix held reading writing at source dest = may_move writing staging storage_root (λ now is. let known = dest now is in root_may_move job known.0 now known.1.started known.1.at)
-permits job past phase.OpenRoot prefix held reading writing at source dest = enters_root reading (λ s is. (source s is).at.2.store)
-permits job past (phase.OpenObject object) prefix held reading writing at source dest = λ apart. may_enter reading held.trail (λ s is. let known = source s is in (known.at.1.store, known.proper, known.at.2.fits))
-permits job past (phase.Scan object) prefix held reading writing at source dest = (
+permits : {job : Job} {past : Past} (here : Phase) (prefix : List ℕ) {held : Held} (reading : Option Reading) (writing : Option Writing) → HeldAt job past here held → KnowsSource job past here prefix held reading → KnowsDest job past here held writing → Permits job here held reading writing
+permits phase.Begin prefix reading writing at source dest = top_listed reading
+permits (phase.Prefix here) prefix reading writing at source dest = may_open_prefix reading here (λ s is. (source s is).at.3)
+permits {job} (phase.RootMake number) prefix reading writing at source dest = may_make_root job number (λ item is now same. let known = dest now same in root_item_made job known.0 number item now known.1.started is known.1.at)
+permits {job} phase.RootRename prefix reading writing at source dest = may_move writing staging storage_root (λ now is. let known = dest now is in root_may_move job known.0 now known.1.started known.1.at)
+permits phase.OpenRoot prefix reading writing at source dest = enters_root reading (λ s is. (source s is).at.2.store)
+permits (phase.OpenObject object) prefix {held} reading writing at source dest = λ apart. may_enter reading held.trail (λ s is. let known = source s is in (known.at.1.store, known.proper, known.at.2.fits))
+permits (phase.Scan object) prefix {held} reading writing at source dest = (
   may_enter reading held.trail (λ s is. let known = source s is in (known.at.0.store, known.proper, known.at.1.stands.fits)),
   may_open reading held.trail (λ s is. let known = source s is in (known.at.0.store, known.proper, known.at.1.stands.fits)),
 )
-permits job past (phase.Read object count) prefix held reading writing at source dest = may_read reading (λ s is. (_, (source s is).at.2.read.left))
-permits job past (phase.Make object here) prefix held reading writing at source dest = may_make_part job past object here prefix held reading writing at source dest
-permits job past (phase.Copy object position left) prefix held reading writing at source dest = (may_read reading (λ s is. (_, (source s is).at.2.read.left)), may_write writing (λ now is. ap is_some (dest now is).1.at.writes.writing))
-permits job past (phase.Tuples object number) prefix held reading writing at source dest = has_parent writing (tuple_folder object number) (λ now is. let known = dest now is in tuple_parent job past known.0 object held number now at.numbers at known.1)
-permits job past (phase.Rename object) prefix held reading writing at source dest = may_move writing staging (in_root object.place) (λ now is. let known = dest now is in object_may_move job past known.0 object held now at known.1)
-permits job past phase.Walk prefix held reading writing at source dest = may_enter reading held.trail (λ s is. let known = source s is in (known.at.1.store, known.proper, known.at.2.fits))
-permits job past _ prefix held reading writing at source dest = tt
+permits (phase.Read object count) prefix reading writing at source dest = may_read reading (λ s is. (_, (source s is).at.2.read.left))
+permits (phase.Make object here) prefix reading writing at source dest = may_make_part here prefix reading writing at source dest
+permits (phase.Copy object position left) prefix reading writing at source dest = (may_read reading (λ s is. (_, (source s is).at.2.read.left)), may_write writing (λ now is. ap is_some (dest now is).1.at.writes.writing))
+permits {job} {past} (phase.Tuples object number) prefix {held} reading writing at source dest = has_parent writing (tuple_folder object number) (λ now is. let known = dest now is in tuple_parent job past known.0 object held number now at.numbers at known.1)
+permits {job} {past} (phase.Rename object) prefix {held} reading writing at source dest = may_move writing staging (in_root object.place) (λ now is. let known = dest now is in object_may_move job past known.0 object held now at known.1)
+permits phase.Walk prefix {held} reading writing at source dest = may_enter reading held.trail (λ s is. let known = source s is in (known.at.1.store, known.proper, known.at.2.fits))
+permits _ prefix reading writing at source dest = tt
 
 -- a destination that tells told at the start
 told_both : {A B : Type 0} → (P : A → B → Type 0) (start : Option A) (now : Option B) → TellsAsBefore start now P → ForSome now (λ b. (a : A) × P a b)
@@ -199,4 +197,4 @@ told_both P (Some start) (Some now) tells b is = (start, subst (P start) (some_s
 pub begun_permits : BegunPermits
 unfolding Begun
 begun_permits job start world run (past, is) =
-    permits job past run.phase run.kept.prefix run.kept.held world.source world.dest is.held is.source (told_both (DestPart job past run.phase run.kept.held) start.dest world.dest is.dest)
+    permits run.phase run.kept.prefix world.source world.dest is.held is.source (told_both (DestPart job past run.phase run.kept.held) start.dest world.dest is.dest)

@@ -41,44 +41,44 @@ abbrev is_halt : Answer → Bool
 is_halt (Ok next) = false
 is_halt (Err why) = true
 
-starts_same : (job : Job) (prefix read : List ℕ) (here : Phase) (calls : Calls) (answer : Answer) (old new : Option Writing) → Starts job here prefix read calls answer → is_halt answer ≡ true → Changes calls.change old new → new ≡ old
+starts_same : {job : Job} {prefix read : List ℕ} {here : Phase} {calls : Calls} {answer : Answer} {old new : Option Writing} → Starts job here prefix read calls answer → is_halt answer ≡ true → Changes calls.change old new → new ≡ old
 unfolding Changes
-starts_same job prefix read here calls answer old new (IsNoStore was entries e) halts change = change
-starts_same job prefix read here calls answer old new (IsNoPrefixFile was kind some e) halts change = change
-starts_same job prefix read here calls answer old new (IsNoPrefix was block why e) halts change = change
-starts_same job prefix read here calls answer old new (HasStaging was kind) halts change = change.1
-starts_same job prefix read here calls answer old new (IsNoRoot was kind e) halts change = change.1
-starts_same job prefix read here calls answer old new (IsNoFile was number path bytes kind is e) halts change = change.1
-starts_same job prefix read here calls answer old new (Differs was number path bytes block is e) halts change = change.2
-starts_same job prefix read here calls answer old new _ halts change = absurd (cc)
+starts_same (IsNoStore was entries e) halts change = change
+starts_same (IsNoPrefixFile was kind some e) halts change = change
+starts_same (IsNoPrefix was block why e) halts change = change
+starts_same (HasStaging was kind) halts change = change.1
+starts_same (IsNoRoot was kind e) halts change = change.1
+starts_same (IsNoFile was number path bytes kind is e) halts change = change.1
+starts_same (Differs was number path bytes block is e) halts change = change.2
+starts_same _ halts change = absurd (cc)
 
-walks_same : (job : Job) (prefix : List ℕ) (here : Phase) (held after : Held) (calls : Calls) (answer : Answer) (old new : Option Writing) → Walks job prefix here held after calls answer → is_halt answer ≡ true → Changes calls.change old new → new ≡ old
+walks_same : {job : Job} {prefix : List ℕ} {here : Phase} {held after : Held} {calls : Calls} {answer : Answer} {old new : Option Writing} → Walks job prefix here held after calls answer → is_halt answer ≡ true → Changes calls.change old new → new ≡ old
 unfolding Changes
-walks_same job prefix here held after calls answer old new (OpensRoot _ _) halts change = absurd (cc)
-walks_same job prefix here held after calls answer old new _ halts change = absurd (cc)
+walks_same (OpensRoot _ _) halts change = absurd (cc)
+walks_same _ halts change = absurd (cc)
 
-scans_same : (job : Job) (here : Phase) (held after : Held) (calls : Calls) (answer : Answer) (old new : Option Writing) → Scans job here held after calls answer → is_halt answer ≡ true → Changes calls.change old new → new ≡ old
+scans_same : {job : Job} {here : Phase} {held after : Held} {calls : Calls} {answer : Answer} {old new : Option Writing} → Scans job here held after calls answer → is_halt answer ≡ true → Changes calls.change old new → new ≡ old
 unfolding Changes
-scans_same job here held after calls answer old new (StartsInSite _ _ _) halts change = absurd (cc)
-scans_same job here held after calls answer old new _ halts change = absurd (cc)
+scans_same (StartsInSite _ _ _) halts change = absurd (cc)
+scans_same _ halts change = absurd (cc)
 
-makes_same : (job : Job) (here : Phase) (held after : Held) (calls : Calls) (answer : Answer) (old new : Option Writing) → Makings job here held after calls answer → is_halt answer ≡ true → Changes calls.change old new → new ≡ old
+makes_same : {job : Job} {here : Phase} {held after : Held} {calls : Calls} {answer : Answer} {old new : Option Writing} → Makings job here held after calls answer → is_halt answer ≡ true → Changes calls.change old new → new ≡ old
 unfolding Changes
-makes_same job here held after calls answer old new (ReadsMore was object position left byte block e) halts change = change
-makes_same job here held after calls answer old new (ReadsOther was object position row left is e) halts change = change
-makes_same job here held after calls answer old new _ halts change = absurd (cc)
+makes_same (ReadsMore was object position left byte block e) halts change = change
+makes_same (ReadsOther was object position row left is e) halts change = change
+makes_same _ halts change = absurd (cc)
 
-places_same : (job : Job) (counts : Counts) (here : Phase) (held after : Held) (calls : Calls) (answer : Answer) (old new : Option Writing) → Places job counts here held after calls answer → is_halt answer ≡ true → Changes calls.change old new → new ≡ old
+places_same : {job : Job} {counts : Counts} {here : Phase} {held after : Held} {calls : Calls} {answer : Answer} {old new : Option Writing} → Places job counts here held after calls answer → is_halt answer ≡ true → Changes calls.change old new → new ≡ old
 unfolding Changes
-places_same job counts here held after calls answer old new (IsInTheWay was object number kind e) halts change = change.1
-places_same job counts here held after calls answer old new _ halts change = absurd (cc)
+places_same (IsInTheWay was object number kind e) halts change = change.1
+places_same _ halts change = absurd (cc)
 
-pub refused_same : (job : Job) (counts : Counts) (here : Phase) (prefix : List ℕ) (held : Held) (read : List ℕ) (after : Held) (calls : Calls) (why : Halt) (old new : Option Writing) → Follows job counts here prefix held read after calls (Err why) → Changes calls.change old new → new ≡ old
-refused_same job counts here prefix held read after calls why old new (a_start h p r w c a turn) change = starts_same job prefix read here calls (Err why) old new turn refl change
-refused_same job counts here prefix held read after calls why old new (Walk h p w n c a turn) change = walks_same job prefix here held after calls (Err why) old new turn refl change
-refused_same job counts here prefix held read after calls why old new (Scan h p w n c a turn) change = scans_same job here held after calls (Err why) old new turn refl change
-refused_same job counts here prefix held read after calls why old new (Make h p w n c a turn) change = makes_same job here held after calls (Err why) old new turn refl change
-refused_same job counts here prefix held read after calls why old new (Place h p w n c a turn) change = places_same job counts here held after calls (Err why) old new turn refl change
+pub refused_same : {job : Job} {counts : Counts} {here : Phase} {prefix : List ℕ} {held : Held} {read : List ℕ} {after : Held} {calls : Calls} {why : Halt} {old new : Option Writing} → Follows job counts here prefix held read after calls (Err why) → Changes calls.change old new → new ≡ old
+refused_same (a_start h p r w c a turn) change = starts_same turn refl change
+refused_same (Walk h p w n c a turn) change = walks_same turn refl change
+refused_same (Scan h p w n c a turn) change = scans_same turn refl change
+refused_same (Make h p w n c a turn) change = makes_same turn refl change
+refused_same (Place h p w n c a turn) change = places_same turn refl change
 
 -- ---- which devices tell
 
@@ -99,19 +99,19 @@ same_tree None new v same is = absurd (let no : Some v.tree ≡ None = sym (ap s
 same_tree (Some s) new v same is = (s, refl, some_same v.tree s.tree (sym (ap source_tree is) ∙ same))
 
 -- a destination of which a part of a change is left tells where it told
-part_told : (change : Change) (w : Writing) (new : Option Writing) → LeavesPart (Some w) new change → (v : Writing) × (new ≡ Some v)
-part_told _ w None (Untouched change same) = absurd (cc)
-part_told _ w None (OfFile path bytes count same) = absurd (cc)
-part_told _ w None (NewFile path same) = absurd (cc)
-part_told _ w None (OfPiece piece count same) = absurd (cc)
-part_told change w (Some v) left = (v, refl)
+part_told : {change : Change} {w : Writing} (new : Option Writing) → LeavesPart (Some w) new change → (v : Writing) × (new ≡ Some v)
+part_told None (Untouched change same) = absurd (cc)
+part_told None (OfFile path bytes count same) = absurd (cc)
+part_told None (NewFile path same) = absurd (cc)
+part_told None (OfPiece piece count same) = absurd (cc)
+part_told (Some v) left = (v, refl)
 
-part_untold : (change : Change) (new : Option Writing) → LeavesPart None new change → new ≡ None
-part_untold _ None left = refl
-part_untold _ (Some v) (Untouched change same) = absurd (cc)
-part_untold _ (Some v) (OfFile path bytes count same) = absurd (cc)
-part_untold _ (Some v) (NewFile path same) = absurd (cc)
-part_untold _ (Some v) (OfPiece piece count same) = absurd (cc)
+part_untold : {change : Change} (new : Option Writing) → LeavesPart None new change → new ≡ None
+part_untold None left = refl
+part_untold (Some v) (Untouched change same) = absurd (cc)
+part_untold (Some v) (OfFile path bytes count same) = absurd (cc)
+part_untold (Some v) (NewFile path same) = absurd (cc)
+part_untold (Some v) (OfPiece piece count same) = absurd (cc)
 
 front_told : (line : Option Line) (old : List ℕ) (new : Option (List ℕ)) → LeavesFront line (Some old) new → (now : List ℕ) × (new ≡ Some now)
 front_told None old new left = (old, left)
@@ -167,7 +167,7 @@ module _ (job : Job) (past : Past) (start : Start) (old new : World) (run : Run)
       quiet_at : (o : Option (List ℕ)) → start.log ≡ o → TellsStill o new.log (IsQuiet phase.Ended)
       quiet_at None none = tt
       quiet_at (Some first) is_first =
-          let had = log_tells (IsQuiet run.phase) start.log old.log first is_first is.quiet in
+          let had = log_tells (IsQuiet run.phase) start.log old.log is_first is.quiet in
           let now = log had.0 had.1 in
           subst (λ o. TellsStill (Some first) o (IsQuiet phase.Ended)) (sym now.1) tt
 
@@ -175,7 +175,7 @@ module _ (job : Job) (past : Past) (start : Start) (old new : World) (run : Run)
       log_at v same t some None none = tt
       log_at v same t some (Some first) is_first =
           let s = same_tree old.source new.source v source same in
-          let had = log_tells (HasTold job s.0.tree (root_in t) past run.phase) start.log old.log first is_first (is.log s.0 s.1 t some) in
+          let had = log_tells (HasTold job s.0.tree (root_in t) past run.phase) start.log old.log is_first (is.log s.0 s.1 t some) in
           let now = log had.0 had.1 in
           subst (λ o. TellsStill (Some first) o (HasTold job v.tree (root_in t) past phase.Ended)) (sym now.1) tt
 
@@ -204,12 +204,12 @@ module _ (job : Job) (past : Past) (start : Start) (old new : World) (run : Run)
   pub halted_left : (after : Kept) (why : Halt) → a_past job start old run past → Turn job run.phase (turning run.kept) after old new (Err why) → old.source ≡ Some s → start.dest ≡ Some t → new.dest ≡ Some now → start.log ≡ Some first → new.log ≡ Some last → IsLeftByFault job s.tree t now.tree first last
   unfolding Did Stays LeavesSome
   halted_left after why is (IsRefused prefix held calls reason turn did halted) source_is start_is dest_is first_is last_is =
-      left_same is source_is start_is (sym dest_is ∙ refused_same job (turning run.kept).counts run.phase run.kept.prefix run.kept.held prefix held calls why old.dest new.dest turn did.0.dest) first_is
-      (sym last_is ∙ none_put calls.line old.log new.log (refused_quiet job (turning run.kept).counts run.phase run.kept.prefix run.kept.held prefix held calls why turn) did.0.log) run.phase refl
+      left_same is source_is start_is (sym dest_is ∙ refused_same turn did.0.dest) first_is
+      (sym last_is ∙ none_put calls.line old.log new.log (refused_quiet turn) did.0.log) run.phase refl
   halted_left after why is (FailsAtFirst reason stays halted) source_is start_is dest_is first_is last_is = left_same is source_is start_is (sym dest_is ∙ stays.1) first_is (sym last_is ∙ stays.2) run.phase refl
   halted_left after why is (FailsLater prefix held calls answer rows reason turn leaves which halted) source_is start_is dest_is first_is last_is =
       broken_leaves job past start old run s t first new prefix held calls answer now last
-      (tells_all job past start old run s t first is (follows_runs job (turning run.kept).counts run.phase run.kept.prefix run.kept.held prefix held calls answer turn) source_is start_is first_is) turn leaves.0 source_is dest_is last_is
+      (tells_all job past start old run s t first is (follows_runs turn) source_is start_is first_is) turn leaves.0 source_is dest_is last_is
 
 pub stops_leave : StopsLeave
 unfolding Begun
@@ -226,7 +226,7 @@ unfolding Begun Did Stays LeavesSome
 turn_ends_begun job start old new run after why (past, is) (IsRefused prefix held calls reason turn did halted) = (
   past,
   ends job past start old new run after is halted.trail halted.counts (answers_tree calls.asked old.source new.source did.0.source)
-      (same_ends job past start old new run after is (refused_same job (turning run.kept).counts run.phase run.kept.prefix run.kept.held prefix held calls why old.dest new.dest turn did.0.dest))
+      (same_ends job past start old new run after is (refused_same turn did.0.dest))
       (λ l some. told_log calls.line l new.log (subst (λ o. Puts calls.line o new.log) some did.0.log))
       (λ s t now first last source_is start_is dest_is first_is last_is. halted_left job past start old new run s t now first last after why is (IsRefused prefix held calls reason turn did halted) source_is start_is dest_is first_is last_is),
 )
@@ -238,9 +238,9 @@ turn_ends_begun job start old new run after why (past, is) (FailsLater prefix he
       (dest_ends job past start old new run after is
       (λ w t a b known.
       let left = subst (λ o. LeavesPart o new.dest calls.change) b leaves.0.dest in
-      let v = part_told calls.change w new.dest left in
-      (v.0, v.1, follows_left job past t (turning run.kept).counts run.phase run.kept.prefix run.kept.held prefix held calls answer w v.0 turn is.held known (subst (λ o. LeavesPart (Some w) o calls.change) v.1 left)))
-      (λ none. part_untold calls.change new.dest (subst (λ o. LeavesPart o new.dest calls.change) none leaves.0.dest)))
+      let v = part_told new.dest left in
+      (v.0, v.1, follows_left turn is.held known (subst (λ o. LeavesPart (Some w) o calls.change) v.1 left)))
+      (λ none. part_untold new.dest (subst (λ o. LeavesPart o new.dest calls.change) none leaves.0.dest)))
       (λ l some. front_told calls.line l new.log (subst (λ o. LeavesFront calls.line o new.log) some leaves.0.log))
       (λ s t now first last source_is start_is dest_is first_is last_is. halted_left job past start old new run s t now first last after why is (FailsLater prefix held calls answer rows reason turn leaves which halted) source_is start_is dest_is first_is last_is),
 )

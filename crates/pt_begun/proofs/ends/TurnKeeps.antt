@@ -55,26 +55,26 @@ data SameTold (old new : Option Writing) : Type 0 where
   Neither : old ≡ None → new ≡ None → SameTold old new
   Both : (w v : Writing) → old ≡ Some w → new ≡ Some v → SameTold old new
 
-told_dest : (change : Change) (old new : Option Writing) → Changes change old new → SameTold old new
+told_dest : (change : Change) (old : Option Writing) {new : Option Writing} → Changes change old new → SameTold old new
 unfolding Changes
-told_dest ChangesNothing None new change = Neither refl change
-told_dest (Finds path here) None new change = Neither refl change.1
-told_dest (Peeks path block) None new change = Neither refl change.2
-told_dest (FindsNoneAndMakes path) None new change = Neither refl change.1
-told_dest (Makes item) None new change = Neither refl change
-told_dest (Creates path) None new change = Neither refl change
-told_dest (Adds piece) None new change = Neither refl change
-told_dest Finishes None new change = Neither refl change
-told_dest (Renames from to) None new change = Neither refl change
-told_dest ChangesNothing (Some w) new change = Both w w refl change
-told_dest (Finds path here) (Some w) new change = Both w w refl change.1
-told_dest (Peeks path block) (Some w) new change = Both w w refl change.2
-told_dest (FindsNoneAndMakes path) (Some w) new change = Both w (after_mkdir path w) refl change.1
-told_dest (Makes item) (Some w) new change = Both w (after_make item w) refl change
-told_dest (Creates path) (Some w) new change = Both w (after_create path w) refl change
-told_dest (Adds piece) (Some w) new change = Both w (after_append piece w) refl change
-told_dest Finishes (Some w) new change = Both w (after_finish w) refl change
-told_dest (Renames from to) (Some w) new change = Both w (after_rename from to w) refl change
+told_dest ChangesNothing None change = Neither refl change
+told_dest (Finds path here) None change = Neither refl change.1
+told_dest (Peeks path block) None change = Neither refl change.2
+told_dest (FindsNoneAndMakes path) None change = Neither refl change.1
+told_dest (Makes item) None change = Neither refl change
+told_dest (Creates path) None change = Neither refl change
+told_dest (Adds piece) None change = Neither refl change
+told_dest Finishes None change = Neither refl change
+told_dest (Renames from to) None change = Neither refl change
+told_dest ChangesNothing (Some w) change = Both w w refl change
+told_dest (Finds path here) (Some w) change = Both w w refl change.1
+told_dest (Peeks path block) (Some w) change = Both w w refl change.2
+told_dest (FindsNoneAndMakes path) (Some w) change = Both w (after_mkdir path w) refl change.1
+told_dest (Makes item) (Some w) change = Both w (after_make item w) refl change
+told_dest (Creates path) (Some w) change = Both w (after_create path w) refl change
+told_dest (Adds piece) (Some w) change = Both w (after_append piece w) refl change
+told_dest Finishes (Some w) change = Both w (after_finish w) refl change
+told_dest (Renames from to) (Some w) change = Both w (after_rename from to w) refl change
 
 -- a log that tells goes on telling
 pub told_log : (line : Option Line) (old : List ℕ) (new : Option (List ℕ)) → Puts line (Some old) new → (now : List ℕ) × (new ≡ Some now)
@@ -121,8 +121,8 @@ module _ (job : Job) (past : Past) where
 -- ---- all parts
 
 -- the turn is counted, which no part speaks of
-pub still_counts : (job : Job) (past : Past) (here : Phase) (kept : Kept) (source : Forest) (root : Tree) → ItemsPart job past here kept.counts source root → ItemsPart job past here (turning kept).counts source root
-still_counts job past here kept source root it = record { places = it.places; lines_are = record { done = it.lines_are.done; present = it.lines_are.present; skipped = it.lines_are.skipped } }
+pub still_counts : {job : Job} {past : Past} {here : Phase} (kept : Kept) {source : Forest} {root : Tree} → ItemsPart job past here kept.counts source root → ItemsPart job past here (turning kept).counts source root
+still_counts kept it = record { places = it.places; lines_are = record { done = it.lines_are.done; present = it.lines_are.present; skipped = it.lines_are.skipped } }
 
 module _ (job : Job) (past : Past) (start : Start) (old new : World) (run : Run) (after : Kept) (next : Phase) (calls : Calls) where
   abbrev before : Kept
@@ -141,7 +141,7 @@ module _ (job : Job) (past : Past) (start : Start) (old new : World) (run : Run)
       follows_source job past before.counts run.phase run.kept.prefix run.kept.held after.prefix after.held calls next told.0 v turn answers is.held (is.source told.0 told.1)
 
   keeps_dest : Turned → Happens calls old new → IsPast job start old run past → TellsAsBefore start.dest new.dest (DestPart job later next after.held)
-  keeps_dest turn did is = by start.dest refl (told_dest calls.change old.dest new.dest did.dest)
+  keeps_dest turn did is = by start.dest refl (told_dest calls.change old.dest did.dest)
     where
       by : (o : Option Tree) → start.dest ≡ o → SameTold old.dest new.dest → TellsAsBefore o new.dest (DestPart job later next after.held)
       by None none (Neither a b) = subst (λ o. TellsAsBefore None o (DestPart job later next after.held)) (sym b) tt
@@ -159,14 +159,14 @@ module _ (job : Job) (past : Past) (start : Start) (old new : World) (run : Run)
       let told = told_source calls.asked old.source v (subst (Answers calls.asked old.source) same did.source) in
       let s = told.0 in
       let answers = subst (λ o. Answers calls.asked o (Some v)) told.1 (subst (Answers calls.asked old.source) same did.source) in
-      let dest = both_tell (DestPart job past run.phase run.kept.held) start.dest old.dest t some is.dest in
-      let after_it = told_again dest.0 dest.1 (told_dest calls.change old.dest new.dest did.dest) in
+      let dest = both_tell (DestPart job past run.phase run.kept.held) start.dest old.dest some is.dest in
+      let after_it = told_again dest.0 dest.1 (told_dest calls.change old.dest did.dest) in
       let change = subst (λ o. Changes calls.change o (Some after_it.0)) dest.1 (subst (Changes calls.change old.dest) after_it.1 did.dest) in
       let known : KnowsItems job past run.phase run.kept.prefix run.kept.held before.counts s t dest.0 = record {
         held_at = is.held;
         source = is.source s told.1;
         dest = dest.2;
-        items = still_counts job past run.phase run.kept s.tree (root_in t) (is.items s told.1 t some);
+        items = still_counts run.kept (is.items s told.1 t some);
       } in
       let kept = follows_items job past before.counts run.phase run.kept.prefix run.kept.held after.prefix after.held calls next t s v dest.0 after_it.0 turn answers change known in
       (s, tree_kept calls.asked s v answers, told.1, kept.0, kept.1)
@@ -179,14 +179,14 @@ module _ (job : Job) (past : Past) (start : Start) (old new : World) (run : Run)
   keeps_left : Turned → Happens calls old new → after.counts ≡ counted calls.line before.counts → IsPast job start old run past → (v : Reading) → new.source ≡ Some v → (t : Tree) → start.dest ≡ Some t → (now : Writing) → new.dest ≡ Some now → (first : List ℕ) → start.log ≡ Some first
       → (last : List ℕ) → new.log ≡ Some last → LeftAt next job v.tree t now.tree first last
   keeps_left turn did counts is v same t some now dest first is_first last is_last =
-      left_unless next job v.tree t now.tree first last
+      left_unless next
       (λ at_end.
       let told = told_source calls.asked old.source v (subst (Answers calls.asked old.source) same did.source) in
       let s = told.0 in
       let kept = tree_kept calls.asked s v (subst (λ o. Answers calls.asked o (Some v)) told.1 (subst (Answers calls.asked old.source) same did.source)) in
       let turn_is = subst (λ (p : Phase). Follows job before.counts run.phase run.kept.prefix run.kept.held after.prefix after.held calls (Ok p)) at_end turn in
       let all = ended job past start old new run after s t now first last calls is turn_is did counts told.1 some dest is_first is_last in
-      subst (λ (f : Forest). IsLeftByFault job f t now.tree first last) (sym kept) (end_left job s.tree t now.tree first last all.0.0 all.0.1 all.0.2))
+      subst (λ (f : Forest). IsLeftByFault job f t now.tree first last) (sym kept) (end_left first all.0.1 all.0.2))
 
   pub turned : Turned → Happens calls old new → after.counts ≡ counted calls.line before.counts → IsPast job start old run past → IsPast job start new (record { phase = next; kept = after }) later
   turned turn did counts is = record {
@@ -205,13 +205,13 @@ module _ (job : Job) (past : Past) (start : Start) (old new : World) (run : Run)
       quiet_at : (o : Option (List ℕ)) → start.log ≡ o → TellsStill o new.log (IsQuiet next)
       quiet_at None none = tt
       quiet_at (Some first) is_first =
-          let had = log_tells (IsQuiet run.phase) start.log old.log first is_first is.quiet in
+          let had = log_tells (IsQuiet run.phase) start.log old.log is_first is.quiet in
           let puts = subst (λ o. Puts calls.line o new.log) had.1 did.log in
           let now = told_log calls.line had.0 new.log puts in
           subst (λ o. TellsStill (Some first) o (IsQuiet next)) (sym now.1)
           (quiet_if next first now.0
           (λ starts.
-          let quietly = follows_quietly job before.counts run.phase run.kept.prefix run.kept.held after.prefix after.held calls next turn starts in
+          let quietly = follows_quietly turn starts in
           some_same now.0 had.0 (sym now.1 ∙ none_put calls.line (Some had.0) new.log quietly.line puts) ∙ quiet_is run.phase first had.0 quietly.start had.2))
 
       log_at : (v : Reading) → new.source ≡ Some v → (t : Tree) → start.dest ≡ Some t → (o : Option (List ℕ)) → start.log ≡ o → TellsStill o new.log (HasTold job v.tree (root_in t) later next)
@@ -219,7 +219,7 @@ module _ (job : Job) (past : Past) (start : Start) (old new : World) (run : Run)
       log_at v same t some (Some first) is_first =
           let kept = keeps_items turn did is v same t some in
           let s = kept.0 in
-          let had = log_tells (HasTold job s.tree (root_in t) past run.phase) start.log old.log first is_first (is.log s kept.2 t some) in
+          let had = log_tells (HasTold job s.tree (root_in t) past run.phase) start.log old.log is_first (is.log s kept.2 t some) in
           let puts = subst (λ o. Puts calls.line o new.log) had.1 did.log in
           let now = told_log calls.line had.0 new.log puts in
           subst (λ o. TellsStill (Some first) o (HasTold job v.tree (root_in t) later next)) (sym now.1)

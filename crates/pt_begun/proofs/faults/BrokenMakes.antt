@@ -60,7 +60,7 @@ module _ (job : Job) (past : Past) (s : Reading) (start : Tree) (prefix : List �
   -- ---- a new root
 
   root_broken : (number : ℕ) (item : Item) (held : Held) → Before held (phase.RootMake number) → slice_get (root_script job.tuples) number ≡ Some item → LeavesPart (Some old) (Some new) (Makes item) → Quiet → Left
-  root_broken number (MakeFolder path) held before is left put = left_quiet job past s start prefix counts old new first log last held (phase.RootMake number) before (plain_same (Makes (MakeFolder path)) old new refl left) put
+  root_broken number (MakeFolder path) held before is left put = left_quiet job past s start prefix counts old new first log last held (phase.RootMake number) before (plain_same refl left) put
   root_broken number (MakeFile path bytes) held before is (Untouched change same) put = left_quiet job past s start prefix counts old new first log last held (phase.RootMake number) before (some_same new.tree old.tree same) put
   root_broken number (MakeFile path bytes) held before is (OfFile p b count same) put =
       let script = root_script job.tuples in
@@ -69,11 +69,11 @@ module _ (job : Job) (past : Past) (s : Reading) (start : Tree) (prefix : List �
       let next : IsNext script (take number script) (MakeFile path bytes) = record { rest = drop (suc number) script; is = split_at number script (MakeFile path bytes) is } in
       left_untold job past s start prefix counts old new first log last held (phase.RootMake number) before put
       (root_left job s.tree start new.tree past.count (take number script) old before.known.source.at.1 at
-      (stands_cut script (take number script) path bytes count start new.tree next (tree_is ∙ ap (done (MakeFile path (take count bytes))) at.tree)))
+      (stands_cut path bytes count start next (tree_is ∙ ap (done (MakeFile path (take count bytes))) at.tree)))
 
   pub starts_broken : (read : List ℕ) (here : Phase) (held : Held) (calls : Calls) (answer : Answer) → Starts job here prefix read calls answer → Before held here → LeavesPart (Some old) (Some new) calls.change → LeavesFront calls.line (Some log) (Some last) → Left
   starts_broken read here held calls answer (MakesRoot was number item is) before left put = root_broken number item held before is left put
-  starts_broken read here held calls answer _ before left put = left_quiet job past s start prefix counts old new first log last held here before (plain_same calls.change old new refl left) put
+  starts_broken read here held calls answer _ before left put = left_quiet job past s start prefix counts old new first log last held here before (plain_same refl left) put
 
   -- ---- a part of an object
 
@@ -87,8 +87,8 @@ module _ (job : Job) (past : Past) (s : Reading) (start : Tree) (prefix : List �
       let tree_is = some_same new.tree (done (MakeFile path (take count bytes)) old.tree) same in
       left_untold job past s start prefix counts old new first log last held (phase.Make object here) before put
       (carrying_left job past s start object held 0 new.tree known.dest.started known.dest.at.root known.held_at.ends.0 known.held_at.rows (omega arith) known.items.places.placed
-      (carried_next job past s (root_in start) prefix object held past.count source.proper source.at.0 source.at.1 source.bytes known.items.places.next)
-      (stands_cut (script_of_object job object held.rows past.bytes) front path bytes count (with_root start (root_on_way job start past.placed object.place 0)) new.tree next (tree_is ∙ ap (done (MakeFile path (take count bytes))) known.dest.at.tree)))
+      (carried_next past s (root_in start) source.proper source.at.0 source.at.1 source.bytes known.items.places.next)
+      (stands_cut path bytes count (with_root start (root_on_way job start past.placed object.place 0)) next (tree_is ∙ ap (done (MakeFile path (take count bytes))) known.dest.at.tree)))
 
   opened_broken : (object : Object) (position : Position) (held : Held) (row : Row) → Before held (phase.Make object (a_part.Content position))
       → IsNext (script_of_object job object held.rows past.bytes) (made_before job object held.rows past.bytes (a_part.Content position)) (MakeFile (in_content row.path) (past.bytes row.path)) → LeavesPart (Some old) (Some new) (Creates (in_content row.path)) → Quiet → Left
@@ -101,8 +101,8 @@ module _ (job : Job) (past : Past) (s : Reading) (start : Tree) (prefix : List �
       let tree_is = some_same new.tree (done item old.tree) same in
       left_untold job past s start prefix counts old new first log last held (phase.Make object (a_part.Content position)) before put
       (carrying_left job past s start object held 0 new.tree known.dest.started known.dest.at.root known.held_at.ends.0 known.held_at.rows (omega arith) known.items.places.placed
-      (carried_next job past s (root_in start) prefix object held past.count source.proper source.at.0 source.at.1 source.bytes known.items.places.next)
-      (content_stands (script_of_object job object held.rows past.bytes) front (in_content row.path) (past.bytes row.path) [] (with_root start (root_on_way job start past.placed object.place 0)) new.tree next (past.bytes row.path, refl) (tree_is ∙ ap (done item) known.dest.at.tree)))
+      (carried_next past s (root_in start) source.proper source.at.0 source.at.1 source.bytes known.items.places.next)
+      (content_stands (in_content row.path) (past.bytes row.path) [] (with_root start (root_on_way job start past.placed object.place 0)) next (past.bytes row.path, refl) (tree_is ∙ ap (done item) known.dest.at.tree)))
 
   copied_broken : (object : Object) (position : Position) (left : ℕ) (piece : List ℕ) (held : Held) → Before held (phase.Copy object position left) → IsRead (Some s) piece → LeavesPart (Some old) (Some new) (Adds piece) → Quiet → Left
   unfolding IsRead
@@ -120,13 +120,13 @@ module _ (job : Job) (past : Past) (s : Reading) (start : Tree) (prefix : List �
       let front = made_before job object held.rows past.bytes (a_part.Content position) in
       let root = with_root start (root_on_way job start past.placed object.place 0) in
       let same_row = some_same reads.row row (sym reads.is_row ∙ is) in
-      let bytes = row_bytes s.tree object held.trail past.bytes held.rows position.row reads.row at.ends.1 source.bytes reads.is_row in
+      let bytes = row_bytes s.tree object held.trail past.bytes held.rows position.row at.ends.1 source.bytes reads.is_row in
       let begins : BeginsWith (held.fed ++ piece) (past.bytes row.path) =
-      begins_taken (reads.row.length - left + length piece) (past.bytes row.path) (held.fed ++ piece) (whole.fed_is ∙ ap (take (reads.row.length - left + length piece)) (sym bytes ∙ ap (λ (r : Row). past.bytes r.path) same_row)) in
+      begins_taken (reads.row.length - left + length piece) (past.bytes row.path) (whole.fed_is ∙ ap (take (reads.row.length - left + length piece)) (sym bytes ∙ ap (λ (r : Row). past.bytes r.path) same_row)) in
       left_untold job past s start prefix counts old new first log last held (phase.Copy object position left) before put
       (carrying_left job past s start object held 0 new.tree known.dest.started known.dest.at.making.root at.ends.0 at.rows (omega arith) known.items.places.placed
-      (carried_next job past s (root_in start) prefix object held past.count source.proper source.at.0 source.at.1 source.bytes known.items.places.next)
-      (content_stands (script_of_object job object held.rows past.bytes) front (in_content row.path) (past.bytes row.path) (held.fed ++ more) root new.tree
+      (carried_next past s (root_in start) source.proper source.at.0 source.at.1 source.bytes known.items.places.next)
+      (content_stands (in_content row.path) (past.bytes row.path) (held.fed ++ more) root
       (file_next job object held.rows held.contents past.bytes position row (copy_here job past object position left held row at is) (copy_stands held position row is at.numbers)) (begins_cut count held.fed piece (past.bytes row.path) begins)
       (it.at.making.tree ∙ made_in_turn front (MakeFile (in_content row.path) (held.fed ++ more) ∷ []) root)))
 
@@ -138,4 +138,4 @@ module _ (job : Job) (past : Past) (s : Reading) (start : Tree) (prefix : List �
   makes_broken here held after calls answer (MakesVersionSidecar was object) before answered left put = part_broken object a_part.VersionSidecar (in_version [] ++ sidecar_name job.algorithm ∷ []) (sidecar_text job.algorithm (text_of_inventory job object was.rows)) was before (next_second job object was.rows past.bytes) left put
   makes_broken here held after calls answer (MakesInventory was object) before answered left put = part_broken object a_part.Inventory (staging ++ inventory_name ∷ []) (text_of_inventory job object was.rows) was before (next_third job object was.rows past.bytes) left put
   makes_broken here held after calls answer (MakesSidecar was object) before answered left put = part_broken object a_part.Sidecar (staging ++ sidecar_name job.algorithm ∷ []) (sidecar_text job.algorithm (text_of_inventory job object was.rows)) was before (next_fourth job object was.rows past.bytes) left put
-  makes_broken here held after calls answer _ before answered left put = left_quiet job past s start prefix counts old new first log last held here before (plain_same calls.change old new refl left) put
+  makes_broken here held after calls answer _ before answered left put = left_quiet job past s start prefix counts old new first log last held here before (plain_same refl left) put

@@ -55,24 +55,24 @@ module _ (job : Job) (past : Past) (s : Reading) (start : Tree) (prefix : List �
       record {
         told = so_far ++ front;
         log = put ∙ ap (λ l. l ++ front) before.log_is ∙ append_assoc first so_far front;
-        left = between_left job s.tree start new.tree (suc many.0) (so_far ++ front) known.dest.at.root.free (let is = many.1 in omega (arith, is))
-            (end_in_part job s.tree root many.0 past.count front (drop n whole) (so_far ++ front) many.1 all (ap line_text (sym line_is) ∙ sym (take-append-drop n whole)) refl)
-            (same ∙ tree_between job s.tree start past.placed past.count old known.items.places.placed known.dest.at ∙ ap (with_root start) roots);
+        left = between_left job s.tree start (suc many.0) (so_far ++ front) known.dest.at.root.free (let is = many.1 in omega (arith, is))
+            (end_in_part job s.tree root many.0 past.count front (drop n whole) many.1 all (ap line_text (sym line_is) ∙ sym (take-append-drop n whole)) refl)
+            (same ∙ tree_between s.tree past.count known.items.places.placed known.dest.at ∙ ap (with_root start) roots);
       }
 
   -- of an object's line
   done_told : (object : Object) (held : Held) → Before held (phase.Line object) → new.tree ≡ old.tree → LeavesFront (Some (done_line object held)) (Some log) (Some last) → Left
   done_told object held before same put =
       let known = before.known in
-      let tells = places_tell job counts past s prefix (root_in start) (phase.Line object) phase.Walk held _ _ (TellsDone held object) known.held_at known.source known.items.places.next in
+      let tells = places_tell {counts = counts} (root_in start) (TellsDone held object) known.held_at known.source known.items.places.next in
       left_told job past s start prefix counts old new first log last held (phase.Line object) (done_line object held) tells.0 before
-      (ends_item job s.tree (root_in start) past.count phase.Walk (Some (done_line object held)) (suc past.count) tells.0 tells.1 (done_line object held) refl refl)
-      known.dest.at.root.free (same ∙ tree_between job s.tree start past.placed (suc past.count) old known.items.places.placed known.dest.at) put
+      (ends_item tells.1 refl refl)
+      known.dest.at.root.free (same ∙ tree_between s.tree (suc past.count) known.items.places.placed known.dest.at) put
 
   places_broken : (here : Phase) (held later : Held) (calls : Calls) (answer : Answer) → Places job counts here held later calls answer → Before held here → LeavesPart (Some old) (Some new) calls.change → LeavesFront calls.line (Some log) (Some last) → Left
-  places_broken here held later calls answer (TellsDone was object) before left put = done_told object was before (plain_same calls.change old new refl left) put
-  places_broken here held later calls answer (TellsEnd was) before left put = end_told was before (plain_same calls.change old new refl left) put
-  places_broken here held later calls answer _ before left put = left_quiet job past s start prefix counts old new first log last held here before (plain_same calls.change old new refl left) put
+  places_broken here held later calls answer (TellsDone was object) before left put = done_told object was before (plain_same refl left) put
+  places_broken here held later calls answer (TellsEnd was) before left put = end_told was before (plain_same refl left) put
+  places_broken here held later calls answer _ before left put = left_quiet job past s start prefix counts old new first log last held here before (plain_same refl left) put
 
   pub follows_broken : (here : Phase) (held : Held) (read : List ℕ) (later : Held) (calls : Calls) (answer : Answer) → Follows job counts here prefix held read later calls answer → Before held here → WereAnswered calls s old
       → LeavesPart (Some old) (Some new) calls.change → LeavesFront calls.line (Some log) (Some last) → Left

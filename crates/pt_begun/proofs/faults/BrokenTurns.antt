@@ -38,9 +38,9 @@ pub record IsBefore (job : Job) (past : Past) (s : Reading) (start : Tree) (pref
   pub log_is : log ≡ first ++ text job s.tree (root_in start) past.count
 
 -- a turn that tells a line of an item ends that item
-pub ends_item : (job : Job) (source : Forest) (root : Tree) (count : ℕ) (next : Phase) (told : Option Line) (n : ℕ) (gained : List Carried) → Tells job source root count next told n gained → (line : Line) → told ≡ Some line → is_ended next ≡ false → EndsItem job source root count (Some line) gained
-ends_item job source root count _ _ _ _ (OneItem next told more it) line is runs = subst (λ o. EndsItem job source root count o more) is it
-ends_item job source root count _ _ _ _ _ line is runs = absurd (cc)
+pub ends_item : {job : Job} {source : Forest} {root : Tree} {count : ℕ} {next : Phase} {told : Option Line} {n : ℕ} {gained : List Carried} → Tells job source root count next told n gained → {line : Line} → told ≡ Some line → is_ended next ≡ false → EndsItem job source root count (Some line) gained
+ends_item {job} {source} {root} {count} (OneItem next told more it) is runs = subst (λ o. EndsItem job source root count o more) is it
+ends_item _ is runs = absurd (cc)
 
 -- ---- by what is left
 
@@ -71,8 +71,8 @@ module _ (job : Job) (past : Past) (s : Reading) (start : Tree) (prefix : List �
       record {
         told = so_far ++ front;
         log = put ∙ ap (λ l. l ++ front) before.log_is ∙ append_assoc first so_far front;
-        left = between_left job s.tree start new.tree (suc past.count) (so_far ++ front) free (marked_within job s.tree root past.count ends.m ends.is)
-            (told_in_part job s.tree root past.count ends.m front (drop n (line_text line) ++ []) (so_far ++ front) ends.is
+        left = between_left job s.tree start (suc past.count) (so_far ++ front) free (marked_within job s.tree root past.count ends.is)
+            (told_in_part job s.tree root past.count front (drop n (line_text line) ++ []) ends.is
             (ap (flat_map line_text) ends.told ∙ ap (λ l. l ++ []) (sym (take-append-drop n (line_text line))) ∙ append_assoc front (drop n (line_text line)) []) refl)
             is;
       }
@@ -81,5 +81,5 @@ module _ (job : Job) (past : Past) (s : Reading) (start : Tree) (prefix : List �
   pub left_skipped : (held : Held) (here next : Phase) (told : Option Line) (line : Line) (n : ℕ) → Before held here → is_ended next ≡ false → Tells job s.tree (root_in start) past.count next told n [] → told ≡ Some line → IsFree start staging
       → old.tree ≡ with_root start (after job s.tree (root_in start) past.count) → new.tree ≡ old.tree → LeavesFront (Some line) (Some log) (Some last) → Left
   left_skipped held here next told line n before runs tells is free tree same put =
-      let ends = ends_item job s.tree (root_in start) past.count next told n [] tells line is runs in
+      let ends = ends_item tells is runs in
       left_told held here line [] before ends free (same ∙ tree ∙ ap (with_root start) (sym (after_stays job s.tree (root_in start) past.count ends.m ends.is ends.gained))) put

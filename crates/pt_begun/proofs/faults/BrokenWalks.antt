@@ -45,7 +45,7 @@ module _ (job : Job) (past : Past) (s : Reading) (start : Tree) (prefix : List �
   walk_told held later here calls line turn before is placed found free tree same put =
       let known = before.known in
       left_skipped job past s start prefix counts old new first log last held here phase.Walk calls.line line (done_after here held.trail phase.Walk past.count) before refl
-      (walks_tell job past s prefix start old old here phase.Walk held later calls turn known.held_at.trail.is_one known.source (roots_have_no_gaps start known.dest.started).1 placed known.dest.at found)
+      (walks_tell start old old turn known.held_at.trail.is_one known.source (roots_have_no_gaps start known.dest.started).1 placed known.dest.at found)
       is free tree same put
 
   -- or none
@@ -58,16 +58,16 @@ module _ (job : Job) (past : Past) (s : Reading) (start : Tree) (prefix : List �
   pub walks_broken : (here : Phase) (held later : Held) (calls : Calls) (answer : Answer) → Walks job prefix here held later calls answer → Before held here → WereAnswered calls s old → LeavesPart (Some old) (Some new) calls.change → LeavesFront calls.line (Some log) (Some last) → Left
   unfolding Changes
   walks_broken here held later calls answer (IsSkipped was why is) before answered left put =
-      walk_told held later here calls _ (IsSkipped was why is) before refl before.known.items.places.placed refl before.known.dest.at.root.free (tree_between job s.tree start past.placed past.count old before.known.items.places.placed before.known.dest.at) (plain_same calls.change old new refl left) put
+      walk_told held later here calls _ (IsSkipped was why is) before refl before.known.items.places.placed refl before.known.dest.at.root.free (tree_between s.tree past.count before.known.items.places.placed before.known.dest.at) (plain_same refl left) put
   walks_broken here held later calls answer (IsPresent was index id kind is) before answered left put =
-      walk_told held later here calls _ (IsPresent was index id kind is) before refl before.known.items.places.placed (answered.found, refl) before.known.dest.at.root.free (tree_between job s.tree start past.placed past.count old before.known.items.places.placed before.known.dest.at) (plain_same calls.change old new refl left) put
+      walk_told held later here calls _ (IsPresent was index id kind is) before refl before.known.items.places.placed (answered.found, refl) before.known.dest.at.root.free (tree_between s.tree past.count before.known.items.places.placed before.known.dest.at) (plain_same refl left) put
   walks_broken here held later calls answer (IsPast was name e short outermost) before answered left put =
-      walk_passed (is_first job.share) held later here calls _ (IsPast was name e short outermost) before refl before.known.items.places.placed refl before.known.dest.at.root.free (tree_between job s.tree start past.placed past.count old before.known.items.places.placed before.known.dest.at) (plain_same calls.change old new refl left) put
-      (left_quiet job past s start prefix counts old new first log last held here before (plain_same calls.change old new refl left))
+      walk_passed (is_first job.share) held later here calls _ (IsPast was name e short outermost) before refl before.known.items.places.placed refl before.known.dest.at.root.free (tree_between s.tree past.count before.known.items.places.placed before.known.dest.at) (plain_same refl left) put
+      (left_quiet job past s start prefix counts old new first log last held here before (plain_same refl left))
   walks_broken here held later calls answer (IsDeep was name e short inner deep) before answered left put =
-      walk_passed (is_first job.share) held later here calls _ (IsDeep was name e short inner deep) before refl before.known.items.places.placed refl before.known.dest.at.root.free (tree_between job s.tree start past.placed past.count old before.known.items.places.placed before.known.dest.at) (plain_same calls.change old new refl left) put
-      (left_quiet job past s start prefix counts old new first log last held here before (plain_same calls.change old new refl left))
-  walks_broken here held later calls answer _ before answered left put = left_quiet job past s start prefix counts old new first log last held here before (plain_same calls.change old new refl left) put
+      walk_passed (is_first job.share) held later here calls _ (IsDeep was name e short inner deep) before refl before.known.items.places.placed refl before.known.dest.at.root.free (tree_between s.tree past.count before.known.items.places.placed before.known.dest.at) (plain_same refl left) put
+      (left_quiet job past s start prefix counts old new first log last held here before (plain_same refl left))
+  walks_broken here held later calls answer _ before answered left put = left_quiet job past s start prefix counts old new first log last held here before (plain_same refl left) put
 
   -- ---- the scan of an object
 
@@ -76,19 +76,19 @@ module _ (job : Job) (past : Past) (s : Reading) (start : Tree) (prefix : List �
   scan_told held later here object calls line read turn before is answers placed making same put =
       let known = before.known in
       left_skipped job past s start prefix counts old new first log last held here phase.Walk calls.line line (done_after here held.trail phase.Walk past.count) before refl
-      (scans_tell job past s prefix (root_in start) here phase.Walk held later calls turn known.held_at.trail.is_one known.source known.items.places.next read answers)
-      is making.root.free (tree_entered job s.tree start past.placed past.count object old placed making) same put
+      (scans_tell (root_in start) turn known.held_at.trail.is_one known.source known.items.places.next read answers)
+      is making.root.free (tree_entered s.tree past.count placed making) same put
 
   pub scans_broken : (here : Phase) (held later : Held) (calls : Calls) (answer : Answer) → Scans job here held later calls answer → Before held here → WereAnswered calls s old → LeavesPart (Some old) (Some new) calls.change → LeavesFront calls.line (Some log) (Some last) → Left
   unfolding Answers
   scans_broken here held later calls answer (IsTooDeep was object apart deep) before answered left put =
-      scan_told held later here object calls _ s (IsTooDeep was object apart deep) before refl refl before.known.items.places.placed before.known.dest.at (plain_same calls.change old new refl left) put
+      scan_told held later here object calls _ s (IsTooDeep was object apart deep) before refl refl before.known.items.places.placed before.known.dest.at (plain_same refl left) put
   scans_broken here held later calls answer (MeetsDeep was object name e apart deep) before answered left put =
-      scan_told held later here object calls _ s (MeetsDeep was object name e apart deep) before refl refl before.known.items.places.placed before.known.dest.at (plain_same calls.change old new refl left) put
+      scan_told held later here object calls _ s (MeetsDeep was object name e apart deep) before refl refl before.known.items.places.placed before.known.dest.at (plain_same refl left) put
   scans_broken here held later calls answer (MeetsLimit was object name e room) before answered left put =
-      scan_told held later here object calls _ s (MeetsLimit was object name e room) before refl refl before.known.items.places.placed before.known.dest.at (plain_same calls.change old new refl left) put
+      scan_told held later here object calls _ s (MeetsLimit was object name e room) before refl refl before.known.items.places.placed before.known.dest.at (plain_same refl left) put
   scans_broken here held later calls answer (MeetsOther was object name e) before answered left put =
-      scan_told held later here object calls _ s (MeetsOther was object name e) before refl refl before.known.items.places.placed before.known.dest.at (plain_same calls.change old new refl left) put
+      scan_told held later here object calls _ s (MeetsOther was object name e) before refl refl before.known.items.places.placed before.known.dest.at (plain_same refl left) put
   scans_broken here held later calls answer (IsTooLong was object bytes byte block long) before answered left put =
-      scan_told held later here object calls _ (after_next s) (IsTooLong was object bytes byte block long) before refl (answered.read, refl) before.known.items.places.placed before.known.dest.at (plain_same calls.change old new refl left) put
-  scans_broken here held later calls answer _ before answered left put = left_quiet job past s start prefix counts old new first log last held here before (plain_same calls.change old new refl left) put
+      scan_told held later here object calls _ (after_next s) (IsTooLong was object bytes byte block long) before refl (answered.read, refl) before.known.items.places.placed before.known.dest.at (plain_same refl left) put
+  scans_broken here held later calls answer _ before answered left put = left_quiet job past s start prefix counts old new first log last held here before (plain_same refl left) put

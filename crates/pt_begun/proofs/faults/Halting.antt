@@ -40,8 +40,8 @@ module _ (job : Job) (past : Past) (start : Start) (old : World) (run : Run) (s 
 
   pub tells_all : IsPast job start old run past → is_ended run.phase ≡ false → old.source ≡ Some s → start.dest ≡ Some t → start.log ≡ Some first → TellsAll
   tells_all is runs source_is start_is first_is =
-      let dest = both_tell (DestPart job past run.phase run.kept.held) start.dest old.dest t start_is is.dest in
-      let logged = log_tells (HasTold job s.tree (root_in t) past run.phase) start.log old.log first first_is (is.log s source_is t start_is) in
+      let dest = both_tell (DestPart job past run.phase run.kept.held) start.dest old.dest start_is is.dest in
+      let logged = log_tells (HasTold job s.tree (root_in t) past run.phase) start.log old.log first_is (is.log s source_is t start_is) in
       record {
         now = dest.0;
         dest_is = dest.1;
@@ -49,7 +49,7 @@ module _ (job : Job) (past : Past) (start : Start) (old : World) (run : Run) (s 
         log_told = logged.1;
         before = record {
           runs = runs;
-          known = record { held_at = is.held; source = is.source s source_is; dest = dest.2; items = still_counts job past run.phase run.kept s.tree (root_in t) (is.items s source_is t start_is) };
+          known = record { held_at = is.held; source = is.source s source_is; dest = dest.2; items = still_counts run.kept (is.items s source_is t start_is) };
           log_is = told_now job s t past run.phase first logged.0 runs logged.2;
         };
       }

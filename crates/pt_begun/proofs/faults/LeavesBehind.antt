@@ -72,15 +72,15 @@ is_plain (Adds piece) = false
 is_plain Finishes = true
 is_plain (Renames from to) = true
 
-pub plain_same : (change : Change) (old new : Writing) → is_plain change ≡ true → LeavesPart (Some old) (Some new) change → new.tree ≡ old.tree
-plain_same _ old new plain (Untouched change same) = some_same new.tree old.tree same
-plain_same _ old new plain _ = absurd (cc)
+pub plain_same : {change : Change} {old new : Writing} → is_plain change ≡ true → LeavesPart (Some old) (Some new) change → new.tree ≡ old.tree
+plain_same {old} {new} plain (Untouched change same) = some_same new.tree old.tree same
+plain_same plain _ = absurd (cc)
 
 -- ---- a new root
 
 root_left : (job : Job) (past : Past) (start : Tree) (number : ℕ) (item : Item) (held : Held) (old new : Writing) → HeldAt job past (phase.RootMake number) held → DestPart job past (phase.RootMake number) held start old → slice_get (root_script job.tuples) number ≡ Some item
     → LeavesPart (Some old) (Some new) (Makes item) → IsLeftTree job start new
-root_left job past start number (MakeFolder path) held old new at dest is left = same_left job past start (phase.RootMake number) held old new at dest (plain_same (Makes (MakeFolder path)) old new refl left)
+root_left job past start number (MakeFolder path) held old new at dest is left = same_left job past start (phase.RootMake number) held old new at dest (plain_same refl left)
 root_left job past start number (MakeFile path bytes) held old new at dest is (Untouched change same) = same_left job past start (phase.RootMake number) held old new at dest (some_same new.tree old.tree same)
 root_left job past start number (MakeFile path bytes) held old new at dest is (OfFile p b count same) =
     let tree_is = some_same new.tree (done (MakeFile path (take count bytes)) old.tree) same in
@@ -88,8 +88,8 @@ root_left job past start number (MakeFile path bytes) held old new at dest is (O
     record {
       tree = subst IsTree (sym tree_is) (tree_put old.tree path (Bytes (take count bytes)) dest.tree (root_item_made job start number (MakeFile path bytes) old dest.started is dest.at));
       left = record {
-        kept = root_kept job start new.tree (take number (root_script job.tuples)) old dest.at
-            (stands_cut (root_script job.tuples) (take number (root_script job.tuples)) path bytes count start new.tree next (tree_is ∙ ap (done (MakeFile path (take count bytes))) dest.at.tree));
+        kept = root_kept job dest.at
+            (stands_cut path bytes count start next (tree_is ∙ ap (done (MakeFile path (take count bytes))) dest.at.tree));
         stood = inl (record { free = dest.at.free; root = inl dest.at.root });
       };
     }
@@ -107,15 +107,15 @@ part_left job past start object here path bytes held old new at dest next (OfFil
       tree = subst IsTree (sym tree_is) (tree_put old.tree path (Bytes (take count bytes)) dest.tree may);
       left = record {
         kept = made_kept job past start object held 0 front new.tree dest.started at.ends.0 at.rows (omega arith) old dest.at
-            (stands_cut (script_of_object job object held.rows past.bytes) front path bytes count (with_root start (root_on_way job start past.placed object.place 0)) new.tree next (tree_is ∙ ap (done (MakeFile path (take count bytes))) dest.at.tree));
+            (stands_cut path bytes count (with_root start (root_on_way job start past.placed object.place 0)) next (tree_is ∙ ap (done (MakeFile path (take count bytes))) dest.at.tree));
         stood = inl dest.at.root;
       };
     }
 
-opened_left : (job : Job) (past : Past) (start : Tree) (object : Object) (position : Position) (held : Held) (row : Row) (old new : Writing) → HeldAt job past (phase.Make object (a_part.Content position)) held → DestPart job past (phase.Make object (a_part.Content position)) held start old
+opened_left : {job : Job} {past : Past} {start : Tree} {object : Object} {position : Position} {held : Held} (row : Row) {old new : Writing} → HeldAt job past (phase.Make object (a_part.Content position)) held → DestPart job past (phase.Make object (a_part.Content position)) held start old
     → IsNext (script_of_object job object held.rows past.bytes) (made_before job object held.rows past.bytes (a_part.Content position)) (MakeFile (in_content row.path) (past.bytes row.path)) → LeavesPart (Some old) (Some new) (Creates (in_content row.path)) → IsLeftTree job start new
-opened_left job past start object position held row old new at dest next (Untouched change same) = same_left job past start (phase.Make object (a_part.Content position)) held old new at dest (some_same new.tree old.tree same)
-opened_left job past start object position held row old new at dest next (NewFile p same) =
+opened_left {job} {past} {start} {object} {position} {held} row {old} {new} at dest next (Untouched change same) = same_left job past start (phase.Make object (a_part.Content position)) held old new at dest (some_same new.tree old.tree same)
+opened_left {job} {past} {start} {object} {position} {held} row {old} {new} at dest next (NewFile p same) =
     let front = made_before job object held.rows past.bytes (a_part.Content position) in
     let item = MakeFile (in_content row.path) [] in
     let tree_is = some_same new.tree (done (MakeFile (in_content row.path) []) old.tree) same in
@@ -128,8 +128,8 @@ opened_left job past start object position held row old new at dest next (NewFil
       };
     }
 
-fed_held : (job : Job) (past : Past) (object : Object) (position : Position) (left : ℕ) (held : Held) (fed : List ℕ) → HeldAt job past (phase.Copy object position left) held → HeldAt job past (phase.Copy object position left) (with_fed held fed)
-fed_held job past object position left held fed at = record {
+fed_held : {job : Job} {past : Past} {object : Object} {position : Position} {left : ℕ} {held : Held} (fed : List ℕ) → HeldAt job past (phase.Copy object position left) held → HeldAt job past (phase.Copy object position left) (with_fed held fed)
+fed_held {job} {past} {held} fed at = record {
   trail = record { is_one = at.trail.is_one; none = tt; entry = tt };
   ends = at.ends;
   rows = fed_rows job past.bytes held fed at.rows;
@@ -138,54 +138,54 @@ fed_held job past object position left held fed at = record {
   fed = tt;
 }
 
-copied_left : (job : Job) (past : Past) (start : Tree) (object : Object) (position : Position) (left : ℕ) (piece : List ℕ) (held : Held) (old new : Writing) → HeldAt job past (phase.Copy object position left) held → DestPart job past (phase.Copy object position left) held start old
+copied_left : {job : Job} {past : Past} {start : Tree} {object : Object} {position : Position} {left : ℕ} (piece : List ℕ) {held : Held} {old new : Writing} → HeldAt job past (phase.Copy object position left) held → DestPart job past (phase.Copy object position left) held start old
     → LeavesPart (Some old) (Some new) (Adds piece) → IsLeftTree job start new
-copied_left job past start object position left piece held old new at dest (Untouched change same) = same_left job past start (phase.Copy object position left) held old new at dest (some_same new.tree old.tree same)
-copied_left job past start object position left piece held old new at dest (OfPiece p count same) =
+copied_left {job} {past} {start} {object} {position} {left} piece {held} {old} {new} at dest (Untouched change same) = same_left job past start (phase.Copy object position left) held old new at dest (some_same new.tree old.tree same)
+copied_left {job} {past} {start} {object} {position} {left} piece {held} {old} {new} at dest (OfPiece p count same) =
     let part = take count piece in
     let it = copied job past start object position left left held old new None part (some_same new (after_append part old) same) dest in
-    record { tree = it.tree; left = kept_now job past start (phase.Copy object position left) (with_fed held (held.fed ++ part)) new (fed_held job past object position left held (held.fed ++ part) at) it }
+    record { tree = it.tree; left = kept_now job past start (phase.Copy object position left) (with_fed held (held.fed ++ part)) new (fed_held (held.fed ++ part) at) it }
 
 -- ---- each turn
 
-starts_left : (job : Job) (past : Past) (start : Tree) (prefix read : List ℕ) (here : Phase) (held : Held) (calls : Calls) (answer : Answer) (old new : Writing) → Starts job here prefix read calls answer → HeldAt job past here held → DestPart job past here held start old
+starts_left : {job : Job} {past : Past} {start : Tree} {prefix read : List ℕ} {here : Phase} {held : Held} {calls : Calls} {answer : Answer} {old new : Writing} → Starts job here prefix read calls answer → HeldAt job past here held → DestPart job past here held start old
     → LeavesPart (Some old) (Some new) calls.change → IsLeftTree job start new
-starts_left job past start prefix read here held calls answer old new (MakesRoot was number item is) at dest left = root_left job past start number item held old new at dest is left
-starts_left job past start prefix read here held calls answer old new _ at dest left = same_left job past start here held old new at dest (plain_same calls.change old new refl left)
+starts_left {job} {past} {start} {held} {old} {new} (MakesRoot was number item is) at dest left = root_left job past start number item held old new at dest is left
+starts_left {job} {past} {start} {here} {held} {old} {new} _ at dest left = same_left job past start here held old new at dest (plain_same refl left)
 
-walks_left : (job : Job) (past : Past) (start : Tree) (prefix : List ℕ) (here : Phase) (held after : Held) (calls : Calls) (answer : Answer) (old new : Writing) → Walks job prefix here held after calls answer → HeldAt job past here held → DestPart job past here held start old → LeavesPart (Some old) (Some new) calls.change → IsLeftTree job start new
-walks_left job past start prefix here held after calls answer old new (OpensRoot _ _) at dest left = same_left job past start here held old new at dest (plain_same calls.change old new refl left)
-walks_left job past start prefix here held after calls answer old new _ at dest left = same_left job past start here held old new at dest (plain_same calls.change old new refl left)
+walks_left : {job : Job} {past : Past} {start : Tree} {prefix : List ℕ} {here : Phase} {held after : Held} {calls : Calls} {answer : Answer} {old new : Writing} → Walks job prefix here held after calls answer → HeldAt job past here held → DestPart job past here held start old → LeavesPart (Some old) (Some new) calls.change → IsLeftTree job start new
+walks_left {job} {past} {start} {here} {held} {old} {new} (OpensRoot _ _) at dest left = same_left job past start here held old new at dest (plain_same refl left)
+walks_left {job} {past} {start} {here} {held} {old} {new} _ at dest left = same_left job past start here held old new at dest (plain_same refl left)
 
-scans_left : (job : Job) (past : Past) (start : Tree) (here : Phase) (held after : Held) (calls : Calls) (answer : Answer) (old new : Writing) → Scans job here held after calls answer → HeldAt job past here held → DestPart job past here held start old → LeavesPart (Some old) (Some new) calls.change → IsLeftTree job start new
-scans_left job past start here held after calls answer old new (StartsInSite _ _ _) at dest left = same_left job past start here held old new at dest (plain_same calls.change old new refl left)
-scans_left job past start here held after calls answer old new _ at dest left = same_left job past start here held old new at dest (plain_same calls.change old new refl left)
+scans_left : {job : Job} {past : Past} {start : Tree} {here : Phase} {held after : Held} {calls : Calls} {answer : Answer} {old new : Writing} → Scans job here held after calls answer → HeldAt job past here held → DestPart job past here held start old → LeavesPart (Some old) (Some new) calls.change → IsLeftTree job start new
+scans_left {job} {past} {start} {here} {held} {old} {new} (StartsInSite _ _ _) at dest left = same_left job past start here held old new at dest (plain_same refl left)
+scans_left {job} {past} {start} {here} {held} {old} {new} _ at dest left = same_left job past start here held old new at dest (plain_same refl left)
 
-places_left : (job : Job) (counts : Counts) (past : Past) (start : Tree) (here : Phase) (held after : Held) (calls : Calls) (answer : Answer) (old new : Writing) → Places job counts here held after calls answer → HeldAt job past here held → DestPart job past here held start old → LeavesPart (Some old) (Some new) calls.change → IsLeftTree job start new
-places_left job counts past start here held after calls answer old new (MakesTuple _ _ _) at dest left = same_left job past start here held old new at dest (plain_same calls.change old new refl left)
-places_left job counts past start here held after calls answer old new _ at dest left = same_left job past start here held old new at dest (plain_same calls.change old new refl left)
+places_left : {job : Job} {counts : Counts} {past : Past} {start : Tree} {here : Phase} {held after : Held} {calls : Calls} {answer : Answer} {old new : Writing} → Places job counts here held after calls answer → HeldAt job past here held → DestPart job past here held start old → LeavesPart (Some old) (Some new) calls.change → IsLeftTree job start new
+places_left {job} {past} {start} {here} {held} {old} {new} (MakesTuple _ _ _) at dest left = same_left job past start here held old new at dest (plain_same refl left)
+places_left {job} {past} {start} {here} {held} {old} {new} _ at dest left = same_left job past start here held old new at dest (plain_same refl left)
 
-makes_left : (job : Job) (past : Past) (start : Tree) (here : Phase) (held after : Held) (calls : Calls) (answer : Answer) (old new : Writing) → Makings job here held after calls answer → HeldAt job past here held → DestPart job past here held start old
+makes_left : {job : Job} {past : Past} {start : Tree} {here : Phase} {held after : Held} {calls : Calls} {answer : Answer} {old new : Writing} → Makings job here held after calls answer → HeldAt job past here held → DestPart job past here held start old
     → LeavesPart (Some old) (Some new) calls.change → IsLeftTree job start new
-makes_left job past start here held after calls answer old new (MakesStaging was object) at dest broken = same_left job past start here held old new at dest (plain_same calls.change old new refl broken)
-makes_left job past start here held after calls answer old new (MakesDeclaration was object) at dest left = part_left job past start object a_part.Declaration (staging ++ object_declaration_name ∷ []) object_declaration_bytes was old new at dest (next_declaration job object was.rows past.bytes) left
-makes_left job past start here held after calls answer old new (MakesVersion was object) at dest broken = same_left job past start here held old new at dest (plain_same calls.change old new refl broken)
-makes_left job past start here held after calls answer old new (PassesRow was object position row is other) at dest broken = same_left job past start here held old new at dest (plain_same calls.change old new refl broken)
-makes_left job past start here held after calls answer old new (MakesFolder was object position row is stored more) at dest broken = same_left job past start here held old new at dest (plain_same calls.change old new refl broken)
-makes_left job past start here held after calls answer old new (OpensCopy was object position row is stored all) at dest broken = opened_left job past start object position was row old new at dest (file_next job object was.rows was.contents past.bytes position row (is_here job past object position was row at is stored) (ltb-false position.directories (length row.path) all)) broken
-makes_left job past start here held after calls answer old new (CopiesOn was object position left byte block fits) at dest broken = copied_left job past start object position left (byte ∷ block) was old new at dest broken
-makes_left job past start here held after calls answer old new (EndsCopy was object position row left is same) at dest broken = same_left job past start here held old new at dest (plain_same calls.change old new refl broken)
-makes_left job past start here held after calls answer old new (MakesVersionInventory was object) at dest left = part_left job past start object a_part.VersionInventory (in_version [] ++ inventory_name ∷ []) (text_of_inventory job object was.rows) was old new at dest (next_first job object was.rows past.bytes) left
-makes_left job past start here held after calls answer old new (MakesVersionSidecar was object) at dest left = part_left job past start object a_part.VersionSidecar (in_version [] ++ sidecar_name job.algorithm ∷ []) (sidecar_text job.algorithm (text_of_inventory job object was.rows)) was old new at dest (next_second job object was.rows past.bytes) left
-makes_left job past start here held after calls answer old new (MakesInventory was object) at dest left = part_left job past start object a_part.Inventory (staging ++ inventory_name ∷ []) (text_of_inventory job object was.rows) was old new at dest (next_third job object was.rows past.bytes) left
-makes_left job past start here held after calls answer old new (MakesSidecar was object) at dest left = part_left job past start object a_part.Sidecar (staging ++ sidecar_name job.algorithm ∷ []) (sidecar_text job.algorithm (text_of_inventory job object was.rows)) was old new at dest (next_fourth job object was.rows past.bytes) left
-makes_left job past start here held after calls answer old new (ReadsMore was object position left byte block e) at dest broken = same_left job past start here held old new at dest (plain_same calls.change old new refl broken)
-makes_left job past start here held after calls answer old new (ReadsOther was object position row left is e) at dest broken = same_left job past start here held old new at dest (plain_same calls.change old new refl broken)
+makes_left {job} {past} {start} {here} {held} {old} {new} (MakesStaging was object) at dest broken = same_left job past start here held old new at dest (plain_same refl broken)
+makes_left {job} {past} {start} {old} {new} (MakesDeclaration was object) at dest left = part_left job past start object a_part.Declaration (staging ++ object_declaration_name ∷ []) object_declaration_bytes was old new at dest (next_declaration job object was.rows past.bytes) left
+makes_left {job} {past} {start} {here} {held} {old} {new} (MakesVersion was object) at dest broken = same_left job past start here held old new at dest (plain_same refl broken)
+makes_left {job} {past} {start} {here} {held} {old} {new} (PassesRow was object position row is other) at dest broken = same_left job past start here held old new at dest (plain_same refl broken)
+makes_left {job} {past} {start} {here} {held} {old} {new} (MakesFolder was object position row is stored more) at dest broken = same_left job past start here held old new at dest (plain_same refl broken)
+makes_left {job} {past} (OpensCopy was object position row is stored all) at dest broken = opened_left row at dest (file_next job object was.rows was.contents past.bytes position row (is_here job past object position was row at is stored) (ltb-false position.directories (length row.path) all)) broken
+makes_left (CopiesOn was object position left byte block fits) at dest broken = copied_left (byte ∷ block) at dest broken
+makes_left {job} {past} {start} {here} {held} {old} {new} (EndsCopy was object position row left is same) at dest broken = same_left job past start here held old new at dest (plain_same refl broken)
+makes_left {job} {past} {start} {old} {new} (MakesVersionInventory was object) at dest left = part_left job past start object a_part.VersionInventory (in_version [] ++ inventory_name ∷ []) (text_of_inventory job object was.rows) was old new at dest (next_first job object was.rows past.bytes) left
+makes_left {job} {past} {start} {old} {new} (MakesVersionSidecar was object) at dest left = part_left job past start object a_part.VersionSidecar (in_version [] ++ sidecar_name job.algorithm ∷ []) (sidecar_text job.algorithm (text_of_inventory job object was.rows)) was old new at dest (next_second job object was.rows past.bytes) left
+makes_left {job} {past} {start} {old} {new} (MakesInventory was object) at dest left = part_left job past start object a_part.Inventory (staging ++ inventory_name ∷ []) (text_of_inventory job object was.rows) was old new at dest (next_third job object was.rows past.bytes) left
+makes_left {job} {past} {start} {old} {new} (MakesSidecar was object) at dest left = part_left job past start object a_part.Sidecar (staging ++ sidecar_name job.algorithm ∷ []) (sidecar_text job.algorithm (text_of_inventory job object was.rows)) was old new at dest (next_fourth job object was.rows past.bytes) left
+makes_left {job} {past} {start} {here} {held} {old} {new} (ReadsMore was object position left byte block e) at dest broken = same_left job past start here held old new at dest (plain_same refl broken)
+makes_left {job} {past} {start} {here} {held} {old} {new} (ReadsOther was object position row left is e) at dest broken = same_left job past start here held old new at dest (plain_same refl broken)
 
-pub follows_left : (job : Job) (past : Past) (start : Tree) (counts : Counts) (here : Phase) (prefix : List ℕ) (held : Held) (read : List ℕ) (after : Held) (calls : Calls) (answer : Answer) (old new : Writing) → Follows job counts here prefix held read after calls answer
+pub follows_left : {job : Job} {past : Past} {start : Tree} {counts : Counts} {here : Phase} {prefix : List ℕ} {held : Held} {read : List ℕ} {after : Held} {calls : Calls} {answer : Answer} {old new : Writing} → Follows job counts here prefix held read after calls answer
     → HeldAt job past here held → DestPart job past here held start old → LeavesPart (Some old) (Some new) calls.change → IsLeftTree job start new
-follows_left job past start counts here prefix held read after calls answer old new (a_start h p r w c a turn) at dest left = starts_left job past start prefix read here held calls answer old new turn at dest left
-follows_left job past start counts here prefix held read after calls answer old new (Walk h p w n c a turn) at dest left = walks_left job past start prefix here held after calls answer old new turn at dest left
-follows_left job past start counts here prefix held read after calls answer old new (Scan h p w n c a turn) at dest left = scans_left job past start here held after calls answer old new turn at dest left
-follows_left job past start counts here prefix held read after calls answer old new (Make h p w n c a turn) at dest left = makes_left job past start here held after calls answer old new turn at dest left
-follows_left job past start counts here prefix held read after calls answer old new (Place h p w n c a turn) at dest left = places_left job counts past start here held after calls answer old new turn at dest left
+follows_left (a_start h p r w c a turn) at dest left = starts_left turn at dest left
+follows_left (Walk h p w n c a turn) at dest left = walks_left turn at dest left
+follows_left (Scan h p w n c a turn) at dest left = scans_left turn at dest left
+follows_left (Make h p w n c a turn) at dest left = makes_left turn at dest left
+follows_left (Place h p w n c a turn) at dest left = places_left turn at dest left

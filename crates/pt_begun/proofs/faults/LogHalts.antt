@@ -8,7 +8,7 @@ use Rattle.pt_tree.specs.Tree.{Tree}
 use Rattle.pt_plan.specs.Answer.{Answer}
 use Rattle.pt_plan.specs.Carried.{Carried}
 use Rattle.pt_plan.specs.Job.{Job}
-use Rattle.pt_plan.specs.Run.{Counts, Held, turning}
+use Rattle.pt_plan.specs.Run.{Counts, Held}
 use Rattle.pt_plan.specs.Turn.{Did, FailsAtFirst, FailsLater, Follows, IsRefused, LeavesSome, Stays, Start as a_start, Walk, Scan, Make, Place}
 use Rattle.pt_plan.specs.TurnMake.{Makings}
 use Rattle.pt_plan.specs.TurnMake as make
@@ -33,22 +33,22 @@ use Rattle.pt_begun.proofs.ends.TurnEnds.{refused_same}
 
 -- ---- what stands at such a phase
 
-between : (job : Job) (t : Tree) (placed : List Carried) (now : Writing) → IsBetweenObjects job t placed now → IsFree now.tree staging
-between job t placed now at = λ q. ap (λ (x : Tree). x (staging ++ q)) at.tree ∙ at.root.free q
+between : {job : Job} {t : Tree} {placed : List Carried} {now : Writing} → IsBetweenObjects job t placed now → IsFree now.tree staging
+between at = λ q. ap (λ (x : Tree). x (staging ++ q)) at.tree ∙ at.root.free q
 
-before_making : (job : Job) (t : Tree) (placed : List Carried) (object : Object) (now : Writing) → IsMakingObject job t placed object [] 0 now → IsFree now.tree staging
-before_making job t placed object now at = λ q. ap (λ (x : Tree). x (staging ++ q)) at.tree ∙ at.root.free q
+before_making : {job : Job} {t : Tree} {placed : List Carried} {object : Object} {now : Writing} → IsMakingObject job t placed object [] 0 now → IsFree now.tree staging
+before_making at = λ q. ap (λ (x : Tree). x (staging ++ q)) at.tree ∙ at.root.free q
 
-free_there : (job : Job) (past : Past) (here : Phase) (held : Held) (t : Tree) (now : Writing) → may_tell here ≡ true → DestPart job past here held t now → IsFree now.tree staging
-free_there job past phase.OpenRoot held t now tells dest = between job t past.placed now dest.at
-free_there job past phase.Judge held t now tells dest = between job t past.placed now dest.at
-free_there job past (phase.OpenObject object) held t now tells dest = before_making job t past.placed object now dest.at
-free_there job past (phase.Scan object) held t now tells dest = before_making job t past.placed object now dest.at
-free_there job past (phase.Read object bytes) held t now tells dest = before_making job t past.placed object now dest.at
-free_there job past (phase.Line object) held t now tells dest = between job t past.placed now dest.at
-free_there job past phase.Walk held t now tells dest = between job t past.placed now dest.at
-free_there job past phase.End held t now tells dest = between job t past.placed now dest.at
-free_there job past _ held t now tells dest = absurd (cc)
+free_there : {job : Job} {past : Past} (here : Phase) {held : Held} {t : Tree} {now : Writing} → may_tell here ≡ true → DestPart job past here held t now → IsFree now.tree staging
+free_there phase.OpenRoot tells dest = between dest.at
+free_there phase.Judge tells dest = between dest.at
+free_there (phase.OpenObject object) tells dest = before_making dest.at
+free_there (phase.Scan object) tells dest = before_making dest.at
+free_there (phase.Read object bytes) tells dest = before_making dest.at
+free_there (phase.Line object) tells dest = between dest.at
+free_there phase.Walk tells dest = between dest.at
+free_there phase.End tells dest = between dest.at
+free_there _ tells dest = absurd (cc)
 
 -- ---- what its turn does
 
@@ -58,21 +58,21 @@ is_quiet ChangesNothing = true
 is_quiet (Finds path here) = true
 is_quiet _ = false
 
-quiet_leaves : (old new : Option Writing) (change : Change) → LeavesPart old new change → is_quiet change ≡ true → dest_tree new ≡ dest_tree old
-quiet_leaves old new _ (Untouched change same) quiet = same
-quiet_leaves old new _ _ quiet = absurd (cc)
+quiet_leaves : {old new : Option Writing} {change : Change} → LeavesPart old new change → is_quiet change ≡ true → dest_tree new ≡ dest_tree old
+quiet_leaves (Untouched change same) quiet = same
+quiet_leaves _ quiet = absurd (cc)
 
-starts_late : (job : Job) (here : Phase) (prefix read : List ℕ) (calls : Calls) (answer : Answer) → Starts job here prefix read calls answer → may_tell here ≡ false
-starts_late job _ _ _ _ _ (start.IsStore _ _ _) = refl
-starts_late job _ _ _ _ _ _ = refl
+starts_late : {job : Job} {here : Phase} {prefix read : List ℕ} {calls : Calls} {answer : Answer} → Starts job here prefix read calls answer → may_tell here ≡ false
+starts_late (start.IsStore _ _ _) = refl
+starts_late _ = refl
 
-walks_quiet : (job : Job) (prefix : List ℕ) (here : Phase) (held new : Held) (calls : Calls) (answer : Answer) → Walks job prefix here held new calls answer → is_quiet calls.change ≡ true
-walks_quiet job prefix _ held _ _ _ (walk.OpensRoot _ _) = refl
-walks_quiet job prefix _ held _ _ _ _ = refl
+walks_quiet : {job : Job} {prefix : List ℕ} {here : Phase} {held new : Held} {calls : Calls} {answer : Answer} → Walks job prefix here held new calls answer → is_quiet calls.change ≡ true
+walks_quiet (walk.OpensRoot _ _) = refl
+walks_quiet _ = refl
 
-scans_quiet : (job : Job) (here : Phase) (held new : Held) (calls : Calls) (answer : Answer) → Scans job here held new calls answer → is_quiet calls.change ≡ true
-scans_quiet job _ held _ _ _ (scan.StartsInSite _ _ _) = refl
-scans_quiet job _ held _ _ _ _ = refl
+scans_quiet : {job : Job} {here : Phase} {held new : Held} {calls : Calls} {answer : Answer} → Scans job here held new calls answer → is_quiet calls.change ≡ true
+scans_quiet (scan.StartsInSite _ _ _) = refl
+scans_quiet _ = refl
 
 makes_late : (job : Job) (here : Phase) (held new : Held) (calls : Calls) (answer : Answer) → Makings job here held new calls answer → may_tell here ≡ false
 makes_late job _ held _ _ _ (make.MakesStaging _ _) = refl
@@ -83,21 +83,21 @@ places_quiet job counts _ held _ _ _ (place.TellsDone _ object) tells = refl
 places_quiet job counts _ held _ _ _ (place.TellsEnd _) tells = refl
 places_quiet job counts _ held _ _ _ _ tells = absurd (cc)
 
-follows_quiet : (job : Job) (counts : Counts) (here : Phase) (prefix : List ℕ) (held : Held) (read : List ℕ) (after : Held) (calls : Calls) (answer : Answer) → Follows job counts here prefix held read after calls answer → may_tell here ≡ true → is_quiet calls.change ≡ true
-follows_quiet job counts here prefix held read after calls answer (a_start h p r w c a turn) tells = let late = starts_late job here prefix read calls answer turn in absurd (let no : true ≡ false = sym tells ∙ late in cc)
-follows_quiet job counts here prefix held read after calls answer (Walk h p w n c a turn) tells = walks_quiet job prefix here held after calls answer turn
-follows_quiet job counts here prefix held read after calls answer (Scan h p w n c a turn) tells = scans_quiet job here held after calls answer turn
-follows_quiet job counts here prefix held read after calls answer (Make h p w n c a turn) tells = let late = makes_late job here held after calls answer turn in absurd (let no : true ≡ false = sym tells ∙ late in cc)
-follows_quiet job counts here prefix held read after calls answer (Place h p w n c a turn) tells = places_quiet job counts here held after calls answer turn tells
+follows_quiet : {job : Job} {counts : Counts} {here : Phase} {prefix : List ℕ} {held : Held} {read : List ℕ} {after : Held} {calls : Calls} {answer : Answer} → Follows job counts here prefix held read after calls answer → may_tell here ≡ true → is_quiet calls.change ≡ true
+follows_quiet (a_start h p r w c a turn) tells = let late = starts_late turn in absurd (let no : true ≡ false = sym tells ∙ late in cc)
+follows_quiet (Walk h p w n c a turn) tells = walks_quiet turn
+follows_quiet (Scan h p w n c a turn) tells = scans_quiet turn
+follows_quiet {job} {here} {held} {after} {calls} {answer} (Make h p w n c a turn) tells = let late = makes_late job here held after calls answer turn in absurd (let no : true ≡ false = sym tells ∙ late in cc)
+follows_quiet {job} {counts} {here} {held} {after} {calls} {answer} (Place h p w n c a turn) tells = places_quiet job counts here held after calls answer turn tells
 
 -- ---- the law
 
 -- the start told too
-now_tells : {A B : Type 0} (P : A → B → Type 0) (start : Option A) (now : Option B) (b : B) → now ≡ Some b → TellsAsBefore start now P → (a : A) × P a b
-now_tells P None None b is tells = absurd (cc)
-now_tells P None (Some x) b is tells = absurd (tells)
-now_tells P (Some a) None b is tells = absurd (tells)
-now_tells P (Some a) (Some x) b is tells = (a, subst (λ y. P a y) (some_same x b is) tells)
+now_tells : {A B : Type 0} (P : A → B → Type 0) (start : Option A) (now : Option B) {b : B} → now ≡ Some b → TellsAsBefore start now P → (a : A) × P a b
+now_tells P None None is tells = absurd (cc)
+now_tells P None (Some x) is tells = absurd (tells)
+now_tells P (Some a) None is tells = absurd (tells)
+now_tells P (Some a) (Some x) {b} is tells = (a, subst (λ y. P a y) (some_same x b is) tells)
 
 same_tree : (old : Option Writing) (t : Tree) → Some t ≡ dest_tree old → (w : Writing) × ((old ≡ Some w) × (t ≡ w.tree))
 same_tree None t is = absurd (cc)
@@ -106,15 +106,15 @@ same_tree (Some w) t is = (w, (refl, some_same t w.tree is))
 pub failed_log_leaves_no_staging : FailedLogLeavesNoStaging
 unfolding Begun Did Stays LeavesSome
 failed_log_leaves_no_staging job start old new run after now (past, is) (IsRefused prefix held calls why turn did halted) tells dest_is =
-    let same = refused_same job (turning run.kept).counts run.phase run.kept.prefix run.kept.held prefix held calls why old.dest new.dest turn did.0.dest in
-    let had = now_tells (DestPart job past run.phase run.kept.held) start.dest old.dest now (sym same ∙ dest_is) is.dest in
-    free_there job past run.phase run.kept.held had.0 now tells had.1
+    let same = refused_same turn did.0.dest in
+    let had = now_tells (DestPart job past run.phase run.kept.held) start.dest old.dest (sym same ∙ dest_is) is.dest in
+    free_there run.phase tells had.1
 failed_log_leaves_no_staging job start old new run after now (past, is) (FailsAtFirst why stays halted) tells dest_is =
-    let had = now_tells (DestPart job past run.phase run.kept.held) start.dest old.dest now (sym stays.1 ∙ dest_is) is.dest in
-    free_there job past run.phase run.kept.held had.0 now tells had.1
+    let had = now_tells (DestPart job past run.phase run.kept.held) start.dest old.dest (sym stays.1 ∙ dest_is) is.dest in
+    free_there run.phase tells had.1
 failed_log_leaves_no_staging job start old new run after now (past, is) (FailsLater prefix held calls answer rows why turn leaves which halted) tells dest_is =
-    let quiet = follows_quiet job (turning run.kept).counts run.phase run.kept.prefix run.kept.held prefix held calls answer turn tells in
-    let same = quiet_leaves old.dest new.dest calls.change leaves.0.dest quiet in
+    let quiet = follows_quiet turn tells in
+    let same = quiet_leaves leaves.0.dest quiet in
     let was = same_tree old.dest now.tree (sym (ap dest_tree dest_is) ∙ same) in
-    let had = now_tells (DestPart job past run.phase run.kept.held) start.dest old.dest was.0 was.1.0 is.dest in
-    subst (λ (t : Tree). IsFree t staging) (sym was.1.1) (free_there job past run.phase run.kept.held had.0 was.0 tells had.1)
+    let had = now_tells (DestPart job past run.phase run.kept.held) start.dest old.dest was.1.0 is.dest in
+    subst (λ (t : Tree). IsFree t staging) (sym was.1.1) (free_there run.phase tells had.1)

@@ -18,30 +18,30 @@ use Rattle.pt_begun.proofs.items.ItemLines.{mark_of}
 
 -- ---- the items that there are
 
-pub get_within : {X : Type 0} → (xs : List X) (k : ℕ) (x : X) → slice_get xs k ≡ Some x → suc k ≤ length xs
-get_within [] k x is = absurd (cc)
-get_within (y ∷ xs) zero x is = omega arith
-get_within (y ∷ xs) (suc k) x is = let later = get_within xs k x is in omega (arith, later)
+pub get_within : {X : Type 0} → (xs : List X) (k : ℕ) {x : X} → slice_get xs k ≡ Some x → suc k ≤ length xs
+get_within [] k is = absurd (cc)
+get_within (y ∷ xs) zero is = omega arith
+get_within (y ∷ xs) (suc k) is = let later = get_within xs k is in omega (arith, later)
 
 there_is : {X : Type 0} → (xs : List X) (k : ℕ) → suc k ≤ length xs → (x : X) × (slice_get xs k ≡ Some x)
 there_is [] k within = absurd (omega (arith, within))
 there_is (y ∷ xs) zero within = (y, refl)
 there_is (y ∷ xs) (suc k) within = there_is xs k (omega (arith, within))
 
-some_before : {X Y : Type 0} → (f : X → Y) (o : Option X) (y : Y) → option_map f o ≡ Some y → (x : X) × (o ≡ Some x)
-some_before f None y is = absurd (cc)
-some_before f (Some x) y is = (x, refl)
+some_before : {X Y : Type 0} → (f : X → Y) (o : Option X) {y : Y} → option_map f o ≡ Some y → (x : X) × (o ≡ Some x)
+some_before f None is = absurd (cc)
+some_before f (Some x) is = (x, refl)
 
 -- an item that is marked is one of the items
-pub marked_within : (job : Job) (source : Forest) (root : Tree) (k : ℕ) (m : Marked) → slice_get (marked job source root) k ≡ Some m → suc k ≤ length (items job source)
-marked_within job source root k m is =
-    let it = some_before (λ (item : Item). (item, is_taken job root (take k (items job source)) item.verdict)) (slice_get (items job source) k) m (sym (taken_against_earlier job source root k) ∙ is) in
-    get_within (items job source) k it.0 it.1
+pub marked_within : (job : Job) (source : Forest) (root : Tree) (k : ℕ) {m : Marked} → slice_get (marked job source root) k ≡ Some m → suc k ≤ length (items job source)
+marked_within job source root k is =
+    let it = some_before (λ (item : Item). (item, is_taken job root (take k (items job source)) item.verdict)) (slice_get (items job source) k) (sym (taken_against_earlier job source root k) ∙ is) in
+    get_within (items job source) k it.1
 
 pub marked_at : (job : Job) (source : Forest) (root : Tree) (k : ℕ) → suc k ≤ length (items job source) → (m : Marked) × (slice_get (marked job source root) k ≡ Some m)
 marked_at job source root k within =
     let it = there_is (items job source) k within in
-    ((it.0, is_taken job root (take k (items job source)) it.0.verdict), mark_of job source root k it.0 it.1)
+    ((it.0, is_taken job root (take k (items job source)) it.0.verdict), mark_of job source root k it.1)
 
 -- ---- the most that is told
 
@@ -54,23 +54,23 @@ most_begins job source root k = by (length (items job source) == k) refl
         (line_text (end_line (lines job source root k)), (all_items_are_all job source root k (let same = eqb-true n k is in omega (arith, same))).3)
     by false is = ([], sym (append-nil (text job source root k)))
 
-all_told : (job : Job) (source : Forest) (root : Tree) (k : ℕ) → length (items job source) ≡ k → most_told job source root k ≡ log_of job source root
-all_told job source root k is = ap (λ b. cond b (log_of job source root) (text job source root k)) (eq-eqb (length (items job source)) k is)
+all_told : (job : Job) (source : Forest) (root : Tree) {k : ℕ} → length (items job source) ≡ k → most_told job source root k ≡ log_of job source root
+all_told job source root {k} is = ap (λ b. cond b (log_of job source root) (text job source root k)) (eq-eqb (length (items job source)) k is)
 
 -- ---- after one item more
 
 -- its line may be there in part
-pub told_in_part : (job : Job) (source : Forest) (root : Tree) (k : ℕ) (m : Marked) (front rest log : List ℕ) → slice_get (marked job source root) k ≡ Some m → flat_map line_text (line_of job m) ≡ front ++ rest → log ≡ text job source root k ++ front
+pub told_in_part : (job : Job) (source : Forest) (root : Tree) (k : ℕ) {m : Marked} (front rest : List ℕ) {log : List ℕ} → slice_get (marked job source root) k ≡ Some m → flat_map line_text (line_of job m) ≡ front ++ rest → log ≡ text job source root k ++ front
     → IsLogAfter job source root (suc k) log
-told_in_part job source root k m front rest log is line told =
+told_in_part job source root k {m} front rest {log} is line told =
     let begins = most_begins job source root (suc k) in
     let grown : text job source root (suc k) ≡ log ++ rest =
     (text_grows job source root k m is).1 ∙ ap (λ l. text job source root k ++ l) line ∙ sym (append_assoc (text job source root k) front rest) ∙ ap (λ l. l ++ rest) (sym told) in
     ((front, told), (rest ++ begins.0, begins.1 ∙ ap (λ l. l ++ begins.0) grown ∙ append_assoc log rest begins.0))
 
 -- before it is told
-pub not_told : (job : Job) (source : Forest) (root : Tree) (k : ℕ) (m : Marked) (log : List ℕ) → slice_get (marked job source root) k ≡ Some m → log ≡ text job source root k → IsLogAfter job source root (suc k) log
-not_told job source root k m log is told = told_in_part job source root k m [] (flat_map line_text (line_of job m)) log is refl (told ∙ sym (append-nil (text job source root k)))
+pub not_told : (job : Job) (source : Forest) (root : Tree) (k : ℕ) {m : Marked} {log : List ℕ} → slice_get (marked job source root) k ≡ Some m → log ≡ text job source root k → IsLogAfter job source root (suc k) log
+not_told job source root k {m} is told = told_in_part job source root k [] (flat_map line_text (line_of job m)) is refl (told ∙ sym (append-nil (text job source root k)))
 
 -- ---- between two items
 
@@ -78,7 +78,7 @@ pub told_so_far : (job : Job) (source : Forest) (root : Tree) (k : ℕ) → k �
 told_so_far job source root zero within = refl
 told_so_far job source root (suc k) within =
     let m = marked_at job source root k within in
-    told_in_part job source root k m.0 (flat_map line_text (line_of job m.0)) [] (text job source root (suc k)) m.1 (sym (append-nil (flat_map line_text (line_of job m.0)))) (text_grows job source root k m.0 m.1).1
+    told_in_part job source root k (flat_map line_text (line_of job m.0)) [] m.1 (sym (append-nil (flat_map line_text (line_of job m.0)))) (text_grows job source root k m.0 m.1).1
 
 -- so many items, or all if there are no more: the root after them and their lines are the same
 pub record IsAsAfter (job : Job) (source : Forest) (root : Tree) (count : ℕ) : Type 0 where
@@ -119,16 +119,16 @@ some_items job source is =
 -- ---- at the end
 
 -- where there is an item at all, the end line may be there in part
-pub end_in_part : (job : Job) (source : Forest) (root : Tree) (k count : ℕ) (front rest log : List ℕ) → length (items job source) ≡ suc k → length (items job source) ≤ count
+pub end_in_part : (job : Job) (source : Forest) (root : Tree) (k count : ℕ) (front rest : List ℕ) {log : List ℕ} → length (items job source) ≡ suc k → length (items job source) ≤ count
     → line_text (end_line (lines job source root count)) ≡ front ++ rest → log ≡ text job source root count ++ front → IsLogAfter job source root (suc k) log
-end_in_part job source root k count front rest log many all line told =
+end_in_part job source root k count front rest many all line told =
     let m = marked_at job source root k (omega (arith, many)) in
     let last = flat_map line_text (line_of job m.0) in
     let texts : text job source root count ≡ text job source root k ++ last = texts_alike job source root count (suc k) all (omega (arith, many)) ∙ (text_grows job source root k m.0 m.1).1 in (
       (last ++ front, told ∙ ap (λ l. l ++ front) texts ∙ append_assoc (text job source root k) last front),
       (
         rest,
-        all_told job source root (suc k) many
+        all_told job source root many
             ∙ (all_items_are_all job source root count all).3
             ∙ ap (λ l. text job source root count ++ l) line
             ∙ sym (append_assoc (text job source root count) front rest)

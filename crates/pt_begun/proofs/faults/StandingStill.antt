@@ -49,24 +49,24 @@ rooted_still start root grown = record { stays = λ path entry is. stays path en
     new path none (Some rest) below some = inl (ap is_some below)
 
 -- what stands in the root stands in what objects are put on
-based : (job : Job) (start : Tree) (path : Path) (entry : Entry) → IsTree start → root_in start path ≡ Some entry → base job.tuples (root_in start) path ≡ Some entry
-based job start path entry tree is = by (root_in start []) refl
+based : (job : Job) {start : Tree} (path : Path) {entry : Entry} → IsTree start → root_in start path ≡ Some entry → base job.tuples (root_in start) path ≡ Some entry
+based job {start} path {entry} tree is = by (root_in start []) refl
   where
     by : (o : Option Entry) → root_in start [] ≡ o → base_where job.tuples (root_in start) o path ≡ Some entry
     by None none = absurd (let absent = (roots_have_no_gaps start tree).1 none path in let no : None ≡ Some entry = sym absent ∙ is in cc)
     by (Some top) some = is
 
 -- and with objects, and folders
-grown_objects : (job : Job) (start : Tree) (objects : List Carried) (path : Path) (entry : Entry) → IsTree start → root_in start path ≡ Some entry → with_objects job objects (base job.tuples (root_in start)) path ≡ Some entry
-grown_objects job start objects path entry tree is = ap (λ (here : Option Entry). option_or here (option_or (entry_of_objects job objects path) (folder_where (is_on_the_way job objects path)))) (based job start path entry tree is)
+grown_objects : (job : Job) {start : Tree} (objects : List Carried) (path : Path) {entry : Entry} → IsTree start → root_in start path ≡ Some entry → with_objects job objects (base job.tuples (root_in start)) path ≡ Some entry
+grown_objects job objects path tree is = ap (λ (here : Option Entry). option_or here (option_or (entry_of_objects job objects path) (folder_where (is_on_the_way job objects path)))) (based job path tree is)
 
-objects_still : (job : Job) (start : Tree) (objects : List Carried) → IsTree start → StandsStill start (with_root start (with_objects job objects (base job.tuples (root_in start))))
-objects_still job start objects tree = rooted_still start (with_objects job objects (base job.tuples (root_in start))) (λ path entry is. grown_objects job start objects path entry tree is)
+objects_still : (job : Job) {start : Tree} (objects : List Carried) → IsTree start → StandsStill start (with_root start (with_objects job objects (base job.tuples (root_in start))))
+objects_still job {start} objects tree = rooted_still start (with_objects job objects (base job.tuples (root_in start))) (λ path entry is. grown_objects job objects path tree is)
 
-folders_still : (job : Job) (start : Tree) (objects : List Carried) (folders : List Path) → IsTree start → StandsStill start (with_root start (with_folders folders (with_objects job objects (base job.tuples (root_in start)))))
-folders_still job start objects folders tree =
+folders_still : (job : Job) {start : Tree} (objects : List Carried) (folders : List Path) → IsTree start → StandsStill start (with_root start (with_folders folders (with_objects job objects (base job.tuples (root_in start)))))
+folders_still job {start} objects folders tree =
     rooted_still start (with_folders folders (with_objects job objects (base job.tuples (root_in start))))
-    (λ path entry is. ap (λ (here : Option Entry). option_or here (folder_where (list_any (same_path path) folders))) (grown_objects job start objects path entry tree is))
+    (λ path entry is. ap (λ (here : Option Entry). option_or here (folder_where (list_any (same_path path) folders))) (grown_objects job objects path tree is))
 
 -- ---- in `staging`
 
@@ -97,14 +97,14 @@ cut_in count (item ∷ next ∷ items) all =
     let parts = and_parts (in_staging item) (list_all in_staging (next ∷ items)) all in
     and_from (in_staging item) (list_all in_staging (cut_last count (next ∷ items))) parts.0 (cut_in count (next ∷ items) parts.1)
 
-prefix_beside : (items : List Item) (start now : Tree) → StandsAtPrefix (map (item_in staging) items) start now → (path : Path) → rest_below staging path ≡ None → now path ≡ start path
-prefix_beside items start now at path out =
+prefix_beside : (items : List Item) {start now : Tree} → StandsAtPrefix (map (item_in staging) items) start now → (path : Path) → rest_below staging path ≡ None → now path ≡ start path
+prefix_beside items {start} at path out =
     let front = take at.items (map (item_in staging) items) in
     ap (λ (t : Tree). t path) at.stands
     ∙ made_beside (cut_last at.bytes front) start path (cut_in at.bytes front (all_take in_staging at.items (map (item_in staging) items) (items_in items))) out
 
-content_beside : (items : List Item) (start now : Tree) → StandsAtContent (map (item_in staging) items) start now → (path : Path) → rest_below staging path ≡ None → now path ≡ start path
-content_beside items start now at path out =
+content_beside : (items : List Item) {start now : Tree} → StandsAtContent (map (item_in staging) items) start now → (path : Path) → rest_below staging path ≡ None → now path ≡ start path
+content_beside items {start} at path out =
     let script = map (item_in staging) items in
     let inside = first_passes in_staging at.items script (MakeFile at.path at.bytes) at.next (all_drop in_staging at.items script (items_in items)) in
     ap (λ (t : Tree). t path) at.stands
@@ -112,8 +112,8 @@ content_beside items start now at path out =
     ∙ made_beside (take at.items script) start path (all_take in_staging at.items script (items_in items)) out
 
 -- with something made there, where nothing stood
-made_still : (start mid now : Tree) → IsFree start staging → StandsStill start mid → ((path : Path) → rest_below staging path ≡ None → now path ≡ mid path) → StandsStill start now
-made_still start mid now free still beside = record { stays = λ path entry is. stays path entry is (rest_below staging path) refl; new = λ path none some. new path none some (rest_below staging path) refl }
+made_still : {start mid : Tree} (now : Tree) → IsFree start staging → StandsStill start mid → ((path : Path) → rest_below staging path ≡ None → now path ≡ mid path) → StandsStill start now
+made_still {start} now free still beside = record { stays = λ path entry is. stays path entry is (rest_below staging path) refl; new = λ path none some. new path none some (rest_below staging path) refl }
   where
     stays : (path : Path) (entry : Entry) → start path ≡ Some entry → (o : Option Path) → rest_below staging path ≡ o → now path ≡ Some entry
     stays path entry is None below = beside path below ∙ still.stays path entry is
@@ -125,31 +125,31 @@ made_still start mid now free still beside = record { stays = λ path entry is. 
 
 -- ---- whatever is left
 
-kept_still : (job : Job) (start now : Tree) → IsTree start → IsFree start staging → IsKept job start now → StandsStill start now
-kept_still job start _ tree free AsItWas = all_still start
-kept_still job start _ tree free (MakingRoot now none at) = made_still start start now free (all_still start) (prefix_beside (root_items job.tuples) start now at)
-kept_still job start _ tree free (Holding objects come) = objects_still job start objects tree
-kept_still job start _ tree free (Making objects next tuples now come at) =
+kept_still : {job : Job} {start now : Tree} → IsTree start → IsFree start staging → IsKept job start now → StandsStill start now
+kept_still {start} tree free AsItWas = all_still start
+kept_still {job} {start} tree free (MakingRoot now none at) = made_still now free (all_still start) (prefix_beside (root_items job.tuples) at)
+kept_still {job} tree free (Holding objects come) = objects_still job objects tree
+kept_still {job} {start} tree free (Making objects next tuples now come at) =
     let folders = take tuples (tuple_folders job next) in
     let mid = with_root start (with_folders folders (with_objects job objects (base job.tuples (root_in start)))) in
     let rows = rows_of job.algorithm next.files in
     let items = object_items job.algorithm (inventory_text next.id rows job.meta job.algorithm) (stored_files rows (bytes_in next.files)) in
-    made_still start mid now free (folders_still job start objects folders tree)
+    made_still now free (folders_still job objects folders tree)
     (elim at [
-      | inl prefix ↦ prefix_beside items mid now prefix
-      | inr content ↦ content_beside items mid now content
+      | inl prefix ↦ prefix_beside items prefix
+      | inr content ↦ content_beside items content
     ])
 
 pub left_behind_stands_still : LeftBehindStandsStill
 left_behind_stands_still job start now tree left = by left.stood
   where
     by : IsRootOfStart job start ⊎ (now.tree ≡ start) → StandsStill start now.tree
-    by (inl root) = kept_still job start now.tree tree root.free left.kept
+    by (inl root) = kept_still tree root.free left.kept
     by (inr same) = subst (StandsStill start) (sym same) (all_still start)
 
 pub begun_stands_still : BegunStandsStill
 unfolding Begun
 begun_stands_still job start world run t now (past, is) start_is dest_is =
-    let had = both_tell (DestPart job past run.phase run.kept.held) start.dest world.dest t start_is is.dest in
+    let had = both_tell (DestPart job past run.phase run.kept.held) start.dest world.dest start_is is.dest in
     let same = some_same had.0 now (sym had.1 ∙ dest_is) in
     subst (λ (w : Writing). StandsStill t w.tree) same (left_behind_stands_still job t had.0 had.2.started (kept_now job past t run.phase run.kept.held had.0 is.held had.2))

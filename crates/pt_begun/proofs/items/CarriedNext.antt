@@ -39,11 +39,11 @@ use Rattle.pt_begun.proofs.dest.ScriptParts.{IsNext}
 
 -- ---- it is carried so
 
-pub carried_next : (job : Job) (past : Past) (s : Reading) (root : Tree) (prefix : List ℕ) (object : Object) (held : Held) (count : ℕ) → is_proper s.tree ≡ true → HasStarted s.tree prefix → IsScanned job s.tree prefix object held count
+pub carried_next : {job : Job} (past : Past) (s : Reading) (root : Tree) {prefix : List ℕ} {object : Object} {held : Held} {count : ℕ} → is_proper s.tree ≡ true → HasStarted s.tree prefix → IsScanned job s.tree prefix object held count
     → AreHeldThere s.tree object (to_site object held.trail) past.bytes held.rows → IsNextFree job s.tree root count → IsCarriedAs job s.tree root count (object_held object held.rows past.bytes)
-carried_next job past s root prefix object held count proper started it there free =
-    let ends = ends_with job s.tree root prefix object held count started it free in
-    let same = files_are job s.tree object (to_site object held.trail) held.rows object.empty past.bytes (pairtree_proper s.tree started.store proper) it.scanned there in
+carried_next past s root {object} {held} proper started it there free =
+    let ends = ends_with root started it free in
+    let same = files_are s.tree object (to_site object held.trail) past.bytes (pairtree_proper s.tree started.store proper) it.scanned there in
     (ends.m, ends.is, ends.gained ∙ sym (ap (λ (l : List File). record { id = object.id; files = l } ∷ []) same))
 
 -- ---- what is made of it
@@ -66,7 +66,7 @@ module _ (job : Job) (past : Past) (s : Reading) (start : Tree) (object : Object
   pub carrying_left : (n : ℕ) (now : Tree) → IsTree start → IsRootOfStart job start → IsObject job object → AreRows job past.bytes held → n ≤ job.tuples.count → past.placed ≡ carried_among job s.tree (root_in start) past.count
       → IsCarriedAs job s.tree (root_in start) past.count next → StandsAtPrefix (script_of_object job object held.rows past.bytes) (root_here n) now → MayBeLeft job s.tree start now (text job s.tree (root_in start) past.count)
   carrying_left n now tree root it rows few placed is at =
-      let within = marked_within job s.tree (root_in start) past.count is.0 is.1 in
+      let within = marked_within job s.tree (root_in start) past.count is.1 in
       inr (
         root.free,
         Carrying past.count n next now (text job s.tree (root_in start) past.count) is (told_so_far job s.tree (root_in start) past.count (omega (arith, within)))
@@ -77,14 +77,14 @@ module _ (job : Job) (past : Past) (s : Reading) (start : Tree) (object : Object
 -- ---- a content in part
 
 -- a file that holds the first of its bytes
-pub content_stands : (script front : List Item) (path : Path) (bytes fed : List ℕ) (start now : Tree) → IsNext script front (MakeFile path bytes) → BeginsWith fed bytes → now ≡ done (MakeFile path fed) (made front start) → StandsAtPrefix script start now
-content_stands script front path bytes fed start now next begins is =
-    stands_cut script front path bytes (length fed) start now next
+pub content_stands : {script front : List Item} (path : Path) (bytes fed : List ℕ) (start : Tree) {now : Tree} → IsNext script front (MakeFile path bytes) → BeginsWith fed bytes → now ≡ done (MakeFile path fed) (made front start) → StandsAtPrefix script start now
+content_stands {front} path bytes fed start next begins is =
+    stands_cut path bytes (length fed) start next
     (is ∙ ap (λ (b : List ℕ). done (MakeFile path b) (made front start)) (sym (ap (take (length fed)) begins.1 ∙ take-append_seam fed begins.0)))
 
 -- what was read of it is
-pub begins_taken : (n : ℕ) (bytes fed : List ℕ) → fed ≡ take n bytes → BeginsWith fed bytes
-begins_taken n bytes fed is = (drop n bytes, sym (take-append-drop n bytes) ∙ ap (λ l. l ++ drop n bytes) (sym is))
+pub begins_taken : (n : ℕ) (bytes : List ℕ) {fed : List ℕ} → fed ≡ take n bytes → BeginsWith fed bytes
+begins_taken n bytes is = (drop n bytes, sym (take-append-drop n bytes) ∙ ap (λ l. l ++ drop n bytes) (sym is))
 
 -- and a part of that
 pub begins_cut : (n : ℕ) (fed piece bytes : List ℕ) → BeginsWith (fed ++ piece) bytes → BeginsWith (fed ++ take n piece) bytes
@@ -97,8 +97,8 @@ begins_cut n fed piece bytes begins = (
 )
 
 -- the bytes of a row are those of its file
-pub row_bytes : (source : Forest) (object : Object) (trail : List Frame) (bytes : Path → List ℕ) (rows : List Row) (n : ℕ) (row : Row) → length trail ≡ object.site → AreHeldThere source object (to_site object trail) bytes rows → slice_get rows n ≡ Some row
+pub row_bytes : (source : Forest) (object : Object) (trail : List Frame) (bytes : Path → List ℕ) (rows : List Row) (n : ℕ) {row : Row} → length trail ≡ object.site → AreHeldThere source object (to_site object trail) bytes rows → slice_get rows n ≡ Some row
     → bytes row.path ≡ bytes_at (pairtree_of source) (path_of_source object trail ++ row.path)
-row_bytes source object trail bytes rows n row same there is =
-    all_at (λ (r : Row). bytes r.path ≡ bytes_at (pairtree_of source) (path_of_source object (to_site object trail) ++ r.path)) rows n row there is
+row_bytes source object trail bytes rows n {row} same there is =
+    all_at (λ (r : Row). bytes r.path ≡ bytes_at (pairtree_of source) (path_of_source object (to_site object trail) ++ r.path)) rows n there is
     ∙ ap (λ (t : List Frame). bytes_at (pairtree_of source) (path_of_source object t ++ row.path)) (site_itself object trail same)

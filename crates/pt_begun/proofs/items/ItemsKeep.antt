@@ -41,114 +41,114 @@ kept : (job : Job) (past : Past) (s : Reading) (start : Tree) (here next : Phase
     → ToldBefore job s.tree (root_in start) past here → ItemsPart job past here counts s.tree (root_in start) → PlacesItems job s.tree (root_in start) (past_after here next held past) next
     → KeepsItems job past here held counts s start calls next × KeepsLog job past here held s start calls next
 kept job past s start here next held counts calls gained tells told items places = (
-  record { places = places; lines_are = counts_kept job s.tree (root_in start) past.count (done_after here held.trail next past.count) next calls.line counts gained tells items.lines_are },
-  λ log old new had puts. log_kept job s.tree (root_in start) past (past_after here next held past) next calls.line (done_after here held.trail next past.count) log old new gained refl tells (told log old had) puts,
+  record { places = places; lines_are = counts_kept tells items.lines_are },
+  λ log old new had puts. log_kept past (past_after here next held past) log new refl tells (told log old had) puts,
 )
 
 -- ---- the turns begin where the run hasn't ended
 
-starts_told : (job : Job) (source : Forest) (root : Tree) (past : Past) (prefix read : List ℕ) (here next : Phase) (calls : Calls) → Starts job here prefix read calls (Ok next) → ToldBefore job source root past here
-starts_told job source root past prefix read here next calls (IsStore _ _ _) = λ log old had. had
-starts_told job source root past prefix read here next calls _ = λ log old had. had
+starts_told : {job : Job} (source : Forest) (root : Tree) (past : Past) {prefix read : List ℕ} {here next : Phase} {calls : Calls} → Starts job here prefix read calls (Ok next) → ToldBefore job source root past here
+starts_told source root past (IsStore _ _ _) = λ log old had. had
+starts_told source root past _ = λ log old had. had
 
-walks_told : (job : Job) (source : Forest) (root : Tree) (past : Past) (prefix : List ℕ) (here next : Phase) (held after : Held) (calls : Calls) → Walks job prefix here held after calls (Ok next) → ToldBefore job source root past here
-walks_told job source root past prefix here next held after calls (OpensRoot _ _) = λ log old had. had
-walks_told job source root past prefix here next held after calls _ = λ log old had. had
+walks_told : {job : Job} (source : Forest) (root : Tree) (past : Past) {prefix : List ℕ} {here next : Phase} {held after : Held} {calls : Calls} → Walks job prefix here held after calls (Ok next) → ToldBefore job source root past here
+walks_told source root past (OpensRoot _ _) = λ log old had. had
+walks_told source root past _ = λ log old had. had
 
-scans_told : (job : Job) (source : Forest) (root : Tree) (past : Past) (here next : Phase) (held after : Held) (calls : Calls) → Scans job here held after calls (Ok next) → ToldBefore job source root past here
-scans_told job source root past here next held after calls (StartsInSite _ _ _) = λ log old had. had
-scans_told job source root past here next held after calls _ = λ log old had. had
+scans_told : {job : Job} (source : Forest) (root : Tree) (past : Past) {here next : Phase} {held after : Held} {calls : Calls} → Scans job here held after calls (Ok next) → ToldBefore job source root past here
+scans_told source root past (StartsInSite _ _ _) = λ log old had. had
+scans_told source root past _ = λ log old had. had
 
-makes_told : (job : Job) (source : Forest) (root : Tree) (past : Past) (here : Phase) (held after : Held) (calls : Calls) (next : Phase) → Makings job here held after calls (Ok next) → ToldBefore job source root past here
-makes_told job source root past here held after calls next (MakesStaging _ _) = λ log old had. had
-makes_told job source root past here held after calls next _ = λ log old had. had
+makes_told : {job : Job} (source : Forest) (root : Tree) (past : Past) {here : Phase} {held after : Held} {calls : Calls} {next : Phase} → Makings job here held after calls (Ok next) → ToldBefore job source root past here
+makes_told source root past (MakesStaging _ _) = λ log old had. had
+makes_told source root past _ = λ log old had. had
 
-places_told : (job : Job) (counts : Counts) (source : Forest) (root : Tree) (past : Past) (here next : Phase) (held after : Held) (calls : Calls) → Places job counts here held after calls (Ok next) → ToldBefore job source root past here
-places_told job counts source root past here next held after calls (MakesTuple _ _ _) = λ log old had. had
-places_told job counts source root past here next held after calls _ = λ log old had. had
+places_told : {job : Job} {counts : Counts} (source : Forest) (root : Tree) (past : Past) {here next : Phase} {held after : Held} {calls : Calls} → Places job counts here held after calls (Ok next) → ToldBefore job source root past here
+places_told source root past (MakesTuple _ _ _) = λ log old had. had
+places_told source root past _ = λ log old had. had
 
 -- ---- the start
 
-both_phases : (job : Job) (source : Forest) (root : Tree) (past : Past) (p q : Phase) (this : Bool) → PlacesItems job source root past p → PlacesItems job source root past q → PlacesItems job source root past (cond this p q)
-both_phases job source root past p q true one two = one
-both_phases job source root past p q false one two = two
+both_phases : {job : Job} {source : Forest} {root : Tree} {past : Past} {p q : Phase} (this : Bool) → PlacesItems job source root past p → PlacesItems job source root past q → PlacesItems job source root past (cond this p q)
+both_phases true one two = one
+both_phases false one two = two
 
-makes_root : (job : Job) (past : Past) (s : Reading) (start : Tree) (held : Held) (counts : Counts) (number : ℕ) (change : Change) (last : Bool) → ItemsPart job past (phase.RootMake number) counts s.tree (root_in start)
+makes_root : {job : Job} {past : Past} (s : Reading) (start : Tree) (held : Held) {counts : Counts} {number : ℕ} (change : Change) (last : Bool) → ItemsPart job past (phase.RootMake number) counts s.tree (root_in start)
     → KeepsItems job past (phase.RootMake number) held counts s start (does change) (cond last phase.RootRename (phase.RootMake (number + 1))) × KeepsLog job past (phase.RootMake number) held s start (does change) (cond last phase.RootRename (phase.RootMake (number + 1)))
-makes_root job past s start held counts number change true items =
+makes_root {job} {past} s start held {counts} {number} change true items =
     kept job past s start (phase.RootMake number) phase.RootRename held counts (does change) [] (Nothing phase.RootRename) (λ log old had. had) items (record { placed = items.places.placed; next = tt })
-makes_root job past s start held counts number change false items =
+makes_root {job} {past} s start held {counts} {number} change false items =
     kept job past s start (phase.RootMake number) (phase.RootMake (number + 1)) held counts (does change) [] (Nothing (phase.RootMake (number + 1))) (λ log old had. had) items (record { placed = items.places.placed; next = tt })
 
 -- none is placed before the pairtree is opened
-none_placed : (job : Job) (source : Forest) (root : Tree) (count : ℕ) → count ≡ 0 → [] ≡ carried_among job source root count
-none_placed job source root count first = sym (ap (carried_among job source root) first)
+none_placed : (job : Job) (source : Forest) (root : Tree) {count : ℕ} → count ≡ 0 → [] ≡ carried_among job source root count
+none_placed job source root first = sym (ap (carried_among job source root) first)
 
-checks_root : (job : Job) (past : Past) (s : Reading) (start : Tree) (held : Held) (counts : Counts) (number : ℕ) (change : Change) (last : Bool) → past.count ≡ 0 → ItemsPart job past (phase.RootCheck number) counts s.tree (root_in start)
+checks_root : {job : Job} {past : Past} (s : Reading) (start : Tree) (held : Held) {counts : Counts} {number : ℕ} (change : Change) (last : Bool) → past.count ≡ 0 → ItemsPart job past (phase.RootCheck number) counts s.tree (root_in start)
     → KeepsItems job past (phase.RootCheck number) held counts s start (does change) (cond last phase.OpenRoot (phase.RootCheck (number + 1))) × KeepsLog job past (phase.RootCheck number) held s start (does change) (cond last phase.OpenRoot (phase.RootCheck (number + 1)))
-checks_root job past s start held counts number change true first items =
-    kept job past s start (phase.RootCheck number) phase.OpenRoot held counts (does change) [] (Nothing phase.OpenRoot) (λ log old had. had) items (record { placed = none_placed job s.tree (root_in start) past.count first; next = tt })
-checks_root job past s start held counts number change false first items =
+checks_root {job} {past} s start held {counts} {number} change true first items =
+    kept job past s start (phase.RootCheck number) phase.OpenRoot held counts (does change) [] (Nothing phase.OpenRoot) (λ log old had. had) items (record { placed = none_placed job s.tree (root_in start) first; next = tt })
+checks_root {job} {past} s start held {counts} {number} change false first items =
     kept job past s start (phase.RootCheck number) (phase.RootCheck (number + 1)) held counts (does change) [] (Nothing (phase.RootCheck (number + 1))) (λ log old had. had) items (record { placed = items.places.placed; next = tt })
 
 pub starts_items : StartingKeepsItems
 starts_items job past s prefix read start now here next held counts calls (IsStore was entries is) known =
-    kept job past s start here next held counts calls [] (Nothing (phase.Prefix (kind_in entries prefix_file))) (starts_told job s.tree (root_in start) past prefix read here next calls (IsStore was entries is)) known.items (record { placed = known.items.places.placed; next = tt })
+    kept job past s start here next held counts calls [] (Nothing (phase.Prefix (kind_in entries prefix_file))) (starts_told {job = job} s.tree (root_in start) past (IsStore was entries is)) known.items (record { placed = known.items.places.placed; next = tt })
 starts_items job past s prefix read start now here next held counts calls (HasNoStaging was) known =
-    kept job past s start here next held counts calls [] (Nothing phase.Root) (starts_told job s.tree (root_in start) past prefix read here next calls (HasNoStaging was)) known.items (record { placed = known.items.places.placed; next = tt })
+    kept job past s start here next held counts calls [] (Nothing phase.Root) (starts_told {job = job} s.tree (root_in start) past (HasNoStaging was)) known.items (record { placed = known.items.places.placed; next = tt })
 starts_items job past s prefix read start now here next held counts calls (HasNoRoot was) known =
-    kept job past s start here next held counts calls [] (Nothing (phase.RootMake 0)) (starts_told job s.tree (root_in start) past prefix read here next calls (HasNoRoot was)) known.items (record { placed = known.items.places.placed; next = tt })
+    kept job past s start here next held counts calls [] (Nothing (phase.RootMake 0)) (starts_told {job = job} s.tree (root_in start) past (HasNoRoot was)) known.items (record { placed = known.items.places.placed; next = tt })
 starts_items job past s prefix read start now here next held counts calls (HasRoot was) known =
-    kept job past s start here next held counts calls [] (Nothing (phase.RootCheck 0)) (starts_told job s.tree (root_in start) past prefix read here next calls (HasRoot was)) known.items (record { placed = known.items.places.placed; next = tt })
+    kept job past s start here next held counts calls [] (Nothing (phase.RootCheck 0)) (starts_told {job = job} s.tree (root_in start) past (HasRoot was)) known.items (record { placed = known.items.places.placed; next = tt })
 starts_items job past s prefix read start now here next held counts calls (MakesRoot was number item is) known =
-    makes_root job past s start held counts number (Makes item) (number == 5) known.items
+    makes_root s start held (Makes item) (number == 5) known.items
 starts_items job past s prefix read start now here next held counts calls (RenamesRoot was) known =
-    kept job past s start here next held counts calls [] (Nothing phase.OpenRoot) (starts_told job s.tree (root_in start) past prefix read here next calls (RenamesRoot was)) known.items (record { placed = none_placed job s.tree (root_in start) past.count known.source.at.1; next = tt })
+    kept job past s start here next held counts calls [] (Nothing phase.OpenRoot) (starts_told {job = job} s.tree (root_in start) past (RenamesRoot was)) known.items (record { placed = none_placed job s.tree (root_in start) known.source.at.1; next = tt })
 starts_items job past s prefix read start now here next held counts calls (IsSame was number path bytes is) known =
-    checks_root job past s start held counts number (Peeks (storage_root ++ path) bytes) (number == 2) known.source.at.1 known.items
+    checks_root s start held (Peeks (storage_root ++ path) bytes) (number == 2) known.source.at.1 known.items
 starts_items job past s prefix read start now here next held counts calls turn known =
-    kept job past s start here next held counts calls [] (Nothing phase.Staging) (starts_told job s.tree (root_in start) past prefix read here next calls turn) known.items (record { placed = known.items.places.placed; next = tt })
+    kept job past s start here next held counts calls [] (Nothing phase.Staging) (starts_told {job = job} s.tree (root_in start) past turn) known.items (record { placed = known.items.places.placed; next = tt })
 
 -- ---- the walk
 
 pub walks_items : WalkingKeepsItems
 unfolding Changes IsKindAt
 walks_items job past s prefix start now new here next held after counts calls (IsNew was index id is) change known =
-    let tells = walks_tell job past s prefix start now new here next held after calls (IsNew was index id is) known.held_at.trail.is_one known.source (roots_have_no_gaps start known.dest.started).1 known.items.places.placed known.dest.at change in
-    kept job past s start here next held counts calls [] tells (walks_told job s.tree (root_in start) past prefix here next held after calls (IsNew was index id is)) known.items
-    (record { placed = placed_kept job s.tree (root_in start) past.count (done_after here held.trail next past.count) next calls.line [] past.placed refl tells known.items.places.placed; next = new_is_free job past s prefix start now was index id known.source is (roots_have_no_gaps start known.dest.started).1 known.items.places.placed known.dest.at (change.0 now refl) })
+    let tells = walks_tell start now new (IsNew was index id is) known.held_at.trail.is_one known.source (roots_have_no_gaps start known.dest.started).1 known.items.places.placed known.dest.at change in
+    kept job past s start here next held counts calls [] tells (walks_told {job = job} s.tree (root_in start) past {prefix = prefix} (IsNew was index id is)) known.items
+    (record { placed = placed_kept refl tells known.items.places.placed; next = new_is_free index id known.source is (roots_have_no_gaps start known.dest.started).1 known.items.places.placed known.dest.at (change.0 now refl) })
 walks_items job past s prefix start now new here next held after counts calls turn change known =
-    let tells = walks_tell job past s prefix start now new here next held after calls turn known.held_at.trail.is_one known.source (roots_have_no_gaps start known.dest.started).1 known.items.places.placed known.dest.at change in
-    kept job past s start here next held counts calls [] tells (walks_told job s.tree (root_in start) past prefix here next held after calls turn) known.items
-    (record { placed = placed_kept job s.tree (root_in start) past.count (done_after here held.trail next past.count) next calls.line [] past.placed refl tells known.items.places.placed; next = tt })
+    let tells = walks_tell start now new turn known.held_at.trail.is_one known.source (roots_have_no_gaps start known.dest.started).1 known.items.places.placed known.dest.at change in
+    kept job past s start here next held counts calls [] tells (walks_told {job = job} s.tree (root_in start) past {prefix = prefix} turn) known.items
+    (record { placed = placed_kept refl tells known.items.places.placed; next = tt })
 
 -- ---- the scan
 
 pub scans_items : ScanningKeepsItems
 scans_items job past s new prefix start now here next held after counts calls (IsTooDeep was object apart deep) answers known =
-    let tells = scans_tell job past s prefix (root_in start) here next held after calls (IsTooDeep was object apart deep) known.held_at.trail.is_one known.source known.items.places.next new answers in
-    kept job past s start here next held counts calls [] tells (scans_told job s.tree (root_in start) past here next held after calls (IsTooDeep was object apart deep)) known.items
-    (record { placed = placed_kept job s.tree (root_in start) past.count (done_after here held.trail next past.count) next calls.line [] past.placed refl tells known.items.places.placed; next = tt })
+    let tells = scans_tell (root_in start) (IsTooDeep was object apart deep) known.held_at.trail.is_one known.source known.items.places.next new answers in
+    kept job past s start here next held counts calls [] tells (scans_told {job = job} s.tree (root_in start) past (IsTooDeep was object apart deep)) known.items
+    (record { placed = placed_kept refl tells known.items.places.placed; next = tt })
 scans_items job past s new prefix start now here next held after counts calls (MeetsDeep was object name e apart deep) answers known =
-    let tells = scans_tell job past s prefix (root_in start) here next held after calls (MeetsDeep was object name e apart deep) known.held_at.trail.is_one known.source known.items.places.next new answers in
-    kept job past s start here next held counts calls [] tells (scans_told job s.tree (root_in start) past here next held after calls (MeetsDeep was object name e apart deep)) known.items
-    (record { placed = placed_kept job s.tree (root_in start) past.count (done_after here held.trail next past.count) next calls.line [] past.placed refl tells known.items.places.placed; next = tt })
+    let tells = scans_tell (root_in start) (MeetsDeep was object name e apart deep) known.held_at.trail.is_one known.source known.items.places.next new answers in
+    kept job past s start here next held counts calls [] tells (scans_told {job = job} s.tree (root_in start) past (MeetsDeep was object name e apart deep)) known.items
+    (record { placed = placed_kept refl tells known.items.places.placed; next = tt })
 scans_items job past s new prefix start now here next held after counts calls (MeetsLimit was object name e room) answers known =
-    let tells = scans_tell job past s prefix (root_in start) here next held after calls (MeetsLimit was object name e room) known.held_at.trail.is_one known.source known.items.places.next new answers in
-    kept job past s start here next held counts calls [] tells (scans_told job s.tree (root_in start) past here next held after calls (MeetsLimit was object name e room)) known.items
-    (record { placed = placed_kept job s.tree (root_in start) past.count (done_after here held.trail next past.count) next calls.line [] past.placed refl tells known.items.places.placed; next = tt })
+    let tells = scans_tell (root_in start) (MeetsLimit was object name e room) known.held_at.trail.is_one known.source known.items.places.next new answers in
+    kept job past s start here next held counts calls [] tells (scans_told {job = job} s.tree (root_in start) past (MeetsLimit was object name e room)) known.items
+    (record { placed = placed_kept refl tells known.items.places.placed; next = tt })
 scans_items job past s new prefix start now here next held after counts calls (MeetsOther was object name e) answers known =
-    let tells = scans_tell job past s prefix (root_in start) here next held after calls (MeetsOther was object name e) known.held_at.trail.is_one known.source known.items.places.next new answers in
-    kept job past s start here next held counts calls [] tells (scans_told job s.tree (root_in start) past here next held after calls (MeetsOther was object name e)) known.items
-    (record { placed = placed_kept job s.tree (root_in start) past.count (done_after here held.trail next past.count) next calls.line [] past.placed refl tells known.items.places.placed; next = tt })
+    let tells = scans_tell (root_in start) (MeetsOther was object name e) known.held_at.trail.is_one known.source known.items.places.next new answers in
+    kept job past s start here next held counts calls [] tells (scans_told {job = job} s.tree (root_in start) past (MeetsOther was object name e)) known.items
+    (record { placed = placed_kept refl tells known.items.places.placed; next = tt })
 scans_items job past s new prefix start now here next held after counts calls (IsTooLong was object bytes byte block long) answers known =
-    let tells = scans_tell job past s prefix (root_in start) here next held after calls (IsTooLong was object bytes byte block long) known.held_at.trail.is_one known.source known.items.places.next new answers in
-    kept job past s start here next held counts calls [] tells (scans_told job s.tree (root_in start) past here next held after calls (IsTooLong was object bytes byte block long)) known.items
-    (record { placed = placed_kept job s.tree (root_in start) past.count (done_after here held.trail next past.count) next calls.line [] past.placed refl tells known.items.places.placed; next = tt })
+    let tells = scans_tell (root_in start) (IsTooLong was object bytes byte block long) known.held_at.trail.is_one known.source known.items.places.next new answers in
+    kept job past s start here next held counts calls [] tells (scans_told {job = job} s.tree (root_in start) past (IsTooLong was object bytes byte block long)) known.items
+    (record { placed = placed_kept refl tells known.items.places.placed; next = tt })
 scans_items job past s new prefix start now here next held after counts calls turn answers known =
-    let tells = scans_tell job past s prefix (root_in start) here next held after calls turn known.held_at.trail.is_one known.source known.items.places.next new answers in
-    kept job past s start here next held counts calls [] tells (scans_told job s.tree (root_in start) past here next held after calls turn) known.items
-    (record { placed = placed_kept job s.tree (root_in start) past.count (done_after here held.trail next past.count) next calls.line [] past.placed refl tells known.items.places.placed; next = known.items.places.next })
+    let tells = scans_tell (root_in start) turn known.held_at.trail.is_one known.source known.items.places.next new answers in
+    kept job past s start here next held counts calls [] tells (scans_told {job = job} s.tree (root_in start) past turn) known.items
+    (record { placed = placed_kept refl tells known.items.places.placed; next = known.items.places.next })
 
 -- ---- an object is made
 
@@ -161,27 +161,27 @@ after_sidecar job past s start object held counts change false items =
 
 pub makes_items : MakingKeepsItems
 makes_items job past s prefix start now here held after counts calls next (MakesStaging was object) known =
-    kept job past s start here next held counts calls [] (Nothing (phase.Make object part.Declaration)) (makes_told job s.tree (root_in start) past here held after calls next (MakesStaging was object)) known.items (record { placed = known.items.places.placed; next = known.items.places.next })
+    kept job past s start here next held counts calls [] (Nothing (phase.Make object part.Declaration)) (makes_told {job = job} s.tree (root_in start) past (MakesStaging was object)) known.items (record { placed = known.items.places.placed; next = known.items.places.next })
 makes_items job past s prefix start now here held after counts calls next (MakesDeclaration was object) known =
-    kept job past s start here next held counts calls [] (Nothing (phase.Make object part.Version)) (makes_told job s.tree (root_in start) past here held after calls next (MakesDeclaration was object)) known.items (record { placed = known.items.places.placed; next = known.items.places.next })
+    kept job past s start here next held counts calls [] (Nothing (phase.Make object part.Version)) (makes_told {job = job} s.tree (root_in start) past (MakesDeclaration was object)) known.items (record { placed = known.items.places.placed; next = known.items.places.next })
 makes_items job past s prefix start now here held after counts calls next (MakesVersion was object) known =
-    kept job past s start here next held counts calls [] (Nothing (phase.Make object (content_at was.rows (record { row = 0; stored = 0; directories = 0 })))) (makes_told job s.tree (root_in start) past here held after calls next (MakesVersion was object)) known.items (record { placed = known.items.places.placed; next = known.items.places.next })
+    kept job past s start here next held counts calls [] (Nothing (phase.Make object (content_at was.rows (record { row = 0; stored = 0; directories = 0 })))) (makes_told {job = job} s.tree (root_in start) past (MakesVersion was object)) known.items (record { placed = known.items.places.placed; next = known.items.places.next })
 makes_items job past s prefix start now here held after counts calls next (PassesRow was object position row is other) known =
-    kept job past s start here next held counts calls [] (Nothing (phase.Make object (content_at was.rows (behind position)))) (makes_told job s.tree (root_in start) past here held after calls next (PassesRow was object position row is other)) known.items (record { placed = known.items.places.placed; next = known.items.places.next })
+    kept job past s start here next held counts calls [] (Nothing (phase.Make object (content_at was.rows (behind position)))) (makes_told {job = job} s.tree (root_in start) past (PassesRow was object position row is other)) known.items (record { placed = known.items.places.placed; next = known.items.places.next })
 makes_items job past s prefix start now here held after counts calls next (MakesFolder was object position row is stored more) known =
-    kept job past s start here next held counts calls [] (Nothing (phase.Make object (part.Content (with_folder position)))) (makes_told job s.tree (root_in start) past here held after calls next (MakesFolder was object position row is stored more)) known.items (record { placed = known.items.places.placed; next = known.items.places.next })
+    kept job past s start here next held counts calls [] (Nothing (phase.Make object (part.Content (with_folder position)))) (makes_told {job = job} s.tree (root_in start) past (MakesFolder was object position row is stored more)) known.items (record { placed = known.items.places.placed; next = known.items.places.next })
 makes_items job past s prefix start now here held after counts calls next (OpensCopy was object position row is stored all) known =
-    kept job past s start here next held counts calls [] (Nothing (phase.Copy object position row.length)) (makes_told job s.tree (root_in start) past here held after calls next (OpensCopy was object position row is stored all)) known.items (record { placed = known.items.places.placed; next = known.items.places.next })
+    kept job past s start here next held counts calls [] (Nothing (phase.Copy object position row.length)) (makes_told {job = job} s.tree (root_in start) past (OpensCopy was object position row is stored all)) known.items (record { placed = known.items.places.placed; next = known.items.places.next })
 makes_items job past s prefix start now here held after counts calls next (CopiesOn was object position left byte block fits) known =
-    kept job past s start here next held counts calls [] (Nothing (phase.Copy object position (left - length (byte ∷ block)))) (makes_told job s.tree (root_in start) past here held after calls next (CopiesOn was object position left byte block fits)) known.items (record { placed = known.items.places.placed; next = known.items.places.next })
+    kept job past s start here next held counts calls [] (Nothing (phase.Copy object position (left - length (byte ∷ block)))) (makes_told {job = job} s.tree (root_in start) past (CopiesOn was object position left byte block fits)) known.items (record { placed = known.items.places.placed; next = known.items.places.next })
 makes_items job past s prefix start now here held after counts calls next (EndsCopy was object position row left is same) known =
-    kept job past s start here next held counts calls [] (Nothing (phase.Make object (content_at was.rows (behind_stored was.contents position row.path)))) (makes_told job s.tree (root_in start) past here held after calls next (EndsCopy was object position row left is same)) known.items (record { placed = known.items.places.placed; next = known.items.places.next })
+    kept job past s start here next held counts calls [] (Nothing (phase.Make object (content_at was.rows (behind_stored was.contents position row.path)))) (makes_told {job = job} s.tree (root_in start) past (EndsCopy was object position row left is same)) known.items (record { placed = known.items.places.placed; next = known.items.places.next })
 makes_items job past s prefix start now here held after counts calls next (MakesVersionInventory was object) known =
-    kept job past s start here next held counts calls [] (Nothing (phase.Make object part.VersionSidecar)) (makes_told job s.tree (root_in start) past here held after calls next (MakesVersionInventory was object)) known.items (record { placed = known.items.places.placed; next = known.items.places.next })
+    kept job past s start here next held counts calls [] (Nothing (phase.Make object part.VersionSidecar)) (makes_told {job = job} s.tree (root_in start) past (MakesVersionInventory was object)) known.items (record { placed = known.items.places.placed; next = known.items.places.next })
 makes_items job past s prefix start now here held after counts calls next (MakesVersionSidecar was object) known =
-    kept job past s start here next held counts calls [] (Nothing (phase.Make object part.Inventory)) (makes_told job s.tree (root_in start) past here held after calls next (MakesVersionSidecar was object)) known.items (record { placed = known.items.places.placed; next = known.items.places.next })
+    kept job past s start here next held counts calls [] (Nothing (phase.Make object part.Inventory)) (makes_told {job = job} s.tree (root_in start) past (MakesVersionSidecar was object)) known.items (record { placed = known.items.places.placed; next = known.items.places.next })
 makes_items job past s prefix start now here held after counts calls next (MakesInventory was object) known =
-    kept job past s start here next held counts calls [] (Nothing (phase.Make object part.Sidecar)) (makes_told job s.tree (root_in start) past here held after calls next (MakesInventory was object)) known.items (record { placed = known.items.places.placed; next = known.items.places.next })
+    kept job past s start here next held counts calls [] (Nothing (phase.Make object part.Sidecar)) (makes_told {job = job} s.tree (root_in start) past (MakesInventory was object)) known.items (record { placed = known.items.places.placed; next = known.items.places.next })
 makes_items job past s prefix start now here held after counts calls next (MakesSidecar was object) known =
     after_sidecar job past s start object was counts (Makes (sidecar_file job object was.rows staging)) (job.tuples.count == 0) known.items
 
@@ -198,15 +198,15 @@ pub places_items : PlacingKeepsItems
 places_items job past s prefix start now here next held after counts calls (MakesTuple was object number) known = after_a_tuple job past s start object was counts number (FindsNoneAndMakes (tuple_folder object number)) (nat_lt (number + 1) job.tuples.count) known.items
 places_items job past s prefix start now here next held after counts calls (FindsTuple was object number) known = after_a_tuple job past s start object was counts number (Finds (tuple_folder object number) (Some kind.Dir)) (nat_lt (number + 1) job.tuples.count) known.items
 places_items job past s prefix start now here next held after counts calls (RenamesObject was object) known =
-    kept job past s start here next held counts calls [] (Nothing (phase.Line object)) (places_told job counts s.tree (root_in start) past here next held after calls (RenamesObject was object)) known.items
+    kept job past s start here next held counts calls [] (Nothing (phase.Line object)) (places_told {job = job} {counts = counts} s.tree (root_in start) past (RenamesObject was object)) known.items
     (record {
       placed =
           ap (λ (l : List Carried). l ++ object_held object was.rows past.bytes ∷ []) known.items.places.placed
-          ∙ sym (held_is_carried job past s (root_in start) prefix object was past.count known.source.proper known.source.at.0 known.source.at.1 known.source.bytes known.items.places.next);
+          ∙ sym (held_is_carried past s (root_in start) known.source.proper known.source.at.0 known.source.at.1 known.source.bytes known.items.places.next);
       next = known.items.places.next;
     })
 places_items job past s prefix start now here next held after counts calls (TellsDone was object) known =
-    let tells = places_tell job counts past s prefix (root_in start) here next held after calls (TellsDone was object) known.held_at known.source known.items.places.next in
-    kept job past s start here next held counts calls tells.0 tells.1 (places_told job counts s.tree (root_in start) past here next held after calls (TellsDone was object)) known.items (record { placed = known.items.places.placed; next = tt })
+    let tells = places_tell {counts = counts} (root_in start) (TellsDone was object) known.held_at known.source known.items.places.next in
+    kept job past s start here next held counts calls tells.0 tells.1 (places_told {job = job} {counts = counts} s.tree (root_in start) past (TellsDone was object)) known.items (record { placed = known.items.places.placed; next = tt })
 places_items job past s prefix start now here next held after counts calls (TellsEnd was) known =
-    kept job past s start here next held counts calls [] (Last counts.done counts.present counts.skipped) (places_told job counts s.tree (root_in start) past here next held after calls (TellsEnd was)) known.items (record { placed = tt; next = tt })
+    kept job past s start here next held counts calls [] (Last counts.done counts.present counts.skipped) (places_told {job = job} {counts = counts} s.tree (root_in start) past (TellsEnd was)) known.items (record { placed = tt; next = tt })

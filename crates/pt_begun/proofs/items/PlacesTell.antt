@@ -45,19 +45,19 @@ use Rattle.pt_begun.proofs.items.ScansTell.{free_mark, item_of_site, named_so}
 
 -- ---- the files
 
-pub all_at : {X : Type 0} → (P : X → Type 0) (xs : List X) (k : ℕ) (x : X) → All P xs → slice_get xs k ≡ Some x → P x
-all_at P [] k x all is = absurd (cc)
-all_at P (y ∷ xs) zero x all is = subst P (let same : y ≡ x = cc in same) (all 0 y (omega arith))
-all_at P (y ∷ xs) (suc k) x all is = all_at P xs k x (λ j d h. all (suc j) d (omega (arith, h))) is
+pub all_at : {X : Type 0} → (P : X → Type 0) (xs : List X) (k : ℕ) {x : X} → All P xs → slice_get xs k ≡ Some x → P x
+all_at P [] k all is = absurd (cc)
+all_at P (y ∷ xs) zero {x} all is = subst P (let same : y ≡ x = cc in same) (all 0 y (omega arith))
+all_at P (y ∷ xs) (suc k) all is = all_at P xs k (λ j d h. all (suc j) d (omega (arith, h))) is
 
 same_files : (job : Job) (bytes : Path → List ℕ) (some : List File) → ((k : ℕ) (f : File) → slice_get some k ≡ Some f → bytes f.0 ≡ f.1) → files_held (rows_of job.algorithm some) bytes ≡ some
 same_files job bytes [] each = refl
 same_files job bytes ((path, held) ∷ some) each = λ i. (path, each 0 (path, held) refl i) ∷ same_files job bytes some (λ k f is. each (suc k) f is) i
 
 -- what is held of the files is what they are
-pub files_are : (job : Job) (source : Forest) (object : Object) (site : List Frame) (rows : List Row) (empty : ℕ) (bytes : Path → List ℕ) → is_proper (pairtree_of source) ≡ true → HasScanned job (object_at source object site) rows empty []
+pub files_are : {job : Job} (source : Forest) (object : Object) (site : List Frame) {rows : List Row} {empty : ℕ} (bytes : Path → List ℕ) → is_proper (pairtree_of source) ≡ true → HasScanned job (object_at source object site) rows empty []
     → AreHeldThere source object site bytes rows → files_held rows bytes ≡ files (entries (object_at source object site).inside)
-files_are job source object site rows empty bytes proper it there =
+files_are {job} source object site {rows} bytes proper it there =
     let top = pairtree_of source in
     let at = path_of_source object site in
     let some = files it.front in
@@ -65,33 +65,33 @@ files_are job source object site rows empty bytes proper it there =
     ap (λ (l : List Row). files_held l bytes) it.rows_are
     ∙ same_files job bytes some
     (λ k f is.
-    all_at (λ row. bytes row.path ≡ bytes_at top (at ++ row.path)) rows k (row_of_file job.algorithm f) there (ap (λ (l : List Row). slice_get l k) it.rows_are ∙ get_map (row_of_file job.algorithm) some k f is)
+    all_at (λ row. bytes row.path ≡ bytes_at top (at ++ row.path)) rows k there (ap (λ (l : List Row). slice_get l k) it.rows_are ∙ get_map (row_of_file job.algorithm) some k f is)
     ∙ ap (λ o. unwrap_or o []) (file_in top at (dir_at top at) refl it.front [] k f.0 f.1 stood is))
     ∙ ap files (sym (it.all ∙ append-nil it.front))
 
 -- ---- the object
 
-pub comes_whole : (job : Job) (object : PairtreeObject) (rows : List Row) (empty : ℕ) → HasScanned job object rows empty [] → outcome job.limits object ≡ Holds (files (entries object.inside))
-comes_whole job object rows empty it =
+pub comes_whole : {job : Job} {object : PairtreeObject} {rows : List Row} {empty : ℕ} → HasScanned job object rows empty [] → outcome job.limits object ≡ Holds (files (entries object.inside))
+comes_whole {job} {object} it =
     let none : bad_entry job.limits object ≡ None = ap (first_bad job.limits (length object.at) 0) (it.all ∙ append-nil it.front) ∙ it.good in
     ap (outcome_by (files (entries object.inside))) (ap (λ b. cond b (Some cause.Limit) (option_map (λ (bad : Entry × Cause). bad.1) (bad_entry job.limits object))) it.shallow ∙ ap (option_map (λ (bad : Entry × Cause). bad.1)) none)
 
 -- its item, with the line and the object
-pub ends_with : (job : Job) (source : Forest) (root : Tree) (prefix : List ℕ) (object : Object) (held : Held) (count : ℕ) → HasStarted source prefix → IsScanned job source prefix object held count → IsNextFree job source root count
+pub ends_with : {job : Job} {source : Forest} (root : Tree) {prefix : List ℕ} {object : Object} {held : Held} {count : ℕ} → HasStarted source prefix → IsScanned job source prefix object held count → IsNextFree job source root count
     → EndsItem job source root count (Some (line_by_outcome (trail_path (to_site object held.trail)) object.id (object_at source object (to_site object held.trail)) (place_of job.tuples object.id) (Holds (files (entries (object_at source object (to_site object held.trail)).inside)))))
     (record { id = object.id; files = files (entries (object_at source object (to_site object held.trail)).inside) } ∷ [])
-ends_with job source root prefix object held count started it free =
+ends_with {job} {source} root {object} {held} {count} started it free =
     let site = to_site object held.trail in
     let what = object_at source object site in
-    free_item job source root count (item_of_site job source site) object.id what (Holds (files (entries what.inside))) (free_mark job source root prefix object site count it.stands.site free) (named_so job source prefix object site count started it.stands.site)
-    (comes_whole job what held.rows object.empty it.scanned)
+    free_item job source root count (item_of_site job source site) object.id what (free_mark root it.stands.site free) (named_so started it.stands.site)
+    (comes_whole it.scanned)
 
 -- the object that is held is the one that is carried
-pub held_is_carried : (job : Job) (past : Past) (s : Reading) (root : Tree) (prefix : List ℕ) (object : Object) (held : Held) (count : ℕ) → is_proper s.tree ≡ true → HasStarted s.tree prefix → IsScanned job s.tree prefix object held count
+pub held_is_carried : {job : Job} (past : Past) (s : Reading) (root : Tree) {prefix : List ℕ} {object : Object} {held : Held} {count : ℕ} → is_proper s.tree ≡ true → HasStarted s.tree prefix → IsScanned job s.tree prefix object held count
     → AreHeldThere s.tree object (to_site object held.trail) past.bytes held.rows → IsNextFree job s.tree root count → carried_among job s.tree root (suc count) ≡ carried_among job s.tree root count ++ object_held object held.rows past.bytes ∷ []
-held_is_carried job past s root prefix object held count proper started it there free =
-    let ends = ends_with job s.tree root prefix object held count started it free in
-    let same = files_are job s.tree object (to_site object held.trail) held.rows object.empty past.bytes (pairtree_proper s.tree started.store proper) it.scanned there in
+held_is_carried {job} past s root {object} {held} {count} proper started it there free =
+    let ends = ends_with root started it free in
+    let same = files_are s.tree object (to_site object held.trail) past.bytes (pairtree_proper s.tree started.store proper) it.scanned there in
     carried_grows job s.tree root count ends.m ends.is ∙ ap (λ (l : List Carried). carried_among job s.tree root count ++ l) (ends.gained ∙ sym (ap (λ (l : List File). record { id = object.id; files = l } ∷ []) same))
 
 -- ---- its line
@@ -120,18 +120,18 @@ after_a_tuple : (job : Job) (source : Forest) (root : Tree) (count number : ℕ)
 after_a_tuple job source root count number object true = Nothing (phase.Tuples object (number + 1))
 after_a_tuple job source root count number object false = Nothing (phase.Rename object)
 
-pub places_tell : (job : Job) (counts : Counts) (past : Past) (s : Reading) (prefix : List ℕ) (root : Tree) (here next : Phase) (held after : Held) (calls : Calls) → Places job counts here held after calls (Ok next) → HeldAt job past here held → SourcePart job past here prefix held s
+pub places_tell : {job : Job} {counts : Counts} {past : Past} {s : Reading} {prefix : List ℕ} (root : Tree) {here next : Phase} {held after : Held} {calls : Calls} → Places job counts here held after calls (Ok next) → HeldAt job past here held → SourcePart job past here prefix held s
     → IsFreeAt here job s.tree root past.count → (gained : List Carried) × Tells job s.tree root past.count next calls.line (done_after here held.trail next past.count) gained
-places_tell job counts past s prefix root here next held after calls (MakesTuple was object number) at part free = ([], after_a_tuple job s.tree root past.count number object (nat_lt (number + 1) job.tuples.count))
-places_tell job counts past s prefix root here next held after calls (FindsTuple was object number) at part free = ([], after_a_tuple job s.tree root past.count number object (nat_lt (number + 1) job.tuples.count))
-places_tell job counts past s prefix root here next held after calls (RenamesObject was object) at part free = ([], Nothing (phase.Line object))
-places_tell job counts past s prefix root here next held after calls (TellsDone was object) at part free =
+places_tell {job} {past} {s} root (MakesTuple was object number) at part free = ([], after_a_tuple job s.tree root past.count number object (nat_lt (number + 1) job.tuples.count))
+places_tell {job} {past} {s} root (FindsTuple was object number) at part free = ([], after_a_tuple job s.tree root past.count number object (nat_lt (number + 1) job.tuples.count))
+places_tell root (RenamesObject was object) at part free = ([], Nothing (phase.Line object))
+places_tell {job} {past} {s} root (TellsDone was object) at part free =
     let site = to_site object was.trail in
     let whole = files (entries (object_at s.tree object site).inside) in
     let gained : List Carried = record { id = object.id; files = whole } ∷ [] in (
       gained,
       subst (λ (l : Line). Tells job s.tree root past.count phase.Walk (Some l) (suc past.count) gained) (done_told job past s.tree object was at part.at.1.scanned)
           (OneItem phase.Walk (Some (line_by_outcome (trail_path site) object.id (object_at s.tree object site) (place_of job.tuples object.id) (Holds whole))) (record { id = object.id; files = whole } ∷ [])
-          (ends_with job s.tree root prefix object was past.count part.at.0 part.at.1 free)),
+          (ends_with root part.at.0 part.at.1 free)),
     )
-places_tell job counts past s prefix root here next held after calls (TellsEnd was) at part free = ([], Last counts.done counts.present counts.skipped)
+places_tell {counts} root (TellsEnd was) at part free = ([], Last counts.done counts.present counts.skipped)

@@ -61,30 +61,30 @@ either_later : (this : Bool) (p q : Phase) → is_start p ≡ false → is_start
 either_later true p q one two = one
 either_later false p q one two = two
 
-starts_quietly : (job : Job) (prefix read : List ℕ) (here next : Phase) (calls : Calls) → Starts job here prefix read calls (Ok next) → StartsQuietly here calls
-starts_quietly job prefix read here next calls (IsStore _ _ _) = record { start = refl; line = refl }
-starts_quietly job prefix read here next calls _ = record { start = refl; line = refl }
+starts_quietly : {job : Job} {prefix read : List ℕ} {here next : Phase} {calls : Calls} → Starts job here prefix read calls (Ok next) → StartsQuietly here calls
+starts_quietly (IsStore _ _ _) = record { start = refl; line = refl }
+starts_quietly _ = record { start = refl; line = refl }
 
-walks_later : (job : Job) (prefix : List ℕ) (here next : Phase) (held after : Held) (calls : Calls) → Walks job prefix here held after calls (Ok next) → is_start next ≡ false
-walks_later job prefix here next held after calls (OpensRoot _ _) = refl
-walks_later job prefix here next held after calls _ = refl
+walks_later : {job : Job} {prefix : List ℕ} {here next : Phase} {held after : Held} {calls : Calls} → Walks job prefix here held after calls (Ok next) → is_start next ≡ false
+walks_later (OpensRoot _ _) = refl
+walks_later _ = refl
 
-scans_later : (job : Job) (here next : Phase) (held after : Held) (calls : Calls) → Scans job here held after calls (Ok next) → is_start next ≡ false
-scans_later job here next held after calls (StartsInSite _ _ _) = refl
-scans_later job here next held after calls _ = refl
+scans_later : {job : Job} {here next : Phase} {held after : Held} {calls : Calls} → Scans job here held after calls (Ok next) → is_start next ≡ false
+scans_later (StartsInSite _ _ _) = refl
+scans_later _ = refl
 
-makes_later : (job : Job) (here : Phase) (held after : Held) (calls : Calls) (next : Phase) → Makings job here held after calls (Ok next) → is_start next ≡ false
-makes_later job here held after calls next (MakesSidecar was object) = either_later (job.tuples.count == 0) (phase.Rename object) (phase.Tuples object 0) refl refl
-makes_later job here held after calls next _ = refl
+makes_later : {job : Job} {here : Phase} {held after : Held} {calls : Calls} {next : Phase} → Makings job here held after calls (Ok next) → is_start next ≡ false
+makes_later {job} (MakesSidecar was object) = either_later (job.tuples.count == 0) (phase.Rename object) (phase.Tuples object 0) refl refl
+makes_later _ = refl
 
-places_later : (job : Job) (counts : Counts) (here next : Phase) (held after : Held) (calls : Calls) → Places job counts here held after calls (Ok next) → is_start next ≡ false
-places_later job counts here next held after calls (MakesTuple was object number) = either_later (nat_lt (number + 1) job.tuples.count) (phase.Tuples object (number + 1)) (phase.Rename object) refl refl
-places_later job counts here next held after calls (FindsTuple was object number) = either_later (nat_lt (number + 1) job.tuples.count) (phase.Tuples object (number + 1)) (phase.Rename object) refl refl
-places_later job counts here next held after calls _ = refl
+places_later : {job : Job} {counts : Counts} {here next : Phase} {held after : Held} {calls : Calls} → Places job counts here held after calls (Ok next) → is_start next ≡ false
+places_later {job} (MakesTuple was object number) = either_later (nat_lt (number + 1) job.tuples.count) (phase.Tuples object (number + 1)) (phase.Rename object) refl refl
+places_later {job} (FindsTuple was object number) = either_later (nat_lt (number + 1) job.tuples.count) (phase.Tuples object (number + 1)) (phase.Rename object) refl refl
+places_later _ = refl
 
-pub follows_quietly : (job : Job) (counts : Counts) (here : Phase) (prefix : List ℕ) (held : Held) (read : List ℕ) (after : Held) (calls : Calls) (next : Phase) → Follows job counts here prefix held read after calls (Ok next) → is_start next ≡ true → StartsQuietly here calls
-follows_quietly job counts here prefix held read after calls next (a_start h p r w c a turn) start = starts_quietly job prefix read here next calls turn
-follows_quietly job counts here prefix held read after calls next (Walk h p w n c a turn) start = absurd (true≢false (sym start ∙ walks_later job prefix here next held after calls turn))
-follows_quietly job counts here prefix held read after calls next (Scan h p w n c a turn) start = absurd (true≢false (sym start ∙ scans_later job here next held after calls turn))
-follows_quietly job counts here prefix held read after calls next (Make h p w n c a turn) start = absurd (true≢false (sym start ∙ makes_later job here held after calls next turn))
-follows_quietly job counts here prefix held read after calls next (Place h p w n c a turn) start = absurd (true≢false (sym start ∙ places_later job counts here next held after calls turn))
+pub follows_quietly : {job : Job} {counts : Counts} {here : Phase} {prefix : List ℕ} {held : Held} {read : List ℕ} {after : Held} {calls : Calls} {next : Phase} → Follows job counts here prefix held read after calls (Ok next) → is_start next ≡ true → StartsQuietly here calls
+follows_quietly (a_start h p r w c a turn) start = starts_quietly turn
+follows_quietly (Walk h p w n c a turn) start = absurd (true≢false (sym start ∙ walks_later turn))
+follows_quietly (Scan h p w n c a turn) start = absurd (true≢false (sym start ∙ scans_later turn))
+follows_quietly (Make h p w n c a turn) start = absurd (true≢false (sym start ∙ makes_later turn))
+follows_quietly (Place h p w n c a turn) start = absurd (true≢false (sym start ∙ places_later turn))

@@ -16,37 +16,37 @@ use Rattle.pt_begun.specs.EndLaws.{is_ended}
 
 -- ---- where a turn begins
 
-none_follows : (job : Job) (counts : Counts) (prefix : List ℕ) (held : Held) (read : List ℕ) (after : Held) (calls : Calls) (answer : Answer) → Follows job counts phase.Ended prefix held read after calls answer → ⊥
-none_follows job counts prefix held read after calls answer (a_start h p r w c a turn) = elim turn [ ]
-none_follows job counts prefix held read after calls answer (Walk h p w n c a turn) = elim turn [ ]
-none_follows job counts prefix held read after calls answer (Scan h p w n c a turn) = elim turn [ ]
-none_follows job counts prefix held read after calls answer (Make h p w n c a turn) = elim turn [ ]
-none_follows job counts prefix held read after calls answer (Place h p w n c a turn) = elim turn [ ]
+none_follows : {job : Job} {counts : Counts} {prefix : List ℕ} {held : Held} {read : List ℕ} {after : Held} {calls : Calls} {answer : Answer} → Follows job counts phase.Ended prefix held read after calls answer → ⊥
+none_follows (a_start h p r w c a turn) = elim turn [ ]
+none_follows (Walk h p w n c a turn) = elim turn [ ]
+none_follows (Scan h p w n c a turn) = elim turn [ ]
+none_follows (Make h p w n c a turn) = elim turn [ ]
+none_follows (Place h p w n c a turn) = elim turn [ ]
 
 -- what leads to nothing at the end holds where the run goes on
 pub unless_ended : (P : Phase → Type 0) (here : Phase) → (P phase.Ended → ⊥) → P here → is_ended here ≡ false
 unless_ended P phase.Ended none it = absurd (none it)
 unless_ended P _ none it = refl
 
-pub follows_runs : (job : Job) (counts : Counts) (here : Phase) (prefix : List ℕ) (held : Held) (read : List ℕ) (after : Held) (calls : Calls) (answer : Answer) → Follows job counts here prefix held read after calls answer → is_ended here ≡ false
-follows_runs job counts here prefix held read after calls answer turn = unless_ended (λ h. Follows job counts h prefix held read after calls answer) here (none_follows job counts prefix held read after calls answer) turn
+pub follows_runs : {job : Job} {counts : Counts} {here : Phase} {prefix : List ℕ} {held : Held} {read : List ℕ} {after : Held} {calls : Calls} {answer : Answer} → Follows job counts here prefix held read after calls answer → is_ended here ≡ false
+follows_runs {job} {counts} {here} {prefix} {held} {read} {after} {calls} {answer} turn = unless_ended (λ h. Follows job counts h prefix held read after calls answer) here (none_follows) turn
 
 -- ---- what it tells
 
-starts_quiet : (job : Job) (prefix read : List ℕ) (here : Phase) (calls : Calls) (why : Halt) → Starts job here prefix read calls (Err why) → calls.line ≡ None
-starts_quiet job prefix read here calls why (IsNoStore _ _ _) = refl
-starts_quiet job prefix read here calls why _ = refl
+starts_quiet : {job : Job} {prefix read : List ℕ} {here : Phase} {calls : Calls} {why : Halt} → Starts job here prefix read calls (Err why) → calls.line ≡ None
+starts_quiet (IsNoStore _ _ _) = refl
+starts_quiet _ = refl
 
-makes_quiet : (job : Job) (here : Phase) (held after : Held) (calls : Calls) (why : Halt) → Makings job here held after calls (Err why) → calls.line ≡ None
-makes_quiet job here held after calls why (ReadsMore was object position left byte block more) = refl
-makes_quiet job here held after calls why (ReadsOther was object position row left is other) = refl
+makes_quiet : {job : Job} {here : Phase} {held after : Held} {calls : Calls} {why : Halt} → Makings job here held after calls (Err why) → calls.line ≡ None
+makes_quiet (ReadsMore was object position left byte block more) = refl
+makes_quiet (ReadsOther was object position row left is other) = refl
 
 places_quiet : (job : Job) (counts : Counts) (here : Phase) (held after : Held) (calls : Calls) (why : Halt) → Places job counts here held after calls (Err why) → calls.line ≡ None
 places_quiet job counts here held after calls why (IsInTheWay was object number kind is) = refl
 
-pub refused_quiet : (job : Job) (counts : Counts) (here : Phase) (prefix : List ℕ) (held : Held) (read : List ℕ) (after : Held) (calls : Calls) (why : Halt) → Follows job counts here prefix held read after calls (Err why) → calls.line ≡ None
-refused_quiet job counts here prefix held read after calls why (a_start h p r w c a turn) = starts_quiet job prefix read here calls why turn
-refused_quiet job counts here prefix held read after calls why (Walk h p w n c a turn) = elim turn [ ]
-refused_quiet job counts here prefix held read after calls why (Scan h p w n c a turn) = elim turn [ ]
-refused_quiet job counts here prefix held read after calls why (Make h p w n c a turn) = makes_quiet job here held after calls why turn
-refused_quiet job counts here prefix held read after calls why (Place h p w n c a turn) = places_quiet job counts here held after calls why turn
+pub refused_quiet : {job : Job} {counts : Counts} {here : Phase} {prefix : List ℕ} {held : Held} {read : List ℕ} {after : Held} {calls : Calls} {why : Halt} → Follows job counts here prefix held read after calls (Err why) → calls.line ≡ None
+refused_quiet (a_start h p r w c a turn) = starts_quiet turn
+refused_quiet (Walk h p w n c a turn) = elim turn [ ]
+refused_quiet (Scan h p w n c a turn) = elim turn [ ]
+refused_quiet (Make h p w n c a turn) = makes_quiet turn
+refused_quiet {job} {counts} {here} {held} {after} {calls} {why} (Place h p w n c a turn) = places_quiet job counts here held after calls why turn

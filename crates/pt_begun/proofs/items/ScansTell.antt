@@ -6,7 +6,7 @@ use Rattle.std.proofs.lemmas.Bool.{lt-ltb, ltb-true, or_left, or_right}
 use Rattle.std.proofs.lemmas.List.{length-append, length-map}
 use Rattle.pt_object.specs.Object.{row_of_file}
 use Rattle.pt_object.specs.declared.rows.Row.{Row}
-use Rattle.pt_tree.specs.Forest.{Forest, Dir, File, Other, is_proper, listing_of}
+use Rattle.pt_tree.specs.Forest.{Forest, Dir, Other, is_proper, listing_of}
 use Rattle.pt_tree.specs.Path.{Path, joined}
 use Rattle.pt_tree.specs.Source.{Reading, IsRead}
 use Rattle.pt_tree.specs.Tree.{Tree}
@@ -16,7 +16,7 @@ use Rattle.pt_walk.proofs.ObjectSteps as step
 use Rattle.pt_walk.specs.Left.{Fits, bytes_at, entries_left, inside_at}
 use Rattle.pt_walk.specs.Object.{Entry, entries, entry_cause, files, first_bad}
 use Rattle.pt_walk.specs.Sites.{Listed}
-use Rattle.pt_walk.specs.Trail.{advanced, current_entry, entered, entry_at, is_dir_entry, is_trail, names_to, trail_path}
+use Rattle.pt_walk.specs.Trail.{advanced, current_entry, entry_at, is_dir_entry, is_trail, names_to, trail_path}
 use Rattle.pt_walk.specs.declared.cause.Cause.{Cause}
 use Rattle.pt_walk.specs.declared.cause.Cause.TheVariants as cause
 use Rattle.pt_walk.specs.declared.frame.Frame.{Frame}
@@ -50,23 +50,23 @@ abbrev pub item_of_site : Job → Forest → List Frame → Item
 item_of_site job source site = item_of job (prefix_of source) (trail_path site, Listed (inside_at (pairtree_of source) (trail_path site)))
 
 -- it is the next one, and its place isn't taken
-pub free_mark : (job : Job) (source : Forest) (root : Tree) (prefix : List ℕ) (object : Object) (site : List Frame) (count : ℕ) → IsSiteOf job source prefix object site count → IsNextFree job source root count
+pub free_mark : {job : Job} {source : Forest} (root : Tree) {prefix : List ℕ} {object : Object} {site : List Frame} {count : ℕ} → IsSiteOf job source prefix object site count → IsNextFree job source root count
     → slice_get (marked job source root) count ≡ Some (item_of_site job source site, false)
-free_mark job source root prefix object site count it (item, is) =
+free_mark {job} {source} root {site} {count} it (item, is) =
     let mine : slice_get (items job source) count ≡ Some (item_of_site job source site) = get_map (item_of job (prefix_of source)) (sites_of job.limits.depth source) count (trail_path site, Listed (inside_at (pairtree_of source) (trail_path site))) it.here.site in
     let same : item ≡ item_of_site job source site = some_same item (item_of_site job source site) (sym (marked_item job source root count (item, false) is).0 ∙ mine) in
     is ∙ ap (λ (i : Item). Some (i, false)) same
 
-pub named_so : (job : Job) (source : Forest) (prefix : List ℕ) (object : Object) (site : List Frame) (count : ℕ) → HasStarted source prefix → IsSiteOf job source prefix object site count → (item_of_site job source site).verdict ≡ Named object.id (object_at source object site)
-named_so job source prefix object site count started it =
+pub named_so : {job : Job} {source : Forest} {prefix : List ℕ} {object : Object} {site : List Frame} {count : ℕ} → HasStarted source prefix → IsSiteOf job source prefix object site count → (item_of_site job source site).verdict ≡ Named object.id (object_at source object site)
+named_so {job} {source} {site} started it =
     ap (λ (p : List ℕ). verdict_of job p (trail_path site) (Listed (inside_at (pairtree_of source) (trail_path site)))) (sym started.read) ∙ it.named
 
 -- ---- why it is given up
 
 -- the first entry that was not scanned is a cause against it
-fails_at : (job : Job) (object : PairtreeObject) (rows : List Row) (empty : ℕ) (left rest : List Entry) (entry : Entry) (why : Cause) → HasScanned job object rows empty left → left ≡ entry ∷ rest → entry_cause job.limits (length object.at) (length rows) entry ≡ Some why
+fails_at : {job : Job} {object : PairtreeObject} {rows : List Row} {empty : ℕ} {left rest : List Entry} {entry : Entry} {why : Cause} → HasScanned job object rows empty left → left ≡ entry ∷ rest → entry_cause job.limits (length object.at) (length rows) entry ≡ Some why
     → outcome job.limits object ≡ Fails why
-fails_at job object rows empty left rest entry why it next bad =
+fails_at {job} {object} {rows} {rest} {entry} {why} it next bad =
     let many : 0 + length (files it.front) ≡ length rows = (let long : length rows ≡ length (files it.front) = ap length it.rows_are ∙ length-map (files it.front) (row_of_file job.algorithm) in omega (arith, long)) in
     let first = (bad_first job.limits (length object.at) 0 it.front rest entry why it.good (ap (λ (n : ℕ). entry_cause job.limits (length object.at) n entry) many ∙ bad)).0 in
     let found : bad_entry job.limits object ≡ Some (entry, why) = ap (first_bad job.limits (length object.at) 0) (it.all ∙ ap (λ (l : List Entry). it.front ++ l) next) ∙ first in
@@ -76,39 +76,39 @@ fails_deep : (job : Job) (object : PairtreeObject) → is_too_deep job.limits ob
 fails_deep job object deep = ap (λ b. outcome_by (files (entries object.inside)) (cond b (Some cause.Limit) (option_map (λ (bad : Entry × Cause). bad.1) (bad_entry job.limits object)))) deep
 
 -- so it is told
-gives_up : (job : Job) (source : Forest) (root : Tree) (prefix : List ℕ) (object : Object) (held : Held) (count : ℕ) (why : Cause) → HasStarted source prefix → IsInObject job source prefix object held.trail count → IsNextFree job source root count
+gives_up : {job : Job} {source : Forest} (root : Tree) {prefix : List ℕ} {object : Object} (held : Held) {count : ℕ} (why : Cause) → HasStarted source prefix → IsInObject job source prefix object held.trail count → IsNextFree job source root count
     → outcome job.limits (object_at source object (to_site object held.trail)) ≡ Fails why → Tells job source root count phase.Walk (Some (skipped object held why)) (suc count) []
-gives_up job source root prefix object held count why started it free comes =
+gives_up {job} {source} root {object} held {count} why started it free comes =
     let site = to_site object held.trail in
     OneItem phase.Walk (Some (skipped object held why)) []
-    (free_item job source root count (item_of_site job source site) object.id (object_at source object site) (Fails why) (free_mark job source root prefix object site count it.site free) (named_so job source prefix object site count started it.site) comes)
+    (free_item job source root count (item_of_site job source site) object.id (object_at source object site) (free_mark root it.site free) (named_so started it.site) comes)
 
 -- ---- at an entry
 
-deep_entry : (job : Job) (at path whole : Path) (held : ℕ) (t : List Frame) (inside : Forest) → whole ≡ at ++ path → length whole ≡ length t → nat_lt job.limits.depth (length t) ≡ true → entry_cause job.limits (length at) held (path, Dir inside) ≡ Some cause.Limit
-deep_entry job at path whole held t inside is long deep =
+deep_entry : (job : Job) (at path : Path) {whole : Path} (held : ℕ) (t : List Frame) (inside : Forest) → whole ≡ at ++ path → length whole ≡ length t → nat_lt job.limits.depth (length t) ≡ true → entry_cause job.limits (length at) held (path, Dir inside) ≡ Some cause.Limit
+deep_entry job at path held t inside is long deep =
     let sum : length at + length path ≡ length t = sym (ap length is ∙ length-append at path) ∙ long in
     ap (λ (n : ℕ). cond (nat_lt job.limits.depth n) (Some cause.Limit) None) sum ∙ ap (λ b. cond b (Some cause.Limit) None) deep
 
-fails_at_directory : (job : Job) (source : Forest) (object : Object) (rows : List Row) (empty : ℕ) (t : List Frame) (name : List ℕ) → is_proper (pairtree_of source) ≡ true → is_trail t ≡ true → current_entry t ≡ Some (name, kind.Dir) → is_passed object t (name, kind.Dir) ≡ false
+fails_at_directory : {job : Job} (source : Forest) (object : Object) {rows : List Row} {empty : ℕ} (t : List Frame) (name : List ℕ) → is_proper (pairtree_of source) ≡ true → is_trail t ≡ true → current_entry t ≡ Some (name, kind.Dir) → is_passed object t (name, kind.Dir) ≡ false
     → nat_lt job.limits.depth (length t) ≡ true → Fits (pairtree_of source) t → object.site ≤ length t → 0 < own_listings object t → HasScanned job (object_at source object (to_site object t)) rows empty (left_of source object t)
     → outcome job.limits (object_at source object (to_site object t)) ≡ Fails cause.Limit
-fails_at_directory job source object rows empty [] name proper is_one e apart deep fits within own it = absurd (cc)
-fails_at_directory job source object rows empty (frame ∷ frames) name proper is_one e apart deep fits within own it =
+fails_at_directory source object [] name proper is_one e apart deep fits within own it = absurd (cc)
+fails_at_directory {job} source object {rows} (frame ∷ frames) name proper is_one e apart deep fits within own it =
     let t = frame ∷ frames in
     let in_it = inside_at (pairtree_of source) (names_to frames ++ name ∷ []) in
     let what = object_at source object (to_site object t) in
-    fails_at job what rows empty (left_of source object t) (left_of source object (entered (listing_of in_it) t)) (logical_path object t, Dir in_it) cause.Limit it
+    fails_at it
     (left_directory source object frame frames name (listing_of in_it) in_it proper fits within own e apart refl refl)
-    (deep_entry job what.at (logical_path object t) (names_to t) (length rows) t in_it (path_in_object object t) (path_length frame frames (name, kind.Dir) is_one e) deep)
+    (deep_entry job what.at (logical_path object t) (length rows) t in_it (path_in_object object t) (path_length frame frames (name, kind.Dir) is_one e) deep)
 
-fails_at_file : (job : Job) (source : Forest) (object : Object) (rows : List Row) (empty : ℕ) (t : List Frame) (name : List ℕ) → is_proper (pairtree_of source) ≡ true → current_entry t ≡ Some (name, kind.File)
+fails_at_file : {job : Job} (source : Forest) (object : Object) {rows : List Row} {empty : ℕ} (t : List Frame) (name : List ℕ) → is_proper (pairtree_of source) ≡ true → current_entry t ≡ Some (name, kind.File)
     → (nat_le job.limits.files (length rows) || nat_lt job.limits.path_bytes (length (joined (logical_path object t)))) || nat_lt job.limits.file_bytes (length (bytes_at (pairtree_of source) (names_to t))) ≡ true
     → Fits (pairtree_of source) t → 0 < own_listings object t → HasScanned job (object_at source object (to_site object t)) rows empty (left_of source object t) → outcome job.limits (object_at source object (to_site object t)) ≡ Fails cause.Limit
-fails_at_file job source object rows empty [] name proper e bad fits own it = absurd (cc)
-fails_at_file job source object rows empty (frame ∷ frames) name proper e bad fits own it =
+fails_at_file source object [] name proper e bad fits own it = absurd (cc)
+fails_at_file source object (frame ∷ frames) name proper e bad fits own it =
     let t = frame ∷ frames in
-    fails_at job (object_at source object (to_site object t)) rows empty (left_of source object t) (left_of source object (advanced t)) (logical_path object t, File (bytes_at (pairtree_of source) (names_to t))) cause.Limit it
+    fails_at it
     (left_file source object frame frames name proper fits own e) (ap (λ b. cond b (Some cause.Limit) None) bad)
 
 one_less : (n : ℕ) → 0 < n → n ≡ suc (n - 1)
@@ -126,18 +126,18 @@ left_other source object frame frames name proper fits some e =
     ∙ ap (λ (p : Path). (p, Other) ∷ entries_left object.gathered top (suc k) (advanced t)) (logical_is object frame frames k (name, kind.Other) e own)
     ∙ ap (λ (n : ℕ). (logical_path object t, Other) ∷ entries_left object.gathered top n (advanced t)) (sym own)
 
-fails_at_other : (job : Job) (source : Forest) (object : Object) (rows : List Row) (empty : ℕ) (t : List Frame) (name : List ℕ) → is_proper (pairtree_of source) ≡ true → current_entry t ≡ Some (name, kind.Other) → Fits (pairtree_of source) t → 0 < own_listings object t
+fails_at_other : {job : Job} (source : Forest) (object : Object) {rows : List Row} {empty : ℕ} (t : List Frame) (name : List ℕ) → is_proper (pairtree_of source) ≡ true → current_entry t ≡ Some (name, kind.Other) → Fits (pairtree_of source) t → 0 < own_listings object t
     → HasScanned job (object_at source object (to_site object t)) rows empty (left_of source object t) → outcome job.limits (object_at source object (to_site object t)) ≡ Fails cause.Other
-fails_at_other job source object rows empty [] name proper e fits own it = absurd (cc)
-fails_at_other job source object rows empty (frame ∷ frames) name proper e fits own it =
+fails_at_other source object [] name proper e fits own it = absurd (cc)
+fails_at_other source object (frame ∷ frames) name proper e fits own it =
     let t = frame ∷ frames in
-    fails_at job (object_at source object (to_site object t)) rows empty (left_of source object t) (left_of source object (advanced t)) (logical_path object t, Other) cause.Other it (left_other source object frame frames name proper fits own e) refl
+    fails_at it (left_other source object frame frames name proper fits own e) refl
 
 -- before its directory is entered
-fails_before : (job : Job) (source : Forest) (prefix : List ℕ) (object : Object) (t : List Frame) (count : ℕ) → is_trail t ≡ true → object.gathered ≡ false → nat_lt job.limits.depth (length t) ≡ true → length t ≡ object.site → IsInObject job source prefix object t count
+fails_before : {job : Job} {source : Forest} {prefix : List ℕ} {object : Object} (t : List Frame) {count : ℕ} → is_trail t ≡ true → object.gathered ≡ false → nat_lt job.limits.depth (length t) ≡ true → length t ≡ object.site → IsInObject job source prefix object t count
     → outcome job.limits (object_at source object (to_site object t)) ≡ Fails cause.Limit
-fails_before job source prefix object [] count is_one apart deep same it = absurd (let some = it.some in omega (arith, some, same))
-fails_before job source prefix object (frame ∷ frames) count is_one apart deep same it =
+fails_before [] is_one apart deep same it = absurd (let some = it.some in omega (arith, some, same))
+fails_before {job} {source} {object} (frame ∷ frames) is_one apart deep same it =
     let t = frame ∷ frames in
     let site = site_itself object t same in
     let entry = dir_entry (entry_at frame) (sym (ap (λ (l : List Frame). is_dir_entry (current_entry l)) site) ∙ it.site.leads apart) in
@@ -152,27 +152,27 @@ too_long most count more long is within = let above = ltb-true most (count + mor
 
 -- ---- each turn
 
-pub scans_tell : (job : Job) (past : Past) (s : Reading) (prefix : List ℕ) (root : Tree) (here next : Phase) (held after : Held) (calls : Calls) → Scans job here held after calls (Ok next) → is_trail held.trail ≡ true → SourcePart job past here prefix held s
+pub scans_tell : {job : Job} {past : Past} {s : Reading} {prefix : List ℕ} (root : Tree) {here next : Phase} {held after : Held} {calls : Calls} → Scans job here held after calls (Ok next) → is_trail held.trail ≡ true → SourcePart job past here prefix held s
     → IsFreeAt here job s.tree root past.count → (new : Reading) → Answers calls.asked (Some s) (Some new) → Tells job s.tree root past.count next calls.line (done_after here held.trail next past.count) []
 unfolding Answers IsRead
-scans_tell job past s prefix root here next held after calls (StartsInSite was object gathered) is_one source_part free new answers = Nothing (phase.Scan object)
-scans_tell job past s prefix root here next held after calls (EntersObject was object items apart shallow) is_one source_part free new answers = Nothing (phase.Scan (with_directory object items))
-scans_tell job past s prefix root here next held after calls (IsTooDeep was object apart deep) is_one source_part free new answers = gives_up job s.tree root prefix object was past.count cause.Limit source_part.at.1 source_part.at.2 free (fails_before job s.tree prefix object was.trail past.count is_one apart deep source_part.at.3 source_part.at.2)
-scans_tell job past s prefix root here next held after calls (PassesShorty was object item e passed) is_one source_part free new answers = Nothing (phase.Scan object)
-scans_tell job past s prefix root here next held after calls (EntersDirectory was object name items e apart shallow) is_one source_part free new answers = Nothing (phase.Scan (with_directory object items))
-scans_tell job past s prefix root here next held after calls (MeetsDeep was object name e apart deep) is_one source_part free new answers = gives_up job s.tree root prefix object was past.count cause.Limit source_part.at.0 source_part.at.1.stands free (fails_at_directory job s.tree object was.rows object.empty was.trail name (pairtree_proper s.tree source_part.at.0.store source_part.proper) is_one e apart deep source_part.at.1.stands.fits source_part.at.1.stands.within source_part.at.1.inside source_part.at.1.scanned)
-scans_tell job past s prefix root here next held after calls (OpensFile was object name e room) is_one source_part free new answers = Nothing (phase.Read object 0)
-scans_tell job past s prefix root here next held after calls (MeetsLimit was object name e room) is_one source_part free new answers = gives_up job s.tree root prefix object was past.count cause.Limit source_part.at.0 source_part.at.1.stands free
-    (fails_at_file job s.tree object was.rows object.empty was.trail name (pairtree_proper s.tree source_part.at.0.store source_part.proper) e (or_left (is_beyond job was (logical_path object was.trail)) (nat_lt job.limits.file_bytes (length (bytes_at (pairtree_of s.tree) (names_to was.trail)))) room) source_part.at.1.stands.fits source_part.at.1.inside source_part.at.1.scanned)
-scans_tell job past s prefix root here next held after calls (MeetsOther was object name e) is_one source_part free new answers = gives_up job s.tree root prefix object was past.count cause.Other source_part.at.0 source_part.at.1.stands free (fails_at_other job s.tree object was.rows object.empty was.trail name (pairtree_proper s.tree source_part.at.0.store source_part.proper) e source_part.at.1.stands.fits source_part.at.1.inside source_part.at.1.scanned)
-scans_tell job past s prefix root here next held after calls (EndsSite was object e there) is_one source_part free new answers = Nothing (phase.Make object part.Staging)
-scans_tell job past s prefix root here next held after calls (EndsObject was object e apart own) is_one source_part free new answers = Nothing (phase.Make object part.Staging)
-scans_tell job past s prefix root here next held after calls (LeavesDirectory was object e apart outside) is_one source_part free new answers = Nothing (phase.Scan object)
-scans_tell job past s prefix root here next held after calls (ReadsOn was object bytes byte block short) is_one source_part free new answers = Nothing (phase.Read object (bytes + length (byte ∷ block)))
-scans_tell job past s prefix root here next held after calls (IsTooLong was object bytes byte block long) is_one source_part free new answers =
+scans_tell root (StartsInSite was object gathered) is_one source_part free new answers = Nothing (phase.Scan object)
+scans_tell root (EntersObject was object items apart shallow) is_one source_part free new answers = Nothing (phase.Scan (with_directory object items))
+scans_tell root (IsTooDeep was object apart deep) is_one source_part free new answers = gives_up root was cause.Limit source_part.at.1 source_part.at.2 free (fails_before was.trail is_one apart deep source_part.at.3 source_part.at.2)
+scans_tell root (PassesShorty was object item e passed) is_one source_part free new answers = Nothing (phase.Scan object)
+scans_tell root (EntersDirectory was object name items e apart shallow) is_one source_part free new answers = Nothing (phase.Scan (with_directory object items))
+scans_tell {s} root (MeetsDeep was object name e apart deep) is_one source_part free new answers = gives_up root was cause.Limit source_part.at.0 source_part.at.1.stands free (fails_at_directory s.tree object was.trail name (pairtree_proper s.tree source_part.at.0.store source_part.proper) is_one e apart deep source_part.at.1.stands.fits source_part.at.1.stands.within source_part.at.1.inside source_part.at.1.scanned)
+scans_tell root (OpensFile was object name e room) is_one source_part free new answers = Nothing (phase.Read object 0)
+scans_tell {job} {s} root (MeetsLimit was object name e room) is_one source_part free new answers = gives_up root was cause.Limit source_part.at.0 source_part.at.1.stands free
+    (fails_at_file s.tree object was.trail name (pairtree_proper s.tree source_part.at.0.store source_part.proper) e (or_left (is_beyond job was (logical_path object was.trail)) (nat_lt job.limits.file_bytes (length (bytes_at (pairtree_of s.tree) (names_to was.trail)))) room) source_part.at.1.stands.fits source_part.at.1.inside source_part.at.1.scanned)
+scans_tell {s} root (MeetsOther was object name e) is_one source_part free new answers = gives_up root was cause.Other source_part.at.0 source_part.at.1.stands free (fails_at_other s.tree object was.trail name (pairtree_proper s.tree source_part.at.0.store source_part.proper) e source_part.at.1.stands.fits source_part.at.1.inside source_part.at.1.scanned)
+scans_tell root (EndsSite was object e there) is_one source_part free new answers = Nothing (phase.Make object part.Staging)
+scans_tell root (EndsObject was object e apart own) is_one source_part free new answers = Nothing (phase.Make object part.Staging)
+scans_tell root (LeavesDirectory was object e apart outside) is_one source_part free new answers = Nothing (phase.Scan object)
+scans_tell root (ReadsOn was object bytes byte block short) is_one source_part free new answers = Nothing (phase.Read object (bytes + length (byte ∷ block)))
+scans_tell {job} {s} root (IsTooLong was object bytes byte block long) is_one source_part free new answers =
     let whole = bytes_at (pairtree_of s.tree) (names_to was.trail) in
     let within = (reads_block 8192 whole bytes was.fed (byte ∷ block) s.unread source_part.at.2.read (answers.0 s refl)).within in
-    gives_up job s.tree root prefix object was past.count cause.Limit source_part.at.0 source_part.at.1.stands free
-    (fails_at_file job s.tree object was.rows object.empty was.trail source_part.at.2.name (pairtree_proper s.tree source_part.at.0.store source_part.proper) source_part.at.2.file
+    gives_up root was cause.Limit source_part.at.0 source_part.at.1.stands free
+    (fails_at_file s.tree object was.trail source_part.at.2.name (pairtree_proper s.tree source_part.at.0.store source_part.proper) source_part.at.2.file
     (or_right (is_beyond job was (logical_path object was.trail)) (nat_lt job.limits.file_bytes (length whole)) (too_long job.limits.file_bytes bytes (length (byte ∷ block)) (length whole) long within)) source_part.at.1.stands.fits source_part.at.1.inside source_part.at.1.scanned)
-scans_tell job past s prefix root here next held after calls (EndsFile was object bytes) is_one source_part free new answers = Nothing (phase.Scan object)
+scans_tell root (EndsFile was object bytes) is_one source_part free new answers = Nothing (phase.Scan object)

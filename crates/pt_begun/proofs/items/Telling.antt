@@ -7,16 +7,16 @@ use Rattle.pt_begun.specs.Begun.{TellsAsBefore, TellsStill}
 use Rattle.pt_begun.proofs.source.InPairtree.{some_same}
 
 -- what both the start and the destination tell
-pub both_tell : {A B : Type 0} → (P : A → B → Type 0) (start : Option A) (now : Option B) (a : A) → start ≡ Some a → TellsAsBefore start now P → (b : B) × (now ≡ Some b) × P a b
-both_tell P None None a is tells = absurd (cc)
-both_tell P None (Some b) a is tells = absurd (tells)
-both_tell P (Some x) None a is tells = absurd (tells)
-both_tell P (Some x) (Some b) a is tells = (b, refl, subst (λ y. P y b) (some_same x a is) tells)
+pub both_tell : {A B : Type 0} → (P : A → B → Type 0) (start : Option A) (now : Option B) {a : A} → start ≡ Some a → TellsAsBefore start now P → (b : B) × (now ≡ Some b) × P a b
+both_tell P None None is tells = absurd (cc)
+both_tell P None (Some b) is tells = absurd (tells)
+both_tell P (Some x) None is tells = absurd (tells)
+both_tell P (Some x) (Some b) {a} is tells = (b, refl, subst (λ y. P y b) (some_same x a is) tells)
 
-pub log_tells : (P : List ℕ → List ℕ → Type 0) (start now : Option (List ℕ)) (a : List ℕ) → start ≡ Some a → TellsStill start now P → (b : List ℕ) × (now ≡ Some b) × P a b
-log_tells P None now a is tells = absurd (cc)
-log_tells P (Some x) None a is tells = absurd (tells)
-log_tells P (Some x) (Some b) a is tells = (b, refl, subst (λ y. P y b) (some_same x a is) tells)
+pub log_tells : (P : List ℕ → List ℕ → Type 0) (start now : Option (List ℕ)) {a : List ℕ} → start ≡ Some a → TellsStill start now P → (b : List ℕ) × (now ≡ Some b) × P a b
+log_tells P None now is tells = absurd (cc)
+log_tells P (Some x) None is tells = absurd (tells)
+log_tells P (Some x) (Some b) {a} is tells = (b, refl, subst (λ y. P y b) (some_same x a is) tells)
 
 -- a turn that tells nothing leaves the log
 pub none_put : (line : Option Line) (old new : Option (List ℕ)) → line ≡ None → Puts line old new → new ≡ old

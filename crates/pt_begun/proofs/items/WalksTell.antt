@@ -17,8 +17,8 @@ use Rattle.pt_walk.specs.Site.{is_short}
 use Rattle.pt_walk.specs.Trail.{current_entry, is_trail, names_to, trail_path}
 use Rattle.pt_walk.specs.declared.cause.Cause.TheVariants as cause
 use Rattle.pt_walk.specs.declared.frame.Frame.{Frame}
-use Rattle.pt_plan.specs.Carried.{Carried, after, carried_among, is_taken}
-use Rattle.pt_plan.specs.Items.{Interior, Item, Named, PairtreeObject, Skip, Verdict, VerdictOn, item_of, items, verdict_of}
+use Rattle.pt_plan.specs.Carried.{Carried, carried_among, is_taken}
+use Rattle.pt_plan.specs.Items.{Item, Named, PairtreeObject, Verdict, VerdictOn, item_of, items, verdict_of}
 use Rattle.pt_plan.specs.Job.{Job}
 use Rattle.pt_plan.specs.Lines.{Line, Present, Skipped}
 use Rattle.pt_plan.specs.PlaceLaws.{IsRooted}
@@ -46,22 +46,22 @@ use Rattle.pt_begun.proofs.source.WalksKeep.{deep_next, done_at_shorty, none_at_
 abbrev pub item_judged : Job → Forest → List Frame → Item
 item_judged job source t = item_of job (prefix_of source) (trail_path t, Listed (inside_at (pairtree_of source) (trail_path t)))
 
-pub judged_next : (job : Job) (source : Forest) (t : List Frame) (count : ℕ) → IsToJudge job source t count → slice_get (items job source) count ≡ Some (item_judged job source t)
-judged_next job source t count it = get_map (item_of job (prefix_of source)) (sites_of job.limits.depth source) count (trail_path t, Listed (inside_at (pairtree_of source) (trail_path t))) it.here.site
+pub judged_next : {job : Job} {source : Forest} {t : List Frame} {count : ℕ} → IsToJudge job source t count → slice_get (items job source) count ≡ Some (item_judged job source t)
+judged_next {job} {source} {t} {count} it = get_map (item_of job (prefix_of source)) (sites_of job.limits.depth source) count (trail_path t, Listed (inside_at (pairtree_of source) (trail_path t))) it.here.site
 
 -- by what the site is judged to be
-judged_verdict : (job : Job) (source : Forest) (prefix : List ℕ) (t : List Frame) (what : VerdictOn (Option ℕ)) → is_proper (pairtree_of source) ≡ true → 0 < length t → Fits (pairtree_of source) t → judged_at job prefix t ≡ what
+judged_verdict : (job : Job) (source : Forest) (prefix : List ℕ) (t : List Frame) {what : VerdictOn (Option ℕ)} → is_proper (pairtree_of source) ≡ true → 0 < length t → Fits (pairtree_of source) t → judged_at job prefix t ≡ what
     → verdict_of job prefix (trail_path t) (Listed (inside_at (pairtree_of source) (trail_path t))) ≡ verdict_there job source t what
-judged_verdict job source prefix [] what proper some fits is = absurd (omega (arith, some))
-judged_verdict job source prefix (frame ∷ frames) what proper some fits is = judged_there job source prefix frame frames proper fits ∙ ap (verdict_there job source (frame ∷ frames)) is
+judged_verdict job source prefix [] proper some fits is = absurd (omega (arith, some))
+judged_verdict job source prefix (frame ∷ frames) proper some fits is = judged_there job source prefix frame frames proper fits ∙ ap (verdict_there job source (frame ∷ frames)) is
 
 path_at : (job : Job) (id : List ℕ) (index : Option ℕ) (t : List Frame) → path_of_source (new_object job id index t) (at_object index t) ≡ path_of_object index t
 path_at job id None t = refl
 path_at job id (Some i) t = refl
 
 -- its verdict with the prefix that was read
-with_prefix : (job : Job) (source : Forest) (prefix : List ℕ) (t : List Frame) (verdict : Verdict) → HasStarted source prefix → verdict_of job prefix (trail_path t) (Listed (inside_at (pairtree_of source) (trail_path t))) ≡ verdict → (item_judged job source t).verdict ≡ verdict
-with_prefix job source prefix t verdict started is = ap (λ (p : List ℕ). verdict_of job p (trail_path t) (Listed (inside_at (pairtree_of source) (trail_path t)))) (sym started.read) ∙ is
+with_prefix : (job : Job) {source : Forest} {prefix : List ℕ} (t : List Frame) {verdict : Verdict} → HasStarted source prefix → verdict_of job prefix (trail_path t) (Listed (inside_at (pairtree_of source) (trail_path t))) ≡ verdict → (item_judged job source t).verdict ≡ verdict
+with_prefix job {source} t started is = ap (λ (p : List ℕ). verdict_of job p (trail_path t) (Listed (inside_at (pairtree_of source) (trail_path t)))) (sym started.read) ∙ is
 
 -- ---- whether its place is taken
 
@@ -72,11 +72,11 @@ some_kind (Some entry) None is = absurd (cc)
 some_kind (Some entry) (Some kind) is = refl
 
 -- what the destination answers says it
-taken_as_found : (job : Job) (source : Forest) (start : Tree) (past : Past) (w : Writing) (t : List Frame) (id : List ℕ) (object : PairtreeObject) (what : Option Kind) → IsRooted (root_in start) → slice_get (items job source) past.count ≡ Some (item_judged job source t)
+taken_as_found : {job : Job} (source : Forest) {start : Tree} (past : Past) {w : Writing} (t : List Frame) (id : List ℕ) (object : PairtreeObject) {what : Option Kind} → IsRooted (root_in start) → slice_get (items job source) past.count ≡ Some (item_judged job source t)
     → (item_judged job source t).verdict ≡ Named id object → past.placed ≡ carried_among job source (root_in start) past.count → IsBetweenObjects job start past.placed w → option_map kind_of_entry (w.tree (in_root (place_of job.tuples id))) ≡ what
     → is_taken job (root_in start) (take past.count (items job source)) (item_judged job source t).verdict ≡ is_some what
-taken_as_found job source start past w t id object what rooted is named placed between found =
-    mark_where_stands job source (root_in start) past.count (item_judged job source t) id object rooted is named
+taken_as_found {job} source {start} past {w} t id object {what} rooted is named placed between found =
+    mark_where_stands job source (root_in start) past.count id object rooted is named
     ∙ ap (λ (l : List Carried). is_some (root_now job start l (place_of job.tuples id))) (sym placed)
     ∙ ap is_some (sym (ap (λ (r : Tree). r (in_root (place_of job.tuples id))) between.tree))
     ∙ some_kind (w.tree (in_root (place_of job.tuples id))) what found
@@ -84,47 +84,47 @@ taken_as_found job source start past w t id object what rooted is named placed b
 -- ---- each turn
 
 -- a shorty that is passed ends an item
-at_shorty : (job : Job) (source : Forest) (root : Tree) (count : ℕ) (trail : List Frame) (name : List ℕ) (line : Option Line) → current_entry trail ≡ Some (name, kind.Dir) → is_short name ≡ true → Tells job source root count phase.Walk line (suc count) []
+at_shorty : {job : Job} {source : Forest} {root : Tree} {count : ℕ} (trail : List Frame) (name : List ℕ) {line : Option Line} → current_entry trail ≡ Some (name, kind.Dir) → is_short name ≡ true → Tells job source root count phase.Walk line (suc count) []
     → Tells job source root count phase.Walk line (done_after phase.Walk trail phase.Walk count) []
-at_shorty job source root count trail name line e short tells = subst (λ (n : ℕ). Tells job source root count phase.Walk line n []) (sym (done_at_shorty trail name count e short)) tells
+at_shorty {job} {source} {root} {count} trail name {line} e short tells = subst (λ (n : ℕ). Tells job source root count phase.Walk line n []) (sym (done_at_shorty trail name count e short)) tells
 
-pub walks_tell : (job : Job) (past : Past) (s : Reading) (prefix : List ℕ) (start : Tree) (w new : Writing) (here next : Phase) (held after : Held) (calls : Calls) → Walks job prefix here held after calls (Ok next) → is_trail held.trail ≡ true → SourcePart job past here prefix held s
+pub walks_tell : {job : Job} {past : Past} {s : Reading} {prefix : List ℕ} (start : Tree) (w new : Writing) {here next : Phase} {held after : Held} {calls : Calls} → Walks job prefix here held after calls (Ok next) → is_trail held.trail ≡ true → SourcePart job past here prefix held s
     → IsRooted (root_in start) → past.placed ≡ carried_among job s.tree (root_in start) (items_placed here past.count) → DestAt job start past here held w → Changes calls.change (Some w) (Some new)
     → Tells job s.tree (root_in start) past.count next calls.line (done_after here held.trail next past.count) []
 unfolding Changes IsKindAt
-walks_tell job past s prefix start w new here next held after calls (LeadsOn was is) is_one part rooted placed dest change = OneItem phase.Walk None [] (interior_item job s.tree (root_in start) past.count (item_judged job s.tree was.trail) (judged_next job s.tree was.trail past.count part.at.2) (with_prefix job s.tree prefix was.trail (Interior) part.at.1 (judged_verdict job s.tree prefix was.trail Interior (pairtree_proper s.tree part.at.1.store part.proper) part.at.2.way.entered part.at.2.way.fits is)))
-walks_tell job past s prefix start w new here next held after calls (IsSkipped was why is) is_one part rooted placed dest change = OneItem phase.Walk (Some (Skipped (trail_path was.trail) why)) [] (skipped_item job s.tree (root_in start) past.count (item_judged job s.tree was.trail) why (judged_next job s.tree was.trail past.count part.at.2) (with_prefix job s.tree prefix was.trail (Skip why) part.at.1 (judged_verdict job s.tree prefix was.trail (Skip why) (pairtree_proper s.tree part.at.1.store part.proper) part.at.2.way.entered part.at.2.way.fits is)))
-walks_tell job past s prefix start w new here next held after calls (IsPresent was index id here_is is) is_one part rooted placed dest change =
+walks_tell {job} {past} {s} {prefix} start w new (LeadsOn was is) is_one part rooted placed dest change = OneItem phase.Walk None [] (interior_item job s.tree (root_in start) past.count (judged_next part.at.2) (with_prefix job was.trail part.at.1 (judged_verdict job s.tree prefix was.trail (pairtree_proper s.tree part.at.1.store part.proper) part.at.2.way.entered part.at.2.way.fits is)))
+walks_tell {job} {past} {s} {prefix} start w new (IsSkipped was why is) is_one part rooted placed dest change = OneItem phase.Walk (Some (Skipped (trail_path was.trail) why)) [] (skipped_item job s.tree (root_in start) past.count why (judged_next part.at.2) (with_prefix job was.trail part.at.1 (judged_verdict job s.tree prefix was.trail (pairtree_proper s.tree part.at.1.store part.proper) part.at.2.way.entered part.at.2.way.fits is)))
+walks_tell {job} {past} {s} {prefix} start w new (IsPresent was index id here_is is) is_one part rooted placed dest change =
     let object = object_at s.tree (new_object job id index was.trail) (at_object index was.trail) in
-    let named = (with_prefix job s.tree prefix was.trail (Named id object) part.at.1 (judged_verdict job s.tree prefix was.trail (Named id index) (pairtree_proper s.tree part.at.1.store part.proper) part.at.2.way.entered part.at.2.way.fits is)) in
-    let item = judged_next job s.tree was.trail past.count part.at.2 in
-    let taken = taken_as_found job s.tree start past w was.trail id object (Some here_is) rooted item named placed dest (change.0 w refl) in
+    let named = (with_prefix job was.trail part.at.1 (judged_verdict job s.tree prefix was.trail (pairtree_proper s.tree part.at.1.store part.proper) part.at.2.way.entered part.at.2.way.fits is)) in
+    let item = judged_next part.at.2 in
+    let taken = taken_as_found s.tree past was.trail id object rooted item named placed dest (change.0 w refl) in
     subst (λ (p : Path). Tells job s.tree (root_in start) past.count phase.Walk (Some (Present p id (place_of job.tuples id))) (suc past.count) []) (path_at job id index was.trail)
-    (OneItem phase.Walk (Some (Present object.at id (place_of job.tuples id))) [] (present_item job s.tree (root_in start) past.count (item_judged job s.tree was.trail) id object item named taken))
-walks_tell job past s prefix start w new here next held after calls (IsNew was index id is) is_one part rooted placed dest change = Nothing (phase.OpenObject (new_object job id index was.trail))
-walks_tell job past s prefix start w new here next held after calls (IsPast was name e short last) is_one part rooted placed dest change =
-    at_shorty job s.tree (root_in start) past.count was.trail name _ e short
-    (OneItem phase.Walk (cond (is_first job.share) (Some (Skipped (names_to was.trail) cause.Past)) None) [] (passed_item (is_first job.share) job s.tree (root_in start) past.count (item_of job (prefix_of s.tree) (names_to was.trail, past_visit)) cause.Past
+    (OneItem phase.Walk (Some (Present object.at id (place_of job.tuples id))) [] (present_item job s.tree (root_in start) past.count id object item named taken))
+walks_tell {job} start w new (IsNew was index id is) is_one part rooted placed dest change = Nothing (phase.OpenObject (new_object job id index was.trail))
+walks_tell {job} {past} {s} start w new (IsPast was name e short last) is_one part rooted placed dest change =
+    at_shorty was.trail name e short
+    (OneItem phase.Walk (cond (is_first job.share) (Some (Skipped (names_to was.trail) cause.Past)) None) [] (passed_item (is_first job.share) job s.tree (root_in start) past.count cause.Past
     (get_map (item_of job (prefix_of s.tree)) (sites_of job.limits.depth s.tree) past.count (names_to was.trail, past_visit) (past_next job s.tree was.trail name past.count (pairtree_proper s.tree part.at.1.store part.proper) e short last part.at.2)) refl))
-walks_tell job past s prefix start w new here next held after calls (IsDeep was name e short last deep) is_one part rooted placed dest change =
-    at_shorty job s.tree (root_in start) past.count was.trail name _ e short
-    (OneItem phase.Walk (cond (is_first job.share) (Some (Skipped (names_to was.trail) cause.Limit)) None) [] (passed_item (is_first job.share) job s.tree (root_in start) past.count (item_of job (prefix_of s.tree) (names_to was.trail, Deep)) cause.Limit
+walks_tell {job} {past} {s} start w new (IsDeep was name e short last deep) is_one part rooted placed dest change =
+    at_shorty was.trail name e short
+    (OneItem phase.Walk (cond (is_first job.share) (Some (Skipped (names_to was.trail) cause.Limit)) None) [] (passed_item (is_first job.share) job s.tree (root_in start) past.count cause.Limit
     (get_map (item_of job (prefix_of s.tree)) (sites_of job.limits.depth s.tree) past.count (names_to was.trail, Deep) (deep_next job s.tree was.trail name past.count (pairtree_proper s.tree part.at.1.store part.proper) is_one e short last deep part.at.2)) refl))
-walks_tell job past s prefix start w new here next held after calls (PassesEntry was item e apart) is_one part rooted placed dest change =
+walks_tell {job} {past} {s} start w new (PassesEntry was item e apart) is_one part rooted placed dest change =
     subst (λ (n : ℕ). Tells job s.tree (root_in start) past.count phase.Walk None n []) (sym (none_at_entry was.trail item past.count e apart)) (Nothing phase.Walk)
-walks_tell job past s prefix start w new here next held after calls (LeavesSite was e long) is_one part rooted placed dest change =
+walks_tell {job} {past} {s} start w new (LeavesSite was e long) is_one part rooted placed dest change =
     subst (λ (n : ℕ). Tells job s.tree (root_in start) past.count phase.Walk None n []) (sym (none_at_end was.trail past.count e)) (Nothing phase.Walk)
-walks_tell job past s prefix start w new here next held after calls (EndsWalk was e short) is_one part rooted placed dest change = Nothing phase.End
-walks_tell job past s prefix start w new here next held after calls _ is_one part rooted placed dest change = Nothing phase.Judge
+walks_tell start w new (EndsWalk was e short) is_one part rooted placed dest change = Nothing phase.End
+walks_tell start w new _ is_one part rooted placed dest change = Nothing phase.Judge
 
 -- the place of a new object isn't taken
-pub new_is_free : (job : Job) (past : Past) (s : Reading) (prefix : List ℕ) (start : Tree) (w : Writing) (held : Held) (index : Option ℕ) (id : List ℕ) → SourcePart job past phase.Judge prefix held s
+pub new_is_free : {job : Job} {past : Past} {s : Reading} {prefix : List ℕ} {start : Tree} {w : Writing} {held : Held} (index : Option ℕ) (id : List ℕ) → SourcePart job past phase.Judge prefix held s
     → judged_at job prefix held.trail ≡ Named id index → IsRooted (root_in start) → past.placed ≡ carried_among job s.tree (root_in start) past.count → IsBetweenObjects job start past.placed w
     → option_map kind_of_entry (w.tree (in_root (place_of job.tuples id))) ≡ None → IsNextFree job s.tree (root_in start) past.count
-new_is_free job past s prefix start w held index id part is rooted placed dest found =
+new_is_free {job} {past} {s} {prefix} {start} {held} index id part is rooted placed dest found =
     let t = held.trail in
     let object = object_at s.tree (new_object job id index t) (at_object index t) in
-    let named = with_prefix job s.tree prefix t (Named id object) part.at.1 (judged_verdict job s.tree prefix t (Named id index) (pairtree_proper s.tree part.at.1.store part.proper) part.at.2.way.entered part.at.2.way.fits is) in
-    let item = judged_next job s.tree t past.count part.at.2 in
-    let taken = taken_as_found job s.tree start past w t id object None rooted item named placed dest found in
-    (item_judged job s.tree t, mark_of job s.tree (root_in start) past.count (item_judged job s.tree t) item ∙ ap (λ b. Some (item_judged job s.tree t, b)) taken)
+    let named = with_prefix job t part.at.1 (judged_verdict job s.tree prefix t (pairtree_proper s.tree part.at.1.store part.proper) part.at.2.way.entered part.at.2.way.fits is) in
+    let item = judged_next part.at.2 in
+    let taken = taken_as_found s.tree past t id object rooted item named placed dest found in
+    (item_judged job s.tree t, mark_of job s.tree (root_in start) past.count item ∙ ap (λ b. Some (item_judged job s.tree t, b)) taken)

@@ -34,25 +34,25 @@ is_first (phase.Prefix here) = true
 is_first phase.Staging = true
 is_first _ = false
 
-starts_first : (job : Job) (prefix read : List ℕ) (here : Phase) (calls : Calls) (why : Halt) → Starts job here prefix read calls (Err why) → is_early why ≡ true → is_first here ≡ true
-starts_first job prefix read here calls why (IsNoRoot was kind e) early = absurd (cc)
-starts_first job prefix read here calls why (IsNoFile was number path bytes kind is e) early = absurd (cc)
-starts_first job prefix read here calls why (Differs was number path bytes block is e) early = absurd (cc)
-starts_first job prefix read here calls why _ early = refl
+starts_first : {job : Job} {prefix read : List ℕ} {here : Phase} {calls : Calls} {why : Halt} → Starts job here prefix read calls (Err why) → is_early why ≡ true → is_first here ≡ true
+starts_first (IsNoRoot was kind e) early = absurd (cc)
+starts_first (IsNoFile was number path bytes kind is e) early = absurd (cc)
+starts_first (Differs was number path bytes block is e) early = absurd (cc)
+starts_first _ early = refl
 
 makes_late : (job : Job) (here : Phase) (held after : Held) (calls : Calls) (why : Halt) → Makings job here held after calls (Err why) → is_early why ≡ false
 makes_late job here held after calls why (ReadsMore was object position left byte block more) = refl
 makes_late job here held after calls why (ReadsOther was object position row left is other) = refl
 
-places_late : (job : Job) (counts : Counts) (here : Phase) (held after : Held) (calls : Calls) (why : Halt) → Places job counts here held after calls (Err why) → is_early why ≡ false
-places_late job counts here held after calls why (IsInTheWay was object number kind is) = refl
+places_late : {job : Job} {counts : Counts} {here : Phase} {held after : Held} {calls : Calls} {why : Halt} → Places job counts here held after calls (Err why) → is_early why ≡ false
+places_late (IsInTheWay was object number kind is) = refl
 
-follows_first : (job : Job) (counts : Counts) (here : Phase) (prefix : List ℕ) (held : Held) (read : List ℕ) (after : Held) (calls : Calls) (why : Halt) → Follows job counts here prefix held read after calls (Err why) → is_early why ≡ true → is_first here ≡ true
-follows_first job counts here prefix held read after calls why (a_start h p r w c a turn) early = starts_first job prefix read here calls why turn early
-follows_first job counts here prefix held read after calls why (Walk h p w n c a turn) early = elim turn [ ]
-follows_first job counts here prefix held read after calls why (Scan h p w n c a turn) early = elim turn [ ]
-follows_first job counts here prefix held read after calls why (Make h p w n c a turn) early = absurd (true≢false (sym early ∙ makes_late job here held after calls why turn))
-follows_first job counts here prefix held read after calls why (Place h p w n c a turn) early = absurd (true≢false (sym early ∙ places_late job counts here held after calls why turn))
+follows_first : {job : Job} {counts : Counts} {here : Phase} {prefix : List ℕ} {held : Held} {read : List ℕ} {after : Held} {calls : Calls} {why : Halt} → Follows job counts here prefix held read after calls (Err why) → is_early why ≡ true → is_first here ≡ true
+follows_first (a_start h p r w c a turn) early = starts_first turn early
+follows_first (Walk h p w n c a turn) early = elim turn [ ]
+follows_first (Scan h p w n c a turn) early = elim turn [ ]
+follows_first {job} {here} {held} {after} {calls} {why} (Make h p w n c a turn) early = absurd (true≢false (sym early ∙ makes_late job here held after calls why turn))
+follows_first (Place h p w n c a turn) early = absurd (true≢false (sym early ∙ places_late turn))
 
 -- a fault is no such halt
 failed_late : (why : Halt) (old new : Failures) → HasFailed why old new → is_early why ≡ false
@@ -68,11 +68,11 @@ failed_late halt.Changed old new it = refl
 
 -- ---- what holds there
 
-first_tree : (job : Job) (past : Past) (here : Phase) (held : Held) (t : Tree) (now : Writing) → is_first here ≡ true → DestPart job past here held t now → now.tree ≡ t
-first_tree job past phase.Begin held t now first dest = dest.at.tree
-first_tree job past (phase.Prefix here) held t now first dest = dest.at.tree
-first_tree job past phase.Staging held t now first dest = dest.at.tree
-first_tree job past _ held t now first dest = absurd (cc)
+first_tree : {job : Job} {past : Past} (here : Phase) {held : Held} {t : Tree} {now : Writing} → is_first here ≡ true → DestPart job past here held t now → now.tree ≡ t
+first_tree phase.Begin first dest = dest.at.tree
+first_tree (phase.Prefix here) first dest = dest.at.tree
+first_tree phase.Staging first dest = dest.at.tree
+first_tree _ first dest = absurd (cc)
 
 first_starts : (here : Phase) → is_first here ≡ true → is_start here ≡ true
 first_starts phase.Begin first = refl
@@ -85,10 +85,10 @@ first_starts _ first = absurd (cc)
 pub early_leaves_dest : EarlyLeavesDest
 unfolding Begun Did Stays LeavesSome
 early_leaves_dest job start old new run after why t now (past, is) (IsRefused prefix held calls reason turn did halted) early start_is dest_is =
-    let had = both_tell (DestPart job past run.phase run.kept.held) start.dest old.dest t start_is is.dest in
-    let same = refused_same job (turning run.kept).counts run.phase run.kept.prefix run.kept.held prefix held calls why old.dest new.dest turn did.0.dest in
+    let had = both_tell (DestPart job past run.phase run.kept.held) start.dest old.dest start_is is.dest in
+    let same = refused_same turn did.0.dest in
     ap (λ (w : Writing). w.tree) (some_same now had.0 (sym dest_is ∙ same ∙ had.1))
-    ∙ first_tree job past run.phase run.kept.held t had.0 (follows_first job (turning run.kept).counts run.phase run.kept.prefix run.kept.held prefix held calls why turn early) had.2
+    ∙ first_tree run.phase (follows_first turn early) had.2
 early_leaves_dest job start old new run after why t now (past, is) (FailsAtFirst reason stays halted) early start_is dest_is = absurd (true≢false (sym early ∙ failed_late why old.failures new.failures stays.3))
 early_leaves_dest job start old new run after why t now (past, is) (FailsLater prefix held calls answer rows reason turn leaves which halted) early start_is dest_is = absurd (true≢false (sym early ∙ failed_late why old.failures new.failures leaves.1))
 
@@ -96,9 +96,9 @@ pub early_leaves_log : EarlyLeavesLog
 unfolding Begun Did Stays LeavesSome
 early_leaves_log job start old new run after why first last (past, is) (IsRefused prefix held calls reason turn did halted) early first_is last_is =
     let counts = (turning run.kept).counts in
-    let had = log_tells (IsQuiet run.phase) start.log old.log first first_is is.quiet in
-    let same = none_put calls.line old.log new.log (refused_quiet job counts run.phase run.kept.prefix run.kept.held prefix held calls why turn) did.0.log in
+    let had = log_tells (IsQuiet run.phase) start.log old.log first_is is.quiet in
+    let same = none_put calls.line old.log new.log (refused_quiet turn) did.0.log in
     some_same last had.0 (sym last_is ∙ same ∙ had.1)
-    ∙ quiet_is run.phase first had.0 (first_starts run.phase (follows_first job counts run.phase run.kept.prefix run.kept.held prefix held calls why turn early)) had.2
+    ∙ quiet_is run.phase first had.0 (first_starts run.phase (follows_first turn early)) had.2
 early_leaves_log job start old new run after why first last (past, is) (FailsAtFirst reason stays halted) early first_is last_is = absurd (true≢false (sym early ∙ failed_late why old.failures new.failures stays.3))
 early_leaves_log job start old new run after why first last (past, is) (FailsLater prefix held calls answer rows reason turn leaves which halted) early first_is last_is = absurd (true≢false (sym early ∙ failed_late why old.failures new.failures leaves.1))

@@ -13,7 +13,7 @@ use Rattle.pt_tree.specs.Tree.{Bytes, Folder, IsTree, Tree}
 use Rattle.pt_plan.specs.Carried.{Carried, IsUsable, Marked, all_carried, carried_by, is_folder_or_free, is_way_free, marked, place_of_carried}
 use Rattle.pt_plan.specs.Job.{Job}
 use Rattle.pt_plan.specs.Roots.{root_in}
-use Rattle.pt_plan.specs.Run.{Counts, Held, Kept, Run, turning}
+use Rattle.pt_plan.specs.Run.{Counts, Held, Kept, Run}
 use Rattle.pt_plan.specs.Turn.{FailsAtFirst, FailsLater, Follows, HasFailed, IsRefused, LeavesSome, Make, Place, Scan, Start as a_start, Stays, Turn, Walk}
 use Rattle.pt_plan.specs.TurnMake.{Makings, ReadsMore, ReadsOther}
 use Rattle.pt_plan.specs.TurnPlace.{IsInTheWay, Places}
@@ -45,46 +45,46 @@ is_refusal halt.Target = true
 is_refusal halt.Changed = true
 is_refusal _ = false
 
-starts_for : (job : Job) (here : Phase) (prefix read : List ℕ) (calls : Calls) (why : Halt) → Starts job here prefix read calls (Err why) → is_refusal why ≡ true
-starts_for job here prefix read calls why (IsNoStore _ _ _) = refl
-starts_for job here prefix read calls why _ = refl
+starts_for : {job : Job} {here : Phase} {prefix read : List ℕ} {calls : Calls} {why : Halt} → Starts job here prefix read calls (Err why) → is_refusal why ≡ true
+starts_for (IsNoStore _ _ _) = refl
+starts_for _ = refl
 
-makes_for : (job : Job) (here : Phase) (held new : Held) (calls : Calls) (why : Halt) → Makings job here held new calls (Err why) → is_refusal why ≡ true
-makes_for job here held new calls why (ReadsMore was object position left byte block more) = refl
-makes_for job here held new calls why (ReadsOther was object position row left is other) = refl
+makes_for : {job : Job} {here : Phase} {held new : Held} {calls : Calls} {why : Halt} → Makings job here held new calls (Err why) → is_refusal why ≡ true
+makes_for (ReadsMore was object position left byte block more) = refl
+makes_for (ReadsOther was object position row left is other) = refl
 
-places_for : (job : Job) (counts : Counts) (here : Phase) (held new : Held) (calls : Calls) (why : Halt) → Places job counts here held new calls (Err why) → is_refusal why ≡ true
-places_for job counts here held new calls why (IsInTheWay was object number kind is) = refl
+places_for : {job : Job} {counts : Counts} {here : Phase} {held new : Held} {calls : Calls} {why : Halt} → Places job counts here held new calls (Err why) → is_refusal why ≡ true
+places_for (IsInTheWay was object number kind is) = refl
 
-follows_for : (job : Job) (counts : Counts) (here : Phase) (prefix : List ℕ) (held : Held) (read : List ℕ) (new : Held) (calls : Calls) (why : Halt) → Follows job counts here prefix held read new calls (Err why) → is_refusal why ≡ true
-follows_for job counts here prefix held read new calls why (a_start h p r x c a turn) = starts_for job here prefix read calls why turn
-follows_for job counts here prefix held read new calls why (Walk h p x n c a turn) = elim turn [ ]
-follows_for job counts here prefix held read new calls why (Scan h p x n c a turn) = elim turn [ ]
-follows_for job counts here prefix held read new calls why (Make h p x n c a turn) = makes_for job here held new calls why turn
-follows_for job counts here prefix held read new calls why (Place h p x n c a turn) = places_for job counts here held new calls why turn
+follows_for : {job : Job} {counts : Counts} {here : Phase} {prefix : List ℕ} {held : Held} {read : List ℕ} {new : Held} {calls : Calls} {why : Halt} → Follows job counts here prefix held read new calls (Err why) → is_refusal why ≡ true
+follows_for (a_start h p r x c a turn) = starts_for turn
+follows_for (Walk h p x n c a turn) = elim turn [ ]
+follows_for (Scan h p x n c a turn) = elim turn [ ]
+follows_for (Make h p x n c a turn) = makes_for turn
+follows_for (Place h p x n c a turn) = places_for turn
 
 -- or a device that failed
-halts_for : (job : Job) (here : Phase) (before after : Kept) (old new : World) (why : Halt) → Turn job here before after old new (Err why) → (is_refusal why ≡ true) ⊎ HasFailed why old.failures new.failures
+halts_for : {job : Job} {here : Phase} {before after : Kept} {old new : World} {why : Halt} → Turn job here before after old new (Err why) → (is_refusal why ≡ true) ⊎ HasFailed why old.failures new.failures
 unfolding Stays LeavesSome
-halts_for job here before after old new why (IsRefused prefix held calls reason turn did halted) = inl (follows_for job before.counts here before.prefix before.held prefix held calls why turn)
-halts_for job here before after old new why (FailsAtFirst reason stays halted) = inr stays.3
-halts_for job here before after old new why (FailsLater prefix held calls answer rows reason turn leaves which halted) = inr leaves.1
+halts_for (IsRefused prefix held calls reason turn did halted) = inl (follows_for turn)
+halts_for (FailsAtFirst reason stays halted) = inr stays.3
+halts_for (FailsLater prefix held calls answer rows reason turn leaves which halted) = inr leaves.1
 
 -- ---- a root that can be gone on with
 
 -- what holds of all objects that are carried holds of each
-of_each : (test : Carried → Bool) (f : Marked → List Carried) (ms : List Marked) (k : ℕ) (m : Marked) → slice_get ms k ≡ Some m → list_all test (flat_map f ms) ≡ true → list_all test (f m) ≡ true
-of_each test f [] k m is all = absurd (cc)
-of_each test f (x ∷ ms) zero m is all =
+of_each : (test : Carried → Bool) (f : Marked → List Carried) (ms : List Marked) (k : ℕ) {m : Marked} → slice_get ms k ≡ Some m → list_all test (flat_map f ms) ≡ true → list_all test (f m) ≡ true
+of_each test f [] k is all = absurd (cc)
+of_each test f (x ∷ ms) zero {m} is all =
     let same : x ≡ m = cc in
     ap (λ (y : Marked). list_all test (f y)) (sym same) ∙ (and_parts (list_all test (f x)) (list_all test (flat_map f ms)) (sym (list_all-append test (f x) (flat_map f ms)) ∙ all)).0
-of_each test f (x ∷ ms) (suc k) m is all = of_each test f ms k m is (and_parts (list_all test (f x)) (list_all test (flat_map f ms)) (sym (list_all-append test (f x) (flat_map f ms)) ∙ all)).1
+of_each test f (x ∷ ms) (suc k) is all = of_each test f ms k is (and_parts (list_all test (f x)) (list_all test (flat_map f ms)) (sym (list_all-append test (f x) (flat_map f ms)) ∙ all)).1
 
 module _ (job : Job) (source : Forest) (root : Tree) where
   way_of : (object : Carried) → IsCarriedOf job source root object → list_all (is_way_free job root) (all_carried job source root) ≡ true → is_way_free job root object ≡ true
   way_of object (k, (m, is, gives)) all =
       (and_parts (is_way_free job root object) true
-      (sym (ap (list_all (is_way_free job root)) gives) ∙ of_each (is_way_free job root) (λ (m : Marked). carried_by job m.1 m.0.verdict) (marked job source root) k m is all)).0
+      (sym (ap (list_all (is_way_free job root)) gives) ∙ of_each (is_way_free job root) (λ (m : Marked). carried_by job m.1 m.0.verdict) (marked job source root) k is all)).0
 
   -- where there is none, nothing is in the way
   free_way : (object : Carried) → IsFree root [] → is_way_free job root object ≡ true
@@ -96,31 +96,31 @@ module _ (job : Job) (source : Forest) (root : Tree) where
   never_bad top (inl free) (IsBarred object carried barred) = true≢false (sym (free_way object free) ∙ barred)
   never_bad (inl folder) (inr usable) (IsNoFolder else_there) = true≢false (sym (ap is_folder_or_free folder) ∙ else_there)
   never_bad (inr free) (inr usable) (IsNoFolder else_there) = true≢false (sym (ap is_folder_or_free (free [])) ∙ else_there)
-  never_bad top (inr usable) (HasOtherFile number file there is other) = other (all_at (λ (f : File). root f.0 ≡ Some (Bytes f.1)) (root_files_of job.tuples) number file usable.files is)
+  never_bad top (inr usable) (HasOtherFile number file there is other) = other (all_at (λ (f : File). root f.0 ≡ Some (Bytes f.1)) (root_files_of job.tuples) number usable.files is)
   never_bad top (inr usable) (IsBarred object carried barred) = true≢false (sym (way_of object carried usable.ways) ∙ barred)
 
 -- what stands at the top of a root that holds files is a folder
-top_of : (job : Job) (source : Forest) (t : Tree) → IsTree t → IsFree (root_in t) [] ⊎ IsUsable job source (root_in t) → root_in t [] ≡ Some Folder ⊎ IsFree (root_in t) []
-top_of job source t tree (inl free) = inr free
-top_of job source t tree (inr usable) = inl (root_stands job t tree usable.files)
+top_of : (job : Job) (source : Forest) {t : Tree} → IsTree t → IsFree (root_in t) [] ⊎ IsUsable job source (root_in t) → root_in t [] ≡ Some Folder ⊎ IsFree (root_in t) []
+top_of job source tree (inl free) = inr free
+top_of job source {t} tree (inr usable) = inl (root_stands job t tree usable.files)
 
 -- ---- the law
 
-tree_of : (job : Job) (start : Start) (world : World) (run : Run) (t : Tree) → Begun job start world run → start.dest ≡ Some t → IsTree t
+tree_of : (job : Job) (start : Start) (world : World) (run : Run) {t : Tree} → Begun job start world run → start.dest ≡ Some t → IsTree t
 unfolding Begun
-tree_of job start world run t (past, is) some = (both_tell (DestPart job past run.phase run.kept.held) start.dest world.dest t some is.dest).2.started
+tree_of job start world run (past, is) some = (both_tell (DestPart job past run.phase run.kept.held) start.dest world.dest some is.dest).2.started
 
 pub nothing_is_refused : NothingIsRefused
 nothing_is_refused job start old new run after halt.Memory s t begun turn told some good free rose = refl
-nothing_is_refused job start old new run after halt.Source s t begun turn told some good free rose = elim (halts_for job run.phase (turning run.kept) after old new halt.Source turn) [
+nothing_is_refused job start old new run after halt.Source s t begun turn told some good free rose = elim (halts_for turn) [
   | inl refused ↦ absurd (false≢true refused)
   | inr failed ↦ absurd (rose.source failed.0)
 ]
-nothing_is_refused job start old new run after halt.Dest s t begun turn told some good free rose = elim (halts_for job run.phase (turning run.kept) after old new halt.Dest turn) [
+nothing_is_refused job start old new run after halt.Dest s t begun turn told some good free rose = elim (halts_for turn) [
   | inl refused ↦ absurd (false≢true refused)
   | inr failed ↦ absurd (rose.dest failed.1)
 ]
-nothing_is_refused job start old new run after halt.Log s t begun turn told some good free rose = elim (halts_for job run.phase (turning run.kept) after old new halt.Log turn) [
+nothing_is_refused job start old new run after halt.Log s t begun turn told some good free rose = elim (halts_for turn) [
   | inl refused ↦ absurd (false≢true refused)
   | inr failed ↦ absurd (rose.log failed.2)
 ]
@@ -132,6 +132,6 @@ nothing_is_refused job start old new run after halt.StagingLeft s t begun turn t
     absurd (true≢false (sym (finds_staging job start old new run after t begun turn some) ∙ ap is_some (free [])))
 nothing_is_refused job start old new run after halt.Target s t begun turn told some good free rose =
     absurd
-    (never_bad job s.tree (root_in t) (top_of job s.tree t (tree_of job start old run t begun some) good.target) good.target
+    (never_bad job s.tree (root_in t) (top_of job s.tree (tree_of job start old run begun some) good.target) good.target
     (finds_target_of job start old new run after s t begun turn told some).1)
 nothing_is_refused job start old new run after halt.Changed s t begun turn told some good free rose = absurd (refuses_rightly job start old new run after halt.Changed s begun turn told)

@@ -52,15 +52,15 @@ no_file (Some Other) here some other is = refl
 long_refused : (bytes : List ℕ) → 1024 < length bytes → is_none (prefix_refusal bytes) ≡ false
 long_refused bytes long = ap (λ b. is_none (cond b (Some fault.TooLong) (cond (is_utf8 (without_line_ends bytes)) None (Some fault.NotUtf8)))) (lt-ltb 1024 (length bytes) long)
 
-block_refused : (bytes block : List ℕ) (why : PrefixFault) → take 8192 bytes ≡ block → prefix_refusal block ≡ Some why → is_none (prefix_refusal bytes) ≡ false
-block_refused bytes block why read bad = elim (cases_lt 1024 (length bytes)) [
+block_refused : (bytes : List ℕ) {block : List ℕ} {why : PrefixFault} → take 8192 bytes ≡ block → prefix_refusal block ≡ Some why → is_none (prefix_refusal bytes) ≡ false
+block_refused bytes read bad = elim (cases_lt 1024 (length bytes)) [
   | inl long ↦ long_refused bytes long
   | inr short ↦ (let few = short in ap (λ (l : List ℕ). is_none (prefix_refusal l)) (sym (take_all 8192 bytes (omega (arith, few))) ∙ read) ∙ ap is_none bad)
 ]
 
-bad_prefix : (o : Option Node) (block : List ℕ) (why : PrefixFault) → Some kind.File ≡ option_map kind_of o → option_map (take 8192) (option_and_then as_file (option_and_then (λ node. node_at node []) o)) ≡ Some block → prefix_refusal block ≡ Some why → is_prefix o ≡ false
-bad_prefix (Some (File bytes)) block why is read bad = block_refused bytes block why (some_same (take 8192 bytes) block read) bad
-bad_prefix _ block why is read bad = absurd (cc)
+bad_prefix : (o : Option Node) {block : List ℕ} {why : PrefixFault} → Some kind.File ≡ option_map kind_of o → option_map (take 8192) (option_and_then as_file (option_and_then (λ node. node_at node []) o)) ≡ Some block → prefix_refusal block ≡ Some why → is_prefix o ≡ false
+bad_prefix (Some (File bytes)) {block} is read bad = block_refused bytes (some_same (take 8192 bytes) block read) bad
+bad_prefix _ is read bad = absurd (cc)
 
 -- ---- the copy
 
@@ -102,36 +102,36 @@ module _ (job : Job) (s : Reading) (prefix : List ℕ) (count : ℕ) (object : O
 
 -- ---- the turns
 
-starts_refuse : (job : Job) (s : Reading) (new : Option Reading) (prefix read : List ℕ) (count : ℕ) (here : Phase) (held : Held) (calls : Calls) (why : Halt)
+starts_refuse : {job : Job} (s : Reading) (new : Option Reading) {prefix read : List ℕ} (count : ℕ) {here : Phase} (held : Held) {calls : Calls} {why : Halt}
     → Starts job here prefix read calls (Err why) → SourceAt job s prefix count here held → Answers calls.asked (Some s) new → SaysOfSource why s.tree
 unfolding Answers IsListed IsRead
-starts_refuse job s new prefix read count here held calls why (IsNoStore was entries is) at answers =
+starts_refuse s new count held (IsNoStore was entries is) at answers =
     let listed : entries ≡ listing_of s.tree = sym (some_same (listing_of s.tree) entries (answers.0 s refl)) in
     sym (store_listed s.tree) ∙ ap lists_store (sym listed) ∙ is
-starts_refuse job s new prefix read count here held calls why (IsNoPrefixFile was kind some is) at answers = (at.2, no_file (find s.tree prefix_file) kind some is at.3)
-starts_refuse job s new prefix read count here held calls why (IsNoPrefix was block reason is) at answers =
-    (at.2, bad_prefix (find s.tree prefix_file) block reason at.3 (answers.0 (after_open (prefix_file ∷ []) s) refl) is)
-starts_refuse job s new prefix read count here held calls why _ at answers = (at.2.store, at.2.good)
+starts_refuse s new count held (IsNoPrefixFile was kind some is) at answers = (at.2, no_file (find s.tree prefix_file) kind some is at.3)
+starts_refuse s new count held (IsNoPrefix was block reason is) at answers =
+    (at.2, bad_prefix (find s.tree prefix_file) at.3 (answers.0 (after_open (prefix_file ∷ []) s) refl) is)
+starts_refuse s new count held _ at answers = (at.2.store, at.2.good)
 
-makes_refuse : (job : Job) (s : Reading) (new : Option Reading) (prefix : List ℕ) (count : ℕ) (here : Phase) (held after : Held) (calls : Calls) (why : Halt)
+makes_refuse : {job : Job} (s : Reading) (new : Option Reading) (prefix : List ℕ) (count : ℕ) {here : Phase} {held after : Held} {calls : Calls} {why : Halt}
     → is_proper s.tree ≡ true → Makings job here held after calls (Err why) → SourceAt job s prefix count here held → Answers calls.asked (Some s) new → SaysOfSource why s.tree
 unfolding Answers IsListed IsRead
-makes_refuse job s new prefix count here held after calls why proper (ReadsMore was object position left byte block more) at answers =
+makes_refuse {job} s new prefix count proper (ReadsMore was object position left byte block more) at answers =
     absurd (never_more job s prefix count object was position left proper at (byte ∷ block) more (answers.0 s refl))
-makes_refuse job s new prefix count here held after calls why proper (ReadsOther was object position row left is other) at answers =
+makes_refuse {job} s new prefix count proper (ReadsOther was object position row left is other) at answers =
     absurd (let same = some_same row at.2.row (sym is ∙ at.2.is_row) in
     true≢false (sym (ap (λ (r : Row). is_as_read job r left was.fed) same ∙ as_read job s prefix count object was position left proper at (answers.0 s refl)) ∙ other))
 
-places_refuse : (job : Job) (s : Reading) (counts : Counts) (prefix : List ℕ) (count : ℕ) (here : Phase) (held after : Held) (calls : Calls) (why : Halt) → Places job counts here held after calls (Err why) → SourceAt job s prefix count here held → SaysOfSource why s.tree
-places_refuse job s counts prefix count here held after calls why (IsInTheWay was object number kind is) at = (at.0.store, at.0.good)
+places_refuse : {job : Job} (s : Reading) {counts : Counts} (prefix : List ℕ) (count : ℕ) {here : Phase} {held after : Held} {calls : Calls} {why : Halt} → Places job counts here held after calls (Err why) → SourceAt job s prefix count here held → SaysOfSource why s.tree
+places_refuse s prefix count (IsInTheWay was object number kind is) at = (at.0.store, at.0.good)
 
-follows_refuse : (job : Job) (s : Reading) (new : Option Reading) (counts : Counts) (count : ℕ) (here : Phase) (prefix : List ℕ) (held : Held) (read : List ℕ) (after : Held) (calls : Calls) (why : Halt)
+follows_refuse : {job : Job} (s : Reading) (new : Option Reading) {counts : Counts} (count : ℕ) {here : Phase} {prefix : List ℕ} {held : Held} {read : List ℕ} {after : Held} {calls : Calls} {why : Halt}
     → is_proper s.tree ≡ true → Follows job counts here prefix held read after calls (Err why) → SourceAt job s prefix count here held → Answers calls.asked (Some s) new → SaysOfSource why s.tree
-follows_refuse job s new counts count here prefix held read after calls why proper (a_start h p r w c a turn) at answers = starts_refuse job s new prefix read count here held calls why turn at answers
-follows_refuse job s new counts count here prefix held read after calls why proper (Walk h p w n c a turn) at answers = elim turn [ ]
-follows_refuse job s new counts count here prefix held read after calls why proper (Scan h p w n c a turn) at answers = elim turn [ ]
-follows_refuse job s new counts count here prefix held read after calls why proper (Make h p w n c a turn) at answers = makes_refuse job s new prefix count here held after calls why proper turn at answers
-follows_refuse job s new counts count here prefix held read after calls why proper (Place h p w n c a turn) at answers = places_refuse job s counts prefix count here held after calls why turn at
+follows_refuse s new count {held} proper (a_start h p r w c a turn) at answers = starts_refuse s new count held turn at answers
+follows_refuse s new count proper (Walk h p w n c a turn) at answers = elim turn [ ]
+follows_refuse s new count proper (Scan h p w n c a turn) at answers = elim turn [ ]
+follows_refuse s new count {prefix} proper (Make h p w n c a turn) at answers = makes_refuse s new prefix count proper turn at answers
+follows_refuse s new count {prefix} proper (Place h p w n c a turn) at answers = places_refuse s prefix count turn at
 
 -- a fault says nothing of the source
 failed : (why : Halt) (old new : Failures) (source : Forest) → HasFailed why old new → SaysOfSource why source
@@ -149,7 +149,7 @@ refused : (job : Job) (past : Past) (start : Start) (old new : World) (run : Run
 unfolding Did Stays LeavesSome
 refused job past start old new run after why s is (IsRefused prefix held calls reason turn did halted) told =
     let part = is.source s told in
-    follows_refuse job s new.source (turning run.kept).counts past.count run.phase run.kept.prefix run.kept.held prefix held calls why part.proper turn part.at (subst (λ o. Answers calls.asked o new.source) told did.0.source)
+    follows_refuse s new.source past.count part.proper turn part.at (subst (λ o. Answers calls.asked o new.source) told did.0.source)
 refused job past start old new run after why s is (FailsAtFirst reason stays halted) told = failed why old.failures new.failures s.tree stays.3
 refused job past start old new run after why s is (FailsLater prefix held calls answer rows reason turn leaves which halted) told = failed why old.failures new.failures s.tree leaves.1
 

@@ -40,7 +40,7 @@ follows_find job past t w new counts here prefix held read after calls (Place h 
 found : (job : Job) (past : Past) (start : Start) (old new : World) (run : Run) (after : Kept) (t : Tree) → IsPast job start old run past → Turn job run.phase (turning run.kept) after old new (Err halt.StagingLeft) → start.dest ≡ Some t → is_some (t staging) ≡ true
 unfolding Did Stays LeavesSome
 found job past start old new run after t is (IsRefused prefix held calls reason turn did halted) told =
-    let had = both_tell (DestPart job past run.phase run.kept.held) start.dest old.dest t told is.dest in
+    let had = both_tell (DestPart job past run.phase run.kept.held) start.dest old.dest told is.dest in
     follows_find job past t had.0 new.dest (turning run.kept).counts run.phase run.kept.prefix run.kept.held prefix held calls turn had.2 (subst (λ o. Changes calls.change o new.dest) had.1 did.0.dest)
 found job past start old new run after t is (FailsAtFirst reason stays halted) told = absurd (stays.3)
 found job past start old new run after t is (FailsLater prefix held calls answer rows reason turn leaves which halted) told = absurd (leaves.1)

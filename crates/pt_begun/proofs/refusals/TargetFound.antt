@@ -46,18 +46,18 @@ use Rattle.pt_begun.proofs.items.Telling.{both_tell}
 -- ---- what was found
 
 -- something else than a folder
-no_folder : (o : Option Entry) (here : Kind) → option_map kind_of_entry o ≡ Some here → is_dir_kind (Some here) ≡ false → is_folder_or_free o ≡ false
-no_folder None here is other = absurd (cc)
-no_folder (Some Folder) here is other = absurd (true≢false (ap is_dir_kind is ∙ other))
-no_folder _ here is other = refl
+no_folder : (o : Option Entry) {here : Kind} → option_map kind_of_entry o ≡ Some here → is_dir_kind (Some here) ≡ false → is_folder_or_free o ≡ false
+no_folder None is other = absurd (cc)
+no_folder (Some Folder) is other = absurd (true≢false (ap is_dir_kind is ∙ other))
+no_folder _ is other = refl
 
 -- no file
 no_file : (o : Option Entry) (here : Option Kind) (bytes : List ℕ) → option_map kind_of_entry o ≡ here → is_file_kind here ≡ false → o ≢ Some (Bytes bytes)
 no_file o here bytes is other same = true≢false (ap (λ (e : Option Entry). is_file_kind (option_map kind_of_entry e)) (sym same) ∙ ap is_file_kind is ∙ other)
 
 -- other bytes
-other_bytes : (o : Option Entry) (bytes block : List ℕ) → option_map (take 8192) (bytes_of o) ≡ Some block → bytes_eq block bytes ≡ false → length bytes < 8192 → o ≢ Some (Bytes bytes)
-other_bytes o bytes block read other short same =
+other_bytes : (o : Option Entry) (bytes : List ℕ) {block : List ℕ} → option_map (take 8192) (bytes_of o) ≡ Some block → bytes_eq block bytes ≡ false → length bytes < 8192 → o ≢ Some (Bytes bytes)
+other_bytes o bytes {block} read other short same =
     let whole : block ≡ bytes = some_same block bytes (sym read ∙ ap (λ (e : Option Entry). option_map (take 8192) (bytes_of e)) same ∙ ap (λ (l : List ℕ). Some l) (take_all 8192 bytes (omega (arith, short)))) in
     true≢false (sym (ap (λ (l : List ℕ). bytes_eq l bytes) whole ∙ name_itself bytes) ∙ other)
 
@@ -96,7 +96,7 @@ barred job past start object held number old here at dest found other =
     let p = take (suc number) place in
     let carried = object_held object held.rows past.bytes in
     let root = root_now job start past.placed in
-    let bad = no_folder (old.tree (tuple_folder object number)) here found other in
+    let bad = no_folder (old.tree (tuple_folder object number)) found other in
     let on_way : is_folder_or_free (root_on_way job start past.placed place number p) ≡ false =
     ap is_folder_or_free (sym (at_root job past start object held number old p dest.started at.rows dest.at.0) ∙ ap (λ n. old.tree (storage_root ++ take n place)) (sym next)) ∙ bad in
     let stood = not_made (root p) _ on_way in
@@ -113,7 +113,7 @@ module _ (job : Job) (past : Past) (t : Tree) (old : Writing) (new : Option Writ
   starts_find : (prefix read : List ℕ) (here : Phase) (calls : Calls) → IsLayout job.tuples → Starts job here prefix read calls (Err halt.Target) → DestPart job past here held t old → Changes calls.change (Some old) new → IsFound
   unfolding Changes IsKindAt IsPeeked
   starts_find prefix read here calls layout (IsNoRoot was kind other) dest change =
-      (dest.at.1, IsNoFolder (ap (λ (tree : Tree). is_folder_or_free (tree storage_root)) (sym dest.at.0.tree) ∙ no_folder (old.tree storage_root) kind (change.0 old refl) other))
+      (dest.at.1, IsNoFolder (ap (λ (tree : Tree). is_folder_or_free (tree storage_root)) (sym dest.at.0.tree) ∙ no_folder (old.tree storage_root) (change.0 old refl) other))
   starts_find prefix read here calls layout (IsNoFile was number path bytes kind is other) dest change = (
     dest.at.free,
     HasOtherFile number (path, bytes) dest.at.top is
@@ -122,7 +122,7 @@ module _ (job : Job) (past : Past) (t : Tree) (old : Writing) (new : Option Writ
   starts_find prefix read here calls layout (Differs was number path bytes block is other) dest change = (
     dest.at.free,
     HasOtherFile number (path, bytes) dest.at.top is
-        (λ same. other_bytes (old.tree (storage_root ++ path)) bytes block (change.1 old refl) other (file_short job.tuples number path bytes layout is) (ap (λ (tree : Tree). tree (storage_root ++ path)) dest.at.tree ∙ same)),
+        (λ same. other_bytes (old.tree (storage_root ++ path)) bytes (change.1 old refl) other (file_short job.tuples number path bytes layout is) (ap (λ (tree : Tree). tree (storage_root ++ path)) dest.at.tree ∙ same)),
   )
 
   places_find : (counts : Counts) (here : Phase) (after : Held) (calls : Calls) → Places job counts here held after calls (Err halt.Target) → HeldAt job past here held → DestPart job past here held t old → Changes calls.change (Some old) new
@@ -145,7 +145,7 @@ found : (job : Job) (past : Past) (start : Start) (old new : World) (run : Run) 
     → ((object : Object) (number : ℕ) → run.phase ≡ phase.Tuples object number → objects (object_held object run.kept.held.rows past.bytes)) → IsFree t staging × IsBadTarget job (root_in t) objects
 unfolding Did Stays LeavesSome
 found job past start old new run after t objects is (IsRefused prefix held calls reason turn did halted) told some =
-    let had = both_tell (DestPart job past run.phase run.kept.held) start.dest old.dest t told is.dest in
+    let had = both_tell (DestPart job past run.phase run.kept.held) start.dest old.dest told is.dest in
     follows_find job past t had.0 new.dest run.kept.held objects (turning run.kept).counts run.phase run.kept.prefix prefix held calls is.layout turn is.held had.2 (subst (λ o. Changes calls.change o new.dest) had.1 did.0.dest) some
 found job past start old new run after t objects is (FailsAtFirst reason stays halted) told some = absurd (stays.3)
 found job past start old new run after t objects is (FailsLater prefix held calls answer rows reason turn leaves which halted) told some = absurd (leaves.1)
@@ -161,4 +161,4 @@ finds_target_of job start old new run after s t (past, is) turn source_is told =
     (λ object number here.
     let source = subst (λ h. SourcePart job past h run.kept.prefix run.kept.held s) here (is.source s source_is) in
     let free = subst (λ h. IsFreeAt h job s.tree (root_in t) past.count) here (is.items s source_is t told).places.next in
-    (past.count, carried_next job past s (root_in t) run.kept.prefix object run.kept.held past.count source.proper source.at.0 source.at.1 source.bytes free))
+    (past.count, carried_next past s (root_in t) source.proper source.at.0 source.at.1 source.bytes free))

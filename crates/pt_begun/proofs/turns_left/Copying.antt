@@ -17,18 +17,18 @@ use Rattle.pt_begun.specs.WorkLeft.{to_copy, to_copy_from}
 
 -- ---- the rows
 
-pub drop_at : {X : Type 0} → (n : ℕ) (xs : List X) (x : X) → slice_get xs n ≡ Some x → drop n xs ≡ x ∷ drop (suc n) xs
-drop_at n [] x is = absurd (cc)
-drop_at zero (y ∷ xs) x is =
+pub drop_at : {X : Type 0} → (n : ℕ) (xs : List X) {x : X} → slice_get xs n ≡ Some x → drop n xs ≡ x ∷ drop (suc n) xs
+drop_at n [] is = absurd (cc)
+drop_at zero (y ∷ xs) {x} is =
     let same : y ≡ x = cc in
     ap (λ z. z ∷ xs) same
-drop_at (suc n) (y ∷ xs) x is = drop_at n xs x is
+drop_at (suc n) (y ∷ xs) is = drop_at n xs is
 
 -- one row, and those behind it
-pub copy_next : (rows : List Row) (n : ℕ) (row : Row) (known : Bool) → slice_get rows n ≡ Some row → is_known (take n rows) row ≡ known → to_copy_from rows n ≡ cond known 1 (reads row.length) + to_copy_from rows (n + 1)
-copy_next rows n row known is is_it =
+pub copy_next : (rows : List Row) (n : ℕ) {row : Row} {known : Bool} → slice_get rows n ≡ Some row → is_known (take n rows) row ≡ known → to_copy_from rows n ≡ cond known 1 (reads row.length) + to_copy_from rows (n + 1)
+copy_next rows n {row} {known} is is_it =
     let next : suc n ≡ n + 1 = omega arith in
-    ap (to_copy (take n rows)) (drop_at n rows row is)
+    ap (to_copy (take n rows)) (drop_at n rows is)
     ∙ ap (λ b. cond b 1 (reads row.length) + to_copy (take n rows ++ row ∷ []) (drop (suc n) rows)) is_it
     ∙ ap (λ (l : List Row). cond known 1 (reads row.length) + to_copy l (drop (suc n) rows)) (sym (take_one n rows row is))
     ∙ ap (λ (k : ℕ). cond known 1 (reads row.length) + to_copy_from rows k) next
@@ -73,9 +73,9 @@ more_blocks n many =
     omega (arith, whole, same)
 
 -- a block that is read of what is left lowers the reads of it
-pub block_read : (bytes : List ℕ) (count : ℕ) (fed : List ℕ) (byte : ℕ) (block : List ℕ) (unread : Option (List ℕ)) → IsReading bytes count fed unread → option_map (take 8192) unread ≡ Some (byte ∷ block)
+pub block_read : {bytes : List ℕ} {count : ℕ} {fed : List ℕ} {byte : ℕ} {block : List ℕ} {unread : Option (List ℕ)} → IsReading bytes count fed unread → option_map (take 8192) unread ≡ Some (byte ∷ block)
     → reads (length bytes - (count + length (byte ∷ block))) + 1 ≤ reads (length bytes - count)
-block_read bytes count fed byte block unread it read = by (nat_lt 8192 (length rest)) refl
+block_read {bytes} {count} {byte} {block} it read = by (nat_lt 8192 (length rest)) refl
   where
     rest : List ℕ
     rest = drop count bytes

@@ -64,30 +64,30 @@ no_more_to_copy rows position = by (nat_lt position.row (length rows))
     by false = omega arith
 
 -- a row is passed where its digest is known
-passed_known : (rows : List Row) (contents : List Content) (position : Position) (row : Row) → contents ≡ map content_of_row (distinct rows) → part_in_order (row_paths rows) ≡ true → slice_get rows position.row ≡ Some row → is_stored contents position.stored row.path ≡ false → IsAtRow rows position
+passed_known : {rows : List Row} {contents : List Content} {position : Position} {row : Row} → contents ≡ map content_of_row (distinct rows) → part_in_order (row_paths rows) ≡ true → slice_get rows position.row ≡ Some row → is_stored contents position.stored row.path ≡ false → IsAtRow rows position
     → is_known (take position.row rows) row ≡ true
-passed_known rows contents position row are order is passed at = by (is_known (take position.row rows) row) refl
+passed_known {rows} {contents} {position} {row} are order is passed at = by (is_known (take position.row rows) row) refl
   where
     by : (known : Bool) → is_known (take position.row rows) row ≡ known → known ≡ true
     by true known = refl
     by false new = absurd (true≢false (sym (stored_where_new rows contents position.row position.stored row are at.stored order is false new) ∙ passed))
 
 -- a row that is copied is the first of its digest
-copied_next : (rows : List Row) (contents : List Content) (position : Position) (row : Row) → IsHere rows contents position row → to_copy_from rows position.row ≡ reads row.length + to_copy_from rows (position.row + 1)
-copied_next rows contents position row it = copy_next rows position.row row false it.is (is_new rows contents position row it.are it.order it.is it.stored it.at)
+copied_next : {rows : List Row} {contents : List Content} {position : Position} {row : Row} → IsHere rows contents position row → to_copy_from rows position.row ≡ reads row.length + to_copy_from rows (position.row + 1)
+copied_next {rows} {contents} {position} {row} it = copy_next rows position.row it.is (is_new rows contents position row it.are it.order it.is it.stored it.at)
 
 -- ---- a copy
 
 -- so many bytes of the file are left
-copy_lowers : (job : Job) (s : Reading) (prefix : List ℕ) (past : Past) (object : Object) (held : Held) (position : Position) (left byte : ℕ) (block : List ℕ) → SourcePart job past (phase.Copy object position left) prefix held s → option_map (take 8192) s.unread ≡ Some (byte ∷ block)
+copy_lowers : {job : Job} {s : Reading} {prefix : List ℕ} {past : Past} {object : Object} {held : Held} {position : Position} {left byte : ℕ} {block : List ℕ} → SourcePart job past (phase.Copy object position left) prefix held s → option_map (take 8192) s.unread ≡ Some (byte ∷ block)
     → reads (left - length (byte ∷ block)) + 1 ≤ reads left
-copy_lowers job s prefix past object held position left byte block part read =
+copy_lowers {job} {s} {prefix} {past} {object} {held} {position} {left} {byte} {block} part read =
     let it = part.at.2 in
     let bytes = bytes_at (pairtree_of s.tree) (path_of_source object held.trail ++ it.row.path) in
     let file = file_of_row job s prefix object held past.count position.row it.row part.proper it.is_row (part.at.0, part.at.1) in
     let long : it.row.length ≡ length bytes = file.long ∙ sym (ap length file.here) in
     let within = it.within in
-    let less = block_read bytes (it.row.length - left) held.fed byte block s.unread it.read read in
+    let less = block_read it.read read in
     let before : length bytes - (it.row.length - left) ≡ left = omega (arith, long, within) in
     let after : length bytes - (it.row.length - left + length (byte ∷ block)) ≡ left - length (byte ∷ block) = omega (arith, long, within) in
     let one = ap reads before in
@@ -121,7 +121,7 @@ makes_lower job past s new root prefix here held after calls next (MakesVersion 
 makes_lower job past s new root prefix here held after calls next (PassesRow was object position row is other) answers at part_is =
     let b = bytes_there s.tree object (to_site object was.trail) in
     let same = ap length (made_at job object was.rows b (behind position) (stored_passed was.rows was.contents position row at.rows.contents at.rows.order is other at.numbers)) in
-    let one = copy_next was.rows position.row row true is (passed_known was.rows was.contents position row at.rows.contents at.rows.order is other at.numbers) in
+    let one = copy_next was.rows position.row is (passed_known at.rows.contents at.rows.order is other at.numbers) in
     let few = no_more_to_copy was.rows (behind position) in
     omega (arith, same, one, few)
 makes_lower job past s new root prefix here held after calls next (MakesFolder was object position row is stored more) answers at part_is =
@@ -135,10 +135,10 @@ makes_lower job past s new root prefix here held after calls next (OpensCopy was
     let b = bytes_there s.tree object (to_site object was.trail) in
     let it = is_here job past object position was row at is stored in
     let some = some_left (script_of_object job object was.rows b) (made_before job object was.rows b (part.Content position)) _ (file_next job object was.rows was.contents b position row it (ltb-false position.directories (length row.path) all)) in
-    let one = copied_next was.rows was.contents position row it in
+    let one = copied_next it in
     omega (arith, some, one)
 makes_lower job past s new root prefix here held after calls next (CopiesOn was object position left byte block fits) answers at part_is =
-    let less = copy_lowers job s prefix past object was position left byte block part_is (answers.0 s refl) in
+    let less = copy_lowers part_is (answers.0 s refl) in
     omega (arith, less)
 makes_lower job past s new root prefix here held after calls next (EndsCopy was object position row left is whole) answers at part_is =
     let b = bytes_there s.tree object (to_site object was.trail) in

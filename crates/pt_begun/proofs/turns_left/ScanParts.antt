@@ -102,8 +102,8 @@ meets_behind limits depth held (entry ∷ front) left good = by (entry_cause lim
     by (Some why) all good = absurd (cc)
 
 -- where no row is held yet, all entries are left at most
-pub none_met : (job : Job) (object : PairtreeObject) (rows : List Row) (empty : ℕ) (left : List Entry) → HasScanned job object rows empty left → rows ≡ [] → to_meet job.limits (length object.at) 0 left ≤ sum_by (λ (entry : Entry). work_at entry.1) (met job.limits object)
-none_met job object rows empty left it none =
+pub none_met : {job : Job} {object : PairtreeObject} {rows : List Row} {empty : ℕ} {left : List Entry} → HasScanned job object rows empty left → rows ≡ [] → to_meet job.limits (length object.at) 0 left ≤ sum_by (λ (entry : Entry). work_at entry.1) (met job.limits object)
+none_met {job} {object} {rows} {left} it none =
     let many : length rows ≡ length (files it.front) = ap length it.rows_are ∙ length-map (files it.front) (row_of_file job.algorithm) in
     let no : 0 + length (files it.front) ≡ 0 = (let zero_rows = ap length none in omega (arith, many, zero_rows)) in
     let behind = meets_behind job.limits (length object.at) 0 it.front left it.good in
@@ -124,9 +124,9 @@ site_on object (frame ∷ frames) = by (length (frame ∷ frames) - object.site)
     by (suc n) = (refl, omega arith)
 
 -- an entry that is there is one to pass
-pub here_less : (trail : List Frame) (item : Item) → current_entry trail ≡ Some item → still_here (advanced trail) + 1 ≤ still_here trail
-here_less [] item e = absurd (cc)
-here_less (frame ∷ frames) item e = let within = slice_get_within frame.listing frame.place item e in omega (arith, within)
+pub here_less : (trail : List Frame) {item : Item} → current_entry trail ≡ Some item → still_here (advanced trail) + 1 ≤ still_here trail
+here_less [] e = absurd (cc)
+here_less (frame ∷ frames) {item} e = let within = slice_get_within frame.listing frame.place item e in omega (arith, within)
 
 -- an object has as many listings of its own one entry on
 pub own_on : (object : Object) (trail : List Frame) → own_listings object (advanced trail) ≡ own_listings object trail
@@ -141,30 +141,30 @@ here_at_start (frame ∷ frames) = omega arith
 -- ---- all is scanned
 
 -- the object's script, its copies, the tuple directories, the renaming and the line are the work that comes of it
-pub comes_to : (job : Job) (source : Forest) (object : Object) (held : Held) (site : List Frame) (bytes : Path → List ℕ) → is_proper (pairtree_of source) ≡ true → HasScanned job (object_at source object site) held.rows object.empty [] → AreRows job bytes held → AreHeldThere source object site bytes held.rows
+pub comes_to : {job : Job} (source : Forest) (object : Object) {held : Held} (site : List Frame) {bytes : Path → List ℕ} → is_proper (pairtree_of source) ≡ true → HasScanned job (object_at source object site) held.rows object.empty [] → AreRows job bytes held → AreHeldThere source object site bytes held.rows
     → work_by_outcome job object.id (outcome job.limits (object_at source object site)) ≡ length (script_of_object job object held.rows (bytes_there source object site)) + to_copy_from held.rows 0 + job.tuples.count + 2
-comes_to job source object held site bytes proper it rows there =
+comes_to {job} source object {held} site proper it rows there =
     let what = object_at source object site in
     let whole = files (entries what.inside) in
     let b = bytes_there source object site in
-    let files_is : files_held held.rows b ≡ whole = files_are job source object site held.rows object.empty b proper it (λ k d h. refl) in
+    let files_is : files_held held.rows b ≡ whole = files_are source object site b proper it (λ k d h. refl) in
     let script : script_of_object job object held.rows b ≡ script_of object.id (files_held held.rows b) job.meta job.algorithm =
     (own_files object.id held.rows b job.meta job.algorithm (in_order_apart (row_paths held.rows) rows.order) (λ k d h. ap (digest_of job.algorithm) (sym (there k d h)) ∙ rows.digests k d h)).1 in
     let long : length (script_of_object job object held.rows b) ≡ length (script_of object.id whole job.meta job.algorithm) = ap length (script ∙ ap (λ (l : List a_file). script_of object.id l job.meta job.algorithm) files_is) in
     let all : entries what.inside ≡ it.front = it.all ∙ append-nil it.front in
     let rows_is : held.rows ≡ rows_of job.algorithm whole = it.rows_are ∙ sym (ap (λ (l : List Entry). rows_of job.algorithm (files l)) all) in
     let copies : to_copy_from held.rows 0 ≡ work_to_copy (rows_of job.algorithm whole) = copies_all held.rows ∙ ap work_to_copy rows_is in
-    let made : work_by_outcome job object.id (outcome job.limits what) ≡ work_to_make job object.id whole = ap (work_by_outcome job object.id) (comes_whole job what held.rows object.empty it) in
+    let made : work_by_outcome job object.id (outcome job.limits what) ≡ work_to_make job object.id whole = ap (work_by_outcome job object.id) (comes_whole it) in
     omega (arith, long, copies, made)
 
 -- ---- the next entry
 
 -- a directory is entered
-pub enters_meets : (job : Job) (source : Forest) (object : Object) (rows : List Row) (trail : List Frame) (name : List ℕ) (items : List Item) → is_proper (pairtree_of source) ≡ true → is_trail trail ≡ true → current_entry trail ≡ Some (name, kind.Dir) → is_passed object trail (name, kind.Dir) ≡ false
+pub enters_meets : (job : Job) (source : Forest) (object : Object) (rows : List Row) (trail : List Frame) (name : List ℕ) {items : List Item} → is_proper (pairtree_of source) ≡ true → is_trail trail ≡ true → current_entry trail ≡ Some (name, kind.Dir) → is_passed object trail (name, kind.Dir) ≡ false
     → nat_lt job.limits.depth (length trail) ≡ false → listing_at (pairtree_of source) (names_to trail) ≡ Some items → Fits (pairtree_of source) trail → object.site ≤ length trail → 0 < own_listings object trail
     → to_meet job.limits (length (object_at source object (to_site object trail)).at) (length rows) (left_of source object trail) ≡ 2 + to_meet job.limits (length (object_at source object (to_site object trail)).at) (length rows) (left_of source object (entered items trail))
-enters_meets job source object rows [] name items proper is_one e apart shallow listed fits within inside = absurd (cc)
-enters_meets job source object rows (frame ∷ frames) name items proper is_one e apart shallow listed fits within inside =
+enters_meets job source object rows [] name proper is_one e apart shallow listed fits within inside = absurd (cc)
+enters_meets job source object rows (frame ∷ frames) name {items} proper is_one e apart shallow listed fits within inside =
     let top = pairtree_of source in
     let trail = frame ∷ frames in
     let path = names_to frames ++ name ∷ [] in
@@ -221,15 +221,15 @@ long_on [] = refl
 long_on (frame ∷ frames) = refl
 
 -- an entry of the site that isn't of the object is passed
-pub pass_less : (object : Object) (trail : List Frame) (item : Item) → current_entry trail ≡ Some item → is_passed object trail item ≡ true → 0 < own_listings object trail → to_leave object (advanced trail) + 1 ≤ to_leave object trail
-pass_less object trail item e passed inside =
+pub pass_less : (object : Object) (trail : List Frame) {item : Item} → current_entry trail ≡ Some item → is_passed object trail item ≡ true → 0 < own_listings object trail → to_leave object (advanced trail) + 1 ≤ to_leave object trail
+pass_less object trail {item} e passed inside =
     let tests = and_parts (is_in_site object trail) (is_shorty item) passed in
     let same = eqb-true (length trail) object.site tests.0 in
     let gathered = is_gathered object trail same inside in
     let before = ap (λ b. cond b (still_here (to_site object trail)) 0) gathered ∙ ap still_here (site_itself object trail same) in
     let after = ap (λ b. cond b (still_here (to_site object (advanced trail))) 0) gathered ∙ ap still_here (site_itself object (advanced trail) (long_on trail ∙ same)) in
     let own = own_on object trail in
-    let less = here_less trail item e in
+    let less = here_less trail e in
     omega (arith, before, after, own, less)
 
 -- a listing of the object is left

@@ -12,7 +12,7 @@ use Rattle.pt_walk.specs.declared.frame.Frame.{Frame}
 use Rattle.pt_plan.specs.Items.{PairtreeObject, outcome}
 use Rattle.pt_plan.specs.Job.{Job}
 use Rattle.pt_plan.specs.Store.{pairtree_of}
-use Rattle.pt_plan.specs.TurnScan.{EndsFile, EndsObject, EndsSite, EntersDirectory, EntersObject, IsTooDeep, LeavesDirectory, OpensFile, PassesShorty, ReadsOn, StartsInSite, logical_path, to_site, with_directory}
+use Rattle.pt_plan.specs.TurnScan.{EndsFile, EndsObject, EndsSite, EntersDirectory, EntersObject, IsTooDeep, LeavesDirectory, OpensFile, PassesShorty, ReadsOn, StartsInSite, logical_path, to_site}
 use Rattle.pt_plan.specs.Work.{met, reads, work_at, work_by_outcome}
 use Rattle.pt_plan.specs.World.{Answers}
 use Rattle.pt_plan.specs.declared.object.Object.{Object}
@@ -30,16 +30,16 @@ use Rattle.pt_begun.proofs.turns_left.Copying.{block_read}
 use Rattle.pt_begun.proofs.turns_left.ScanParts.{comes_to, enters_meets, file_meets, leave_directory, leave_less, leave_on, leave_site, none_met, noted_meets, pass_less, site_behind, site_on, site_sought}
 
 -- what comes of an object is the same if the object is
-same_work : (job : Job) (object : Object) (one other : PairtreeObject) → one ≡ other → work_by_outcome job object.id (outcome job.limits one) ≡ work_by_outcome job object.id (outcome job.limits other)
-same_work job object one other same = ap (λ (o : PairtreeObject). work_by_outcome job object.id (outcome job.limits o)) same
+same_work : (job : Job) (object : Object) {one other : PairtreeObject} → one ≡ other → work_by_outcome job object.id (outcome job.limits one) ≡ work_by_outcome job object.id (outcome job.limits other)
+same_work job object same = ap (λ (o : PairtreeObject). work_by_outcome job object.id (outcome job.limits o)) same
 
 -- so are the entries that are left of it
-same_meets : (job : Job) (one other : PairtreeObject) (held : ℕ) (some : List Entry) → one ≡ other → to_meet job.limits (length one.at) held some ≡ to_meet job.limits (length other.at) held some
-same_meets job one other held some same = ap (λ (o : PairtreeObject). to_meet job.limits (length o.at) held some) same
+same_meets : (job : Job) {one other : PairtreeObject} (held : ℕ) (some : List Entry) → one ≡ other → to_meet job.limits (length one.at) held some ≡ to_meet job.limits (length other.at) held some
+same_meets job held some same = ap (λ (o : PairtreeObject). to_meet job.limits (length o.at) held some) same
 
 -- and all that are met
-same_met : (job : Job) (one other : PairtreeObject) → one ≡ other → sum_by (λ (entry : Entry). work_at entry.1) (met job.limits one) ≡ sum_by (λ (entry : Entry). work_at entry.1) (met job.limits other)
-same_met job one other same = ap (λ (o : PairtreeObject). sum_by (λ (entry : Entry). work_at entry.1) (met job.limits o)) same
+same_met : (job : Job) {one other : PairtreeObject} → one ≡ other → sum_by (λ (entry : Entry). work_at entry.1) (met job.limits one) ≡ sum_by (λ (entry : Entry). work_at entry.1) (met job.limits other)
+same_met job same = ap (λ (o : PairtreeObject). sum_by (λ (entry : Entry). work_at entry.1) (met job.limits o)) same
 
 -- ---- each turn
 
@@ -53,11 +53,11 @@ scans_lower job past s new root prefix here next held after calls (StartsInSite 
     let one = object_at s.tree object (to_site object t) in
     let other = object_at s.tree object (to_site object (sought 0 t)) in
     let same = (moved_at_site job s.tree prefix object t 0 past.count gathered at_site stands).same in
-    let few = none_met job other was.rows object.empty (left_of s.tree object (sought 0 t)) later.at.1.scanned known.at.0.rows in
+    let few = none_met later.at.1.scanned known.at.0.rows in
     let none = ap (λ (n : ℕ). to_meet job.limits (length other.at) n (left_of s.tree object (sought 0 t))) (ap length known.at.0.rows) in
-    let all = same_met job one other same in
+    let all = same_met job same in
     let leave = leave_site (pairtree_of s.tree) object t gathered at_site stands.fits in
-    let work = same_work job object one other same in
+    let work = same_work job object same in
     let walk = site_sought object t at_site in
     omega (arith, few, none, all, leave, work, walk)
 scans_lower job past s new root prefix here next held after calls (EntersObject was object items apart shallow) answers at known =
@@ -67,9 +67,9 @@ scans_lower job past s new root prefix here next held after calls (EntersObject 
     let later = scans_source job past s s prefix here next held after calls (EntersObject was object items apart shallow) (answers.0, answers.1, refl) at known in
     let site = site_entered object items t stands.within in
     let other = object_at s.tree object (to_site object (entered items t)) in
-    let few = none_met job other was.rows (with_directory object items).empty (left_of s.tree object (entered items t)) later.at.1.scanned known.at.0.rows in
+    let few = none_met later.at.1.scanned known.at.0.rows in
     let none = ap (λ (n : ℕ). to_meet job.limits (length other.at) n (left_of s.tree object (entered items t))) (ap length known.at.0.rows) in
-    let all = same_met job other (object_at s.tree object (to_site object t)) (ap (object_at s.tree object) site) in
+    let all = same_met job (ap (object_at s.tree object) site) in
     let leave = leave_directory object items t apart at_site in
     let behind = ap (after_scan job s.tree root past.count object) site in
     omega (arith, few, none, all, leave, behind)
@@ -81,18 +81,18 @@ scans_lower job past s new root prefix here next held after calls (PassesShorty 
     let one = object_at s.tree object (to_site object t) in
     let other = object_at s.tree object (to_site object (advanced t)) in
     let same = (moved_on job s.tree prefix object t past.count it.inside it.stands).same in
-    let meets = ap (to_meet job.limits (length one.at) (length was.rows)) left ∙ same_meets job one other (length was.rows) (left_of s.tree object (advanced t)) same in
-    let leave = pass_less object t item e passed it.inside in
-    let work = same_work job object one other same in
+    let meets = ap (to_meet job.limits (length one.at) (length was.rows)) left ∙ same_meets job (length was.rows) (left_of s.tree object (advanced t)) same in
+    let leave = pass_less object t e passed it.inside in
+    let work = same_work job object same in
     let walk = (site_on object t).0 in
     omega (arith, meets, leave, work, walk)
 scans_lower job past s new root prefix here next held after calls (EntersDirectory was object name items e apart shallow) answers at known =
     let t = was.trail in
     let it = known.at.1 in
     let listed : listing_at (pairtree_of s.tree) (names_to t) ≡ Some items = sym (listing_in s.tree (names_to t) known.at.0.store) ∙ answers.0 s refl in
-    let meets = enters_meets job s.tree object was.rows t name items (pairtree_proper s.tree known.at.0.store known.proper) at.trail.is_one e apart shallow listed it.stands.fits it.stands.within it.inside in
+    let meets = enters_meets job s.tree object was.rows t name (pairtree_proper s.tree known.at.0.store known.proper) at.trail.is_one e apart shallow listed it.stands.fits it.stands.within it.inside in
     let site = site_entered object items t it.stands.within in
-    let other = same_meets job (object_at s.tree object (to_site object (entered items t))) (object_at s.tree object (to_site object t)) (length was.rows) (left_of s.tree object (entered items t)) (ap (object_at s.tree object) site) in
+    let other = same_meets job (length was.rows) (left_of s.tree object (entered items t)) (ap (object_at s.tree object) site) in
     let own = own_entered object items t it.stands.within in
     let here_is = ap (λ (l : List Frame). cond object.gathered (still_here l) 0) site in
     let behind = ap (after_scan job s.tree root past.count object) site in
@@ -107,14 +107,14 @@ scans_lower job past s new root prefix here next held after calls (OpensFile was
     omega (arith, meets, whole)
 scans_lower job past s new root prefix here next held after calls (EndsSite was object e in_site) answers at known =
     let later = scans_source job past s s prefix here next held after calls (EndsSite was object e in_site) refl at known in
-    let comes = comes_to job s.tree object was (to_site object was.trail) past.bytes (pairtree_proper s.tree known.at.0.store known.proper) later.at.1.scanned at.rows known.bytes in
+    let comes = comes_to s.tree object (to_site object was.trail) (pairtree_proper s.tree known.at.0.store known.proper) later.at.1.scanned at.rows known.bytes in
     let some = known.at.1.inside in
     omega (arith, comes, some)
 scans_lower job past s new root prefix here next held after calls (EndsObject was object e in_site own) answers at known =
     let t = was.trail in
     let later = scans_source job past s s prefix here next held after calls (EndsObject was object e in_site own) refl at known in
     let below = below_site_of object t in_site known.at.1.stands.within in
-    let comes = comes_to job s.tree object was (to_site object (parent t)) past.bytes (pairtree_proper s.tree known.at.0.store known.proper) later.at.1.scanned at.rows later.bytes in
+    let comes = comes_to s.tree object (to_site object (parent t)) (pairtree_proper s.tree known.at.0.store known.proper) later.at.1.scanned at.rows later.bytes in
     let behind = ap (after_scan job s.tree root past.count object) (site_parent object t below) in
     let some = known.at.1.inside in
     omega (arith, comes, behind, some)
@@ -127,14 +127,14 @@ scans_lower job past s new root prefix here next held after calls (LeavesDirecto
     let one = object_at s.tree object (to_site object t) in
     let other = object_at s.tree object (to_site object (advanced (parent t))) in
     let same = (moved_behind job s.tree prefix object t past.count below around it.stands).same in
-    let meets = ap (to_meet job.limits (length one.at) (length was.rows)) left ∙ same_meets job one other (length was.rows) (left_of s.tree object (advanced (parent t))) same in
+    let meets = ap (to_meet job.limits (length one.at) (length was.rows)) left ∙ same_meets job (length was.rows) (left_of s.tree object (advanced (parent t))) same in
     let leave = leave_less object t below in
-    let work = same_work job object one other same in
+    let work = same_work job object same in
     let walk = site_behind object t below in
     omega (arith, meets, leave, work, walk)
 scans_lower job past s new root prefix here next held after calls (ReadsOn was object bytes byte block short) answers at known =
     let whole = bytes_at (pairtree_of s.tree) (names_to was.trail) in
-    let less = block_read whole bytes was.fed byte block s.unread known.at.2.read (answers.0 s refl) in
+    let less = block_read known.at.2.read (answers.0 s refl) in
     omega (arith, less)
 scans_lower job past s new root prefix here next held after calls (EndsFile was object bytes) answers at known =
     let t = was.trail in
@@ -147,11 +147,11 @@ scans_lower job past s new root prefix here next held after calls (EndsFile was 
     let one = object_at s.tree object (to_site object t) in
     let other = object_at s.tree object (to_site object (advanced t)) in
     let same = (moved_on job s.tree prefix object t past.count it.inside it.stands).same in
-    let moved = same_meets job one other (length was.rows + 1) (left_of s.tree object (advanced t)) same in
+    let moved = same_meets job (length was.rows + 1) (left_of s.tree object (advanced t)) same in
     let many = length-append was.rows (row_of (logical_path object t) (digest_of job.algorithm was.fed) bytes ∷ []) in
     let rows = ap (λ (n : ℕ). to_meet job.limits (length other.at) n (left_of s.tree object (advanced t))) many in
     let leave = leave_on object t in
-    let work = same_work job object one other same in
+    let work = same_work job object same in
     let walk = (site_on object t).0 in
     omega (arith, meets, moved, rows, leave, work, walk)
 scans_lower job past s new root prefix here next held after calls _ answers at known = let some = known.at.1.inside in omega (arith, some)

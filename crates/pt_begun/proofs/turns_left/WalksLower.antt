@@ -18,7 +18,7 @@ use Rattle.pt_plan.specs.Job.{Job}
 use Rattle.pt_plan.specs.Run.{Held, with_trail}
 use Rattle.pt_plan.specs.Store.{pairtree_of, prefix_of, sites_of}
 use Rattle.pt_plan.specs.TurnScan.{to_site}
-use Rattle.pt_plan.specs.TurnWalk.{IsDeep, IsNew, IsPast, IsPresent, IsSkipped, LeadsOn, LeavesSite, OpensRoot, PassesEntry, at_object, new_object}
+use Rattle.pt_plan.specs.TurnWalk.{IsDeep, IsNew, IsPast, IsPresent, IsSkipped, LeadsOn, LeavesSite, OpensRoot, PassesEntry, at_object}
 use Rattle.pt_plan.specs.Work.{work_on_item, work_on_object}
 use Rattle.pt_plan.specs.World.{Answers}
 use Rattle.pt_plan.specs.declared.object.Object.{Object}
@@ -39,8 +39,8 @@ use Rattle.pt_begun.proofs.turns_left.Copying.{drop_at}
 -- ---- the items
 
 -- on one item, and on those behind it
-pub item_next : (job : Job) (source : Forest) (root : Tree) (count : ℕ) (m : Marked) → slice_get (marked job source root) count ≡ Some m → items_left job source root count ≡ work_on_item job m + items_left job source root (suc count)
-item_next job source root count m is = ap (sum_by (work_on_item job)) (drop_at count (marked job source root) m is) ∙ sum_by-cons (work_on_item job) m (drop (suc count) (marked job source root))
+pub item_next : (job : Job) (source : Forest) (root : Tree) (count : ℕ) {m : Marked} → slice_get (marked job source root) count ≡ Some m → items_left job source root count ≡ work_on_item job m + items_left job source root (suc count)
+item_next job source root count {m} is = ap (sum_by (work_on_item job)) (drop_at count (marked job source root) is) ∙ sum_by-cons (work_on_item job) m (drop (suc count) (marked job source root))
 
 fewer : {X : Type 0} → (f : X → ℕ) (n : ℕ) (xs : List X) → sum_by f (drop (suc n) xs) ≤ sum_by f (drop n xs)
 fewer f zero [] = omega arith
@@ -63,9 +63,9 @@ listed_there top frame frames fits = by (dir_at top (names_to frames)) refl
     by (Some inside) is = ap (λ o. listing_of (unwrap_or o none)) is ∙ some_same (listing_of inside) frame.listing (sym (ap (option_map listing_of) is) ∙ fits.0)
 
 -- one entry less behind it
-advanced_less : (trail : List Frame) (item : Entry) → current_entry trail ≡ Some item → still_listed (advanced trail) + 1 ≤ still_listed trail
-advanced_less [] item e = absurd (cc)
-advanced_less (frame ∷ frames) item e = let within = slice_get_within frame.listing frame.place item e in omega (arith, within)
+advanced_less : (trail : List Frame) {item : Entry} → current_entry trail ≡ Some item → still_listed (advanced trail) + 1 ≤ still_listed trail
+advanced_less [] e = absurd (cc)
+advanced_less (frame ∷ frames) {item} e = let within = slice_get_within frame.listing frame.place item e in omega (arith, within)
 
 -- and behind the directory of a listing that is left
 left_less : (trail : List Frame) → is_trail trail ≡ true → nat_lt 1 (length trail) ≡ true → still_listed (advanced (parent trail)) + 1 ≤ still_listed trail
@@ -85,14 +85,14 @@ left_less (frame ∷ outer ∷ frames) is_one long =
 -- ---- a site
 
 -- a site that is listed is judged, walked and left
-site_walked : (job : Job) (source : Forest) (root : Tree) (trail : List Frame) (count : ℕ) → IsToJudge job source trail count → still_listed trail + 2 + items_left job source root (suc count) ≤ still_listed (parent trail) + items_left job source root count
-site_walked job source root [] count it = absurd (omega (arith, it.way.entered))
-site_walked job source root (frame ∷ frames) count it =
+site_walked : {job : Job} {source : Forest} (root : Tree) (trail : List Frame) {count : ℕ} → IsToJudge job source trail count → still_listed trail + 2 + items_left job source root (suc count) ≤ still_listed (parent trail) + items_left job source root count
+site_walked root [] it = absurd (omega (arith, it.way.entered))
+site_walked {job} {source} root (frame ∷ frames) {count} it =
     let top = pairtree_of source in
     let path = names_to frames in
     let item = item_of job (prefix_of source) (path, Listed (inside_at top path)) in
     let mine : slice_get (items job source) count ≡ Some item = get_map (item_of job (prefix_of source)) (sites_of job.limits.depth source) count (path, Listed (inside_at top path)) it.here.site in
-    let next = item_next job source root count _ (mark_of job source root count item mine) in
+    let next = item_next job source root count (mark_of job source root count mine) in
     let same = ap length (listed_there top frame frames it.way.fits) in
     omega (arith, next, same)
 
@@ -107,14 +107,14 @@ same_parent (Some place) [] = refl
 same_parent (Some place) (frame ∷ frames) = refl
 
 -- its object is to be scanned
-object_next : (job : Job) (source : Forest) (root : Tree) (prefix : List ℕ) (object : Object) (trail : List Frame) (outer count : ℕ) (held : Held) → HasStarted source prefix → IsInObject job source prefix object trail count → length trail ≡ object.site → held.trail ≡ trail
+object_next : {job : Job} {source : Forest} (root : Tree) {prefix : List ℕ} {object : Object} {trail : List Frame} {outer count : ℕ} (held : Held) → HasStarted source prefix → IsInObject job source prefix object trail count → length trail ≡ object.site → held.trail ≡ trail
     → still_listed (parent trail) ≡ outer → IsNextFree job source root count → left job source root count (phase.OpenObject object) held + 1 ≤ outer + items_left job source root count + 1
-object_next job source root prefix object trail outer count held started it at_site is same free =
+object_next {job} {source} root {object} {trail} {outer} {count} held started it at_site is same free =
     let site = to_site object trail in
     let what = object_at source object site in
     let item = item_of_site job source site in
-    let next = item_next job source root count (item, false) (free_mark job source root prefix object site count it.site free) in
-    let named = ap (work_on_object job item.visit false) (named_so job source prefix object site count started it.site) in
+    let next = item_next job source root count (free_mark root it.site free) in
+    let named = ap (work_on_object job item.visit false) (named_so started it.site) in
     let itself = site_itself object trail at_site in
     let long = site_long (pairtree_of source) trail it.fits in
     let walk = ap (λ (t : List Frame). still_listed (sought 0 t)) itself in
@@ -129,24 +129,24 @@ unfolding Answers
 walks_lower job past s new root prefix here next held after calls (OpensRoot was items) answers at part free =
     let none = ap still_listed at.trail.none in
     omega (arith, none)
-walks_lower job past s new root prefix here next held after calls (LeadsOn was found) answers at part free = let walked = site_walked job s.tree root was.trail past.count part.at.2 in omega (arith, walked)
-walks_lower job past s new root prefix here next held after calls (IsSkipped was why found) answers at part free = let walked = site_walked job s.tree root was.trail past.count part.at.2 in omega (arith, walked)
-walks_lower job past s new root prefix here next held after calls (IsPresent was index id kind found) answers at part free = let walked = site_walked job s.tree root was.trail past.count part.at.2 in omega (arith, walked)
+walks_lower job past s new root prefix here next held after calls (LeadsOn was found) answers at part free = let walked = site_walked root was.trail part.at.2 in omega (arith, walked)
+walks_lower job past s new root prefix here next held after calls (IsSkipped was why found) answers at part free = let walked = site_walked root was.trail part.at.2 in omega (arith, walked)
+walks_lower job past s new root prefix here next held after calls (IsPresent was index id kind found) answers at part free = let walked = site_walked root was.trail part.at.2 in omega (arith, walked)
 walks_lower job past s new root prefix here next held after calls (IsNew was index id found) answers at part free =
     let it = new_object_there job s.tree prefix was.trail index id past.count (pairtree_proper s.tree part.at.1.store part.proper) found part.at.2 in
-    object_next job s.tree root prefix (new_object job id index was.trail) (at_object index was.trail) (still_listed (parent was.trail)) past.count (with_trail was (at_object index was.trail)) part.at.1 it.stands it.at_site refl (same_parent index was.trail) free
+    object_next root (with_trail was (at_object index was.trail)) part.at.1 it.stands it.at_site refl (same_parent index was.trail) free
 walks_lower job past s new root prefix here next held after calls (IsPast was name e short last) answers at part free =
-    let less = advanced_less was.trail _ e in
+    let less = advanced_less was.trail e in
     let few = items_fewer job s.tree root past.count in
     let more = ap (items_left job s.tree root) (done_at_shorty was.trail name past.count e short) in
     omega (arith, less, few, more)
 walks_lower job past s new root prefix here next held after calls (IsDeep was name e short last deep) answers at part free =
-    let less = advanced_less was.trail _ e in
+    let less = advanced_less was.trail e in
     let few = items_fewer job s.tree root past.count in
     let more = ap (items_left job s.tree root) (done_at_shorty was.trail name past.count e short) in
     omega (arith, less, few, more)
 walks_lower job past s new root prefix here next held after calls (PassesEntry was item e other) answers at part free =
-    let less = advanced_less was.trail item e in
+    let less = advanced_less was.trail e in
     let same = ap (items_left job s.tree root) (none_at_entry was.trail item past.count e other) in
     omega (arith, less, same)
 walks_lower job past s new root prefix here next held after calls (LeavesSite was e long) answers at part free =

@@ -32,13 +32,13 @@ use Rattle.pt_begun.proofs.turns_left.WalksLower.{walks_lower}
 -- ---- a turn lowers what is left
 
 -- the groups together
-follows_lower : (job : Job) (past : Past) (s new : Reading) (root : Tree) (counts : Counts) (here : Phase) (prefix : List ℕ) (held : Held) (read : List ℕ) (after : Held) (calls : Calls) (next : Phase) → Follows job counts here prefix held read after calls (Ok next)
+follows_lower : {job : Job} {past : Past} {s : Reading} (new : Reading) (root : Tree) {counts : Counts} {here : Phase} {prefix : List ℕ} {held : Held} {read : List ℕ} {after : Held} {calls : Calls} {next : Phase} → Follows job counts here prefix held read after calls (Ok next)
     → Answers calls.asked (Some s) (Some new) → HeldAt job past here held → SourcePart job past here prefix held s → IsFreeAt next job s.tree root (done_after here held.trail next past.count) → Lowers job s.tree root past.count here held next after
-follows_lower job past s new root counts here prefix held read after calls next (a_start h p r x c a turn) answers at known free = starts_lower job past s.tree root prefix read here next held calls turn at
-follows_lower job past s new root counts here prefix held read after calls next (Walk h p x n c a turn) answers at known free = walks_lower job past s new root prefix here next held after calls turn answers at known free
-follows_lower job past s new root counts here prefix held read after calls next (Scan h p x n c a turn) answers at known free = scans_lower job past s new root prefix here next held after calls turn answers at known
-follows_lower job past s new root counts here prefix held read after calls next (Make h p x n c a turn) answers at known free = makes_lower job past s new root prefix here held after calls next turn answers at known
-follows_lower job past s new root counts here prefix held read after calls next (Place h p x n c a turn) answers at known free = places_lower job counts past s.tree root here next held after calls turn at
+follows_lower {job} {past} {s} new root {here} {prefix} {held} {read} {calls} {next} (a_start h p r x c a turn) answers at known free = starts_lower job past s.tree root prefix read here next held calls turn at
+follows_lower {job} {past} {s} new root {here} {prefix} {held} {after} {calls} {next} (Walk h p x n c a turn) answers at known free = walks_lower job past s new root prefix here next held after calls turn answers at known free
+follows_lower {job} {past} {s} new root {here} {prefix} {held} {after} {calls} {next} (Scan h p x n c a turn) answers at known free = scans_lower job past s new root prefix here next held after calls turn answers at known
+follows_lower {job} {past} {s} new root {here} {prefix} {held} {after} {calls} {next} (Make h p x n c a turn) answers at known free = makes_lower job past s new root prefix here held after calls next turn answers at known
+follows_lower {job} {past} {s} new root {counts} {here} {held} {after} {calls} {next} (Place h p x n c a turn) answers at known free = places_lower job counts past s.tree root here next held after calls turn at
 
 -- before the end one turn is left at least
 some_left : (job : Job) (source : Forest) (root : Tree) (count : ℕ) (here : Phase) (held : Held) → is_ended here ≡ false → 0 < left job source root count here held
@@ -59,7 +59,7 @@ same_turns (Some (End done present skipped)) counts = refl
 
 pub new_run_is_within_work : NewRunIsWithinWork
 unfolding BegunWithinWork
-new_run_is_within_work job world layout is = (no_past, new_past job world layout is, λ s e old f. record { within = omega arith })
+new_run_is_within_work job world layout is = (no_past, new_past job layout is, λ s e old f. record { within = omega arith })
 
 pub within_work_is_begun : WithinWorkIsBegun
 unfolding BegunWithinWork Begun
@@ -86,7 +86,7 @@ turn_keeps_within_work job start old new run after next (past, is, within) (Goes
         let answers = subst (λ o. Answers calls.asked o (Some v)) told.1 asked in
         let tree = tree_kept calls.asked s v answers in
         let free = subst (λ (f : Forest). IsFreeAt next job f (root_in t) later.count) tree (is_later.items v same t some).places.next in
-        let lowers = follows_lower job past s v (root_in t) (turning run.kept).counts run.phase run.kept.prefix run.kept.held after.prefix after.held calls next turn answers is.held (is.source s told.1) free in
+        let lowers = follows_lower v (root_in t) turn answers is.held (is.source s told.1) free in
         let was = (within s told.1 t some).within in
         let one = ap (λ (c : Counts). c.turns) counts ∙ same_turns calls.line (turning run.kept).counts in
         subst (λ (f : Forest). IsWithinWork job f (root_in t) later.count goes_on) (sym tree) (record { within = omega (arith, lowers, was, one) })
