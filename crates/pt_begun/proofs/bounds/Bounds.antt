@@ -61,23 +61,23 @@ below_greatest {xs} it = not_above 0 xs it.index it.is
 abbrev item_here : Job → Forest → Path → Item
 item_here job source path = item_of job (prefix_of source) (path, Listed (inside_at (pairtree_of source) path))
 
-within_item : (job : Job) (source : Forest) (path : Path) (count : ℕ) {n : ℕ} → slice_get (sites_of job.limits.depth source) count ≡ Some (path, Listed (inside_at (pairtree_of source) path))
+within_item : (job : Job) (source : Forest) {path : Path} (count : ℕ) {n : ℕ} → slice_get (sites_of job.limits.depth source) count ≡ Some (path, Listed (inside_at (pairtree_of source) path))
     → IsOne n (held_at_item job (pairtree_of source) (item_here job source path)) → n ≤ bound job source
-within_item job source path count site it =
+within_item job source {path} count site it =
     below_greatest
     (one_in_all (held_at_item job (pairtree_of source)) (items job source) count (get_map (item_of job (prefix_of source)) (sites_of job.limits.depth source) count (path, Listed (inside_at (pairtree_of source) path)) site) it)
 
 -- what is listed on the way to a site that is listed
-pub site_within : (job : Job) (source : Forest) (path : Path) (count : ℕ) → slice_get (sites_of job.limits.depth source) count ≡ Some (path, Listed (inside_at (pairtree_of source) path))
+pub site_within : (job : Job) (source : Forest) {path : Path} (count : ℕ) → slice_get (sites_of job.limits.depth source) count ≡ Some (path, Listed (inside_at (pairtree_of source) path))
     → listed (pairtree_of source) path ≤ bound job source
-site_within job source path count site = within_item job source path count site (record { index = 0; is = refl })
+site_within job source {path} count site = within_item job source {path = path} count site (record { index = 0; is = refl })
 
 -- and, with all records of the object, at a directory of it
-pub object_within : (job : Job) (source : Forest) (path : Path) (count : ℕ) (id : List ℕ) (object : PairtreeObject) {directory : Path} → slice_get (sites_of job.limits.depth source) count ≡ Some (path, Listed (inside_at (pairtree_of source) path))
+pub object_within : (job : Job) (source : Forest) {path : Path} (count : ℕ) {id : List ℕ} {object : PairtreeObject} {directory : Path} → slice_get (sites_of job.limits.depth source) count ≡ Some (path, Listed (inside_at (pairtree_of source) path))
     → verdict_of job (prefix_of source) path (Listed (inside_at (pairtree_of source) path)) ≡ Named id object → is_too_deep job.limits object ≡ false → IsOne directory ([] ∷ dirs (scanned job.limits object))
     → listed (pairtree_of source) (object.at ++ directory) + records_of job (files (scanned job.limits object)) ≤ bound job source
-object_within job source path count id object {directory} site named shallow one =
-    within_item job source path count site
+object_within job source {path} count {object} {directory} site named shallow one =
+    within_item job source {path = path} count site
     (one_behind (listed top path ∷ [])
     (subst (λ (v : Verdict). IsOne n (held_by_verdict job top v)) (sym named)
     (subst (λ (b : Bool). IsOne n (cond b [] (held_in_object job top object))) (sym shallow)
@@ -119,9 +119,9 @@ dirs_in_turn [] later = refl
 dirs_in_turn (entry ∷ first) later = ap (λ (l : List Path). path_of_dir entry.0 entry.1 ++ l) (dirs_in_turn first later) ∙ sym (append_assoc (path_of_dir entry.0 entry.1) (dirs first) (dirs later))
 
 -- a directory that was scanned is one of those
-pub one_directory : (job : Job) (object : PairtreeObject) (front left : List Entry) (path : Path) (inside : Forest) → entries object.inside ≡ (front ++ (path, Dir inside) ∷ []) ++ left → first_bad job.limits (length object.at) 0 (front ++ (path, Dir inside) ∷ []) ≡ None
+pub one_directory : (job : Job) (object : PairtreeObject) (front left : List Entry) {path : Path} (inside : Forest) → entries object.inside ≡ (front ++ (path, Dir inside) ∷ []) ++ left → first_bad job.limits (length object.at) 0 (front ++ (path, Dir inside) ∷ []) ≡ None
     → IsOne path ([] ∷ dirs (scanned job.limits object))
-one_directory job object front left path inside all good =
+one_directory job object front left {path} inside all good =
     let more = before_bad job.limits (length object.at) (0 + length (files (front ++ (path, Dir inside) ∷ []))) left in
     let same : dirs (scanned job.limits object) ≡ (dirs front ++ path ∷ []) ++ dirs more =
     ap dirs (scanned_front job object (front ++ (path, Dir inside) ∷ []) left all good) ∙ dirs_in_turn (front ++ (path, Dir inside) ∷ []) more ∙ ap (λ (l : List Path). l ++ dirs more) (dirs_in_turn front ((path, Dir inside) ∷ [])) in

@@ -60,7 +60,7 @@ lists top (frame ∷ frames) some is_one fits = holds_listed top frame frames is
 pub room_at_site : (job : Job) (source : Forest) (t : List Frame) (count : ℕ) → is_trail t ≡ true → IsToJudge job source t count → entries_held t ≤ bound job source
 room_at_site job source t count is_one it =
     let same = lists (pairtree_of source) t it.way.entered is_one it.way.fits in
-    let within = site_within job source (trail_path t) count it.here.site in
+    let within = site_within job source count it.here.site in
     omega (arith, same, within)
 
 -- ---- in an object
@@ -75,7 +75,7 @@ room_at job source prefix object held count directory started it is_one path one
     let long = it.stands.within in
     let same = lists (pairtree_of source) held.trail (omega (arith, some, long)) is_one it.stands.fits ∙ ap (listed (pairtree_of source)) path in
     let named = ap (λ (p : List ℕ). verdict_of job p (trail_path site) (Listed (inside_at (pairtree_of source) (trail_path site)))) (sym started.read) ∙ it.stands.site.named in
-    let within = object_within job source (trail_path site) count object.id what it.stands.site.here.site named it.scanned.shallow one in
+    let within = object_within job source count it.stands.site.here.site named it.scanned.shallow one in
     omega (arith, same, within)
 
 -- with the trail moved so that it lists no more, in the same object
@@ -103,7 +103,7 @@ directory_scanned job source object rows empty (frame ∷ frames) name items pro
     let none = no_cause_dir job what.at (logical_path object t) (names_to t) rows t in_it (path_in_object object t) (path_length frame frames (name, kind.Dir) is_one e) shallow in
     let many : 0 + length (files it.front) ≡ length rows = (let long : length rows ≡ length (files it.front) = ap length it.rows_are ∙ length-map (files it.front) (row_of_file job.algorithm) in omega (arith, long)) in
     let entry : Entry = (logical_path object t, Dir in_it) in
-    one_directory job what it.front (left_of source object (entered items t)) (logical_path object t) in_it
+    one_directory job what it.front (left_of source object (entered items t)) in_it
     (it.all ∙ ap (λ (l : List Entry). it.front ++ l) left ∙ sym (append_assoc it.front (entry ∷ []) (left_of source object (entered items t))))
     (grow job.limits (length what.at) 0 it.front entry it.good (ap (λ (n : ℕ). entry_cause job.limits (length what.at) n entry) many ∙ none))
 

@@ -15,8 +15,8 @@ use Rattle.pt_begun.specs.FaultLeft.{IsLeftByFault}
 use Rattle.pt_begun.proofs.faults.LeftNow.{between_left}
 use Rattle.pt_begun.proofs.faults.LogsLeft.{end_in_part, some_items}
 
-pub end_left : {job : Job} {source : Forest} {start now : Tree} (first : List ℕ) {last told : List ℕ} → last ≡ first ++ told → IsEnd job source start now told → IsLeftByFault job source start now first last
-end_left {job} {source} {start} first {told} log is =
+pub end_left : {job : Job} {source : Forest} {start now : Tree} {first : List ℕ} {last told : List ℕ} → last ≡ first ++ told → IsEnd job source start now told → IsLeftByFault job source start now first last
+end_left {job} {source} {start} {told} log is =
     let root = root_in start in
     let some = some_items job source is.begins.store in
     let n = suc some.0 in
@@ -26,8 +26,8 @@ end_left {job} {source} {start} first {told} log is =
     record {
       told = told;
       log = log;
-      left = between_left job source start n told is.free (omega (arith, long))
-          (end_in_part job source root some.0 n whole [] long all (sym (append-nil whole)) (is.log ∙ (all_items_are_all job source root n all).3))
+      left = between_left {job = job} {source = source} {start = start} {k = n} {log = told} is.free (omega (arith, long))
+          (end_in_part job source root {k = some.0} {count = n} whole [] long all (sym (append-nil whole)) (is.log ∙ (all_items_are_all job source root n all).3))
           (is.tree ∙ ap (with_root start) (sym (all_items_are_all job source root n all).1));
     }
 

@@ -88,8 +88,8 @@ none_left zero xs none = let nothing = ap length none in omega (arith, nothing)
 none_left (suc k) [] none = omega arith
 none_left (suc k) (x ∷ xs) none = let later = none_left k xs none in omega (arith, later)
 
-pub all_done : (job : Job) (source : Forest) (count : ℕ) → drop count (sites_of job.limits.depth source) ≡ [] → length (items job source) ≤ count
-all_done job source count none =
+pub all_done : (job : Job) (source : Forest) {count : ℕ} → drop count (sites_of job.limits.depth source) ≡ [] → length (items job source) ≤ count
+all_done job source {count} none =
     let few = none_left count (sites_of job.limits.depth source) none in
     let many = length-map (sites_of job.limits.depth source) (item_of job (prefix_of source)) in
     omega (arith, few, many)
@@ -97,16 +97,16 @@ all_done job source count none =
 -- ---- what the parts say then
 
 -- the ways to objects are as free in a root as in what objects are put on there
-ways_in_base : (job : Job) (root : Tree) (objects : List Carried) → IsRooted root → list_all (is_way_free job (base job.tuples root)) objects ≡ list_all (is_way_free job root) objects
-ways_in_base job root [] rooted = refl
-ways_in_base job root (object ∷ objects) rooted =
+ways_in_base : (job : Job) {root : Tree} (objects : List Carried) → IsRooted root → list_all (is_way_free job (base job.tuples root)) objects ≡ list_all (is_way_free job root) objects
+ways_in_base job [] rooted = refl
+ways_in_base job {root} (object ∷ objects) rooted =
     ap (λ b. b && list_all (is_way_free job (base job.tuples root)) objects) (way_in_base job root object rooted)
-    ∙ ap (λ b. is_way_free job root object && b) (ways_in_base job root objects rooted)
+    ∙ ap (λ b. is_way_free job root object && b) (ways_in_base job objects rooted)
 
 module _ (job : Job) (past : Past) (held : Held) (prefix : List ℕ) (counts : Counts) (s : Reading) (t : Tree) (now : Writing) (source : SourcePart job past phase.End prefix held s) (dest : DestPart job past phase.End held t now) (items_are : ItemsPart job past phase.End counts s.tree (root_in t)) where
   all_are : (carried_among job s.tree (root_in t) past.count ≡ all_carried job s.tree (root_in t)) × (after job s.tree (root_in t) past.count ≡ after_all job s.tree (root_in t))
       × (lines job s.tree (root_in t) past.count ≡ all_lines job s.tree (root_in t)) × (log_of job s.tree (root_in t) ≡ text job s.tree (root_in t) past.count ++ line_text (end_line (lines job s.tree (root_in t) past.count)))
-  all_are = all_items_are_all job s.tree (root_in t) past.count (all_done job s.tree past.count source.at.2)
+  all_are = all_items_are_all job s.tree (root_in t) past.count (all_done job s.tree source.at.2)
 
   placed_all : past.placed ≡ all_carried job s.tree (root_in t)
   placed_all = items_are.places.placed ∙ (all_are).0
@@ -122,7 +122,7 @@ module _ (job : Job) (past : Past) (held : Held) (prefix : List ℕ) (counts : C
 
   ways : list_all (is_way_free job (root_in t)) (all_carried job s.tree (root_in t)) ≡ true
   ways =
-      sym (ways_in_base job (root_in t) (all_carried job s.tree (root_in t)) rooted)
+      sym (ways_in_base job (all_carried job s.tree (root_in t)) rooted)
       ∙ ways_left job (base job.tuples (root_in t)) now.tree (all_carried job s.tree (root_in t)) (all_carried job s.tree (root_in t)) dest.tree (ap root_in tree_all) (λ p on. on)
 
   target : IsFree t storage_root ⊎ HasRootFiles job (root_in t) 3 → IsFree (root_in t) [] ⊎ IsUsable job s.tree (root_in t)
@@ -148,9 +148,9 @@ module _ (job : Job) (past : Past) (held : Held) (prefix : List ℕ) (counts : C
 -- ---- the law
 
 -- a turn that tells a line puts it behind the log
-put_behind : (line : Line) (old new : List ℕ) → Puts (Some line) (Some old) (Some new) → new ≡ old ++ line_text line
+put_behind : (line : Line) (old : List ℕ) {new : List ℕ} → Puts (Some line) (Some old) (Some new) → new ≡ old ++ line_text line
 unfolding Puts
-put_behind line old new puts = puts
+put_behind line old puts = puts
 
 dest_same : {old new : Option Writing} → Changes ChangesNothing old new → new ≡ old
 unfolding Changes
@@ -197,7 +197,7 @@ module _ (job : Job) (past : Past) (start : Start) (old new : World) (run : Run)
       has_told = subst (λ here. HasTold job s.tree (root_in t) past here first (logged).0) at.phase_is (logged).2
 
       put : last ≡ (logged).0 ++ line_text (last_line counts)
-      put = put_behind (last_line counts) (logged).0 last (subst (λ (c : Calls). Puts c.line (Some (logged).0) (Some last)) at.calls_are (subst (λ o. Puts calls.line o (Some last)) (logged).1 (subst (Puts calls.line old.log) last_is did.log)))
+      put = put_behind (last_line counts) (logged).0 (subst (λ (c : Calls). Puts c.line (Some (logged).0) (Some last)) at.calls_are (subst (λ o. Puts calls.line o (Some last)) (logged).1 (subst (Puts calls.line old.log) last_is did.log)))
 
       told : (told : List ℕ) × (last ≡ first ++ told) × (told ≡ log_of job s.tree (root_in t))
       told = log_all job past held run.kept.prefix counts s t now source dest items_are first last (put ∙ ap (λ (front : List ℕ). front ++ line_text (last_line counts)) has_told)

@@ -29,8 +29,8 @@ held_new job = record {
   fed = tt;
 }
 
-source_new : (job : Job) (s : Reading) → is_proper s.tree ≡ true → SourcePart job no_past phase.Begin [] nothing_held s
-source_new job s proper = record {
+source_new : (job : Job) {s : Reading} → is_proper s.tree ≡ true → SourcePart job no_past phase.Begin [] nothing_held s
+source_new job proper = record {
   proper = proper;
   at = (record { trail = refl; rows = refl; contents = refl }, refl, refl);
   bytes = tt;
@@ -50,11 +50,11 @@ quiet_new None = tt
 quiet_new (Some bytes) = refl
 
 -- nothing is behind it
-pub new_past : (job : Job) {world : World} → IsLayout job.tuples → IsWorld world → IsPast job (start_of world) world new_run no_past
-new_past job {world} layout is = record {
+pub new_past : {job : Job} {world : World} → IsLayout job.tuples → IsWorld world → IsPast job (start_of world) world new_run no_past
+new_past {job} {world} layout is = record {
   layout = layout;
   held = held_new job;
-  source = λ s e. source_new job s (is.source s e);
+  source = λ s e. source_new job (is.source s e);
   dest = dest_new job world.dest is.dest;
   items = λ s e old f. record { places = record { placed = refl; next = tt }; lines_are = record { done = refl; present = refl; skipped = refl } };
   log = λ s e old f. log_new job s.tree (root_in old) world.log;
@@ -64,4 +64,4 @@ new_past job {world} layout is = record {
 
 pub new_run_is_begun : NewRunIsBegun
 unfolding Begun
-new_run_is_begun job world layout is = (no_past, new_past job layout is)
+new_run_is_begun job world layout is = (no_past, new_past layout is)

@@ -52,9 +52,9 @@ use Rattle.pt_begun.proofs.dest.StartsDest.{root_item_made, root_may_move}
 -- ---- the source
 
 -- the directory at the innermost place is there
-enterable : (source : Forest) (t : List Frame) (name : List ℕ) → is_store source ≡ true → is_proper (pairtree_of source) ≡ true → Fits (pairtree_of source) t → current_entry t ≡ Some (name, kind.Dir) → IsSome (dir_at source (pairtree_root ∷ names_to t))
-enterable source [] name store proper fits e = absurd (cc)
-enterable source (frame ∷ frames) name store proper fits e =
+enterable : (source : Forest) (t : List Frame) {name : List ℕ} → is_store source ≡ true → is_proper (pairtree_of source) ≡ true → Fits (pairtree_of source) t → current_entry t ≡ Some (name, kind.Dir) → IsSome (dir_at source (pairtree_root ∷ names_to t))
+enterable source [] store proper fits e = absurd (cc)
+enterable source (frame ∷ frames) {name} store proper fits e =
     let top = pairtree_of source in
     let here : names_to (frame ∷ frames) ≡ names_to frames ++ name ∷ [] = path_grows frame frames (name, kind.Dir) e in
     ap (λ (o : Option Node). is_some (option_and_then as_dir o)) (reads_below source top (pairtree_root ∷ []) (names_to (frame ∷ frames)) (pairtree_there source store)).0
@@ -68,124 +68,124 @@ KnowsSource job past here prefix held reading = ForSome reading (SourcePart job 
 abbrev KnowsDest : Job → Past → Phase → Held → Option Writing → Type 0
 KnowsDest job past here held writing = ForSome writing (λ now. (start : Tree) × DestPart job past here held start now)
 
-enters_root : (reading : Option Reading) → ForSome reading (λ s. is_store s.tree ≡ true) → CanList reading (pairtree_root ∷ [])
+enters_root : {reading : Option Reading} → ForSome reading (λ s. is_store s.tree ≡ true) → CanList reading (pairtree_root ∷ [])
 unfolding CanList
-enters_root reading knows s is = ap is_some (pairtree_there s.tree (knows s is))
+enters_root knows s is = ap is_some (pairtree_there s.tree (knows s is))
 
 -- where the trail is through the pairtree
 abbrev IsThrough : List Frame → Reading → Type 0
 IsThrough t s = (is_store s.tree ≡ true) × (is_proper s.tree ≡ true) × Fits (pairtree_of s.tree) t
 
-may_enter : (reading : Option Reading) (t : List Frame) → ForSome reading (IsThrough t) → MayEnter reading t
+may_enter : {reading : Option Reading} (t : List Frame) → ForSome reading (IsThrough t) → MayEnter reading t
 unfolding MayEnter CanList
-may_enter reading t knows name e s is = let it = knows s is in enterable s.tree t name it.0 (pairtree_proper s.tree it.0 it.1) it.2 e
+may_enter t knows name e s is = let it = knows s is in enterable s.tree t {name = name} it.0 (pairtree_proper s.tree it.0 it.1) it.2 e
 
-may_open : (reading : Option Reading) (t : List Frame) → ForSome reading (IsThrough t) → MayOpen reading t
+may_open : {reading : Option Reading} (t : List Frame) → ForSome reading (IsThrough t) → MayOpen reading t
 unfolding MayOpen CanOpen
-may_open reading t knows name e s is = let it = knows s is in ap is_some (opened s.tree t name it.0 (pairtree_proper s.tree it.0 it.1) it.2 e)
+may_open t knows name e s is = let it = knows s is in ap is_some (opened s.tree t name it.0 (pairtree_proper s.tree it.0 it.1) it.2 e)
 
 -- the prefix file is there, where it is a file
 prefix_there : (o : Option Node) → option_map kind_of o ≡ Some kind.File → IsSome (option_and_then as_file (option_and_then (λ node. node_at node []) o))
 prefix_there (Some (File bytes)) is = refl
 prefix_there _ is = absurd (cc)
 
-may_open_prefix : (reading : Option Reading) (here : Option Kind) → ForSome reading (λ s. here ≡ option_map kind_of (find s.tree prefix_file)) → MayOpenPrefix reading here
+may_open_prefix : {reading : Option Reading} {here : Option Kind} → ForSome reading (λ s. here ≡ option_map kind_of (find s.tree prefix_file)) → MayOpenPrefix reading here
 unfolding MayOpenPrefix CanOpen
-may_open_prefix reading here knows file s is = prefix_there (find s.tree prefix_file) (sym (knows s is) ∙ file)
+may_open_prefix knows file s is = prefix_there (find s.tree prefix_file) (sym (knows s is) ∙ file)
 
 top_listed : (reading : Option Reading) → CanList reading []
 unfolding CanList
 top_listed reading s is = refl
 
-may_read : (reading : Option Reading) → ForSome reading (λ s. (left : List ℕ) × (s.unread ≡ Some left)) → CanRead reading
+may_read : {reading : Option Reading} → ForSome reading (λ s. (left : List ℕ) × (s.unread ≡ Some left)) → CanRead reading
 unfolding CanRead
-may_read reading knows s is = ap is_some (knows s is).1
+may_read knows s is = ap is_some (knows s is).1
 
 -- ---- the destination
 
-may_make : (writing : Option Writing) (path : Path) → ForSome writing (λ now. CanMake now.tree path) → MayMake writing path
+may_make : {writing : Option Writing} {path : Path} → ForSome writing (λ now. CanMake now.tree path) → MayMake writing path
 unfolding MayMake
-may_make writing path knows now is = knows now is
+may_make knows now is = knows now is
 
-may_move : (writing : Option Writing) (from to : Path) → ForSome writing (λ now. CanMove now.tree from to) → MayMove writing from to
+may_move : {writing : Option Writing} {from to : Path} → ForSome writing (λ now. CanMove now.tree from to) → MayMove writing from to
 unfolding MayMove
-may_move writing from to knows now is = knows now is
+may_move knows now is = knows now is
 
-may_write : (writing : Option Writing) → ForSome writing (λ now. IsSome now.writing) → CanWrite writing
+may_write : {writing : Option Writing} → ForSome writing (λ now. IsSome now.writing) → CanWrite writing
 unfolding CanWrite
-may_write writing knows now is = knows now is
+may_write knows now is = knows now is
 
 may_make_root : (job : Job) {writing : Option Writing} (number : ℕ) → ((item : Item) → slice_get (root_script job.tuples) number ≡ Some item → ForSome writing (λ now. CanMake now.tree (item_path item))) → MayMakeRootItem writing job.tuples number
 unfolding MayMakeRootItem
-may_make_root job {writing} number knows item is = may_make writing (item_path item) (knows item is)
+may_make_root job {writing} number knows item is = may_make (knows item is)
 
-has_parent : (writing : Option Writing) (path : Path) → ForSome writing (λ now. now.tree (parent path) ≡ Some Folder) → HasParent writing path
+has_parent : {writing : Option Writing} (path : Path) → ForSome writing (λ now. now.tree (parent path) ≡ Some Folder) → HasParent writing path
 unfolding HasParent
-has_parent writing path knows now is = knows now is
+has_parent path knows now is = knows now is
 
 -- ---- an object that is made
 
 -- the next item of its script
-next_item : {job : Job} {past : Past} {object : Object} {here : Part} {held : Held} {item : Item} (writing : Option Writing) → HeldAt job past (phase.Make object here) held → KnowsDest job past (phase.Make object here) held writing
+next_item : {job : Job} {past : Past} {object : Object} {here : Part} {held : Held} {item : Item} {writing : Option Writing} → HeldAt job past (phase.Make object here) held → KnowsDest job past (phase.Make object here) held writing
     → IsNext (script_of_object job object held.rows past.bytes) (made_before job object held.rows past.bytes here) item → MayMake writing (item_path item)
-next_item {job} {past} {object} {here} {held} {item} writing at dest next =
-    may_make writing (item_path item)
+next_item {job} {past} {object} {here} {held} {item} at dest next =
+    may_make
     (λ now is. let known = dest now is in item_may job known.0 past.placed object held.rows past.bytes (made_before job object held.rows past.bytes here) item now known.1.started at.rows.order next known.1.at)
 
-may_open_row : (job : Job) (past : Past) (object : Object) (here : Part) (prefix : List ℕ) (held : Held) (n : ℕ) {row : Row} (reading : Option Reading) → KnowsSource job past (phase.Make object here) prefix held reading → slice_get held.rows n ≡ Some row → MayOpenRow reading object held.trail row.path
+may_open_row : {job : Job} {past : Past} {object : Object} {here : Part} {prefix : List ℕ} {held : Held} (n : ℕ) {row : Row} {reading : Option Reading} → KnowsSource job past (phase.Make object here) prefix held reading → slice_get held.rows n ≡ Some row → MayOpenRow reading object held.trail row.path
 unfolding MayOpenRow CanOpen
-may_open_row job past object here prefix held n {row} reading source is s same =
+may_open_row {job} {past} {object} {prefix} {held} n {row} source is s same =
     let known = source s same in
     ap is_some (file_in_pairtree s.tree (path_of_source object held.trail ++ row.path) known.at.0.store ∙ (file_of_row job s prefix object held past.count n row known.proper is known.at).stands)
 
-may_make_content : {job : Job} {past : Past} {object : Object} {position : Position} (prefix : List ℕ) {held : Held} (reading : Option Reading) (writing : Option Writing) → HeldAt job past (phase.Make object (a_part.Content position)) held
+may_make_content : {job : Job} {past : Past} {object : Object} {position : Position} {prefix : List ℕ} {held : Held} {reading : Option Reading} {writing : Option Writing} → HeldAt job past (phase.Make object (a_part.Content position)) held
     → KnowsSource job past (phase.Make object (a_part.Content position)) prefix held reading → KnowsDest job past (phase.Make object (a_part.Content position)) held writing → MayMakeContent reading writing object held position
 unfolding MayMakeContent
-may_make_content {job} {past} {object} {position} prefix {held} reading writing at source dest row is stored =
+may_make_content {job} {past} {object} {position} {held} at source dest row is stored =
     let here = is_here job past object position held row at is stored in (
-      λ more. next_item writing at dest
+      λ more. next_item at dest
           (folder_next job object held.rows held.contents past.bytes position row here (ltb-true position.directories (length row.path) more)),
       λ all. (
-        next_item writing at dest
+        next_item at dest
             (file_next job object held.rows held.contents past.bytes position row here (ltb-false position.directories (length row.path) all)),
-        may_open_row job past object (a_part.Content position) prefix held position.row reading source is,
+        may_open_row position.row source is,
       ),
     )
 
-may_make_part : {job : Job} {past : Past} {object : Object} (here : Part) (prefix : List ℕ) {held : Held} (reading : Option Reading) (writing : Option Writing) → HeldAt job past (phase.Make object here) held
+may_make_part : {job : Job} {past : Past} {object : Object} (here : Part) {prefix : List ℕ} {held : Held} {reading : Option Reading} {writing : Option Writing} → HeldAt job past (phase.Make object here) held
     → KnowsSource job past (phase.Make object here) prefix held reading → KnowsDest job past (phase.Make object here) held writing → MayMakePart job object here held reading writing
-may_make_part {job} {past} {object} a_part.Staging prefix {held} reading writing at source dest = next_item writing at dest (next_staging job object held.rows past.bytes)
-may_make_part {job} {past} {object} a_part.Declaration prefix {held} reading writing at source dest =
-    next_item writing at dest (next_declaration job object held.rows past.bytes)
-may_make_part {job} {past} {object} a_part.Version prefix {held} reading writing at source dest = next_item writing at dest (next_version job object held.rows past.bytes)
-may_make_part (a_part.Content position) prefix reading writing at source dest = may_make_content prefix reading writing at source dest
-may_make_part {job} {past} {object} a_part.VersionInventory prefix {held} reading writing at source dest =
-    next_item writing at dest (next_first job object held.rows past.bytes)
-may_make_part {job} {past} {object} a_part.VersionSidecar prefix {held} reading writing at source dest =
-    next_item writing at dest (next_second job object held.rows past.bytes)
-may_make_part {job} {past} {object} a_part.Inventory prefix {held} reading writing at source dest = next_item writing at dest (next_third job object held.rows past.bytes)
-may_make_part {job} {past} {object} a_part.Sidecar prefix {held} reading writing at source dest = next_item writing at dest (next_fourth job object held.rows past.bytes)
+may_make_part {job} {past} {object} a_part.Staging {held} at source dest = next_item at dest (next_staging job object held.rows past.bytes)
+may_make_part {job} {past} {object} a_part.Declaration {held} at source dest =
+    next_item at dest (next_declaration job object held.rows past.bytes)
+may_make_part {job} {past} {object} a_part.Version {held} at source dest = next_item at dest (next_version job object held.rows past.bytes)
+may_make_part (a_part.Content position) at source dest = may_make_content at source dest
+may_make_part {job} {past} {object} a_part.VersionInventory {held} at source dest =
+    next_item at dest (next_first job object held.rows past.bytes)
+may_make_part {job} {past} {object} a_part.VersionSidecar {held} at source dest =
+    next_item at dest (next_second job object held.rows past.bytes)
+may_make_part {job} {past} {object} a_part.Inventory {held} at source dest = next_item at dest (next_third job object held.rows past.bytes)
+may_make_part {job} {past} {object} a_part.Sidecar {held} at source dest = next_item at dest (next_fourth job object held.rows past.bytes)
 
 -- ---- by the phase
 
-permits : {job : Job} {past : Past} (here : Phase) (prefix : List ℕ) {held : Held} (reading : Option Reading) (writing : Option Writing) → HeldAt job past here held → KnowsSource job past here prefix held reading → KnowsDest job past here held writing → Permits job here held reading writing
-permits phase.Begin prefix reading writing at source dest = top_listed reading
-permits (phase.Prefix here) prefix reading writing at source dest = may_open_prefix reading here (λ s is. (source s is).at.3)
-permits {job} (phase.RootMake number) prefix reading writing at source dest = may_make_root job number (λ item is now same. let known = dest now same in root_item_made job known.0 number item now known.1.started is known.1.at)
-permits {job} phase.RootRename prefix reading writing at source dest = may_move writing staging storage_root (λ now is. let known = dest now is in root_may_move job known.0 now known.1.started known.1.at)
-permits phase.OpenRoot prefix reading writing at source dest = enters_root reading (λ s is. (source s is).at.2.store)
-permits (phase.OpenObject object) prefix {held} reading writing at source dest = λ apart. may_enter reading held.trail (λ s is. let known = source s is in (known.at.1.store, known.proper, known.at.2.fits))
-permits (phase.Scan object) prefix {held} reading writing at source dest = (
-  may_enter reading held.trail (λ s is. let known = source s is in (known.at.0.store, known.proper, known.at.1.stands.fits)),
-  may_open reading held.trail (λ s is. let known = source s is in (known.at.0.store, known.proper, known.at.1.stands.fits)),
+permits : {job : Job} {past : Past} (here : Phase) {prefix : List ℕ} {held : Held} {reading : Option Reading} {writing : Option Writing} → HeldAt job past here held → KnowsSource job past here prefix held reading → KnowsDest job past here held writing → Permits job here held reading writing
+permits phase.Begin {reading} at source dest = top_listed reading
+permits (phase.Prefix here) at source dest = may_open_prefix (λ s is. (source s is).at.3)
+permits {job} (phase.RootMake number) at source dest = may_make_root job number (λ item is now same. let known = dest now same in root_item_made job known.0 number item now known.1.started is known.1.at)
+permits {job} phase.RootRename at source dest = may_move (λ now is. let known = dest now is in root_may_move job known.0 now known.1.started known.1.at)
+permits phase.OpenRoot at source dest = enters_root (λ s is. (source s is).at.2.store)
+permits (phase.OpenObject object) {held} at source dest = λ apart. may_enter held.trail (λ s is. let known = source s is in (known.at.1.store, known.proper, known.at.2.fits))
+permits (phase.Scan object) {held} at source dest = (
+  may_enter held.trail (λ s is. let known = source s is in (known.at.0.store, known.proper, known.at.1.stands.fits)),
+  may_open held.trail (λ s is. let known = source s is in (known.at.0.store, known.proper, known.at.1.stands.fits)),
 )
-permits (phase.Read object count) prefix reading writing at source dest = may_read reading (λ s is. (_, (source s is).at.2.read.left))
-permits (phase.Make object here) prefix reading writing at source dest = may_make_part here prefix reading writing at source dest
-permits (phase.Copy object position left) prefix reading writing at source dest = (may_read reading (λ s is. (_, (source s is).at.2.read.left)), may_write writing (λ now is. ap is_some (dest now is).1.at.writes.writing))
-permits {job} {past} (phase.Tuples object number) prefix {held} reading writing at source dest = has_parent writing (tuple_folder object number) (λ now is. let known = dest now is in tuple_parent job past known.0 object held number now at.numbers at known.1)
-permits {job} {past} (phase.Rename object) prefix {held} reading writing at source dest = may_move writing staging (in_root object.place) (λ now is. let known = dest now is in object_may_move job past known.0 object held now at known.1)
-permits phase.Walk prefix {held} reading writing at source dest = may_enter reading held.trail (λ s is. let known = source s is in (known.at.1.store, known.proper, known.at.2.fits))
-permits _ prefix reading writing at source dest = tt
+permits (phase.Read object count) at source dest = may_read (λ s is. (_, (source s is).at.2.read.left))
+permits (phase.Make object here) at source dest = may_make_part here at source dest
+permits (phase.Copy object position left) at source dest = (may_read (λ s is. (_, (source s is).at.2.read.left)), may_write (λ now is. ap is_some (dest now is).1.at.writes.writing))
+permits {job} {past} (phase.Tuples object number) {held} at source dest = has_parent (tuple_folder object number) (λ now is. let known = dest now is in tuple_parent job past known.0 object held number now at.numbers at known.1)
+permits {job} {past} (phase.Rename object) {held} at source dest = may_move (λ now is. let known = dest now is in object_may_move job past known.0 object held now at known.1)
+permits phase.Walk {held} at source dest = may_enter held.trail (λ s is. let known = source s is in (known.at.1.store, known.proper, known.at.2.fits))
+permits _ at source dest = tt
 
 -- a destination that tells told at the start
 told_both : {A B : Type 0} → (P : A → B → Type 0) (start : Option A) (now : Option B) → TellsAsBefore start now P → ForSome now (λ b. (a : A) × P a b)
@@ -197,4 +197,4 @@ told_both P (Some start) (Some now) tells b is = (start, subst (P start) (some_s
 pub begun_permits : BegunPermits
 unfolding Begun
 begun_permits job start world run (past, is) =
-    permits run.phase run.kept.prefix world.source world.dest is.held is.source (told_both (DestPart job past run.phase run.kept.held) start.dest world.dest is.dest)
+    permits run.phase is.held is.source (told_both (DestPart job past run.phase run.kept.held) start.dest world.dest is.dest)

@@ -205,7 +205,7 @@ module _ (job : Job) (past : Past) (start : Start) (old new : World) (run : Run)
   unfolding Did Stays LeavesSome
   halted_left after why is (IsRefused prefix held calls reason turn did halted) source_is start_is dest_is first_is last_is =
       left_same is source_is start_is (sym dest_is ∙ refused_same turn did.0.dest) first_is
-      (sym last_is ∙ none_put calls.line old.log new.log (refused_quiet turn) did.0.log) run.phase refl
+      (sym last_is ∙ none_put calls.line (refused_quiet turn) did.0.log) run.phase refl
   halted_left after why is (FailsAtFirst reason stays halted) source_is start_is dest_is first_is last_is = left_same is source_is start_is (sym dest_is ∙ stays.1) first_is (sym last_is ∙ stays.2) run.phase refl
   halted_left after why is (FailsLater prefix held calls answer rows reason turn leaves which halted) source_is start_is dest_is first_is last_is =
       broken_leaves job past start old run s t first new prefix held calls answer now last

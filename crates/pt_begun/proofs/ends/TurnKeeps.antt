@@ -186,7 +186,7 @@ module _ (job : Job) (past : Past) (start : Start) (old new : World) (run : Run)
       let kept = tree_kept calls.asked s v (subst (λ o. Answers calls.asked o (Some v)) told.1 (subst (Answers calls.asked old.source) same did.source)) in
       let turn_is = subst (λ (p : Phase). Follows job before.counts run.phase run.kept.prefix run.kept.held after.prefix after.held calls (Ok p)) at_end turn in
       let all = ended job past start old new run after s t now first last calls is turn_is did counts told.1 some dest is_first is_last in
-      subst (λ (f : Forest). IsLeftByFault job f t now.tree first last) (sym kept) (end_left first all.0.1 all.0.2))
+      subst (λ (f : Forest). IsLeftByFault job f t now.tree first last) (sym kept) (end_left all.0.1 all.0.2))
 
   pub turned : Turned → Happens calls old new → after.counts ≡ counted calls.line before.counts → IsPast job start old run past → IsPast job start new (record { phase = next; kept = after }) later
   turned turn did counts is = record {
@@ -209,10 +209,10 @@ module _ (job : Job) (past : Past) (start : Start) (old new : World) (run : Run)
           let puts = subst (λ o. Puts calls.line o new.log) had.1 did.log in
           let now = told_log calls.line had.0 new.log puts in
           subst (λ o. TellsStill (Some first) o (IsQuiet next)) (sym now.1)
-          (quiet_if next first now.0
+          (quiet_if next
           (λ starts.
           let quietly = follows_quietly turn starts in
-          some_same now.0 had.0 (sym now.1 ∙ none_put calls.line (Some had.0) new.log quietly.line puts) ∙ quiet_is run.phase first had.0 quietly.start had.2))
+          some_same now.0 had.0 (sym now.1 ∙ none_put calls.line quietly.line puts) ∙ quiet_is run.phase quietly.start had.2))
 
       log_at : (v : Reading) → new.source ≡ Some v → (t : Tree) → start.dest ≡ Some t → (o : Option (List ℕ)) → start.log ≡ o → TellsStill o new.log (HasTold job v.tree (root_in t) later next)
       log_at v same t some None none = tt

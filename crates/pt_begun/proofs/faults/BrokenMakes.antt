@@ -69,7 +69,7 @@ module _ (job : Job) (past : Past) (s : Reading) (start : Tree) (prefix : List �
       let next : IsNext script (take number script) (MakeFile path bytes) = record { rest = drop (suc number) script; is = split_at number script (MakeFile path bytes) is } in
       left_untold job past s start prefix counts old new first log last held (phase.RootMake number) before put
       (root_left job s.tree start new.tree past.count (take number script) old before.known.source.at.1 at
-      (stands_cut path bytes count start next (tree_is ∙ ap (done (MakeFile path (take count bytes))) at.tree)))
+      (stands_cut count next (tree_is ∙ ap (done (MakeFile path (take count bytes))) at.tree)))
 
   pub starts_broken : (read : List ℕ) (here : Phase) (held : Held) (calls : Calls) (answer : Answer) → Starts job here prefix read calls answer → Before held here → LeavesPart (Some old) (Some new) calls.change → LeavesFront calls.line (Some log) (Some last) → Left
   starts_broken read here held calls answer (MakesRoot was number item is) before left put = root_broken number item held before is left put
@@ -88,7 +88,7 @@ module _ (job : Job) (past : Past) (s : Reading) (start : Tree) (prefix : List �
       left_untold job past s start prefix counts old new first log last held (phase.Make object here) before put
       (carrying_left job past s start object held 0 new.tree known.dest.started known.dest.at.root known.held_at.ends.0 known.held_at.rows (omega arith) known.items.places.placed
       (carried_next past s (root_in start) source.proper source.at.0 source.at.1 source.bytes known.items.places.next)
-      (stands_cut path bytes count (with_root start (root_on_way job start past.placed object.place 0)) next (tree_is ∙ ap (done (MakeFile path (take count bytes))) known.dest.at.tree)))
+      (stands_cut count next (tree_is ∙ ap (done (MakeFile path (take count bytes))) known.dest.at.tree)))
 
   opened_broken : (object : Object) (position : Position) (held : Held) (row : Row) → Before held (phase.Make object (a_part.Content position))
       → IsNext (script_of_object job object held.rows past.bytes) (made_before job object held.rows past.bytes (a_part.Content position)) (MakeFile (in_content row.path) (past.bytes row.path)) → LeavesPart (Some old) (Some new) (Creates (in_content row.path)) → Quiet → Left
@@ -102,7 +102,7 @@ module _ (job : Job) (past : Past) (s : Reading) (start : Tree) (prefix : List �
       left_untold job past s start prefix counts old new first log last held (phase.Make object (a_part.Content position)) before put
       (carrying_left job past s start object held 0 new.tree known.dest.started known.dest.at.root known.held_at.ends.0 known.held_at.rows (omega arith) known.items.places.placed
       (carried_next past s (root_in start) source.proper source.at.0 source.at.1 source.bytes known.items.places.next)
-      (content_stands (in_content row.path) (past.bytes row.path) [] (with_root start (root_on_way job start past.placed object.place 0)) next (past.bytes row.path, refl) (tree_is ∙ ap (done item) known.dest.at.tree)))
+      (content_stands next (past.bytes row.path, refl) (tree_is ∙ ap (done item) known.dest.at.tree)))
 
   copied_broken : (object : Object) (position : Position) (left : ℕ) (piece : List ℕ) (held : Held) → Before held (phase.Copy object position left) → IsRead (Some s) piece → LeavesPart (Some old) (Some new) (Adds piece) → Quiet → Left
   unfolding IsRead
@@ -122,12 +122,12 @@ module _ (job : Job) (past : Past) (s : Reading) (start : Tree) (prefix : List �
       let same_row = some_same reads.row row (sym reads.is_row ∙ is) in
       let bytes = row_bytes s.tree object held.trail past.bytes held.rows position.row at.ends.1 source.bytes reads.is_row in
       let begins : BeginsWith (held.fed ++ piece) (past.bytes row.path) =
-      begins_taken (reads.row.length - left + length piece) (past.bytes row.path) (whole.fed_is ∙ ap (take (reads.row.length - left + length piece)) (sym bytes ∙ ap (λ (r : Row). past.bytes r.path) same_row)) in
+      begins_taken (reads.row.length - left + length piece) (whole.fed_is ∙ ap (take (reads.row.length - left + length piece)) (sym bytes ∙ ap (λ (r : Row). past.bytes r.path) same_row)) in
       left_untold job past s start prefix counts old new first log last held (phase.Copy object position left) before put
       (carrying_left job past s start object held 0 new.tree known.dest.started known.dest.at.making.root at.ends.0 at.rows (omega arith) known.items.places.placed
       (carried_next past s (root_in start) source.proper source.at.0 source.at.1 source.bytes known.items.places.next)
-      (content_stands (in_content row.path) (past.bytes row.path) (held.fed ++ more) root
-      (file_next job object held.rows held.contents past.bytes position row (copy_here job past object position left held row at is) (copy_stands held position row is at.numbers)) (begins_cut count held.fed piece (past.bytes row.path) begins)
+      (content_stands
+      (file_next job object held.rows held.contents past.bytes position row (copy_here job past object position left held row at is) (copy_stands held position row is at.numbers)) (begins_cut count held.fed piece begins)
       (it.at.making.tree ∙ made_in_turn front (MakeFile (in_content row.path) (held.fed ++ more) ∷ []) root)))
 
   pub makes_broken : (here : Phase) (held after : Held) (calls : Calls) (answer : Answer) → Makings job here held after calls answer → Before held here → WereAnswered calls s old → LeavesPart (Some old) (Some new) calls.change → LeavesFront calls.line (Some log) (Some last) → Left

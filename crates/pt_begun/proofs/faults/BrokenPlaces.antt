@@ -46,7 +46,7 @@ module _ (job : Job) (past : Past) (s : Reading) (start : Tree) (prefix : List �
       let whole = line_text (last_line counts) in
       let front = take n whole in
       let many = some_items job s.tree known.source.at.1.store in
-      let all = all_done job s.tree past.count known.source.at.2 in
+      let all = all_done job s.tree {count = past.count} known.source.at.2 in
       let lines_are = known.items.lines_are in
       let line_is : last_line counts ≡ end_line (lines job s.tree root past.count) = (λ i. End (lines_are.done i) (lines_are.present i) (lines_are.skipped i)) in
       let at_end : length (items job s.tree) ≤ suc many.0 = (let is = many.1 in omega (arith, is)) in
@@ -55,8 +55,8 @@ module _ (job : Job) (past : Past) (s : Reading) (start : Tree) (prefix : List �
       record {
         told = so_far ++ front;
         log = put ∙ ap (λ l. l ++ front) before.log_is ∙ append_assoc first so_far front;
-        left = between_left job s.tree start (suc many.0) (so_far ++ front) known.dest.at.root.free (let is = many.1 in omega (arith, is))
-            (end_in_part job s.tree root many.0 past.count front (drop n whole) many.1 all (ap line_text (sym line_is) ∙ sym (take-append-drop n whole)) refl)
+        left = between_left {job = job} {source = s.tree} {start = start} {k = suc many.0} {log = so_far ++ front} known.dest.at.root.free (let is = many.1 in omega (arith, is))
+            (end_in_part job s.tree root {k = many.0} {count = past.count} front (drop n whole) many.1 all (ap line_text (sym line_is) ∙ sym (take-append-drop n whole)) refl)
             (same ∙ tree_between s.tree past.count known.items.places.placed known.dest.at ∙ ap (with_root start) roots);
       }
 
@@ -64,7 +64,7 @@ module _ (job : Job) (past : Past) (s : Reading) (start : Tree) (prefix : List �
   done_told : (object : Object) (held : Held) → Before held (phase.Line object) → new.tree ≡ old.tree → LeavesFront (Some (done_line object held)) (Some log) (Some last) → Left
   done_told object held before same put =
       let known = before.known in
-      let tells = places_tell {counts = counts} (root_in start) (TellsDone held object) known.held_at known.source known.items.places.next in
+      let tells = places_tell {counts = counts} (TellsDone held object) known.held_at known.source known.items.places.next in
       left_told job past s start prefix counts old new first log last held (phase.Line object) (done_line object held) tells.0 before
       (ends_item tells.1 refl refl)
       known.dest.at.root.free (same ∙ tree_between s.tree (suc past.count) known.items.places.placed known.dest.at) put

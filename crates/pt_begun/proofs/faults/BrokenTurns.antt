@@ -71,7 +71,7 @@ module _ (job : Job) (past : Past) (s : Reading) (start : Tree) (prefix : List �
       record {
         told = so_far ++ front;
         log = put ∙ ap (λ l. l ++ front) before.log_is ∙ append_assoc first so_far front;
-        left = between_left job s.tree start (suc past.count) (so_far ++ front) free (marked_within job s.tree root past.count ends.is)
+        left = between_left free (marked_within job s.tree root ends.is)
             (told_in_part job s.tree root past.count front (drop n (line_text line) ++ []) ends.is
             (ap (flat_map line_text) ends.told ∙ ap (λ l. l ++ []) (sym (take-append-drop n (line_text line))) ∙ append_assoc front (drop n (line_text line)) []) refl)
             is;

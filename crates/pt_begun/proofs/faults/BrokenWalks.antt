@@ -76,7 +76,7 @@ module _ (job : Job) (past : Past) (s : Reading) (start : Tree) (prefix : List �
   scan_told held later here object calls line read turn before is answers placed making same put =
       let known = before.known in
       left_skipped job past s start prefix counts old new first log last held here phase.Walk calls.line line (done_after here held.trail phase.Walk past.count) before refl
-      (scans_tell (root_in start) turn known.held_at.trail.is_one known.source known.items.places.next read answers)
+      (scans_tell turn known.held_at.trail.is_one known.source known.items.places.next read answers)
       is making.root.free (tree_entered s.tree past.count placed making) same put
 
   pub scans_broken : (here : Phase) (held later : Held) (calls : Calls) (answer : Answer) → Scans job here held later calls answer → Before held here → WereAnswered calls s old → LeavesPart (Some old) (Some new) calls.change → LeavesFront calls.line (Some log) (Some last) → Left

@@ -25,9 +25,9 @@ use Rattle.pt_begun.proofs.items.Telling.{both_tell, log_tells}
 use Rattle.pt_begun.proofs.ends.TurnKeeps.{still_counts}
 
 -- a run that hasn't ended has told the lines of the items done
-pub told_now : (job : Job) (s : Reading) (t : Tree) (past : Past) (here : Phase) (first now : List ℕ) → is_ended here ≡ false → HasTold job s.tree (root_in t) past here first now → now ≡ first ++ text job s.tree (root_in t) past.count
-told_now job s t past phase.Ended first now runs had = absurd (cc)
-told_now job s t past _ first now runs had = had
+pub told_now : (job : Job) (s : Reading) (t : Tree) (past : Past) (here : Phase) (first : List ℕ) {now : List ℕ} → is_ended here ≡ false → HasTold job s.tree (root_in t) past here first now → now ≡ first ++ text job s.tree (root_in t) past.count
+told_now job s t past phase.Ended first runs had = absurd (cc)
+told_now job s t past _ first runs had = had
 
 module _ (job : Job) (past : Past) (start : Start) (old : World) (run : Run) (s : Reading) (t : Tree) (first : List ℕ) where
   -- all three tell, and this is what is known of them
@@ -50,7 +50,7 @@ module _ (job : Job) (past : Past) (start : Start) (old : World) (run : Run) (s 
         before = record {
           runs = runs;
           known = record { held_at = is.held; source = is.source s source_is; dest = dest.2; items = still_counts run.kept (is.items s source_is t start_is) };
-          log_is = told_now job s t past run.phase first logged.0 runs logged.2;
+          log_is = told_now job s t past run.phase first runs logged.2;
         };
       }
 

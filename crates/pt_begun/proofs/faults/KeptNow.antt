@@ -50,8 +50,8 @@ uncut (MakeFile path bytes ∷ []) = (length bytes, ap (λ b. MakeFile path b �
 uncut (item ∷ next ∷ items) = let later = uncut (next ∷ items) in (later.0, ap (λ l. item ∷ l) later.1)
 
 -- the first items of a script stand
-pub stands_whole : (script : List Item) (n : ℕ) (start : Tree) {now : Tree} → now ≡ made (take n script) start → StandsAtPrefix script start now
-stands_whole script n start is = let cut = uncut (take n script) in record { items = n; bytes = cut.0; stands = is ∙ ap (λ l. made l start) (sym cut.1) }
+pub stands_whole : {script : List Item} (n : ℕ) {start : Tree} {now : Tree} → now ≡ made (take n script) start → StandsAtPrefix script start now
+stands_whole {script} n {start} is = let cut = uncut (take n script) in record { items = n; bytes = cut.0; stands = is ∙ ap (λ l. made l start) (sym cut.1) }
 
 -- and of the next one, a file, the first bytes
 cut_push : (count : ℕ) (front : List Item) (item : Item) → cut_last count (front ++ item ∷ []) ≡ front ++ cut_item count item ∷ []
@@ -63,8 +63,8 @@ take_next : (front : List Item) (item : Item) (rest : List Item) → take (suc (
 take_next [] item rest = refl
 take_next (x ∷ front) item rest = ap (λ l. x ∷ l) (take_next front item rest)
 
-pub stands_cut : {script front : List Item} (path : Path) (bytes : List ℕ) (count : ℕ) (start : Tree) {now : Tree} → IsNext script front (MakeFile path bytes) → now ≡ done (MakeFile path (take count bytes)) (made front start) → StandsAtPrefix script start now
-stands_cut {front} path bytes count start next is = record {
+pub stands_cut : {script front : List Item} {path : Path} {bytes : List ℕ} (count : ℕ) {start : Tree} {now : Tree} → IsNext script front (MakeFile path bytes) → now ≡ done (MakeFile path (take count bytes)) (made front start) → StandsAtPrefix script start now
+stands_cut {front} {path} {bytes} count {start} next is = record {
   items = suc (length front);
   bytes = count;
   stands = is
@@ -133,17 +133,17 @@ module _ (job : Job) (past : Past) (start : Tree) (object : Object) (held : Held
   not_begun w making = subst (IsKept job start) (sym (making.tree ∙ ap (with_root start) (no_folders job start past.placed object.place))) (Holding past.placed making.came)
 
 -- a front of the script
-pub front_stands : {script front : List Item} (start : Tree) {now : Tree} → IsFront script front → now ≡ made front start → StandsAtPrefix script start now
-front_stands {script} {front} start it is =
-    stands_whole script (length front) start (is ∙ ap (λ l. made l start) (sym (ap (take (length front)) it.is ∙ taken_front front it.rest)))
+pub front_stands : {script front : List Item} {start : Tree} {now : Tree} → IsFront script front → now ≡ made front start → StandsAtPrefix script start now
+front_stands {script} {front} {start} it is =
+    stands_whole (length front) (is ∙ ap (λ l. made l start) (sym (ap (take (length front)) it.is ∙ taken_front front it.rest)))
 
 -- ---- a new root
 
 pub root_free : (start : Tree) → IsFree start storage_root → IsFree (root_in start) []
 root_free start free path = free path
 
-pub root_kept : (job : Job) {start now : Tree} {items : List Item} {w : Writing} → IsMakingRoot start items w → StandsAtPrefix (root_script job.tuples) start now → IsKept job start now
-root_kept job {start} {now} making at = kept.MakingRoot now (root_free start making.root) at
+pub root_kept : {job : Job} {start now : Tree} {items : List Item} {w : Writing} → IsMakingRoot start items w → StandsAtPrefix (root_script job.tuples) start now → IsKept job start now
+root_kept {start} {now} making at = kept.MakingRoot now (root_free start making.root) at
 
 -- ---- by the phase
 
@@ -151,14 +151,14 @@ root_kept job {start} {now} making at = kept.MakingRoot now (root_free start mak
 part_kept : {job : Job} {past : Past} {start : Tree} {object : Object} {here : Part} {held : Held} {now : Writing} → HeldAt job past (phase.Make object here) held → DestPart job past (phase.Make object here) held start now → IsKept job start now.tree
 part_kept {job} {past} {start} {object} {here} {held} {now} at dest =
     made_kept job past start object held 0 (made_before job object held.rows past.bytes here) now.tree dest.started at.ends.0 at.rows (omega arith) now dest.at
-    (front_stands (with_root start (root_on_way job start past.placed object.place 0)) (front_made job object held.rows past.bytes here) dest.at.tree)
+    (front_stands (front_made job object held.rows past.bytes here) dest.at.tree)
 
 -- or is whole
 whole_kept : {job : Job} (past : Past) {start : Tree} {object : Object} {held : Held} {n : ℕ} {now : Writing} → IsTree start → IsObject job object → AreRows job past.bytes held → n ≤ job.tuples.count
     → IsMakingObject job start past.placed object (script_of_object job object held.rows past.bytes) n now → IsKept job start now.tree
 whole_kept {job} past {start} {object} {held} {n} {now} tree it rows few making =
     made_kept job past start object held n (script_of_object job object held.rows past.bytes) now.tree tree it rows few now making
-    (front_stands {front = script_of_object job object held.rows past.bytes} (with_root start (root_on_way job start past.placed object.place n)) (record { rest = []; is = sym (append-nil (script_of_object job object held.rows past.bytes)) }) making.tree)
+    (front_stands {front = script_of_object job object held.rows past.bytes} {start = with_root start (root_on_way job start past.placed object.place n)} (record { rest = []; is = sym (append-nil (script_of_object job object held.rows past.bytes)) }) making.tree)
 
 -- a file is copied
 copying_kept : {job : Job} {past : Past} {start : Tree} {object : Object} {position : Position} {left : ℕ} {held : Held} {now : Writing} → HeldAt job past (phase.Copy object position left) held → DestPart job past (phase.Copy object position left) held start now → IsKept job start now.tree
@@ -180,10 +180,10 @@ kept_now job past start (phase.Prefix here) held now at dest = record { kept = a
 kept_now job past start phase.Staging held now at dest = record { kept = as_it_was job start now dest.at.tree; stood = inr dest.at.tree }
 kept_now job past start phase.Root held now at dest = record { kept = as_it_was job start now dest.at.0.tree; stood = inr dest.at.0.tree }
 kept_now job past start (phase.RootMake number) held now at dest = record {
-  kept = root_kept job dest.at (stands_whole (root_script job.tuples) number start dest.at.tree);
+  kept = root_kept dest.at (stands_whole number dest.at.tree);
   stood = inl (record { free = dest.at.free; root = inl dest.at.root });
 }
-kept_now job past start phase.RootRename held now at dest = record { kept = root_kept job dest.at (stands_whole (root_script job.tuples) 6 start dest.at.tree); stood = inl (record { free = dest.at.free; root = inl dest.at.root }) }
+kept_now job past start phase.RootRename held now at dest = record { kept = root_kept dest.at (stands_whole 6 dest.at.tree); stood = inl (record { free = dest.at.free; root = inl dest.at.root }) }
 kept_now job past start (phase.RootCheck number) held now at dest = record { kept = as_it_was job start now dest.at.tree; stood = inr dest.at.tree }
 kept_now job past start (phase.OpenObject object) held now at dest = record { kept = not_begun job past start object held now dest.at; stood = inl dest.at.root }
 kept_now job past start (phase.Scan object) held now at dest = record { kept = not_begun job past start object held now dest.at; stood = inl dest.at.root }

@@ -88,8 +88,8 @@ root_left job past start number (MakeFile path bytes) held old new at dest is (O
     record {
       tree = subst IsTree (sym tree_is) (tree_put old.tree path (Bytes (take count bytes)) dest.tree (root_item_made job start number (MakeFile path bytes) old dest.started is dest.at));
       left = record {
-        kept = root_kept job dest.at
-            (stands_cut path bytes count start next (tree_is ∙ ap (done (MakeFile path (take count bytes))) dest.at.tree));
+        kept = root_kept dest.at
+            (stands_cut count next (tree_is ∙ ap (done (MakeFile path (take count bytes))) dest.at.tree));
         stood = inl (record { free = dest.at.free; root = inl dest.at.root });
       };
     }
@@ -107,7 +107,7 @@ part_left job past start object here path bytes held old new at dest next (OfFil
       tree = subst IsTree (sym tree_is) (tree_put old.tree path (Bytes (take count bytes)) dest.tree may);
       left = record {
         kept = made_kept job past start object held 0 front new.tree dest.started at.ends.0 at.rows (omega arith) old dest.at
-            (stands_cut path bytes count (with_root start (root_on_way job start past.placed object.place 0)) next (tree_is ∙ ap (done (MakeFile path (take count bytes))) dest.at.tree));
+            (stands_cut count next (tree_is ∙ ap (done (MakeFile path (take count bytes))) dest.at.tree));
         stood = inl dest.at.root;
       };
     }
@@ -138,10 +138,10 @@ fed_held {job} {past} {held} fed at = record {
   fed = tt;
 }
 
-copied_left : {job : Job} {past : Past} {start : Tree} {object : Object} {position : Position} {left : ℕ} (piece : List ℕ) {held : Held} {old new : Writing} → HeldAt job past (phase.Copy object position left) held → DestPart job past (phase.Copy object position left) held start old
+copied_left : {job : Job} {past : Past} {start : Tree} {object : Object} {position : Position} {left : ℕ} {piece : List ℕ} {held : Held} {old new : Writing} → HeldAt job past (phase.Copy object position left) held → DestPart job past (phase.Copy object position left) held start old
     → LeavesPart (Some old) (Some new) (Adds piece) → IsLeftTree job start new
-copied_left {job} {past} {start} {object} {position} {left} piece {held} {old} {new} at dest (Untouched change same) = same_left job past start (phase.Copy object position left) held old new at dest (some_same new.tree old.tree same)
-copied_left {job} {past} {start} {object} {position} {left} piece {held} {old} {new} at dest (OfPiece p count same) =
+copied_left {job} {past} {start} {object} {position} {left} {held} {old} {new} at dest (Untouched change same) = same_left job past start (phase.Copy object position left) held old new at dest (some_same new.tree old.tree same)
+copied_left {job} {past} {start} {object} {position} {left} {piece} {held} {old} {new} at dest (OfPiece p count same) =
     let part = take count piece in
     let it = copied job past start object position left left held old new None part (some_same new (after_append part old) same) dest in
     record { tree = it.tree; left = kept_now job past start (phase.Copy object position left) (with_fed held (held.fed ++ part)) new (fed_held (held.fed ++ part) at) it }
@@ -173,7 +173,7 @@ makes_left {job} {past} {start} {here} {held} {old} {new} (MakesVersion was obje
 makes_left {job} {past} {start} {here} {held} {old} {new} (PassesRow was object position row is other) at dest broken = same_left job past start here held old new at dest (plain_same refl broken)
 makes_left {job} {past} {start} {here} {held} {old} {new} (MakesFolder was object position row is stored more) at dest broken = same_left job past start here held old new at dest (plain_same refl broken)
 makes_left {job} {past} (OpensCopy was object position row is stored all) at dest broken = opened_left row at dest (file_next job object was.rows was.contents past.bytes position row (is_here job past object position was row at is stored) (ltb-false position.directories (length row.path) all)) broken
-makes_left (CopiesOn was object position left byte block fits) at dest broken = copied_left (byte ∷ block) at dest broken
+makes_left (CopiesOn was object position left byte block fits) at dest broken = copied_left at dest broken
 makes_left {job} {past} {start} {here} {held} {old} {new} (EndsCopy was object position row left is same) at dest broken = same_left job past start here held old new at dest (plain_same refl broken)
 makes_left {job} {past} {start} {old} {new} (MakesVersionInventory was object) at dest left = part_left job past start object a_part.VersionInventory (in_version [] ++ inventory_name ∷ []) (text_of_inventory job object was.rows) was old new at dest (next_first job object was.rows past.bytes) left
 makes_left {job} {past} {start} {old} {new} (MakesVersionSidecar was object) at dest left = part_left job past start object a_part.VersionSidecar (in_version [] ++ sidecar_name job.algorithm ∷ []) (sidecar_text job.algorithm (text_of_inventory job object was.rows)) was old new at dest (next_second job object was.rows past.bytes) left

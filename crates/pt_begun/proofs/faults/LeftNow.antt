@@ -49,15 +49,15 @@ root_left job source start now count items w first making at =
     inr (making.free, subst (IsLeft job source start now) (sym (ap (text job source (root_in start)) first)) (MakingRoot now (root_free start making.root) at))
 
 -- the root after some items, with this in the log
-pub between_left : (job : Job) (source : Forest) (start : Tree) {now : Tree} (k : ℕ) (log : List ℕ) → IsFree start staging → k ≤ length (items job source) → IsLogAfter job source (root_in start) k log → now ≡ with_root start (after job source (root_in start) k) → MayBeLeft job source start now log
-between_left job source start k log free within told is =
+pub between_left : {job : Job} {source : Forest} {start : Tree} {now : Tree} {k : ℕ} {log : List ℕ} → IsFree start staging → k ≤ length (items job source) → IsLogAfter job source (root_in start) k log → now ≡ with_root start (after job source (root_in start) k) → MayBeLeft job source start now log
+between_left {job} {source} {start} {k} {log} free within told is =
     inr (free, subst (λ (t : Tree). IsLeft job source start t log) (sym is) (Between k log within told))
 
 -- the root after so many items, or after all if there are no more
-pub counted_left : (job : Job) (source : Forest) (start : Tree) {now : Tree} (count : ℕ) → IsFree start staging → now ≡ with_root start (after job source (root_in start) count) → MayBeLeft job source start now (text job source (root_in start) count)
-counted_left job source start count free is =
+pub counted_left : {job : Job} {source : Forest} {start : Tree} {now : Tree} (count : ℕ) → IsFree start staging → now ≡ with_root start (after job source (root_in start) count) → MayBeLeft job source start now (text job source (root_in start) count)
+counted_left {job} {source} {start} count free is =
     let it = as_after job source (root_in start) count in
-    between_left job source start it.k (text job source (root_in start) count) free it.within
+    between_left {job = job} {source = source} {start = start} {k = it.k} {log = text job source (root_in start) count} free it.within
     (subst (IsLogAfter job source (root_in start) it.k) it.text_is (told_so_far job source (root_in start) it.k it.within))
     (is ∙ ap (with_root start) (sym it.root_is))
 
@@ -87,7 +87,7 @@ module _ (job : Job) (past : Past) (s : Reading) (start : Tree) (prefix : List �
       let rows = known.held_at.rows in
       carrying_left job past s start object held 0 now.tree known.dest.started known.dest.at.root known.held_at.ends.0 rows (omega arith) known.items.places.placed
       (carried_next past s (root_in start) source.proper source.at.0 source.at.1 source.bytes known.items.places.next)
-      (front_stands (with_root start (root_on_way job start past.placed object.place 0)) (front_made job object held.rows past.bytes here) known.dest.at.tree)
+      (front_stands (front_made job object held.rows past.bytes here) known.dest.at.tree)
 
   -- a content is copied
   copy_left : (object : Object) (position : Position) (left : ℕ) → Known (phase.Copy object position left) → Left
@@ -102,10 +102,10 @@ module _ (job : Job) (past : Past) (s : Reading) (start : Tree) (prefix : List �
       let same = some_same reads.row row (sym reads.is_row ∙ is) in
       let bytes = row_bytes s.tree object held.trail past.bytes held.rows position.row at.ends.1 source.bytes reads.is_row in
       let begins : BeginsWith held.fed (past.bytes row.path) =
-      begins_taken (reads.row.length - left) (past.bytes row.path) (reads.read.fed_is ∙ ap (take (reads.row.length - left)) (sym bytes ∙ ap (λ (r : Row). past.bytes r.path) same)) in
+      begins_taken (reads.row.length - left) (reads.read.fed_is ∙ ap (take (reads.row.length - left)) (sym bytes ∙ ap (λ (r : Row). past.bytes r.path) same)) in
       carrying_left job past s start object held 0 now.tree known.dest.started known.dest.at.making.root at.ends.0 at.rows (omega arith) known.items.places.placed
       (carried_next past s (root_in start) source.proper source.at.0 source.at.1 source.bytes known.items.places.next)
-      (content_stands (in_content row.path) (past.bytes row.path) held.fed root
+      (content_stands
       (file_next job object held.rows held.contents past.bytes position row (copy_here job past object position left held row at is) (copy_stands held position row is at.numbers)) begins
       (known.dest.at.making.tree ∙ made_in_turn front (MakeFile (in_content row.path) held.fed ∷ []) root))
 
@@ -113,7 +113,7 @@ module _ (job : Job) (past : Past) (s : Reading) (start : Tree) (prefix : List �
   script_stands : (object : Object) (n : ℕ) → IsMakingObject job start past.placed object (script_of_object job object held.rows past.bytes) n now
       → StandsAtPrefix (script_of_object job object held.rows past.bytes) (with_root start (root_on_way job start past.placed object.place n)) now.tree
   script_stands object n making =
-      front_stands {front = script_of_object job object held.rows past.bytes} (with_root start (root_on_way job start past.placed object.place n)) (record { rest = []; is = sym (append-nil (script_of_object job object held.rows past.bytes)) }) making.tree
+      front_stands {front = script_of_object job object held.rows past.bytes} (record { rest = []; is = sym (append-nil (script_of_object job object held.rows past.bytes)) }) making.tree
 
   tuples_left : (object : Object) (number : ℕ) → Known (phase.Tuples object number) → Left
   tuples_left object number known =
@@ -135,7 +135,7 @@ module _ (job : Job) (past : Past) (s : Reading) (start : Tree) (prefix : List �
   line_left object known =
       let source = known.source in
       let is = carried_next past s (root_in start) source.proper source.at.0 source.at.1 source.bytes known.items.places.next in
-      between_left job s.tree start (suc past.count) (text job s.tree (root_in start) past.count) known.dest.at.root.free (marked_within job s.tree (root_in start) past.count is.1)
+      between_left known.dest.at.root.free (marked_within job s.tree (root_in start) is.1)
       (not_told job s.tree (root_in start) past.count is.1 refl)
       (tree_between s.tree (suc past.count) known.items.places.placed known.dest.at)
 
@@ -145,16 +145,16 @@ module _ (job : Job) (past : Past) (s : Reading) (start : Tree) (prefix : List �
   left_now phase.Staging runs known = as_it_was job s.tree start now.tree past.count known.source.at.1 known.dest.at.tree
   left_now phase.Root runs known = as_it_was job s.tree start now.tree past.count known.source.at.1 known.dest.at.0.tree
   left_now (phase.RootMake number) runs known =
-      root_left job s.tree start now.tree past.count (take number (root_script job.tuples)) now known.source.at.1 known.dest.at (stands_whole (root_script job.tuples) number start known.dest.at.tree)
-  left_now phase.RootRename runs known = root_left job s.tree start now.tree past.count (root_script job.tuples) now known.source.at.1 known.dest.at (stands_whole (root_script job.tuples) 6 start known.dest.at.tree)
+      root_left job s.tree start now.tree past.count (take number (root_script job.tuples)) now known.source.at.1 known.dest.at (stands_whole number known.dest.at.tree)
+  left_now phase.RootRename runs known = root_left job s.tree start now.tree past.count (root_script job.tuples) now known.source.at.1 known.dest.at (stands_whole 6 known.dest.at.tree)
   left_now (phase.RootCheck number) runs known = as_it_was job s.tree start now.tree past.count known.source.at.1 known.dest.at.tree
-  left_now (phase.OpenObject object) runs known = counted_left job s.tree start past.count known.dest.at.root.free (tree_entered s.tree past.count known.items.places.placed known.dest.at)
-  left_now (phase.Scan object) runs known = counted_left job s.tree start past.count known.dest.at.root.free (tree_entered s.tree past.count known.items.places.placed known.dest.at)
-  left_now (phase.Read object bytes) runs known = counted_left job s.tree start past.count known.dest.at.root.free (tree_entered s.tree past.count known.items.places.placed known.dest.at)
+  left_now (phase.OpenObject object) runs known = counted_left past.count known.dest.at.root.free (tree_entered s.tree past.count known.items.places.placed known.dest.at)
+  left_now (phase.Scan object) runs known = counted_left past.count known.dest.at.root.free (tree_entered s.tree past.count known.items.places.placed known.dest.at)
+  left_now (phase.Read object bytes) runs known = counted_left past.count known.dest.at.root.free (tree_entered s.tree past.count known.items.places.placed known.dest.at)
   left_now (phase.Make object here) runs known = part_left object here known
   left_now (phase.Copy object position left) runs known = copy_left object position left known
   left_now (phase.Tuples object number) runs known = tuples_left object number known
   left_now (phase.Rename object) runs known = rename_left object known
   left_now (phase.Line object) runs known = line_left object known
   left_now phase.Ended runs known = absurd (cc)
-  left_now _ runs known = counted_left job s.tree start past.count known.dest.at.root.free (tree_between s.tree past.count known.items.places.placed known.dest.at)
+  left_now _ runs known = counted_left past.count known.dest.at.root.free (tree_between s.tree past.count known.items.places.placed known.dest.at)

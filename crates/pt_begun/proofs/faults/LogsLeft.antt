@@ -33,13 +33,13 @@ some_before f None is = absurd (cc)
 some_before f (Some x) is = (x, refl)
 
 -- an item that is marked is one of the items
-pub marked_within : (job : Job) (source : Forest) (root : Tree) (k : ℕ) {m : Marked} → slice_get (marked job source root) k ≡ Some m → suc k ≤ length (items job source)
-marked_within job source root k is =
+pub marked_within : (job : Job) (source : Forest) (root : Tree) {k : ℕ} {m : Marked} → slice_get (marked job source root) k ≡ Some m → suc k ≤ length (items job source)
+marked_within job source root {k} is =
     let it = some_before (λ (item : Item). (item, is_taken job root (take k (items job source)) item.verdict)) (slice_get (items job source) k) (sym (taken_against_earlier job source root k) ∙ is) in
     get_within (items job source) k it.1
 
-pub marked_at : (job : Job) (source : Forest) (root : Tree) (k : ℕ) → suc k ≤ length (items job source) → (m : Marked) × (slice_get (marked job source root) k ≡ Some m)
-marked_at job source root k within =
+pub marked_at : (job : Job) (source : Forest) (root : Tree) {k : ℕ} → suc k ≤ length (items job source) → (m : Marked) × (slice_get (marked job source root) k ≡ Some m)
+marked_at job source root {k} within =
     let it = there_is (items job source) k within in
     ((it.0, is_taken job root (take k (items job source)) it.0.verdict), mark_of job source root k it.1)
 
@@ -77,7 +77,7 @@ not_told job source root k {m} is told = told_in_part job source root k [] (flat
 pub told_so_far : (job : Job) (source : Forest) (root : Tree) (k : ℕ) → k ≤ length (items job source) → IsLogAfter job source root k (text job source root k)
 told_so_far job source root zero within = refl
 told_so_far job source root (suc k) within =
-    let m = marked_at job source root k within in
+    let m = marked_at job source root {k = k} within in
     told_in_part job source root k (flat_map line_text (line_of job m.0)) [] m.1 (sym (append-nil (flat_map line_text (line_of job m.0)))) (text_grows job source root k m.0 m.1).1
 
 -- so many items, or all if there are no more: the root after them and their lines are the same
@@ -88,8 +88,8 @@ pub record IsAsAfter (job : Job) (source : Forest) (root : Tree) (count : ℕ) :
   pub text_is : text job source root k ≡ text job source root count
 
 -- beyond the last item nothing is added
-pub texts_alike : (job : Job) (source : Forest) (root : Tree) (a b : ℕ) → length (items job source) ≤ a → length (items job source) ≤ b → text job source root a ≡ text job source root b
-texts_alike job source root a b above over =
+pub texts_alike : (job : Job) (source : Forest) (root : Tree) {a b : ℕ} → length (items job source) ≤ a → length (items job source) ≤ b → text job source root a ≡ text job source root b
+texts_alike job source root {a} {b} above over =
     ap (flat_map line_text) ((all_items_are_all job source root a above).2 ∙ sym (all_items_are_all job source root b over).2)
 
 pub as_after : (job : Job) (source : Forest) (root : Tree) (count : ℕ) → IsAsAfter job source root count
@@ -99,7 +99,7 @@ as_after job source root count = elim (cases_lt (length (items job source)) coun
         k = length (items job source);
         within = omega arith;
         root_is = (all_items_are_all job source root (length (items job source)) (omega arith)).1 ∙ sym (all_items_are_all job source root count (omega (arith, over))).1;
-        text_is = texts_alike job source root (length (items job source)) count (omega arith) (omega (arith, over));
+        text_is = texts_alike job source root (omega arith) (omega (arith, over));
       })
   | inr within ↦ record { k = count; within = within; root_is = refl; text_is = refl }
 ]
@@ -119,12 +119,12 @@ some_items job source is =
 -- ---- at the end
 
 -- where there is an item at all, the end line may be there in part
-pub end_in_part : (job : Job) (source : Forest) (root : Tree) (k count : ℕ) (front rest : List ℕ) {log : List ℕ} → length (items job source) ≡ suc k → length (items job source) ≤ count
+pub end_in_part : (job : Job) (source : Forest) (root : Tree) {k count : ℕ} (front rest : List ℕ) {log : List ℕ} → length (items job source) ≡ suc k → length (items job source) ≤ count
     → line_text (end_line (lines job source root count)) ≡ front ++ rest → log ≡ text job source root count ++ front → IsLogAfter job source root (suc k) log
-end_in_part job source root k count front rest many all line told =
-    let m = marked_at job source root k (omega (arith, many)) in
+end_in_part job source root {k} {count} front rest many all line told =
+    let m = marked_at job source root {k = k} (omega (arith, many)) in
     let last = flat_map line_text (line_of job m.0) in
-    let texts : text job source root count ≡ text job source root k ++ last = texts_alike job source root count (suc k) all (omega (arith, many)) ∙ (text_grows job source root k m.0 m.1).1 in (
+    let texts : text job source root count ≡ text job source root k ++ last = texts_alike job source root {a = count} {b = suc k} all (omega (arith, many)) ∙ (text_grows job source root k m.0 m.1).1 in (
       (last ++ front, told ∙ ap (λ l. l ++ front) texts ∙ append_assoc (text job source root k) last front),
       (
         rest,

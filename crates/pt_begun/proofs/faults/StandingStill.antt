@@ -37,8 +37,8 @@ all_still start = record { stays = λ path entry is. is; new = λ path none some
 -- ---- in the root
 
 -- with another root in which all of its own stands
-rooted_still : (start root : Tree) → ((path : Path) (entry : Entry) → root_in start path ≡ Some entry → root path ≡ Some entry) → StandsStill start (with_root start root)
-rooted_still start root grown = record { stays = λ path entry is. stays path entry is (rest_below storage_root path) refl; new = λ path none some. new path none (rest_below storage_root path) refl some }
+rooted_still : {start root : Tree} → ((path : Path) (entry : Entry) → root_in start path ≡ Some entry → root path ≡ Some entry) → StandsStill start (with_root start root)
+rooted_still {start} {root} grown = record { stays = λ path entry is. stays path entry is (rest_below storage_root path) refl; new = λ path none some. new path none (rest_below storage_root path) refl some }
   where
     stays : (path : Path) (entry : Entry) → start path ≡ Some entry → (o : Option Path) → rest_below storage_root path ≡ o → placed_at root o (start path) ≡ Some entry
     stays path entry is None below = is
@@ -49,24 +49,24 @@ rooted_still start root grown = record { stays = λ path entry is. stays path en
     new path none (Some rest) below some = inl (ap is_some below)
 
 -- what stands in the root stands in what objects are put on
-based : (job : Job) {start : Tree} (path : Path) {entry : Entry} → IsTree start → root_in start path ≡ Some entry → base job.tuples (root_in start) path ≡ Some entry
-based job {start} path {entry} tree is = by (root_in start []) refl
+based : (job : Job) {start : Tree} {path : Path} {entry : Entry} → IsTree start → root_in start path ≡ Some entry → base job.tuples (root_in start) path ≡ Some entry
+based job {start} {path} {entry} tree is = by (root_in start []) refl
   where
     by : (o : Option Entry) → root_in start [] ≡ o → base_where job.tuples (root_in start) o path ≡ Some entry
     by None none = absurd (let absent = (roots_have_no_gaps start tree).1 none path in let no : None ≡ Some entry = sym absent ∙ is in cc)
     by (Some top) some = is
 
 -- and with objects, and folders
-grown_objects : (job : Job) {start : Tree} (objects : List Carried) (path : Path) {entry : Entry} → IsTree start → root_in start path ≡ Some entry → with_objects job objects (base job.tuples (root_in start)) path ≡ Some entry
-grown_objects job objects path tree is = ap (λ (here : Option Entry). option_or here (option_or (entry_of_objects job objects path) (folder_where (is_on_the_way job objects path)))) (based job path tree is)
+grown_objects : (job : Job) {start : Tree} (objects : List Carried) {path : Path} {entry : Entry} → IsTree start → root_in start path ≡ Some entry → with_objects job objects (base job.tuples (root_in start)) path ≡ Some entry
+grown_objects job objects {path} tree is = ap (λ (here : Option Entry). option_or here (option_or (entry_of_objects job objects path) (folder_where (is_on_the_way job objects path)))) (based job tree is)
 
 objects_still : (job : Job) {start : Tree} (objects : List Carried) → IsTree start → StandsStill start (with_root start (with_objects job objects (base job.tuples (root_in start))))
-objects_still job {start} objects tree = rooted_still start (with_objects job objects (base job.tuples (root_in start))) (λ path entry is. grown_objects job objects path tree is)
+objects_still job {start} objects tree = rooted_still (λ path entry is. grown_objects job objects tree is)
 
 folders_still : (job : Job) {start : Tree} (objects : List Carried) (folders : List Path) → IsTree start → StandsStill start (with_root start (with_folders folders (with_objects job objects (base job.tuples (root_in start)))))
 folders_still job {start} objects folders tree =
-    rooted_still start (with_folders folders (with_objects job objects (base job.tuples (root_in start))))
-    (λ path entry is. ap (λ (here : Option Entry). option_or here (folder_where (list_any (same_path path) folders))) (grown_objects job objects path tree is))
+    rooted_still
+    (λ path entry is. ap (λ (here : Option Entry). option_or here (folder_where (list_any (same_path path) folders))) (grown_objects job objects tree is))
 
 -- ---- in `staging`
 
@@ -74,11 +74,11 @@ abbrev in_staging : Item → Bool
 in_staging item = is_some (rest_below staging (item_path item))
 
 -- what is made there leaves what stands beside
-made_beside : (items : List Item) (t : Tree) (path : Path) → list_all in_staging items ≡ true → rest_below staging path ≡ None → made items t path ≡ t path
-made_beside [] t path all out = refl
-made_beside (item ∷ items) t path all out =
+made_beside : (items : List Item) (t : Tree) {path : Path} → list_all in_staging items ≡ true → rest_below staging path ≡ None → made items t path ≡ t path
+made_beside [] t all out = refl
+made_beside (item ∷ items) t {path} all out =
     let parts = and_parts (in_staging item) (list_all in_staging items) all in
-    made_beside items (done item t) path parts.1 out ∙ by (same_path path (item_path item)) refl parts.0
+    made_beside items (done item t) parts.1 out ∙ by (same_path path (item_path item)) refl parts.0
   where
     by : (b : Bool) → same_path path (item_path item) ≡ b → in_staging item ≡ true → cond b (Some (item_entry item)) (t path) ≡ t path
     by false is inside = refl
@@ -101,19 +101,19 @@ prefix_beside : (items : List Item) {start now : Tree} → StandsAtPrefix (map (
 prefix_beside items {start} at path out =
     let front = take at.items (map (item_in staging) items) in
     ap (λ (t : Tree). t path) at.stands
-    ∙ made_beside (cut_last at.bytes front) start path (cut_in at.bytes front (all_take in_staging at.items (map (item_in staging) items) (items_in items))) out
+    ∙ made_beside (cut_last at.bytes front) start (cut_in at.bytes front (all_take in_staging at.items (map (item_in staging) items) (items_in items))) out
 
 content_beside : (items : List Item) {start now : Tree} → StandsAtContent (map (item_in staging) items) start now → (path : Path) → rest_below staging path ≡ None → now path ≡ start path
 content_beside items {start} at path out =
     let script = map (item_in staging) items in
     let inside = first_passes in_staging at.items script (MakeFile at.path at.bytes) at.next (all_drop in_staging at.items script (items_in items)) in
     ap (λ (t : Tree). t path) at.stands
-    ∙ made_beside (MakeFile at.path at.held ∷ []) (made (take at.items script) start) path (and_from (in_staging (MakeFile at.path at.held)) true inside refl) out
-    ∙ made_beside (take at.items script) start path (all_take in_staging at.items script (items_in items)) out
+    ∙ made_beside (MakeFile at.path at.held ∷ []) (made (take at.items script) start) (and_from (in_staging (MakeFile at.path at.held)) true inside refl) out
+    ∙ made_beside (take at.items script) start (all_take in_staging at.items script (items_in items)) out
 
 -- with something made there, where nothing stood
-made_still : {start mid : Tree} (now : Tree) → IsFree start staging → StandsStill start mid → ((path : Path) → rest_below staging path ≡ None → now path ≡ mid path) → StandsStill start now
-made_still {start} now free still beside = record { stays = λ path entry is. stays path entry is (rest_below staging path) refl; new = λ path none some. new path none some (rest_below staging path) refl }
+made_still : {start mid : Tree} {now : Tree} → IsFree start staging → StandsStill start mid → ((path : Path) → rest_below staging path ≡ None → now path ≡ mid path) → StandsStill start now
+made_still {start} {now} free still beside = record { stays = λ path entry is. stays path entry is (rest_below staging path) refl; new = λ path none some. new path none some (rest_below staging path) refl }
   where
     stays : (path : Path) (entry : Entry) → start path ≡ Some entry → (o : Option Path) → rest_below staging path ≡ o → now path ≡ Some entry
     stays path entry is None below = beside path below ∙ still.stays path entry is
@@ -127,14 +127,14 @@ made_still {start} now free still beside = record { stays = λ path entry is. st
 
 kept_still : {job : Job} {start now : Tree} → IsTree start → IsFree start staging → IsKept job start now → StandsStill start now
 kept_still {start} tree free AsItWas = all_still start
-kept_still {job} {start} tree free (MakingRoot now none at) = made_still now free (all_still start) (prefix_beside (root_items job.tuples) at)
+kept_still {job} {start} tree free (MakingRoot now none at) = made_still free (all_still start) (prefix_beside (root_items job.tuples) at)
 kept_still {job} tree free (Holding objects come) = objects_still job objects tree
 kept_still {job} {start} tree free (Making objects next tuples now come at) =
     let folders = take tuples (tuple_folders job next) in
     let mid = with_root start (with_folders folders (with_objects job objects (base job.tuples (root_in start)))) in
     let rows = rows_of job.algorithm next.files in
     let items = object_items job.algorithm (inventory_text next.id rows job.meta job.algorithm) (stored_files rows (bytes_in next.files)) in
-    made_still now free (folders_still job objects folders tree)
+    made_still free (folders_still job objects folders tree)
     (elim at [
       | inl prefix ↦ prefix_beside items prefix
       | inr content ↦ content_beside items content

@@ -42,7 +42,7 @@ use Rattle.pt_begun.proofs.dest.ScriptParts.{IsNext}
 pub carried_next : {job : Job} (past : Past) (s : Reading) (root : Tree) {prefix : List ℕ} {object : Object} {held : Held} {count : ℕ} → is_proper s.tree ≡ true → HasStarted s.tree prefix → IsScanned job s.tree prefix object held count
     → AreHeldThere s.tree object (to_site object held.trail) past.bytes held.rows → IsNextFree job s.tree root count → IsCarriedAs job s.tree root count (object_held object held.rows past.bytes)
 carried_next past s root {object} {held} proper started it there free =
-    let ends = ends_with root started it free in
+    let ends = ends_with {root = root} started it free in
     let same = files_are s.tree object (to_site object held.trail) past.bytes (pairtree_proper s.tree started.store proper) it.scanned there in
     (ends.m, ends.is, ends.gained ∙ sym (ap (λ (l : List File). record { id = object.id; files = l } ∷ []) same))
 
@@ -66,7 +66,7 @@ module _ (job : Job) (past : Past) (s : Reading) (start : Tree) (object : Object
   pub carrying_left : (n : ℕ) (now : Tree) → IsTree start → IsRootOfStart job start → IsObject job object → AreRows job past.bytes held → n ≤ job.tuples.count → past.placed ≡ carried_among job s.tree (root_in start) past.count
       → IsCarriedAs job s.tree (root_in start) past.count next → StandsAtPrefix (script_of_object job object held.rows past.bytes) (root_here n) now → MayBeLeft job s.tree start now (text job s.tree (root_in start) past.count)
   carrying_left n now tree root it rows few placed is at =
-      let within = marked_within job s.tree (root_in start) past.count is.1 in
+      let within = marked_within job s.tree (root_in start) is.1 in
       inr (
         root.free,
         Carrying past.count n next now (text job s.tree (root_in start) past.count) is (told_so_far job s.tree (root_in start) past.count (omega (arith, within)))
@@ -77,18 +77,18 @@ module _ (job : Job) (past : Past) (s : Reading) (start : Tree) (object : Object
 -- ---- a content in part
 
 -- a file that holds the first of its bytes
-pub content_stands : {script front : List Item} (path : Path) (bytes fed : List ℕ) (start : Tree) {now : Tree} → IsNext script front (MakeFile path bytes) → BeginsWith fed bytes → now ≡ done (MakeFile path fed) (made front start) → StandsAtPrefix script start now
-content_stands {front} path bytes fed start next begins is =
-    stands_cut path bytes (length fed) start next
+pub content_stands : {script front : List Item} {path : Path} {bytes fed : List ℕ} {start : Tree} {now : Tree} → IsNext script front (MakeFile path bytes) → BeginsWith fed bytes → now ≡ done (MakeFile path fed) (made front start) → StandsAtPrefix script start now
+content_stands {front} {path} {fed} {start} next begins is =
+    stands_cut (length fed) next
     (is ∙ ap (λ (b : List ℕ). done (MakeFile path b) (made front start)) (sym (ap (take (length fed)) begins.1 ∙ take-append_seam fed begins.0)))
 
 -- what was read of it is
-pub begins_taken : (n : ℕ) (bytes : List ℕ) {fed : List ℕ} → fed ≡ take n bytes → BeginsWith fed bytes
-begins_taken n bytes is = (drop n bytes, sym (take-append-drop n bytes) ∙ ap (λ l. l ++ drop n bytes) (sym is))
+pub begins_taken : (n : ℕ) {bytes : List ℕ} {fed : List ℕ} → fed ≡ take n bytes → BeginsWith fed bytes
+begins_taken n {bytes} is = (drop n bytes, sym (take-append-drop n bytes) ∙ ap (λ l. l ++ drop n bytes) (sym is))
 
 -- and a part of that
-pub begins_cut : (n : ℕ) (fed piece bytes : List ℕ) → BeginsWith (fed ++ piece) bytes → BeginsWith (fed ++ take n piece) bytes
-begins_cut n fed piece bytes begins = (
+pub begins_cut : (n : ℕ) (fed piece : List ℕ) {bytes : List ℕ} → BeginsWith (fed ++ piece) bytes → BeginsWith (fed ++ take n piece) bytes
+begins_cut n fed piece begins = (
   drop n piece ++ begins.0,
   begins.1
       ∙ ap (λ l. (fed ++ l) ++ begins.0) (sym (take-append-drop n piece))

@@ -75,10 +75,10 @@ text_after : {job : Job} {source : Forest} {root : Tree} {count : ℕ} {line : O
     → text job source root (suc count) ≡ text job source root count ++ flat_map line_text (option_to_list line)
 text_after {job} {source} {root} {count} it = (text_grows job source root count it.m it.is).1 ∙ ap (λ (l : List Line). text job source root count ++ flat_map line_text l) it.told
 
-line_put : (line : Option Line) (old : List ℕ) {now : List ℕ} (new before : List ℕ) {after : List ℕ} → after ≡ before ++ flat_map line_text (option_to_list line) → now ≡ old ++ before → Puts line (Some now) (Some new) → new ≡ old ++ after
+line_put : (line : Option Line) (old : List ℕ) {now : List ℕ} {new : List ℕ} (before : List ℕ) {after : List ℕ} → after ≡ before ++ flat_map line_text (option_to_list line) → now ≡ old ++ before → Puts line (Some now) (Some new) → new ≡ old ++ after
 unfolding Puts
-line_put None old {now} new before grown told puts = some_same new now puts ∙ told ∙ ap (λ l. old ++ l) (sym (append-nil before) ∙ sym grown)
-line_put (Some line) old new before grown told puts =
+line_put None old {now} {new} before grown told puts = some_same new now puts ∙ told ∙ ap (λ l. old ++ l) (sym (append-nil before) ∙ sym grown)
+line_put (Some line) old before grown told puts =
     puts ∙ ap (λ l. l ++ line_text line) told ∙ append_assoc old before (line_text line) ∙ ap (λ l. old ++ l) (ap (λ l. before ++ l) (sym (append-nil (line_text line))) ∙ sym grown)
 
 pub log_kept : {job : Job} {source : Forest} {root : Tree} (past later : Past) {next : Phase} {line : Option Line} {n : ℕ} (old : List ℕ) {now : List ℕ} (new : List ℕ) {gained : List Carried} → later.count ≡ n → Tells job source root past.count next line n gained
@@ -88,7 +88,7 @@ log_kept {job} {source} {root} past later {next} old {now} new is (Nothing after
     told_at job source root later next old (some_same new now puts ∙ told ∙ ap (λ k. old ++ text job source root k) (sym is))
 log_kept {job} {source} {root} past later {next} {line} old new is (OneItem after one more it) told puts =
     told_at job source root later next old
-    (line_put line old new (text job source root past.count) (text_after it) told puts ∙ ap (λ k. old ++ text job source root k) (sym is))
+    (line_put line old {new = new} (text job source root past.count) (text_after it) told puts ∙ ap (λ k. old ++ text job source root k) (sym is))
 log_kept past later old new is (Last done present skipped) told puts = tt
 
 -- ---- the objects placed
@@ -109,8 +109,8 @@ mark_of job source root count is =
     taken_against_earlier job source root count ∙ ap (option_map (λ (i : Item). (i, is_taken job root (take count (items job source)) i.verdict))) is
 
 -- it only leads on
-pub interior_item : (job : Job) (source : Forest) (root : Tree) (count : ℕ) {item : Item} → slice_get (items job source) count ≡ Some item → item.verdict ≡ Interior → EndsItem job source root count None []
-interior_item job source root count {item} is what = record {
+pub interior_item : {job : Job} {source : Forest} (root : Tree) {count : ℕ} {item : Item} → slice_get (items job source) count ≡ Some item → item.verdict ≡ Interior → EndsItem job source root count None []
+interior_item {job} {source} root {count} {item} is what = record {
   m = (item, is_taken job root (take count (items job source)) item.verdict);
   is = mark_of job source root count is;
   told = ap (line_by_verdict job item.path (is_taken job root (take count (items job source)) item.verdict)) what;
@@ -118,8 +118,8 @@ interior_item job source root count {item} is what = record {
 }
 
 -- it is passed over
-pub skipped_item : (job : Job) (source : Forest) (root : Tree) (count : ℕ) {item : Item} (why : Cause) → slice_get (items job source) count ≡ Some item → item.verdict ≡ Skip why → EndsItem job source root count (Some (Skipped item.path why)) []
-skipped_item job source root count {item} why is what = record {
+pub skipped_item : {job : Job} {source : Forest} (root : Tree) {count : ℕ} {item : Item} {why : Cause} → slice_get (items job source) count ≡ Some item → item.verdict ≡ Skip why → EndsItem job source root count (Some (Skipped item.path why)) []
+skipped_item {job} {source} root {count} {item} is what = record {
   m = (item, is_taken job root (take count (items job source)) item.verdict);
   is = mark_of job source root count is;
   told = ap (line_by_verdict job item.path (is_taken job root (take count (items job source)) item.verdict)) what;
@@ -127,21 +127,21 @@ skipped_item job source root count {item} why is what = record {
 }
 
 -- it is passed over and told, or only leads on
-pub passed_item : (told : Bool) (job : Job) (source : Forest) (root : Tree) (count : ℕ) {item : Item} (why : Cause) → slice_get (items job source) count ≡ Some item → item.verdict ≡ cond told (Skip why) Interior
+pub passed_item : (told : Bool) {job : Job} {source : Forest} (root : Tree) {count : ℕ} {item : Item} (why : Cause) → slice_get (items job source) count ≡ Some item → item.verdict ≡ cond told (Skip why) Interior
     → EndsItem job source root count (cond told (Some (Skipped item.path why)) None) []
-passed_item true job source root count why is what = skipped_item job source root count why is what
-passed_item false job source root count why is what = interior_item job source root count is what
+passed_item true {job} {source} root {count} why is what = skipped_item {job = job} {source = source} root {count = count} {why = why} is what
+passed_item false {job} {source} root {count} why is what = interior_item {job = job} {source = source} root {count = count} is what
 
 -- whether its place is taken is whether something stands there
-pub mark_where_stands : (job : Job) (source : Forest) (root : Tree) (count : ℕ) {item : Item} (id : List ℕ) (object : PairtreeObject) → IsRooted root → slice_get (items job source) count ≡ Some item → item.verdict ≡ Named id object
+pub mark_where_stands : (job : Job) (source : Forest) {root : Tree} (count : ℕ) {item : Item} {id : List ℕ} {object : PairtreeObject} → IsRooted root → slice_get (items job source) count ≡ Some item → item.verdict ≡ Named id object
     → is_taken job root (take count (items job source)) item.verdict ≡ is_some (after job source root count (place_of job.tuples id))
-mark_where_stands job source root count {item} id object rooted is what =
+mark_where_stands job source {root} count {item} {id} {object} rooted is what =
     sym (next_place_stands_where_taken job source root count (item, is_taken job root (take count (items job source)) item.verdict) id object rooted (mark_of job source root count is) what)
 
 -- its place is taken
-pub present_item : (job : Job) (source : Forest) (root : Tree) (count : ℕ) {item : Item} (id : List ℕ) (object : PairtreeObject) → slice_get (items job source) count ≡ Some item → item.verdict ≡ Named id object
+pub present_item : {job : Job} {source : Forest} {root : Tree} {count : ℕ} {item : Item} {id : List ℕ} {object : PairtreeObject} → slice_get (items job source) count ≡ Some item → item.verdict ≡ Named id object
     → is_taken job root (take count (items job source)) item.verdict ≡ true → EndsItem job source root count (Some (Present object.at id (place_of job.tuples id))) []
-present_item job source root count {item} id object is what taken = record {
+present_item {job} {source} {root} {count} {item} is what taken = record {
   m = (item, is_taken job root (take count (items job source)) item.verdict);
   is = mark_of job source root count is;
   told = ap (λ t. line_by_verdict job item.path t item.verdict) taken ∙ ap (line_by_verdict job item.path true) what;
@@ -149,9 +149,9 @@ present_item job source root count {item} id object is what taken = record {
 }
 
 -- it isn't, and the object comes to this
-pub free_item : (job : Job) (source : Forest) (root : Tree) (count : ℕ) (item : Item) (id : List ℕ) (object : PairtreeObject) {comes : Outcome} → slice_get (marked job source root) count ≡ Some (item, false) → item.verdict ≡ Named id object → outcome job.limits object ≡ comes
+pub free_item : {job : Job} {source : Forest} {root : Tree} {count : ℕ} {item : Item} {id : List ℕ} {object : PairtreeObject} {comes : Outcome} → slice_get (marked job source root) count ≡ Some (item, false) → item.verdict ≡ Named id object → outcome job.limits object ≡ comes
     → EndsItem job source root count (Some (line_by_outcome item.path id object (place_of job.tuples id) comes)) (carried_by_outcome id comes)
-free_item job source root count item id object is what outcome_is = record {
+free_item {job} {item} {id} {object} is what outcome_is = record {
   m = (item, false);
   is = is;
   told = ap (line_by_verdict job item.path false) what ∙ ap (λ (o : Outcome). line_by_outcome item.path id object (place_of job.tuples id) o ∷ []) outcome_is;

@@ -116,7 +116,7 @@ unfolding Changes IsKindAt
 walks_items job past s prefix start now new here next held after counts calls (IsNew was index id is) change known =
     let tells = walks_tell start now new (IsNew was index id is) known.held_at.trail.is_one known.source (roots_have_no_gaps start known.dest.started).1 known.items.places.placed known.dest.at change in
     kept job past s start here next held counts calls [] tells (walks_told {job = job} s.tree (root_in start) past {prefix = prefix} (IsNew was index id is)) known.items
-    (record { placed = placed_kept refl tells known.items.places.placed; next = new_is_free index id known.source is (roots_have_no_gaps start known.dest.started).1 known.items.places.placed known.dest.at (change.0 now refl) })
+    (record { placed = placed_kept refl tells known.items.places.placed; next = new_is_free known.source is (roots_have_no_gaps start known.dest.started).1 known.items.places.placed known.dest.at (change.0 now refl) })
 walks_items job past s prefix start now new here next held after counts calls turn change known =
     let tells = walks_tell start now new turn known.held_at.trail.is_one known.source (roots_have_no_gaps start known.dest.started).1 known.items.places.placed known.dest.at change in
     kept job past s start here next held counts calls [] tells (walks_told {job = job} s.tree (root_in start) past {prefix = prefix} turn) known.items
@@ -126,27 +126,27 @@ walks_items job past s prefix start now new here next held after counts calls tu
 
 pub scans_items : ScanningKeepsItems
 scans_items job past s new prefix start now here next held after counts calls (IsTooDeep was object apart deep) answers known =
-    let tells = scans_tell (root_in start) (IsTooDeep was object apart deep) known.held_at.trail.is_one known.source known.items.places.next new answers in
+    let tells = scans_tell (IsTooDeep was object apart deep) known.held_at.trail.is_one known.source known.items.places.next new answers in
     kept job past s start here next held counts calls [] tells (scans_told {job = job} s.tree (root_in start) past (IsTooDeep was object apart deep)) known.items
     (record { placed = placed_kept refl tells known.items.places.placed; next = tt })
 scans_items job past s new prefix start now here next held after counts calls (MeetsDeep was object name e apart deep) answers known =
-    let tells = scans_tell (root_in start) (MeetsDeep was object name e apart deep) known.held_at.trail.is_one known.source known.items.places.next new answers in
+    let tells = scans_tell (MeetsDeep was object name e apart deep) known.held_at.trail.is_one known.source known.items.places.next new answers in
     kept job past s start here next held counts calls [] tells (scans_told {job = job} s.tree (root_in start) past (MeetsDeep was object name e apart deep)) known.items
     (record { placed = placed_kept refl tells known.items.places.placed; next = tt })
 scans_items job past s new prefix start now here next held after counts calls (MeetsLimit was object name e room) answers known =
-    let tells = scans_tell (root_in start) (MeetsLimit was object name e room) known.held_at.trail.is_one known.source known.items.places.next new answers in
+    let tells = scans_tell (MeetsLimit was object name e room) known.held_at.trail.is_one known.source known.items.places.next new answers in
     kept job past s start here next held counts calls [] tells (scans_told {job = job} s.tree (root_in start) past (MeetsLimit was object name e room)) known.items
     (record { placed = placed_kept refl tells known.items.places.placed; next = tt })
 scans_items job past s new prefix start now here next held after counts calls (MeetsOther was object name e) answers known =
-    let tells = scans_tell (root_in start) (MeetsOther was object name e) known.held_at.trail.is_one known.source known.items.places.next new answers in
+    let tells = scans_tell (MeetsOther was object name e) known.held_at.trail.is_one known.source known.items.places.next new answers in
     kept job past s start here next held counts calls [] tells (scans_told {job = job} s.tree (root_in start) past (MeetsOther was object name e)) known.items
     (record { placed = placed_kept refl tells known.items.places.placed; next = tt })
 scans_items job past s new prefix start now here next held after counts calls (IsTooLong was object bytes byte block long) answers known =
-    let tells = scans_tell (root_in start) (IsTooLong was object bytes byte block long) known.held_at.trail.is_one known.source known.items.places.next new answers in
+    let tells = scans_tell (IsTooLong was object bytes byte block long) known.held_at.trail.is_one known.source known.items.places.next new answers in
     kept job past s start here next held counts calls [] tells (scans_told {job = job} s.tree (root_in start) past (IsTooLong was object bytes byte block long)) known.items
     (record { placed = placed_kept refl tells known.items.places.placed; next = tt })
 scans_items job past s new prefix start now here next held after counts calls turn answers known =
-    let tells = scans_tell (root_in start) turn known.held_at.trail.is_one known.source known.items.places.next new answers in
+    let tells = scans_tell turn known.held_at.trail.is_one known.source known.items.places.next new answers in
     kept job past s start here next held counts calls [] tells (scans_told {job = job} s.tree (root_in start) past turn) known.items
     (record { placed = placed_kept refl tells known.items.places.placed; next = known.items.places.next })
 
@@ -206,7 +206,7 @@ places_items job past s prefix start now here next held after counts calls (Rena
       next = known.items.places.next;
     })
 places_items job past s prefix start now here next held after counts calls (TellsDone was object) known =
-    let tells = places_tell {counts = counts} (root_in start) (TellsDone was object) known.held_at known.source known.items.places.next in
+    let tells = places_tell {counts = counts} (TellsDone was object) known.held_at known.source known.items.places.next in
     kept job past s start here next held counts calls tells.0 tells.1 (places_told {job = job} {counts = counts} s.tree (root_in start) past (TellsDone was object)) known.items (record { placed = known.items.places.placed; next = tt })
 places_items job past s prefix start now here next held after counts calls (TellsEnd was) known =
     kept job past s start here next held counts calls [] (Last counts.done counts.present counts.skipped) (places_told {job = job} {counts = counts} s.tree (root_in start) past (TellsEnd was)) known.items (record { placed = tt; next = tt })

@@ -77,20 +77,20 @@ comes_whole {job} {object} it =
     ap (outcome_by (files (entries object.inside))) (ap (λ b. cond b (Some cause.Limit) (option_map (λ (bad : Entry × Cause). bad.1) (bad_entry job.limits object))) it.shallow ∙ ap (option_map (λ (bad : Entry × Cause). bad.1)) none)
 
 -- its item, with the line and the object
-pub ends_with : {job : Job} {source : Forest} (root : Tree) {prefix : List ℕ} {object : Object} {held : Held} {count : ℕ} → HasStarted source prefix → IsScanned job source prefix object held count → IsNextFree job source root count
+pub ends_with : {job : Job} {source : Forest} {root : Tree} {prefix : List ℕ} {object : Object} {held : Held} {count : ℕ} → HasStarted source prefix → IsScanned job source prefix object held count → IsNextFree job source root count
     → EndsItem job source root count (Some (line_by_outcome (trail_path (to_site object held.trail)) object.id (object_at source object (to_site object held.trail)) (place_of job.tuples object.id) (Holds (files (entries (object_at source object (to_site object held.trail)).inside)))))
     (record { id = object.id; files = files (entries (object_at source object (to_site object held.trail)).inside) } ∷ [])
-ends_with {job} {source} root {object} {held} {count} started it free =
+ends_with {job} {source} {root} {object} {held} {count} started it free =
     let site = to_site object held.trail in
     let what = object_at source object site in
-    free_item job source root count (item_of_site job source site) object.id what (free_mark root it.stands.site free) (named_so started it.stands.site)
+    free_item (free_mark root it.stands.site free) (named_so started it.stands.site)
     (comes_whole it.scanned)
 
 -- the object that is held is the one that is carried
 pub held_is_carried : {job : Job} (past : Past) (s : Reading) (root : Tree) {prefix : List ℕ} {object : Object} {held : Held} {count : ℕ} → is_proper s.tree ≡ true → HasStarted s.tree prefix → IsScanned job s.tree prefix object held count
     → AreHeldThere s.tree object (to_site object held.trail) past.bytes held.rows → IsNextFree job s.tree root count → carried_among job s.tree root (suc count) ≡ carried_among job s.tree root count ++ object_held object held.rows past.bytes ∷ []
 held_is_carried {job} past s root {object} {held} {count} proper started it there free =
-    let ends = ends_with root started it free in
+    let ends = ends_with {root = root} started it free in
     let same = files_are s.tree object (to_site object held.trail) past.bytes (pairtree_proper s.tree started.store proper) it.scanned there in
     carried_grows job s.tree root count ends.m ends.is ∙ ap (λ (l : List Carried). carried_among job s.tree root count ++ l) (ends.gained ∙ sym (ap (λ (l : List File). record { id = object.id; files = l } ∷ []) same))
 
@@ -120,18 +120,18 @@ after_a_tuple : (job : Job) (source : Forest) (root : Tree) (count number : ℕ)
 after_a_tuple job source root count number object true = Nothing (phase.Tuples object (number + 1))
 after_a_tuple job source root count number object false = Nothing (phase.Rename object)
 
-pub places_tell : {job : Job} {counts : Counts} {past : Past} {s : Reading} {prefix : List ℕ} (root : Tree) {here next : Phase} {held after : Held} {calls : Calls} → Places job counts here held after calls (Ok next) → HeldAt job past here held → SourcePart job past here prefix held s
+pub places_tell : {job : Job} {counts : Counts} {past : Past} {s : Reading} {prefix : List ℕ} {root : Tree} {here next : Phase} {held after : Held} {calls : Calls} → Places job counts here held after calls (Ok next) → HeldAt job past here held → SourcePart job past here prefix held s
     → IsFreeAt here job s.tree root past.count → (gained : List Carried) × Tells job s.tree root past.count next calls.line (done_after here held.trail next past.count) gained
-places_tell {job} {past} {s} root (MakesTuple was object number) at part free = ([], after_a_tuple job s.tree root past.count number object (nat_lt (number + 1) job.tuples.count))
-places_tell {job} {past} {s} root (FindsTuple was object number) at part free = ([], after_a_tuple job s.tree root past.count number object (nat_lt (number + 1) job.tuples.count))
-places_tell root (RenamesObject was object) at part free = ([], Nothing (phase.Line object))
-places_tell {job} {past} {s} root (TellsDone was object) at part free =
+places_tell {job} {past} {s} {root} (MakesTuple was object number) at part free = ([], after_a_tuple job s.tree root past.count number object (nat_lt (number + 1) job.tuples.count))
+places_tell {job} {past} {s} {root} (FindsTuple was object number) at part free = ([], after_a_tuple job s.tree root past.count number object (nat_lt (number + 1) job.tuples.count))
+places_tell (RenamesObject was object) at part free = ([], Nothing (phase.Line object))
+places_tell {job} {past} {s} {root} (TellsDone was object) at part free =
     let site = to_site object was.trail in
     let whole = files (entries (object_at s.tree object site).inside) in
     let gained : List Carried = record { id = object.id; files = whole } ∷ [] in (
       gained,
       subst (λ (l : Line). Tells job s.tree root past.count phase.Walk (Some l) (suc past.count) gained) (done_told job past s.tree object was at part.at.1.scanned)
           (OneItem phase.Walk (Some (line_by_outcome (trail_path site) object.id (object_at s.tree object site) (place_of job.tuples object.id) (Holds whole))) (record { id = object.id; files = whole } ∷ [])
-          (ends_with root part.at.0 part.at.1 free)),
+          (ends_with part.at.0 part.at.1 free)),
     )
-places_tell {counts} root (TellsEnd was) at part free = ([], Last counts.done counts.present counts.skipped)
+places_tell {counts} (TellsEnd was) at part free = ([], Last counts.done counts.present counts.skipped)

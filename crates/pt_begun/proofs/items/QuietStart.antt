@@ -29,27 +29,27 @@ is_start phase.OpenRoot = true
 is_start _ = false
 
 -- at these the log is as it was, and elsewhere nothing is said
-pub quiet_if : (here : Phase) (old now : List ℕ) → (is_start here ≡ true → now ≡ old) → IsQuiet here old now
-quiet_if phase.Begin old now same = same refl
-quiet_if (phase.Prefix here) old now same = same refl
-quiet_if phase.Staging old now same = same refl
-quiet_if phase.Root old now same = same refl
-quiet_if (phase.RootMake number) old now same = same refl
-quiet_if phase.RootRename old now same = same refl
-quiet_if (phase.RootCheck number) old now same = same refl
-quiet_if phase.OpenRoot old now same = same refl
-quiet_if _ old now same = tt
+pub quiet_if : (here : Phase) {old now : List ℕ} → (is_start here ≡ true → now ≡ old) → IsQuiet here old now
+quiet_if phase.Begin same = same refl
+quiet_if (phase.Prefix here) same = same refl
+quiet_if phase.Staging same = same refl
+quiet_if phase.Root same = same refl
+quiet_if (phase.RootMake number) same = same refl
+quiet_if phase.RootRename same = same refl
+quiet_if (phase.RootCheck number) same = same refl
+quiet_if phase.OpenRoot same = same refl
+quiet_if _ same = tt
 
-pub quiet_is : (here : Phase) (old now : List ℕ) → is_start here ≡ true → IsQuiet here old now → now ≡ old
-quiet_is phase.Begin old now start is = is
-quiet_is (phase.Prefix here) old now start is = is
-quiet_is phase.Staging old now start is = is
-quiet_is phase.Root old now start is = is
-quiet_is (phase.RootMake number) old now start is = is
-quiet_is phase.RootRename old now start is = is
-quiet_is (phase.RootCheck number) old now start is = is
-quiet_is phase.OpenRoot old now start is = is
-quiet_is _ old now start is = absurd (cc)
+pub quiet_is : (here : Phase) {old now : List ℕ} → is_start here ≡ true → IsQuiet here old now → now ≡ old
+quiet_is phase.Begin start is = is
+quiet_is (phase.Prefix here) start is = is
+quiet_is phase.Staging start is = is
+quiet_is phase.Root start is = is
+quiet_is (phase.RootMake number) start is = is
+quiet_is phase.RootRename start is = is
+quiet_is (phase.RootCheck number) start is = is
+quiet_is phase.OpenRoot start is = is
+quiet_is _ start is = absurd (cc)
 
 -- ---- a turn that leads to one begins at one, and tells nothing
 

@@ -76,12 +76,12 @@ fails_deep : (job : Job) (object : PairtreeObject) → is_too_deep job.limits ob
 fails_deep job object deep = ap (λ b. outcome_by (files (entries object.inside)) (cond b (Some cause.Limit) (option_map (λ (bad : Entry × Cause). bad.1) (bad_entry job.limits object)))) deep
 
 -- so it is told
-gives_up : {job : Job} {source : Forest} (root : Tree) {prefix : List ℕ} {object : Object} (held : Held) {count : ℕ} (why : Cause) → HasStarted source prefix → IsInObject job source prefix object held.trail count → IsNextFree job source root count
+gives_up : {job : Job} {source : Forest} {root : Tree} {prefix : List ℕ} {object : Object} (held : Held) {count : ℕ} {why : Cause} → HasStarted source prefix → IsInObject job source prefix object held.trail count → IsNextFree job source root count
     → outcome job.limits (object_at source object (to_site object held.trail)) ≡ Fails why → Tells job source root count phase.Walk (Some (skipped object held why)) (suc count) []
-gives_up {job} {source} root {object} held {count} why started it free comes =
+gives_up {job} {source} {root} {object} held {count} {why} started it free comes =
     let site = to_site object held.trail in
     OneItem phase.Walk (Some (skipped object held why)) []
-    (free_item job source root count (item_of_site job source site) object.id (object_at source object site) (free_mark root it.site free) (named_so started it.site) comes)
+    (free_item {job = job} {source = source} {root = root} {count = count} {item = item_of_site job source site} {id = object.id} {object = object_at source object site} (free_mark root it.site free) (named_so started it.site) comes)
 
 -- ---- at an entry
 
@@ -90,11 +90,11 @@ deep_entry job at path held t inside is long deep =
     let sum : length at + length path ≡ length t = sym (ap length is ∙ length-append at path) ∙ long in
     ap (λ (n : ℕ). cond (nat_lt job.limits.depth n) (Some cause.Limit) None) sum ∙ ap (λ b. cond b (Some cause.Limit) None) deep
 
-fails_at_directory : {job : Job} (source : Forest) (object : Object) {rows : List Row} {empty : ℕ} (t : List Frame) (name : List ℕ) → is_proper (pairtree_of source) ≡ true → is_trail t ≡ true → current_entry t ≡ Some (name, kind.Dir) → is_passed object t (name, kind.Dir) ≡ false
+fails_at_directory : {job : Job} (source : Forest) (object : Object) {rows : List Row} {empty : ℕ} (t : List Frame) {name : List ℕ} → is_proper (pairtree_of source) ≡ true → is_trail t ≡ true → current_entry t ≡ Some (name, kind.Dir) → is_passed object t (name, kind.Dir) ≡ false
     → nat_lt job.limits.depth (length t) ≡ true → Fits (pairtree_of source) t → object.site ≤ length t → 0 < own_listings object t → HasScanned job (object_at source object (to_site object t)) rows empty (left_of source object t)
     → outcome job.limits (object_at source object (to_site object t)) ≡ Fails cause.Limit
-fails_at_directory source object [] name proper is_one e apart deep fits within own it = absurd (cc)
-fails_at_directory {job} source object {rows} (frame ∷ frames) name proper is_one e apart deep fits within own it =
+fails_at_directory source object [] proper is_one e apart deep fits within own it = absurd (cc)
+fails_at_directory {job} source object {rows} (frame ∷ frames) {name} proper is_one e apart deep fits within own it =
     let t = frame ∷ frames in
     let in_it = inside_at (pairtree_of source) (names_to frames ++ name ∷ []) in
     let what = object_at source object (to_site object t) in
@@ -102,11 +102,11 @@ fails_at_directory {job} source object {rows} (frame ∷ frames) name proper is_
     (left_directory source object frame frames name (listing_of in_it) in_it proper fits within own e apart refl refl)
     (deep_entry job what.at (logical_path object t) (length rows) t in_it (path_in_object object t) (path_length frame frames (name, kind.Dir) is_one e) deep)
 
-fails_at_file : {job : Job} (source : Forest) (object : Object) {rows : List Row} {empty : ℕ} (t : List Frame) (name : List ℕ) → is_proper (pairtree_of source) ≡ true → current_entry t ≡ Some (name, kind.File)
+fails_at_file : {job : Job} (source : Forest) (object : Object) {rows : List Row} {empty : ℕ} (t : List Frame) {name : List ℕ} → is_proper (pairtree_of source) ≡ true → current_entry t ≡ Some (name, kind.File)
     → (nat_le job.limits.files (length rows) || nat_lt job.limits.path_bytes (length (joined (logical_path object t)))) || nat_lt job.limits.file_bytes (length (bytes_at (pairtree_of source) (names_to t))) ≡ true
     → Fits (pairtree_of source) t → 0 < own_listings object t → HasScanned job (object_at source object (to_site object t)) rows empty (left_of source object t) → outcome job.limits (object_at source object (to_site object t)) ≡ Fails cause.Limit
-fails_at_file source object [] name proper e bad fits own it = absurd (cc)
-fails_at_file source object (frame ∷ frames) name proper e bad fits own it =
+fails_at_file source object [] proper e bad fits own it = absurd (cc)
+fails_at_file source object (frame ∷ frames) {name} proper e bad fits own it =
     let t = frame ∷ frames in
     fails_at it
     (left_file source object frame frames name proper fits own e) (ap (λ b. cond b (Some cause.Limit) None) bad)
@@ -114,9 +114,9 @@ fails_at_file source object (frame ∷ frames) name proper e bad fits own it =
 one_less : (n : ℕ) → 0 < n → n ≡ suc (n - 1)
 one_less n some = omega (arith, some)
 
-left_other : (source : Forest) (object : Object) (frame : Frame) (frames : List Frame) (name : List ℕ) → is_proper (pairtree_of source) ≡ true → Fits (pairtree_of source) (frame ∷ frames) → 0 < own_listings object (frame ∷ frames)
+left_other : (source : Forest) (object : Object) (frame : Frame) (frames : List Frame) {name : List ℕ} → is_proper (pairtree_of source) ≡ true → Fits (pairtree_of source) (frame ∷ frames) → 0 < own_listings object (frame ∷ frames)
     → entry_at frame ≡ Some (name, kind.Other) → left_of source object (frame ∷ frames) ≡ (logical_path object (frame ∷ frames), Other) ∷ left_of source object (advanced (frame ∷ frames))
-left_other source object frame frames name proper fits some e =
+left_other source object frame frames {name} proper fits some e =
     let top = pairtree_of source in
     let t = frame ∷ frames in
     let k = own_listings object t - 1 in
@@ -126,12 +126,12 @@ left_other source object frame frames name proper fits some e =
     ∙ ap (λ (p : Path). (p, Other) ∷ entries_left object.gathered top (suc k) (advanced t)) (logical_is object frame frames k (name, kind.Other) e own)
     ∙ ap (λ (n : ℕ). (logical_path object t, Other) ∷ entries_left object.gathered top n (advanced t)) (sym own)
 
-fails_at_other : {job : Job} (source : Forest) (object : Object) {rows : List Row} {empty : ℕ} (t : List Frame) (name : List ℕ) → is_proper (pairtree_of source) ≡ true → current_entry t ≡ Some (name, kind.Other) → Fits (pairtree_of source) t → 0 < own_listings object t
+fails_at_other : {job : Job} (source : Forest) (object : Object) {rows : List Row} {empty : ℕ} (t : List Frame) {name : List ℕ} → is_proper (pairtree_of source) ≡ true → current_entry t ≡ Some (name, kind.Other) → Fits (pairtree_of source) t → 0 < own_listings object t
     → HasScanned job (object_at source object (to_site object t)) rows empty (left_of source object t) → outcome job.limits (object_at source object (to_site object t)) ≡ Fails cause.Other
-fails_at_other source object [] name proper e fits own it = absurd (cc)
-fails_at_other source object (frame ∷ frames) name proper e fits own it =
+fails_at_other source object [] proper e fits own it = absurd (cc)
+fails_at_other source object (frame ∷ frames) {name} proper e fits own it =
     let t = frame ∷ frames in
-    fails_at it (left_other source object frame frames name proper fits own e) refl
+    fails_at it (left_other source object frame frames {name = name} proper fits own e) refl
 
 -- before its directory is entered
 fails_before : {job : Job} {source : Forest} {prefix : List ℕ} {object : Object} (t : List Frame) {count : ℕ} → is_trail t ≡ true → object.gathered ≡ false → nat_lt job.limits.depth (length t) ≡ true → length t ≡ object.site → IsInObject job source prefix object t count
@@ -147,32 +147,32 @@ fails_before {job} {source} {object} (frame ∷ frames) is_one apart deep same i
     (ap (λ b. not b && nat_lt job.limits.depth (length what.at)) apart ∙ ap (λ (n : ℕ). nat_lt job.limits.depth n) (ap length at_is ∙ path_length frame frames (entry.0, kind.Dir) is_one entry.1) ∙ deep)
 
 -- a file is too long where too much of it was read
-too_long : (most count more long : ℕ) → nat_lt most (count + more) ≡ true → count + more ≤ long → nat_lt most long ≡ true
-too_long most count more long is within = let above = ltb-true most (count + more) is in lt-ltb most long (omega (arith, above, within))
+too_long : (most count more : ℕ) {long : ℕ} → nat_lt most (count + more) ≡ true → count + more ≤ long → nat_lt most long ≡ true
+too_long most count more {long} is within = let above = ltb-true most (count + more) is in lt-ltb most long (omega (arith, above, within))
 
 -- ---- each turn
 
-pub scans_tell : {job : Job} {past : Past} {s : Reading} {prefix : List ℕ} (root : Tree) {here next : Phase} {held after : Held} {calls : Calls} → Scans job here held after calls (Ok next) → is_trail held.trail ≡ true → SourcePart job past here prefix held s
+pub scans_tell : {job : Job} {past : Past} {s : Reading} {prefix : List ℕ} {root : Tree} {here next : Phase} {held after : Held} {calls : Calls} → Scans job here held after calls (Ok next) → is_trail held.trail ≡ true → SourcePart job past here prefix held s
     → IsFreeAt here job s.tree root past.count → (new : Reading) → Answers calls.asked (Some s) (Some new) → Tells job s.tree root past.count next calls.line (done_after here held.trail next past.count) []
 unfolding Answers IsRead
-scans_tell root (StartsInSite was object gathered) is_one source_part free new answers = Nothing (phase.Scan object)
-scans_tell root (EntersObject was object items apart shallow) is_one source_part free new answers = Nothing (phase.Scan (with_directory object items))
-scans_tell root (IsTooDeep was object apart deep) is_one source_part free new answers = gives_up root was cause.Limit source_part.at.1 source_part.at.2 free (fails_before was.trail is_one apart deep source_part.at.3 source_part.at.2)
-scans_tell root (PassesShorty was object item e passed) is_one source_part free new answers = Nothing (phase.Scan object)
-scans_tell root (EntersDirectory was object name items e apart shallow) is_one source_part free new answers = Nothing (phase.Scan (with_directory object items))
-scans_tell {s} root (MeetsDeep was object name e apart deep) is_one source_part free new answers = gives_up root was cause.Limit source_part.at.0 source_part.at.1.stands free (fails_at_directory s.tree object was.trail name (pairtree_proper s.tree source_part.at.0.store source_part.proper) is_one e apart deep source_part.at.1.stands.fits source_part.at.1.stands.within source_part.at.1.inside source_part.at.1.scanned)
-scans_tell root (OpensFile was object name e room) is_one source_part free new answers = Nothing (phase.Read object 0)
-scans_tell {job} {s} root (MeetsLimit was object name e room) is_one source_part free new answers = gives_up root was cause.Limit source_part.at.0 source_part.at.1.stands free
-    (fails_at_file s.tree object was.trail name (pairtree_proper s.tree source_part.at.0.store source_part.proper) e (or_left (is_beyond job was (logical_path object was.trail)) (nat_lt job.limits.file_bytes (length (bytes_at (pairtree_of s.tree) (names_to was.trail)))) room) source_part.at.1.stands.fits source_part.at.1.inside source_part.at.1.scanned)
-scans_tell {s} root (MeetsOther was object name e) is_one source_part free new answers = gives_up root was cause.Other source_part.at.0 source_part.at.1.stands free (fails_at_other s.tree object was.trail name (pairtree_proper s.tree source_part.at.0.store source_part.proper) e source_part.at.1.stands.fits source_part.at.1.inside source_part.at.1.scanned)
-scans_tell root (EndsSite was object e there) is_one source_part free new answers = Nothing (phase.Make object part.Staging)
-scans_tell root (EndsObject was object e apart own) is_one source_part free new answers = Nothing (phase.Make object part.Staging)
-scans_tell root (LeavesDirectory was object e apart outside) is_one source_part free new answers = Nothing (phase.Scan object)
-scans_tell root (ReadsOn was object bytes byte block short) is_one source_part free new answers = Nothing (phase.Read object (bytes + length (byte ∷ block)))
-scans_tell {job} {s} root (IsTooLong was object bytes byte block long) is_one source_part free new answers =
+scans_tell (StartsInSite was object gathered) is_one source_part free new answers = Nothing (phase.Scan object)
+scans_tell (EntersObject was object items apart shallow) is_one source_part free new answers = Nothing (phase.Scan (with_directory object items))
+scans_tell {root} (IsTooDeep was object apart deep) is_one source_part free new answers = gives_up {root = root} was {why = cause.Limit} source_part.at.1 source_part.at.2 free (fails_before was.trail is_one apart deep source_part.at.3 source_part.at.2)
+scans_tell (PassesShorty was object item e passed) is_one source_part free new answers = Nothing (phase.Scan object)
+scans_tell (EntersDirectory was object name items e apart shallow) is_one source_part free new answers = Nothing (phase.Scan (with_directory object items))
+scans_tell {s} {root} (MeetsDeep was object name e apart deep) is_one source_part free new answers = gives_up {root = root} was {why = cause.Limit} source_part.at.0 source_part.at.1.stands free (fails_at_directory s.tree object was.trail {name = name} (pairtree_proper s.tree source_part.at.0.store source_part.proper) is_one e apart deep source_part.at.1.stands.fits source_part.at.1.stands.within source_part.at.1.inside source_part.at.1.scanned)
+scans_tell (OpensFile was object name e room) is_one source_part free new answers = Nothing (phase.Read object 0)
+scans_tell {job} {s} {root} (MeetsLimit was object name e room) is_one source_part free new answers = gives_up {root = root} was {why = cause.Limit} source_part.at.0 source_part.at.1.stands free
+    (fails_at_file s.tree object was.trail {name = name} (pairtree_proper s.tree source_part.at.0.store source_part.proper) e (or_left (is_beyond job was (logical_path object was.trail)) (nat_lt job.limits.file_bytes (length (bytes_at (pairtree_of s.tree) (names_to was.trail)))) room) source_part.at.1.stands.fits source_part.at.1.inside source_part.at.1.scanned)
+scans_tell {s} {root} (MeetsOther was object name e) is_one source_part free new answers = gives_up {root = root} was {why = cause.Other} source_part.at.0 source_part.at.1.stands free (fails_at_other s.tree object was.trail {name = name} (pairtree_proper s.tree source_part.at.0.store source_part.proper) e source_part.at.1.stands.fits source_part.at.1.inside source_part.at.1.scanned)
+scans_tell (EndsSite was object e there) is_one source_part free new answers = Nothing (phase.Make object part.Staging)
+scans_tell (EndsObject was object e apart own) is_one source_part free new answers = Nothing (phase.Make object part.Staging)
+scans_tell (LeavesDirectory was object e apart outside) is_one source_part free new answers = Nothing (phase.Scan object)
+scans_tell (ReadsOn was object bytes byte block short) is_one source_part free new answers = Nothing (phase.Read object (bytes + length (byte ∷ block)))
+scans_tell {job} {s} {root} (IsTooLong was object bytes byte block long) is_one source_part free new answers =
     let whole = bytes_at (pairtree_of s.tree) (names_to was.trail) in
     let within = (reads_block 8192 whole bytes was.fed (byte ∷ block) s.unread source_part.at.2.read (answers.0 s refl)).within in
-    gives_up root was cause.Limit source_part.at.0 source_part.at.1.stands free
-    (fails_at_file s.tree object was.trail source_part.at.2.name (pairtree_proper s.tree source_part.at.0.store source_part.proper) source_part.at.2.file
-    (or_right (is_beyond job was (logical_path object was.trail)) (nat_lt job.limits.file_bytes (length whole)) (too_long job.limits.file_bytes bytes (length (byte ∷ block)) (length whole) long within)) source_part.at.1.stands.fits source_part.at.1.inside source_part.at.1.scanned)
-scans_tell root (EndsFile was object bytes) is_one source_part free new answers = Nothing (phase.Scan object)
+    gives_up {root = root} was {why = cause.Limit} source_part.at.0 source_part.at.1.stands free
+    (fails_at_file s.tree object was.trail {name = source_part.at.2.name} (pairtree_proper s.tree source_part.at.0.store source_part.proper) source_part.at.2.file
+    (or_right (is_beyond job was (logical_path object was.trail)) (nat_lt job.limits.file_bytes (length whole)) (too_long job.limits.file_bytes bytes (length (byte ∷ block)) {long = length whole} long within)) source_part.at.1.stands.fits source_part.at.1.inside source_part.at.1.scanned)
+scans_tell (EndsFile was object bytes) is_one source_part free new answers = Nothing (phase.Scan object)

@@ -19,7 +19,7 @@ log_tells P (Some x) None is tells = absurd (tells)
 log_tells P (Some x) (Some b) {a} is tells = (b, refl, subst (λ y. P y b) (some_same x a is) tells)
 
 -- a turn that tells nothing leaves the log
-pub none_put : (line : Option Line) (old new : Option (List ℕ)) → line ≡ None → Puts line old new → new ≡ old
+pub none_put : (line : Option Line) {old new : Option (List ℕ)} → line ≡ None → Puts line old new → new ≡ old
 unfolding Puts
-none_put None old new none put = put
-none_put (Some line) old new none put = absurd (cc)
+none_put None none put = put
+none_put (Some line) none put = absurd (cc)

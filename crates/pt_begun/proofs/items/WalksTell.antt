@@ -72,11 +72,11 @@ some_kind (Some entry) None is = absurd (cc)
 some_kind (Some entry) (Some kind) is = refl
 
 -- what the destination answers says it
-taken_as_found : {job : Job} (source : Forest) {start : Tree} (past : Past) {w : Writing} (t : List Frame) (id : List ℕ) (object : PairtreeObject) {what : Option Kind} → IsRooted (root_in start) → slice_get (items job source) past.count ≡ Some (item_judged job source t)
+taken_as_found : {job : Job} (source : Forest) {start : Tree} (past : Past) {w : Writing} (t : List Frame) {id : List ℕ} {object : PairtreeObject} {what : Option Kind} → IsRooted (root_in start) → slice_get (items job source) past.count ≡ Some (item_judged job source t)
     → (item_judged job source t).verdict ≡ Named id object → past.placed ≡ carried_among job source (root_in start) past.count → IsBetweenObjects job start past.placed w → option_map kind_of_entry (w.tree (in_root (place_of job.tuples id))) ≡ what
     → is_taken job (root_in start) (take past.count (items job source)) (item_judged job source t).verdict ≡ is_some what
-taken_as_found {job} source {start} past {w} t id object {what} rooted is named placed between found =
-    mark_where_stands job source (root_in start) past.count id object rooted is named
+taken_as_found {job} source {start} past {w} t {id} {object} {what} rooted is named placed between found =
+    mark_where_stands job source {root = root_in start} past.count {id = id} {object = object} rooted is named
     ∙ ap (λ (l : List Carried). is_some (root_now job start l (place_of job.tuples id))) (sym placed)
     ∙ ap is_some (sym (ap (λ (r : Tree). r (in_root (place_of job.tuples id))) between.tree))
     ∙ some_kind (w.tree (in_root (place_of job.tuples id))) what found
@@ -84,31 +84,31 @@ taken_as_found {job} source {start} past {w} t id object {what} rooted is named 
 -- ---- each turn
 
 -- a shorty that is passed ends an item
-at_shorty : {job : Job} {source : Forest} {root : Tree} {count : ℕ} (trail : List Frame) (name : List ℕ) {line : Option Line} → current_entry trail ≡ Some (name, kind.Dir) → is_short name ≡ true → Tells job source root count phase.Walk line (suc count) []
+at_shorty : {job : Job} {source : Forest} {root : Tree} {count : ℕ} (trail : List Frame) {name : List ℕ} {line : Option Line} → current_entry trail ≡ Some (name, kind.Dir) → is_short name ≡ true → Tells job source root count phase.Walk line (suc count) []
     → Tells job source root count phase.Walk line (done_after phase.Walk trail phase.Walk count) []
-at_shorty {job} {source} {root} {count} trail name {line} e short tells = subst (λ (n : ℕ). Tells job source root count phase.Walk line n []) (sym (done_at_shorty trail name count e short)) tells
+at_shorty {job} {source} {root} {count} trail {name} {line} e short tells = subst (λ (n : ℕ). Tells job source root count phase.Walk line n []) (sym (done_at_shorty trail name count e short)) tells
 
 pub walks_tell : {job : Job} {past : Past} {s : Reading} {prefix : List ℕ} (start : Tree) (w new : Writing) {here next : Phase} {held after : Held} {calls : Calls} → Walks job prefix here held after calls (Ok next) → is_trail held.trail ≡ true → SourcePart job past here prefix held s
     → IsRooted (root_in start) → past.placed ≡ carried_among job s.tree (root_in start) (items_placed here past.count) → DestAt job start past here held w → Changes calls.change (Some w) (Some new)
     → Tells job s.tree (root_in start) past.count next calls.line (done_after here held.trail next past.count) []
 unfolding Changes IsKindAt
-walks_tell {job} {past} {s} {prefix} start w new (LeadsOn was is) is_one part rooted placed dest change = OneItem phase.Walk None [] (interior_item job s.tree (root_in start) past.count (judged_next part.at.2) (with_prefix job was.trail part.at.1 (judged_verdict job s.tree prefix was.trail (pairtree_proper s.tree part.at.1.store part.proper) part.at.2.way.entered part.at.2.way.fits is)))
-walks_tell {job} {past} {s} {prefix} start w new (IsSkipped was why is) is_one part rooted placed dest change = OneItem phase.Walk (Some (Skipped (trail_path was.trail) why)) [] (skipped_item job s.tree (root_in start) past.count why (judged_next part.at.2) (with_prefix job was.trail part.at.1 (judged_verdict job s.tree prefix was.trail (pairtree_proper s.tree part.at.1.store part.proper) part.at.2.way.entered part.at.2.way.fits is)))
+walks_tell {job} {past} {s} {prefix} start w new (LeadsOn was is) is_one part rooted placed dest change = OneItem phase.Walk None [] (interior_item {job = job} {source = s.tree} (root_in start) {count = past.count} (judged_next part.at.2) (with_prefix job was.trail part.at.1 (judged_verdict job s.tree prefix was.trail (pairtree_proper s.tree part.at.1.store part.proper) part.at.2.way.entered part.at.2.way.fits is)))
+walks_tell {job} {past} {s} {prefix} start w new (IsSkipped was why is) is_one part rooted placed dest change = OneItem phase.Walk (Some (Skipped (trail_path was.trail) why)) [] (skipped_item {job = job} {source = s.tree} (root_in start) {count = past.count} {why = why} (judged_next part.at.2) (with_prefix job was.trail part.at.1 (judged_verdict job s.tree prefix was.trail (pairtree_proper s.tree part.at.1.store part.proper) part.at.2.way.entered part.at.2.way.fits is)))
 walks_tell {job} {past} {s} {prefix} start w new (IsPresent was index id here_is is) is_one part rooted placed dest change =
     let object = object_at s.tree (new_object job id index was.trail) (at_object index was.trail) in
     let named = (with_prefix job was.trail part.at.1 (judged_verdict job s.tree prefix was.trail (pairtree_proper s.tree part.at.1.store part.proper) part.at.2.way.entered part.at.2.way.fits is)) in
     let item = judged_next part.at.2 in
-    let taken = taken_as_found s.tree past was.trail id object rooted item named placed dest (change.0 w refl) in
+    let taken = taken_as_found s.tree past was.trail {id = id} {object = object} rooted item named placed dest (change.0 w refl) in
     subst (λ (p : Path). Tells job s.tree (root_in start) past.count phase.Walk (Some (Present p id (place_of job.tuples id))) (suc past.count) []) (path_at job id index was.trail)
-    (OneItem phase.Walk (Some (Present object.at id (place_of job.tuples id))) [] (present_item job s.tree (root_in start) past.count id object item named taken))
+    (OneItem phase.Walk (Some (Present object.at id (place_of job.tuples id))) [] (present_item {job = job} {source = s.tree} {root = root_in start} {count = past.count} {id = id} {object = object} item named taken))
 walks_tell {job} start w new (IsNew was index id is) is_one part rooted placed dest change = Nothing (phase.OpenObject (new_object job id index was.trail))
 walks_tell {job} {past} {s} start w new (IsPast was name e short last) is_one part rooted placed dest change =
-    at_shorty was.trail name e short
-    (OneItem phase.Walk (cond (is_first job.share) (Some (Skipped (names_to was.trail) cause.Past)) None) [] (passed_item (is_first job.share) job s.tree (root_in start) past.count cause.Past
+    at_shorty was.trail {name = name} e short
+    (OneItem phase.Walk (cond (is_first job.share) (Some (Skipped (names_to was.trail) cause.Past)) None) [] (passed_item (is_first job.share) {job = job} {source = s.tree} (root_in start) {count = past.count} cause.Past
     (get_map (item_of job (prefix_of s.tree)) (sites_of job.limits.depth s.tree) past.count (names_to was.trail, past_visit) (past_next job s.tree was.trail name past.count (pairtree_proper s.tree part.at.1.store part.proper) e short last part.at.2)) refl))
 walks_tell {job} {past} {s} start w new (IsDeep was name e short last deep) is_one part rooted placed dest change =
-    at_shorty was.trail name e short
-    (OneItem phase.Walk (cond (is_first job.share) (Some (Skipped (names_to was.trail) cause.Limit)) None) [] (passed_item (is_first job.share) job s.tree (root_in start) past.count cause.Limit
+    at_shorty was.trail {name = name} e short
+    (OneItem phase.Walk (cond (is_first job.share) (Some (Skipped (names_to was.trail) cause.Limit)) None) [] (passed_item (is_first job.share) {job = job} {source = s.tree} (root_in start) {count = past.count} cause.Limit
     (get_map (item_of job (prefix_of s.tree)) (sites_of job.limits.depth s.tree) past.count (names_to was.trail, Deep) (deep_next job s.tree was.trail name past.count (pairtree_proper s.tree part.at.1.store part.proper) is_one e short last deep part.at.2)) refl))
 walks_tell {job} {past} {s} start w new (PassesEntry was item e apart) is_one part rooted placed dest change =
     subst (λ (n : ℕ). Tells job s.tree (root_in start) past.count phase.Walk None n []) (sym (none_at_entry was.trail item past.count e apart)) (Nothing phase.Walk)
@@ -118,13 +118,13 @@ walks_tell start w new (EndsWalk was e short) is_one part rooted placed dest cha
 walks_tell start w new _ is_one part rooted placed dest change = Nothing phase.Judge
 
 -- the place of a new object isn't taken
-pub new_is_free : {job : Job} {past : Past} {s : Reading} {prefix : List ℕ} {start : Tree} {w : Writing} {held : Held} (index : Option ℕ) (id : List ℕ) → SourcePart job past phase.Judge prefix held s
+pub new_is_free : {job : Job} {past : Past} {s : Reading} {prefix : List ℕ} {start : Tree} {w : Writing} {held : Held} {index : Option ℕ} {id : List ℕ} → SourcePart job past phase.Judge prefix held s
     → judged_at job prefix held.trail ≡ Named id index → IsRooted (root_in start) → past.placed ≡ carried_among job s.tree (root_in start) past.count → IsBetweenObjects job start past.placed w
     → option_map kind_of_entry (w.tree (in_root (place_of job.tuples id))) ≡ None → IsNextFree job s.tree (root_in start) past.count
-new_is_free {job} {past} {s} {prefix} {start} {held} index id part is rooted placed dest found =
+new_is_free {job} {past} {s} {prefix} {start} {held} {index} {id} part is rooted placed dest found =
     let t = held.trail in
     let object = object_at s.tree (new_object job id index t) (at_object index t) in
     let named = with_prefix job t part.at.1 (judged_verdict job s.tree prefix t (pairtree_proper s.tree part.at.1.store part.proper) part.at.2.way.entered part.at.2.way.fits is) in
     let item = judged_next part.at.2 in
-    let taken = taken_as_found s.tree past t id object rooted item named placed dest found in
+    let taken = taken_as_found s.tree past t rooted item named placed dest found in
     (item_judged job s.tree t, mark_of job s.tree (root_in start) past.count item ∙ ap (λ b. Some (item_judged job s.tree t, b)) taken)

@@ -97,8 +97,8 @@ unfolding Begun Did Stays LeavesSome
 early_leaves_log job start old new run after why first last (past, is) (IsRefused prefix held calls reason turn did halted) early first_is last_is =
     let counts = (turning run.kept).counts in
     let had = log_tells (IsQuiet run.phase) start.log old.log first_is is.quiet in
-    let same = none_put calls.line old.log new.log (refused_quiet turn) did.0.log in
+    let same = none_put calls.line (refused_quiet turn) did.0.log in
     some_same last had.0 (sym last_is ∙ same ∙ had.1)
-    ∙ quiet_is run.phase first had.0 (first_starts run.phase (follows_first turn early)) had.2
+    ∙ quiet_is run.phase (first_starts run.phase (follows_first turn early)) had.2
 early_leaves_log job start old new run after why first last (past, is) (FailsAtFirst reason stays halted) early first_is last_is = absurd (true≢false (sym early ∙ failed_late why old.failures new.failures stays.3))
 early_leaves_log job start old new run after why first last (past, is) (FailsLater prefix held calls answer rows reason turn leaves which halted) early first_is last_is = absurd (true≢false (sym early ∙ failed_late why old.failures new.failures leaves.1))

@@ -100,9 +100,9 @@ module _ (job : Job) (source : Forest) (root : Tree) where
   never_bad top (inr usable) (IsBarred object carried barred) = true≢false (sym (way_of object carried usable.ways) ∙ barred)
 
 -- what stands at the top of a root that holds files is a folder
-top_of : (job : Job) (source : Forest) {t : Tree} → IsTree t → IsFree (root_in t) [] ⊎ IsUsable job source (root_in t) → root_in t [] ≡ Some Folder ⊎ IsFree (root_in t) []
-top_of job source tree (inl free) = inr free
-top_of job source {t} tree (inr usable) = inl (root_stands job t tree usable.files)
+top_of : {job : Job} {source : Forest} {t : Tree} → IsTree t → IsFree (root_in t) [] ⊎ IsUsable job source (root_in t) → root_in t [] ≡ Some Folder ⊎ IsFree (root_in t) []
+top_of tree (inl free) = inr free
+top_of {job} {t} tree (inr usable) = inl (root_stands job t tree usable.files)
 
 -- ---- the law
 
@@ -132,6 +132,6 @@ nothing_is_refused job start old new run after halt.StagingLeft s t begun turn t
     absurd (true≢false (sym (finds_staging job start old new run after t begun turn some) ∙ ap is_some (free [])))
 nothing_is_refused job start old new run after halt.Target s t begun turn told some good free rose =
     absurd
-    (never_bad job s.tree (root_in t) (top_of job s.tree (tree_of job start old run begun some) good.target) good.target
+    (never_bad job s.tree (root_in t) (top_of (tree_of job start old run begun some) good.target) good.target
     (finds_target_of job start old new run after s t begun turn told some).1)
 nothing_is_refused job start old new run after halt.Changed s t begun turn told some good free rose = absurd (refuses_rightly job start old new run after halt.Changed s begun turn told)

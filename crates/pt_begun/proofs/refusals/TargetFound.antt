@@ -56,8 +56,8 @@ no_file : (o : Option Entry) (here : Option Kind) (bytes : List ℕ) → option_
 no_file o here bytes is other same = true≢false (ap (λ (e : Option Entry). is_file_kind (option_map kind_of_entry e)) (sym same) ∙ ap is_file_kind is ∙ other)
 
 -- other bytes
-other_bytes : (o : Option Entry) (bytes : List ℕ) {block : List ℕ} → option_map (take 8192) (bytes_of o) ≡ Some block → bytes_eq block bytes ≡ false → length bytes < 8192 → o ≢ Some (Bytes bytes)
-other_bytes o bytes {block} read other short same =
+other_bytes : {o : Option Entry} {bytes : List ℕ} {block : List ℕ} → option_map (take 8192) (bytes_of o) ≡ Some block → bytes_eq block bytes ≡ false → length bytes < 8192 → o ≢ Some (Bytes bytes)
+other_bytes {bytes} {block} read other short same =
     let whole : block ≡ bytes = some_same block bytes (sym read ∙ ap (λ (e : Option Entry). option_map (take 8192) (bytes_of e)) same ∙ ap (λ (l : List ℕ). Some l) (take_all 8192 bytes (omega (arith, short)))) in
     true≢false (sym (ap (λ (l : List ℕ). bytes_eq l bytes) whole ∙ name_itself bytes) ∙ other)
 
@@ -72,8 +72,8 @@ above_passes test (name ∷ next ∷ place) (suc n) long all =
     above_passes (λ (folder : Path). test (name ∷ folder)) (next ∷ place) n (omega (arith, long))
     (sym (all_map (λ (folder : Path). name ∷ folder) test (folders_above (next ∷ place))) ∙ (and_parts (test (name ∷ [])) (list_all test (map (λ (folder : Path). name ∷ folder) (folders_above (next ∷ place)))) all).1)
 
-barred_at : (test : Path → Bool) (place : Path) (n : ℕ) → suc (suc n) ≤ length place → test (take (suc n) place) ≡ false → list_all test (folders_above place) ≡ false
-barred_at test place n long bad = by (list_all test (folders_above place)) refl
+barred_at : (test : Path → Bool) (place : Path) {n : ℕ} → suc (suc n) ≤ length place → test (take (suc n) place) ≡ false → list_all test (folders_above place) ≡ false
+barred_at test place {n} long bad = by (list_all test (folders_above place)) refl
   where
     by : (b : Bool) → list_all test (folders_above place) ≡ b → b ≡ false
     by false is = refl
@@ -101,7 +101,7 @@ barred job past start object held number old here at dest found other =
     ap is_folder_or_free (sym (at_root job past start object held number old p dest.started at.rows dest.at.0) ∙ ap (λ n. old.tree (storage_root ++ take n place)) (sym next)) ∙ bad in
     let stood = not_made (root p) _ on_way in
     let way : is_way_free job root carried ≡ false =
-    ap (λ (q : Path). list_all (λ folder. is_folder_or_free (root folder)) (folders_above q)) (sym at.ends.0.place) ∙ barred_at (λ folder. is_folder_or_free (root folder)) place number (omega (arith, few, long)) stood in
+    ap (λ (q : Path). list_all (λ folder. is_folder_or_free (root folder)) (folders_above q)) (sym at.ends.0.place) ∙ barred_at (λ folder. is_folder_or_free (root folder)) place (omega (arith, few, long)) stood in
     sym (way_in_base job (root_in start) carried (roots_have_no_gaps start dest.started).1) ∙ sym (way_with_objects job past.placed (base job.tuples (root_in start)) carried) ∙ way
 
 -- ---- the turns
@@ -122,7 +122,7 @@ module _ (job : Job) (past : Past) (t : Tree) (old : Writing) (new : Option Writ
   starts_find prefix read here calls layout (Differs was number path bytes block is other) dest change = (
     dest.at.free,
     HasOtherFile number (path, bytes) dest.at.top is
-        (λ same. other_bytes (old.tree (storage_root ++ path)) bytes (change.1 old refl) other (file_short job.tuples number path bytes layout is) (ap (λ (tree : Tree). tree (storage_root ++ path)) dest.at.tree ∙ same)),
+        (λ same. other_bytes (change.1 old refl) other (file_short job.tuples number path bytes layout is) (ap (λ (tree : Tree). tree (storage_root ++ path)) dest.at.tree ∙ same)),
   )
 
   places_find : (counts : Counts) (here : Phase) (after : Held) (calls : Calls) → Places job counts here held after calls (Err halt.Target) → HeldAt job past here held → DestPart job past here held t old → Changes calls.change (Some old) new

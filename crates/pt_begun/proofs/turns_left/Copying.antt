@@ -58,15 +58,15 @@ copies_all rows = (copies_after [] rows).0
 
 -- ---- the blocks
 
-one_block : (n : ℕ) → 0 < n → n ≤ 8192 → reads 0 + 1 ≤ reads n
-one_block n some few =
+one_block : {n : ℕ} → 0 < n → n ≤ 8192 → reads 0 + 1 ≤ reads n
+one_block {n} some few =
     let split : 8192 + (n - 1) ≡ n + 8191 = omega (arith, some) in
     let whole = add-div_left (n - 1) {k = 8192} (omega arith) in
     let same : (8192 + (n - 1)) / 8192 ≡ (n + 8191) / 8192 = ap (λ (k : ℕ). k / 8192) split in
     omega (arith, whole, same)
 
-more_blocks : (n : ℕ) → 8192 < n → reads (n - 8192) + 1 ≤ reads n
-more_blocks n many =
+more_blocks : {n : ℕ} → 8192 < n → reads (n - 8192) + 1 ≤ reads n
+more_blocks {n} many =
     let split : 8192 + (n - 8192 + 8191) ≡ n + 8191 = omega (arith, many) in
     let whole = add-div_left (n - 8192 + 8191) {k = 8192} (omega arith) in
     let same : (8192 + (n - 8192 + 8191)) / 8192 ≡ (n + 8191) / 8192 = ap (λ (k : ℕ). k / 8192) split in
@@ -90,14 +90,14 @@ block_read {bytes} {count} {byte} {block} it read = by (nat_lt 8192 (length rest
     by true is =
         let many = ltb-true 8192 (length rest) is in
         let whole : length (byte ∷ block) ≡ 8192 = sym (ap length is_block) ∙ length-take-le 8192 rest (omega (arith, many)) in
-        let less = more_blocks (length bytes - count) (omega (arith, many, long)) in
+        let less = more_blocks {n = length bytes - count} (omega (arith, many, long)) in
         let left : length bytes - (count + length (byte ∷ block)) ≡ length bytes - count - 8192 = omega (arith, whole, long, many) in
         let same = ap reads left in
         omega (arith, less, same)
     by false is =
         let few = ltb-false 8192 (length rest) is in
         let all : length (byte ∷ block) ≡ length rest = sym (ap length is_block) ∙ ap length (take_all 8192 rest few) in
-        let less = one_block (length bytes - count) (omega (arith, all, long)) (omega (arith, few, long)) in
+        let less = one_block {n = length bytes - count} (omega (arith, all, long)) (omega (arith, few, long)) in
         let left : length bytes - (count + length (byte ∷ block)) ≡ 0 = omega (arith, all, long) in
         let same = ap reads left in
         omega (arith, less, same)

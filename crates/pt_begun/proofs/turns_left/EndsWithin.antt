@@ -27,8 +27,8 @@ turn_tree job here before after old new _ (FailsAtFirst why stays halted) = stay
 turn_tree job here before after old new _ (FailsLater prefix held calls answer rows why turn leaves which halted) = leaves.0.source
 
 -- of a run that has ended no turn is left
-no_more : (job : Job) (source : Forest) (root : Tree) (count : ℕ) (kept : Kept) → kept.counts.turns ≤ work job source root → IsWithinWork job source root count (record { phase = phase.Ended; kept = kept })
-no_more job source root count kept few = record { within = omega (arith, few) }
+no_more : {job : Job} {source : Forest} {root : Tree} (count : ℕ) {kept : Kept} → kept.counts.turns ≤ work job source root → IsWithinWork job source root count (record { phase = phase.Ended; kept = kept })
+no_more count few = record { within = omega (arith, few) }
 
 pub turn_ends_within_work : TurnEndsWithinWork
 unfolding BegunWithinWork Begun
@@ -39,7 +39,7 @@ turn_ends_within_work job start old new run after why (past, is, within) going t
       λ v same t some.
           let s = same_tree old.source new.source v (turn_tree job run.phase (turning run.kept) after old new (Err why) turn) same in
           subst (λ (f : Forest). IsWithinWork job f (root_in t) ends.0.count (record { phase = phase.Ended; kept = after })) (sym s.2)
-          (no_more job s.0.tree (root_in t) ends.0.count after (turns_are_within_work job start old new run after (Err why) s.0 t (past, is, within) going turn s.1 some)),
+          (no_more ends.0.count (turns_are_within_work job start old new run after (Err why) s.0 t (past, is, within) going turn s.1 some)),
     )
 
 -- its own count has no part in what a run that ended is
@@ -58,4 +58,4 @@ pub stops_within_work : StopsWithinWork
 unfolding BegunWithinWork Begun
 stops_within_work job start world run (past, is, within) =
     let ends = stops_begun job start world run (past, is) in
-    (ends.0, ends.1, λ v same t some. no_more job v.tree (root_in t) ends.0.count run.kept (let was = (within v same t some).within in omega (arith, was)))
+    (ends.0, ends.1, λ v same t some. no_more ends.0.count (let was = (within v same t some).within in omega (arith, was)))

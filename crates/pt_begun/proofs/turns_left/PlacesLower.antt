@@ -14,14 +14,14 @@ use Rattle.pt_begun.proofs.source.InObject.{site_itself}
 use Rattle.pt_begun.specs.WorkLaws.{Lowers, PlacingLowers}
 use Rattle.pt_begun.specs.WorkLeft.{still_listed}
 
-passes_tuple : (job : Job) (source : Forest) (root : Tree) (count : ℕ) (held : Held) (object : Object) (number : ℕ) (more : Bool) → number < job.tuples.count
+passes_tuple : (job : Job) (source : Forest) (root : Tree) (count : ℕ) (held : Held) (object : Object) {number : ℕ} (more : Bool) → number < job.tuples.count
     → Lowers job source root count (phase.Tuples object number) held (cond more (phase.Tuples object (number + 1)) (phase.Rename object)) held
-passes_tuple job source root count held object number true within = omega (arith, within)
-passes_tuple job source root count held object number false within = omega (arith, within)
+passes_tuple job source root count held object true within = omega (arith, within)
+passes_tuple job source root count held object false within = omega (arith, within)
 
 pub places_lower : PlacingLowers
-places_lower job counts past source root here next held after calls (MakesTuple was object number) at = passes_tuple job source root past.count was object number (nat_lt (number + 1) job.tuples.count) at.numbers
-places_lower job counts past source root here next held after calls (FindsTuple was object number) at = passes_tuple job source root past.count was object number (nat_lt (number + 1) job.tuples.count) at.numbers
+places_lower job counts past source root here next held after calls (MakesTuple was object number) at = passes_tuple job source root past.count was object (nat_lt (number + 1) job.tuples.count) at.numbers
+places_lower job counts past source root here next held after calls (FindsTuple was object number) at = passes_tuple job source root past.count was object (nat_lt (number + 1) job.tuples.count) at.numbers
 places_lower job counts past source root here next held after calls (TellsDone was object) at =
     let same = ap (λ (t : List Frame). still_listed (sought 0 t)) (site_itself object was.trail at.ends.1) in
     omega (arith, same)

@@ -160,11 +160,11 @@ comes_to {job} source object {held} site proper it rows there =
 -- ---- the next entry
 
 -- a directory is entered
-pub enters_meets : (job : Job) (source : Forest) (object : Object) (rows : List Row) (trail : List Frame) (name : List ℕ) {items : List Item} → is_proper (pairtree_of source) ≡ true → is_trail trail ≡ true → current_entry trail ≡ Some (name, kind.Dir) → is_passed object trail (name, kind.Dir) ≡ false
+pub enters_meets : (job : Job) (source : Forest) (object : Object) (rows : List Row) (trail : List Frame) {name : List ℕ} {items : List Item} → is_proper (pairtree_of source) ≡ true → is_trail trail ≡ true → current_entry trail ≡ Some (name, kind.Dir) → is_passed object trail (name, kind.Dir) ≡ false
     → nat_lt job.limits.depth (length trail) ≡ false → listing_at (pairtree_of source) (names_to trail) ≡ Some items → Fits (pairtree_of source) trail → object.site ≤ length trail → 0 < own_listings object trail
     → to_meet job.limits (length (object_at source object (to_site object trail)).at) (length rows) (left_of source object trail) ≡ 2 + to_meet job.limits (length (object_at source object (to_site object trail)).at) (length rows) (left_of source object (entered items trail))
-enters_meets job source object rows [] name proper is_one e apart shallow listed fits within inside = absurd (cc)
-enters_meets job source object rows (frame ∷ frames) name {items} proper is_one e apart shallow listed fits within inside =
+enters_meets job source object rows [] proper is_one e apart shallow listed fits within inside = absurd (cc)
+enters_meets job source object rows (frame ∷ frames) {name} {items} proper is_one e apart shallow listed fits within inside =
     let top = pairtree_of source in
     let trail = frame ∷ frames in
     let path = names_to frames ++ name ∷ [] in
@@ -179,11 +179,11 @@ enters_meets job source object rows (frame ∷ frames) name {items} proper is_on
     ∙ ap (λ (n : ℕ). 2 + n) (meets_good job.limits (length what.at) (length rows) (logical_path object trail, Dir in_it) (left_of source object (entered items trail)) good)
 
 -- a file is next
-pub file_meets : (job : Job) (source : Forest) (object : Object) (rows : List Row) (trail : List Frame) (name : List ℕ) → is_proper (pairtree_of source) ≡ true → current_entry trail ≡ Some (name, kind.File) → Fits (pairtree_of source) trail → 0 < own_listings object trail
+pub file_meets : (job : Job) (source : Forest) (object : Object) (rows : List Row) (trail : List Frame) {name : List ℕ} → is_proper (pairtree_of source) ≡ true → current_entry trail ≡ Some (name, kind.File) → Fits (pairtree_of source) trail → 0 < own_listings object trail
     → to_meet job.limits (length (object_at source object (to_site object trail)).at) (length rows) (left_of source object trail)
     ≡ (1 + reads (length (bytes_at (pairtree_of source) (names_to trail)))) + to_meet_behind job.limits (length (object_at source object (to_site object trail)).at) (length rows) (left_of source object trail)
-file_meets job source object rows [] name proper e fits inside = absurd (cc)
-file_meets job source object rows (frame ∷ frames) name proper e fits inside =
+file_meets job source object rows [] proper e fits inside = absurd (cc)
+file_meets job source object rows (frame ∷ frames) {name} proper e fits inside =
     let trail = frame ∷ frames in
     let depth = length (object_at source object (to_site object trail)).at in
     let cost = 1 + reads (length (bytes_at (pairtree_of source) (names_to trail))) in
@@ -191,11 +191,11 @@ file_meets job source object rows (frame ∷ frames) name proper e fits inside =
     ap (to_meet job.limits depth (length rows)) left ∙ sym (ap (λ (l : List Entry). cost + to_meet_behind job.limits depth (length rows) l) left)
 
 -- it is noted
-pub noted_meets : (job : Job) (source : Forest) (object : Object) (rows : List Row) (trail : List Frame) (name : List ℕ) → is_proper (pairtree_of source) ≡ true → current_entry trail ≡ Some (name, kind.File) → Fits (pairtree_of source) trail → 0 < own_listings object trail
+pub noted_meets : (job : Job) (source : Forest) (object : Object) (rows : List Row) (trail : List Frame) {name : List ℕ} → is_proper (pairtree_of source) ≡ true → current_entry trail ≡ Some (name, kind.File) → Fits (pairtree_of source) trail → 0 < own_listings object trail
     → nat_le job.limits.files (length rows) || nat_lt job.limits.path_bytes (length (joined (logical_path object trail))) ≡ false → length (bytes_at (pairtree_of source) (names_to trail)) ≤ job.limits.file_bytes
     → to_meet_behind job.limits (length (object_at source object (to_site object trail)).at) (length rows) (left_of source object trail) ≡ to_meet job.limits (length (object_at source object (to_site object trail)).at) (length rows + 1) (left_of source object (advanced trail))
-noted_meets job source object rows [] name proper e fits inside room short = absurd (cc)
-noted_meets job source object rows (frame ∷ frames) name proper e fits inside room short =
+noted_meets job source object rows [] proper e fits inside room short = absurd (cc)
+noted_meets job source object rows (frame ∷ frames) {name} proper e fits inside room short =
     let trail = frame ∷ frames in
     let what = object_at source object (to_site object trail) in
     let bytes = bytes_at (pairtree_of source) (names_to trail) in
@@ -205,15 +205,15 @@ noted_meets job source object rows (frame ∷ frames) name proper e fits inside 
 
 -- ---- the listings
 
-either_way : (g : Bool) (n m : ℕ) → n ≤ m → cond g n 0 ≤ cond g m 0
-either_way true n m less = less
-either_way false n m less = omega arith
+either_way : (g : Bool) {n m : ℕ} → n ≤ m → cond g n 0 ≤ cond g m 0
+either_way true less = less
+either_way false less = omega arith
 
 -- one entry on no more is to be left and passed
 pub leave_on : (object : Object) (trail : List Frame) → to_leave object (advanced trail) ≤ to_leave object trail
 leave_on object trail =
     let own = own_on object trail in
-    let less = either_way object.gathered (still_here (to_site object (advanced trail))) (still_here (to_site object trail)) (site_on object trail).1 in
+    let less = either_way object.gathered (site_on object trail).1 in
     omega (arith, own, less)
 
 long_on : (trail : List Frame) → length (advanced trail) ≡ length trail

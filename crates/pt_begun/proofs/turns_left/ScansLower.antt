@@ -90,7 +90,7 @@ scans_lower job past s new root prefix here next held after calls (EntersDirecto
     let t = was.trail in
     let it = known.at.1 in
     let listed : listing_at (pairtree_of s.tree) (names_to t) ≡ Some items = sym (listing_in s.tree (names_to t) known.at.0.store) ∙ answers.0 s refl in
-    let meets = enters_meets job s.tree object was.rows t name (pairtree_proper s.tree known.at.0.store known.proper) at.trail.is_one e apart shallow listed it.stands.fits it.stands.within it.inside in
+    let meets = enters_meets job s.tree object was.rows t (pairtree_proper s.tree known.at.0.store known.proper) at.trail.is_one e apart shallow listed it.stands.fits it.stands.within it.inside in
     let site = site_entered object items t it.stands.within in
     let other = same_meets job (length was.rows) (left_of s.tree object (entered items t)) (ap (object_at s.tree object) site) in
     let own = own_entered object items t it.stands.within in
@@ -101,7 +101,7 @@ scans_lower job past s new root prefix here next held after calls (OpensFile was
     let t = was.trail in
     let it = known.at.1 in
     let bytes = bytes_at (pairtree_of s.tree) (names_to t) in
-    let meets = file_meets job s.tree object was.rows t name (pairtree_proper s.tree known.at.0.store known.proper) e it.stands.fits it.inside in
+    let meets = file_meets job s.tree object was.rows t (pairtree_proper s.tree known.at.0.store known.proper) e it.stands.fits it.inside in
     let none : length bytes - 0 ≡ length bytes = omega arith in
     let whole = ap reads none in
     omega (arith, meets, whole)
@@ -143,7 +143,7 @@ scans_lower job past s new root prefix here next held after calls (EndsFile was 
     let whole = bytes_at (pairtree_of s.tree) (names_to t) in
     let short = file.short in
     let ended = (reads_end 8192 whole bytes was.fed s.unread (omega arith) file.read (answers.0 s refl)).length_is in
-    let meets = noted_meets job s.tree object was.rows t file.name (pairtree_proper s.tree known.at.0.store known.proper) file.file it.stands.fits it.inside file.room (omega (arith, short, ended)) in
+    let meets = noted_meets job s.tree object was.rows t (pairtree_proper s.tree known.at.0.store known.proper) file.file it.stands.fits it.inside file.room (omega (arith, short, ended)) in
     let one = object_at s.tree object (to_site object t) in
     let other = object_at s.tree object (to_site object (advanced t)) in
     let same = (moved_on job s.tree prefix object t past.count it.inside it.stands).same in

@@ -59,7 +59,7 @@ same_turns (Some (End done present skipped)) counts = refl
 
 pub new_run_is_within_work : NewRunIsWithinWork
 unfolding BegunWithinWork
-new_run_is_within_work job world layout is = (no_past, new_past job layout is, λ s e old f. record { within = omega arith })
+new_run_is_within_work job world layout is = (no_past, new_past layout is, λ s e old f. record { within = omega arith })
 
 pub within_work_is_begun : WithinWorkIsBegun
 unfolding BegunWithinWork Begun
