@@ -70,14 +70,14 @@ within_item job source {path} count site it =
 -- what is listed on the way to a site that is listed
 pub site_within : (job : Job) (source : Forest) {path : Path} (count : ℕ) → slice_get (sites_of job.limits.depth source) count ≡ Some (path, Listed (inside_at (pairtree_of source) path))
     → listed (pairtree_of source) path ≤ bound job source
-site_within job source {path} count site = within_item job source {path = path} count site (record { index = 0; is = refl })
+site_within job source {path} count site = within_item job source count site (record { index = 0; is = refl })
 
 -- and, with all records of the object, at a directory of it
 pub object_within : (job : Job) (source : Forest) {path : Path} (count : ℕ) {id : List ℕ} {object : PairtreeObject} {directory : Path} → slice_get (sites_of job.limits.depth source) count ≡ Some (path, Listed (inside_at (pairtree_of source) path))
     → verdict_of job (prefix_of source) path (Listed (inside_at (pairtree_of source) path)) ≡ Named id object → is_too_deep job.limits object ≡ false → IsOne directory ([] ∷ dirs (scanned job.limits object))
     → listed (pairtree_of source) (object.at ++ directory) + records_of job (files (scanned job.limits object)) ≤ bound job source
 object_within job source {path} count {object} {directory} site named shallow one =
-    within_item job source {path = path} count site
+    within_item job source count site
     (one_behind (listed top path ∷ [])
     (subst (λ (v : Verdict). IsOne n (held_by_verdict job top v)) (sym named)
     (subst (λ (b : Bool). IsOne n (cond b [] (held_in_object job top object))) (sym shallow)

@@ -34,11 +34,11 @@ tells_on {new} run {s} (GoesOn calls to turn did counts) told = answered calls.a
 goes_within : (job : Job) (start : Start) (old new : World) (run : Run) (after : Kept) (next : Phase) (s : Reading) → Begun job start old run → is_ended run.phase ≡ false → Turn job run.phase (turning run.kept) after old new (Ok next) → old.source ≡ Some s
     → (last : Bool) → is_ended next ≡ last → IsWithinBound job s.tree after.held
 goes_within job start old new run after next s begun going turn told false more =
-    let v = tells_on {old = old} {new = new} run {after = after} {job = job} {next = next} {s = s} turn told in
+    let v = tells_on run turn told in
     subst (λ (f : Forest). IsWithinBound job f after.held) v.2
     (begun_is_within_bound job start new (record { phase = next; kept = after }) v.0 (turn_keeps_begun job start old new run after next begun turn) more v.1)
 goes_within job start old new run after next s begun going (GoesOn calls to turn did counts) told true ended =
-    subst (λ (h : Held). IsWithinBound job s.tree h) (sym (last_turn {job = job} {counts = (turning run.kept).counts} {here = run.phase} {prefix = run.kept.prefix} {held = run.kept.held} {read = after.prefix} {after = after.held} {calls = calls} {next = next} turn ended).held_is)
+    subst (λ (h : Held). IsWithinBound job s.tree h) (sym (last_turn turn ended).held_is)
     (begun_is_within_bound job start old run s begun going told)
 
 pub turn_is_within_bound : TurnIsWithinBound

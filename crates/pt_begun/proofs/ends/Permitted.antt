@@ -4,7 +4,7 @@ use Rattle.std.specs.Prelude.{Option, None, Some, IsSome, is_some, slice_get}
 use Rattle.std.specs.Option.{ForSome, option_and_then, option_map}
 use Rattle.std.proofs.lemmas.Bool.{ltb-false, ltb-true}
 use Rattle.pt_object.specs.Script.{Item, item_path}
-use Rattle.pt_object.specs.Scripts.{root_script, staging}
+use Rattle.pt_object.specs.Scripts.{root_script}
 use Rattle.pt_object.specs.declared.rows.Row.{Row}
 use Rattle.pt_tree.specs.Dest.{Writing, CanWrite, MayMake, MayMove}
 use Rattle.pt_tree.specs.Forest.{Forest, Node, File, as_dir, as_file, dir_at, find, is_proper, kind_of, node_at}
@@ -20,12 +20,10 @@ use Rattle.pt_walk.specs.Trail.{current_entry, names_to}
 use Rattle.pt_walk.specs.declared.frame.Frame.{Frame}
 use Rattle.pt_plan.specs.Job.{Job}
 use Rattle.pt_plan.specs.Permits.{HasParent, MayEnter, MayMakeContent, MayMakePart, MayMakeRootItem, MayOpen, MayOpenPrefix, MayOpenRow, Permits}
-use Rattle.pt_plan.specs.Roots.{storage_root}
 use Rattle.pt_plan.specs.Run.{Held}
 use Rattle.pt_plan.specs.Store.{is_store, pairtree_of, pairtree_root, prefix_file}
 use Rattle.pt_plan.specs.TurnMake.{path_of_source}
 use Rattle.pt_plan.specs.TurnPlace.{tuple_folder}
-use Rattle.pt_plan.specs.TurnWalk.{in_root}
 use Rattle.pt_plan.specs.declared.object.Object.{Object}
 use Rattle.pt_plan.specs.declared.phase.Part.{Part}
 use Rattle.pt_plan.specs.declared.phase.Part.TheVariants as a_part
@@ -78,7 +76,7 @@ IsThrough t s = (is_store s.tree ≡ true) × (is_proper s.tree ≡ true) × Fit
 
 may_enter : {reading : Option Reading} (t : List Frame) → ForSome reading (IsThrough t) → MayEnter reading t
 unfolding MayEnter CanList
-may_enter t knows name e s is = let it = knows s is in enterable s.tree t {name = name} it.0 (pairtree_proper s.tree it.0 it.1) it.2 e
+may_enter t knows name e s is = let it = knows s is in enterable s.tree t it.0 (pairtree_proper s.tree it.0 it.1) it.2 e
 
 may_open : {reading : Option Reading} (t : List Frame) → ForSome reading (IsThrough t) → MayOpen reading t
 unfolding MayOpen CanOpen

@@ -39,7 +39,7 @@ pub record IsBefore (job : Job) (past : Past) (s : Reading) (start : Tree) (pref
 
 -- a turn that tells a line of an item ends that item
 pub ends_item : {job : Job} {source : Forest} {root : Tree} {count : ℕ} {next : Phase} {told : Option Line} {n : ℕ} {gained : List Carried} → Tells job source root count next told n gained → {line : Line} → told ≡ Some line → is_ended next ≡ false → EndsItem job source root count (Some line) gained
-ends_item {job} {source} {root} {count} (OneItem next told more it) is runs = subst (λ o. EndsItem job source root count o more) is it
+ends_item {job} {source} {root} {count} (OneItem {more = more} it) is runs = subst (λ o. EndsItem job source root count o more) is it
 ends_item _ is runs = absurd (cc)
 
 -- ---- by what is left

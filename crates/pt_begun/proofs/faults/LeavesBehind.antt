@@ -13,7 +13,6 @@ use Rattle.pt_tree.specs.Tree.{Bytes, IsTree, Tree}
 use Rattle.pt_plan.specs.Answer.{Answer}
 use Rattle.pt_plan.specs.Fixity.{IsKept}
 use Rattle.pt_plan.specs.Job.{Job}
-use Rattle.pt_plan.specs.Roots.{with_root}
 use Rattle.pt_plan.specs.Run.{Counts, Held, with_fed}
 use Rattle.pt_plan.specs.Turn.{Follows, Start as a_start, Walk, Scan, Make, Place}
 use Rattle.pt_plan.specs.TurnMake.{Makings, MakesStaging, MakesDeclaration, MakesVersion, PassesRow, MakesFolder, OpensCopy, CopiesOn, ReadsMore, EndsCopy, ReadsOther, MakesVersionInventory, MakesVersionSidecar, MakesInventory, MakesSidecar, in_content, in_version, text_of_inventory}
@@ -28,7 +27,7 @@ use Rattle.pt_plan.specs.declared.phase.Part.TheVariants as a_part
 use Rattle.pt_plan.specs.declared.phase.Phase.{Phase}
 use Rattle.pt_plan.specs.declared.phase.Phase.TheVariants as phase
 use Rattle.pt_plan.specs.declared.phase.Position.{Position}
-use Rattle.pt_begun.specs.BegunDest.{DestPart, IsLeftBehind, IsRootOfStart, root_on_way}
+use Rattle.pt_begun.specs.BegunDest.{DestPart, IsLeftBehind, IsRootOfStart}
 use Rattle.pt_begun.specs.BegunHeld.{HeldAt}
 use Rattle.pt_begun.specs.PartsMade.{made_before, script_of_object}
 use Rattle.pt_begun.specs.Past.{Past}

@@ -57,7 +57,7 @@ between_left {job} {source} {start} {k} {log} free within told is =
 pub counted_left : {job : Job} {source : Forest} {start : Tree} {now : Tree} (count : ℕ) → IsFree start staging → now ≡ with_root start (after job source (root_in start) count) → MayBeLeft job source start now (text job source (root_in start) count)
 counted_left {job} {source} {start} count free is =
     let it = as_after job source (root_in start) count in
-    between_left {job = job} {source = source} {start = start} {k = it.k} {log = text job source (root_in start) count} free it.within
+    between_left free it.within
     (subst (IsLogAfter job source (root_in start) it.k) it.text_is (told_so_far job source (root_in start) it.k it.within))
     (is ∙ ap (with_root start) (sym it.root_is))
 

@@ -77,7 +77,7 @@ not_told job source root k {m} is told = told_in_part job source root k [] (flat
 pub told_so_far : (job : Job) (source : Forest) (root : Tree) (k : ℕ) → k ≤ length (items job source) → IsLogAfter job source root k (text job source root k)
 told_so_far job source root zero within = refl
 told_so_far job source root (suc k) within =
-    let m = marked_at job source root {k = k} within in
+    let m = marked_at job source root within in
     told_in_part job source root k (flat_map line_text (line_of job m.0)) [] m.1 (sym (append-nil (flat_map line_text (line_of job m.0)))) (text_grows job source root k m.0 m.1).1
 
 -- so many items, or all if there are no more: the root after them and their lines are the same

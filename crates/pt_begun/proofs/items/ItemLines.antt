@@ -34,8 +34,8 @@ pub record EndsItem (job : Job) (source : Forest) (root : Tree) (count : ℕ) (l
 
 -- so many items are done after the turn, and these are carried of them: the same as before, and no line is told but the last one; or one more, and its line is told
 pub data Tells (job : Job) (source : Forest) (root : Tree) (count : ℕ) : Phase → Option Line → ℕ → List Carried → Type 0 where
-  Nothing : (next : Phase) → Tells job source root count next None count []
-  OneItem : (next : Phase) (line : Option Line) (more : List Carried) → EndsItem job source root count line more → Tells job source root count next line (suc count) more
+  Nothing : {next : Phase} → Tells job source root count next None count []
+  OneItem : {next : Phase} {line : Option Line} {more : List Carried} → EndsItem job source root count line more → Tells job source root count next line (suc count) more
   Last : (done present skipped : ℕ) → Tells job source root count phase.Ended (Some (End done present skipped)) count []
 
 -- ---- the counts
@@ -60,7 +60,7 @@ counts_after {line} {job} {source} {root} {count} {counts} it are = by line (num
     by (Some (End done present skipped)) a b c = let x = are.done in let y = are.present in let z = are.skipped in record { done = omega (arith, a, x); present = omega (arith, b, y); skipped = omega (arith, c, z) }
 
 pub counts_kept : {job : Job} {source : Forest} {root : Tree} {count new : ℕ} {next : Phase} {line : Option Line} {counts : Counts} {gained : List Carried} → Tells job source root count next line new gained → CountsLines job source root count counts → CountsLines job source root new (counted line counts)
-counts_kept (OneItem after told more it) are = counts_after it are
+counts_kept (OneItem it) are = counts_after it are
 counts_kept _ are = are
 
 -- ---- the log
@@ -84,11 +84,11 @@ line_put (Some line) old before grown told puts =
 pub log_kept : {job : Job} {source : Forest} {root : Tree} (past later : Past) {next : Phase} {line : Option Line} {n : ℕ} (old : List ℕ) {now : List ℕ} (new : List ℕ) {gained : List Carried} → later.count ≡ n → Tells job source root past.count next line n gained
     → now ≡ old ++ text job source root past.count → Puts line (Some now) (Some new) → HasTold job source root later next old new
 unfolding Puts
-log_kept {job} {source} {root} past later {next} old {now} new is (Nothing after) told puts =
+log_kept {job} {source} {root} past later {next} old {now} new is Nothing told puts =
     told_at job source root later next old (some_same new now puts ∙ told ∙ ap (λ k. old ++ text job source root k) (sym is))
-log_kept {job} {source} {root} past later {next} {line} old new is (OneItem after one more it) told puts =
+log_kept {job} {source} {root} past later {next} {line} old new is (OneItem it) told puts =
     told_at job source root later next old
-    (line_put line old {new = new} (text job source root past.count) (text_after it) told puts ∙ ap (λ k. old ++ text job source root k) (sym is))
+    (line_put line old (text job source root past.count) (text_after it) told puts ∙ ap (λ k. old ++ text job source root k) (sym is))
 log_kept past later old new is (Last done present skipped) told puts = tt
 
 -- ---- the objects placed
@@ -96,7 +96,7 @@ log_kept past later old new is (Last done present skipped) told puts = tt
 -- nothing more is carried of an item that ends so
 pub placed_kept : {job : Job} {source : Forest} {root : Tree} {count new : ℕ} {next : Phase} {line : Option Line} {gained placed : List Carried} → gained ≡ [] → Tells job source root count next line new gained → placed ≡ carried_among job source root count
     → placed ≡ carried_among job source root new
-placed_kept {job} {source} {root} {count} none (OneItem after told more it) are =
+placed_kept {job} {source} {root} {count} none (OneItem it) are =
     are ∙ sym (carried_grows job source root count it.m it.is ∙ ap (λ (l : List Carried). carried_among job source root count ++ l) (it.gained ∙ none) ∙ append-nil (carried_among job source root count))
 placed_kept none _ are = are
 
@@ -129,8 +129,8 @@ skipped_item {job} {source} root {count} {item} is what = record {
 -- it is passed over and told, or only leads on
 pub passed_item : (told : Bool) {job : Job} {source : Forest} (root : Tree) {count : ℕ} {item : Item} (why : Cause) → slice_get (items job source) count ≡ Some item → item.verdict ≡ cond told (Skip why) Interior
     → EndsItem job source root count (cond told (Some (Skipped item.path why)) None) []
-passed_item true {job} {source} root {count} why is what = skipped_item {job = job} {source = source} root {count = count} {why = why} is what
-passed_item false {job} {source} root {count} why is what = interior_item {job = job} {source = source} root {count = count} is what
+passed_item true {job} {source} root {count} why is what = skipped_item root is what
+passed_item false {job} {source} root {count} why is what = interior_item root is what
 
 -- whether its place is taken is whether something stands there
 pub mark_where_stands : (job : Job) (source : Forest) {root : Tree} (count : ℕ) {item : Item} {id : List ℕ} {object : PairtreeObject} → IsRooted root → slice_get (items job source) count ≡ Some item → item.verdict ≡ Named id object

@@ -1,5 +1,5 @@
 -- Each turn that goes on keeps what holds of the items that are done.
-use Rattle.std.proofs.Common.{◌≡◌, ◌==◌, ◌-◌, ℕ, ◌+◌, Bool, true, false, List, [], ◌∷◌, ◌++◌, refl, ap, sym, ◌∙◌, cond, length}
+use Rattle.std.proofs.Common.{◌≡◌, ◌==◌, ℕ, ◌+◌, Bool, true, false, List, [], ◌∷◌, ◌++◌, refl, ap, sym, ◌∙◌, cond}
 use Rattle.std.specs.Prelude.{Some, Ok, nat_lt}
 use Rattle.pt_object.specs.Scripts.{staging}
 use Rattle.pt_tree.specs.Dest.{IsKindAt}
@@ -13,11 +13,10 @@ use Rattle.pt_plan.specs.Job.{Job}
 use Rattle.pt_plan.specs.Lines.{text}
 use Rattle.pt_plan.specs.Roots.{root_in, storage_root}
 use Rattle.pt_plan.specs.Run.{Counts, Held}
-use Rattle.pt_plan.specs.Store.{prefix_file}
-use Rattle.pt_plan.specs.TurnMake.{Makings, MakesStaging, MakesDeclaration, MakesVersion, PassesRow, MakesFolder, OpensCopy, CopiesOn, EndsCopy, MakesVersionInventory, MakesVersionSidecar, MakesInventory, MakesSidecar, behind, behind_stored, content_at, sidecar_file, with_folder}
+use Rattle.pt_plan.specs.TurnMake.{Makings, MakesStaging, MakesSidecar, sidecar_file}
 use Rattle.pt_plan.specs.TurnPlace.{Places, MakesTuple, FindsTuple, RenamesObject, TellsDone, TellsEnd, tuple_folder}
 use Rattle.pt_plan.specs.TurnScan.{Scans, StartsInSite, IsTooDeep, MeetsDeep, MeetsLimit, MeetsOther, IsTooLong}
-use Rattle.pt_plan.specs.TurnStart.{Starts, IsStore, HasNoStaging, HasNoRoot, HasRoot, MakesRoot, RenamesRoot, IsSame, kind_in}
+use Rattle.pt_plan.specs.TurnStart.{Starts, IsStore, HasNoStaging, HasNoRoot, HasRoot, MakesRoot, RenamesRoot, IsSame}
 use Rattle.pt_plan.specs.TurnWalk.{Walks, OpensRoot, IsNew}
 use Rattle.pt_plan.specs.World.{Calls, Change, Changes, Finds, FindsNoneAndMakes, Makes, Peeks, does}
 use Rattle.pt_plan.specs.declared.object.Object.{Object}
@@ -76,9 +75,9 @@ both_phases false one two = two
 makes_root : {job : Job} {past : Past} (s : Reading) (start : Tree) (held : Held) {counts : Counts} {number : ℕ} (change : Change) (last : Bool) → ItemsPart job past (phase.RootMake number) counts s.tree (root_in start)
     → KeepsItems job past (phase.RootMake number) held counts s start (does change) (cond last phase.RootRename (phase.RootMake (number + 1))) × KeepsLog job past (phase.RootMake number) held s start (does change) (cond last phase.RootRename (phase.RootMake (number + 1)))
 makes_root {job} {past} s start held {counts} {number} change true items =
-    kept job past s start (phase.RootMake number) phase.RootRename held counts (does change) [] (Nothing phase.RootRename) (λ log old had. had) items (record { placed = items.places.placed; next = tt })
+    kept job past s start (phase.RootMake number) phase.RootRename held counts (does change) [] Nothing (λ log old had. had) items (record { placed = items.places.placed; next = tt })
 makes_root {job} {past} s start held {counts} {number} change false items =
-    kept job past s start (phase.RootMake number) (phase.RootMake (number + 1)) held counts (does change) [] (Nothing (phase.RootMake (number + 1))) (λ log old had. had) items (record { placed = items.places.placed; next = tt })
+    kept job past s start (phase.RootMake number) (phase.RootMake (number + 1)) held counts (does change) [] Nothing (λ log old had. had) items (record { placed = items.places.placed; next = tt })
 
 -- none is placed before the pairtree is opened
 none_placed : (job : Job) (source : Forest) (root : Tree) {count : ℕ} → count ≡ 0 → [] ≡ carried_among job source root count
@@ -87,27 +86,27 @@ none_placed job source root first = sym (ap (carried_among job source root) firs
 checks_root : {job : Job} {past : Past} (s : Reading) (start : Tree) (held : Held) {counts : Counts} {number : ℕ} (change : Change) (last : Bool) → past.count ≡ 0 → ItemsPart job past (phase.RootCheck number) counts s.tree (root_in start)
     → KeepsItems job past (phase.RootCheck number) held counts s start (does change) (cond last phase.OpenRoot (phase.RootCheck (number + 1))) × KeepsLog job past (phase.RootCheck number) held s start (does change) (cond last phase.OpenRoot (phase.RootCheck (number + 1)))
 checks_root {job} {past} s start held {counts} {number} change true first items =
-    kept job past s start (phase.RootCheck number) phase.OpenRoot held counts (does change) [] (Nothing phase.OpenRoot) (λ log old had. had) items (record { placed = none_placed job s.tree (root_in start) first; next = tt })
+    kept job past s start (phase.RootCheck number) phase.OpenRoot held counts (does change) [] Nothing (λ log old had. had) items (record { placed = none_placed job s.tree (root_in start) first; next = tt })
 checks_root {job} {past} s start held {counts} {number} change false first items =
-    kept job past s start (phase.RootCheck number) (phase.RootCheck (number + 1)) held counts (does change) [] (Nothing (phase.RootCheck (number + 1))) (λ log old had. had) items (record { placed = items.places.placed; next = tt })
+    kept job past s start (phase.RootCheck number) (phase.RootCheck (number + 1)) held counts (does change) [] Nothing (λ log old had. had) items (record { placed = items.places.placed; next = tt })
 
 pub starts_items : StartingKeepsItems
 starts_items job past s prefix read start now here next held counts calls (IsStore was entries is) known =
-    kept job past s start here next held counts calls [] (Nothing (phase.Prefix (kind_in entries prefix_file))) (starts_told {job = job} s.tree (root_in start) past (IsStore was entries is)) known.items (record { placed = known.items.places.placed; next = tt })
+    kept job past s start here next held counts calls [] Nothing (starts_told {job = job} s.tree (root_in start) past (IsStore was entries is)) known.items (record { placed = known.items.places.placed; next = tt })
 starts_items job past s prefix read start now here next held counts calls (HasNoStaging was) known =
-    kept job past s start here next held counts calls [] (Nothing phase.Root) (starts_told {job = job} s.tree (root_in start) past (HasNoStaging was)) known.items (record { placed = known.items.places.placed; next = tt })
+    kept job past s start here next held counts calls [] Nothing (starts_told {job = job} s.tree (root_in start) past (HasNoStaging was)) known.items (record { placed = known.items.places.placed; next = tt })
 starts_items job past s prefix read start now here next held counts calls (HasNoRoot was) known =
-    kept job past s start here next held counts calls [] (Nothing (phase.RootMake 0)) (starts_told {job = job} s.tree (root_in start) past (HasNoRoot was)) known.items (record { placed = known.items.places.placed; next = tt })
+    kept job past s start here next held counts calls [] Nothing (starts_told {job = job} s.tree (root_in start) past (HasNoRoot was)) known.items (record { placed = known.items.places.placed; next = tt })
 starts_items job past s prefix read start now here next held counts calls (HasRoot was) known =
-    kept job past s start here next held counts calls [] (Nothing (phase.RootCheck 0)) (starts_told {job = job} s.tree (root_in start) past (HasRoot was)) known.items (record { placed = known.items.places.placed; next = tt })
+    kept job past s start here next held counts calls [] Nothing (starts_told {job = job} s.tree (root_in start) past (HasRoot was)) known.items (record { placed = known.items.places.placed; next = tt })
 starts_items job past s prefix read start now here next held counts calls (MakesRoot was number item is) known =
     makes_root s start held (Makes item) (number == 5) known.items
 starts_items job past s prefix read start now here next held counts calls (RenamesRoot was) known =
-    kept job past s start here next held counts calls [] (Nothing phase.OpenRoot) (starts_told {job = job} s.tree (root_in start) past (RenamesRoot was)) known.items (record { placed = none_placed job s.tree (root_in start) known.source.at.1; next = tt })
+    kept job past s start here next held counts calls [] Nothing (starts_told {job = job} s.tree (root_in start) past (RenamesRoot was)) known.items (record { placed = none_placed job s.tree (root_in start) known.source.at.1; next = tt })
 starts_items job past s prefix read start now here next held counts calls (IsSame was number path bytes is) known =
     checks_root s start held (Peeks (storage_root ++ path) bytes) (number == 2) known.source.at.1 known.items
 starts_items job past s prefix read start now here next held counts calls turn known =
-    kept job past s start here next held counts calls [] (Nothing phase.Staging) (starts_told {job = job} s.tree (root_in start) past turn) known.items (record { placed = known.items.places.placed; next = tt })
+    kept job past s start here next held counts calls [] Nothing (starts_told {job = job} s.tree (root_in start) past turn) known.items (record { placed = known.items.places.placed; next = tt })
 
 -- ---- the walk
 
@@ -155,50 +154,30 @@ scans_items job past s new prefix start now here next held after counts calls tu
 after_sidecar : (job : Job) (past : Past) (s : Reading) (start : Tree) (object : Object) (held : Held) (counts : Counts) (change : Change) (flat : Bool) → ItemsPart job past (phase.Make object part.Sidecar) counts s.tree (root_in start)
     → KeepsItems job past (phase.Make object part.Sidecar) held counts s start (does change) (cond flat (phase.Rename object) (phase.Tuples object 0)) × KeepsLog job past (phase.Make object part.Sidecar) held s start (does change) (cond flat (phase.Rename object) (phase.Tuples object 0))
 after_sidecar job past s start object held counts change true items =
-    kept job past s start (phase.Make object part.Sidecar) (phase.Rename object) held counts (does change) [] (Nothing (phase.Rename object)) (λ log old had. had) items (record { placed = items.places.placed; next = items.places.next })
+    kept job past s start (phase.Make object part.Sidecar) (phase.Rename object) held counts (does change) [] Nothing (λ log old had. had) items (record { placed = items.places.placed; next = items.places.next })
 after_sidecar job past s start object held counts change false items =
-    kept job past s start (phase.Make object part.Sidecar) (phase.Tuples object 0) held counts (does change) [] (Nothing (phase.Tuples object 0)) (λ log old had. had) items (record { placed = items.places.placed; next = items.places.next })
+    kept job past s start (phase.Make object part.Sidecar) (phase.Tuples object 0) held counts (does change) [] Nothing (λ log old had. had) items (record { placed = items.places.placed; next = items.places.next })
 
 pub makes_items : MakingKeepsItems
-makes_items job past s prefix start now here held after counts calls next (MakesStaging was object) known =
-    kept job past s start here next held counts calls [] (Nothing (phase.Make object part.Declaration)) (makes_told {job = job} s.tree (root_in start) past (MakesStaging was object)) known.items (record { placed = known.items.places.placed; next = known.items.places.next })
-makes_items job past s prefix start now here held after counts calls next (MakesDeclaration was object) known =
-    kept job past s start here next held counts calls [] (Nothing (phase.Make object part.Version)) (makes_told {job = job} s.tree (root_in start) past (MakesDeclaration was object)) known.items (record { placed = known.items.places.placed; next = known.items.places.next })
-makes_items job past s prefix start now here held after counts calls next (MakesVersion was object) known =
-    kept job past s start here next held counts calls [] (Nothing (phase.Make object (content_at was.rows (record { row = 0; stored = 0; directories = 0 })))) (makes_told {job = job} s.tree (root_in start) past (MakesVersion was object)) known.items (record { placed = known.items.places.placed; next = known.items.places.next })
-makes_items job past s prefix start now here held after counts calls next (PassesRow was object position row is other) known =
-    kept job past s start here next held counts calls [] (Nothing (phase.Make object (content_at was.rows (behind position)))) (makes_told {job = job} s.tree (root_in start) past (PassesRow was object position row is other)) known.items (record { placed = known.items.places.placed; next = known.items.places.next })
-makes_items job past s prefix start now here held after counts calls next (MakesFolder was object position row is stored more) known =
-    kept job past s start here next held counts calls [] (Nothing (phase.Make object (part.Content (with_folder position)))) (makes_told {job = job} s.tree (root_in start) past (MakesFolder was object position row is stored more)) known.items (record { placed = known.items.places.placed; next = known.items.places.next })
-makes_items job past s prefix start now here held after counts calls next (OpensCopy was object position row is stored all) known =
-    kept job past s start here next held counts calls [] (Nothing (phase.Copy object position row.length)) (makes_told {job = job} s.tree (root_in start) past (OpensCopy was object position row is stored all)) known.items (record { placed = known.items.places.placed; next = known.items.places.next })
-makes_items job past s prefix start now here held after counts calls next (CopiesOn was object position left byte block fits) known =
-    kept job past s start here next held counts calls [] (Nothing (phase.Copy object position (left - length (byte ∷ block)))) (makes_told {job = job} s.tree (root_in start) past (CopiesOn was object position left byte block fits)) known.items (record { placed = known.items.places.placed; next = known.items.places.next })
-makes_items job past s prefix start now here held after counts calls next (EndsCopy was object position row left is same) known =
-    kept job past s start here next held counts calls [] (Nothing (phase.Make object (content_at was.rows (behind_stored was.contents position row.path)))) (makes_told {job = job} s.tree (root_in start) past (EndsCopy was object position row left is same)) known.items (record { placed = known.items.places.placed; next = known.items.places.next })
-makes_items job past s prefix start now here held after counts calls next (MakesVersionInventory was object) known =
-    kept job past s start here next held counts calls [] (Nothing (phase.Make object part.VersionSidecar)) (makes_told {job = job} s.tree (root_in start) past (MakesVersionInventory was object)) known.items (record { placed = known.items.places.placed; next = known.items.places.next })
-makes_items job past s prefix start now here held after counts calls next (MakesVersionSidecar was object) known =
-    kept job past s start here next held counts calls [] (Nothing (phase.Make object part.Inventory)) (makes_told {job = job} s.tree (root_in start) past (MakesVersionSidecar was object)) known.items (record { placed = known.items.places.placed; next = known.items.places.next })
-makes_items job past s prefix start now here held after counts calls next (MakesInventory was object) known =
-    kept job past s start here next held counts calls [] (Nothing (phase.Make object part.Sidecar)) (makes_told {job = job} s.tree (root_in start) past (MakesInventory was object)) known.items (record { placed = known.items.places.placed; next = known.items.places.next })
 makes_items job past s prefix start now here held after counts calls next (MakesSidecar was object) known =
     after_sidecar job past s start object was counts (Makes (sidecar_file job object was.rows staging)) (job.tuples.count == 0) known.items
+makes_items job past s prefix start now here held after counts calls next turn known =
+    kept job past s start here next held counts calls [] Nothing (makes_told s.tree (root_in start) past turn) known.items (record { placed = known.items.places.placed; next = known.items.places.next })
 
 -- ---- an object at its place
 
 after_a_tuple : (job : Job) (past : Past) (s : Reading) (start : Tree) (object : Object) (held : Held) (counts : Counts) (number : ℕ) (change : Change) (more : Bool) → ItemsPart job past (phase.Tuples object number) counts s.tree (root_in start)
     → KeepsItems job past (phase.Tuples object number) held counts s start (does change) (cond more (phase.Tuples object (number + 1)) (phase.Rename object)) × KeepsLog job past (phase.Tuples object number) held s start (does change) (cond more (phase.Tuples object (number + 1)) (phase.Rename object))
 after_a_tuple job past s start object held counts number change true items =
-    kept job past s start (phase.Tuples object number) (phase.Tuples object (number + 1)) held counts (does change) [] (Nothing (phase.Tuples object (number + 1))) (λ log old had. had) items (record { placed = items.places.placed; next = items.places.next })
+    kept job past s start (phase.Tuples object number) (phase.Tuples object (number + 1)) held counts (does change) [] Nothing (λ log old had. had) items (record { placed = items.places.placed; next = items.places.next })
 after_a_tuple job past s start object held counts number change false items =
-    kept job past s start (phase.Tuples object number) (phase.Rename object) held counts (does change) [] (Nothing (phase.Rename object)) (λ log old had. had) items (record { placed = items.places.placed; next = items.places.next })
+    kept job past s start (phase.Tuples object number) (phase.Rename object) held counts (does change) [] Nothing (λ log old had. had) items (record { placed = items.places.placed; next = items.places.next })
 
 pub places_items : PlacingKeepsItems
 places_items job past s prefix start now here next held after counts calls (MakesTuple was object number) known = after_a_tuple job past s start object was counts number (FindsNoneAndMakes (tuple_folder object number)) (nat_lt (number + 1) job.tuples.count) known.items
 places_items job past s prefix start now here next held after counts calls (FindsTuple was object number) known = after_a_tuple job past s start object was counts number (Finds (tuple_folder object number) (Some kind.Dir)) (nat_lt (number + 1) job.tuples.count) known.items
 places_items job past s prefix start now here next held after counts calls (RenamesObject was object) known =
-    kept job past s start here next held counts calls [] (Nothing (phase.Line object)) (places_told {job = job} {counts = counts} s.tree (root_in start) past (RenamesObject was object)) known.items
+    kept job past s start here next held counts calls [] Nothing (places_told {job = job} {counts = counts} s.tree (root_in start) past (RenamesObject was object)) known.items
     (record {
       placed =
           ap (λ (l : List Carried). l ++ object_held object was.rows past.bytes ∷ []) known.items.places.placed

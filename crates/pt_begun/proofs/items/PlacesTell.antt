@@ -41,7 +41,7 @@ use Rattle.pt_begun.proofs.source.InObject.{site_itself}
 use Rattle.pt_begun.proofs.source.InPairtree.{pairtree_proper}
 use Rattle.pt_begun.proofs.items.ItemLines.{EndsItem, Last, Nothing, OneItem, Tells, free_item}
 use Rattle.pt_begun.proofs.source.ScannedFiles.{entries_there, file_in}
-use Rattle.pt_begun.proofs.items.ScansTell.{free_mark, item_of_site, named_so}
+use Rattle.pt_begun.proofs.items.ScansTell.{free_mark, named_so}
 
 -- ---- the files
 
@@ -117,21 +117,21 @@ done_told job past source object held at it =
 
 after_a_tuple : (job : Job) (source : Forest) (root : Tree) (count number : ℕ) (object : Object) (more : Bool)
     → Tells job source root count (cond more (phase.Tuples object (number + 1)) (phase.Rename object)) None (done_after (phase.Tuples object number) [] (cond more (phase.Tuples object (number + 1)) (phase.Rename object)) count) []
-after_a_tuple job source root count number object true = Nothing (phase.Tuples object (number + 1))
-after_a_tuple job source root count number object false = Nothing (phase.Rename object)
+after_a_tuple job source root count number object true = Nothing
+after_a_tuple job source root count number object false = Nothing
 
 pub places_tell : {job : Job} {counts : Counts} {past : Past} {s : Reading} {prefix : List ℕ} {root : Tree} {here next : Phase} {held after : Held} {calls : Calls} → Places job counts here held after calls (Ok next) → HeldAt job past here held → SourcePart job past here prefix held s
     → IsFreeAt here job s.tree root past.count → (gained : List Carried) × Tells job s.tree root past.count next calls.line (done_after here held.trail next past.count) gained
 places_tell {job} {past} {s} {root} (MakesTuple was object number) at part free = ([], after_a_tuple job s.tree root past.count number object (nat_lt (number + 1) job.tuples.count))
 places_tell {job} {past} {s} {root} (FindsTuple was object number) at part free = ([], after_a_tuple job s.tree root past.count number object (nat_lt (number + 1) job.tuples.count))
-places_tell (RenamesObject was object) at part free = ([], Nothing (phase.Line object))
+places_tell (RenamesObject was object) at part free = ([], Nothing)
 places_tell {job} {past} {s} {root} (TellsDone was object) at part free =
     let site = to_site object was.trail in
     let whole = files (entries (object_at s.tree object site).inside) in
     let gained : List Carried = record { id = object.id; files = whole } ∷ [] in (
       gained,
       subst (λ (l : Line). Tells job s.tree root past.count phase.Walk (Some l) (suc past.count) gained) (done_told job past s.tree object was at part.at.1.scanned)
-          (OneItem phase.Walk (Some (line_by_outcome (trail_path site) object.id (object_at s.tree object site) (place_of job.tuples object.id) (Holds whole))) (record { id = object.id; files = whole } ∷ [])
+          (OneItem
           (ends_with part.at.0 part.at.1 free)),
     )
 places_tell {counts} (TellsEnd was) at part free = ([], Last counts.done counts.present counts.skipped)

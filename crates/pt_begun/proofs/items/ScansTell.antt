@@ -27,10 +27,9 @@ use Rattle.pt_plan.specs.Job.{Job}
 use Rattle.pt_plan.specs.Run.{Held}
 use Rattle.pt_plan.specs.Store.{pairtree_of, prefix_of, sites_of}
 use Rattle.pt_plan.specs.TurnMake.{path_of_source}
-use Rattle.pt_plan.specs.TurnScan.{Scans, StartsInSite, EntersObject, IsTooDeep, PassesShorty, EntersDirectory, MeetsDeep, OpensFile, MeetsLimit, MeetsOther, EndsSite, EndsObject, LeavesDirectory, ReadsOn, IsTooLong, EndsFile, is_beyond, is_passed, logical_path, own_listings, skipped, to_site, with_directory}
+use Rattle.pt_plan.specs.TurnScan.{Scans, StartsInSite, EntersObject, IsTooDeep, PassesShorty, EntersDirectory, MeetsDeep, OpensFile, MeetsLimit, MeetsOther, EndsSite, EndsObject, LeavesDirectory, ReadsOn, IsTooLong, EndsFile, is_beyond, is_passed, logical_path, own_listings, skipped, to_site}
 use Rattle.pt_plan.specs.World.{Answers, Calls}
 use Rattle.pt_plan.specs.declared.object.Object.{Object}
-use Rattle.pt_plan.specs.declared.phase.Part.TheVariants as part
 use Rattle.pt_plan.specs.declared.phase.Phase.{Phase}
 use Rattle.pt_plan.specs.declared.phase.Phase.TheVariants as phase
 use Rattle.pt_begun.specs.Begun.{IsFreeAt, IsNextFree}
@@ -80,8 +79,8 @@ gives_up : {job : Job} {source : Forest} {root : Tree} {prefix : List ℕ} {obje
     → outcome job.limits (object_at source object (to_site object held.trail)) ≡ Fails why → Tells job source root count phase.Walk (Some (skipped object held why)) (suc count) []
 gives_up {job} {source} {root} {object} held {count} {why} started it free comes =
     let site = to_site object held.trail in
-    OneItem phase.Walk (Some (skipped object held why)) []
-    (free_item {job = job} {source = source} {root = root} {count = count} {item = item_of_site job source site} {id = object.id} {object = object_at source object site} (free_mark root it.site free) (named_so started it.site) comes)
+    OneItem
+    (free_item (free_mark root it.site free) (named_so started it.site) comes)
 
 -- ---- at an entry
 
@@ -131,7 +130,7 @@ fails_at_other : {job : Job} (source : Forest) (object : Object) {rows : List Ro
 fails_at_other source object [] proper e fits own it = absurd (cc)
 fails_at_other source object (frame ∷ frames) {name} proper e fits own it =
     let t = frame ∷ frames in
-    fails_at it (left_other source object frame frames {name = name} proper fits own e) refl
+    fails_at it (left_other source object frame frames proper fits own e) refl
 
 -- before its directory is entered
 fails_before : {job : Job} {source : Forest} {prefix : List ℕ} {object : Object} (t : List Frame) {count : ℕ} → is_trail t ≡ true → object.gathered ≡ false → nat_lt job.limits.depth (length t) ≡ true → length t ≡ object.site → IsInObject job source prefix object t count
@@ -155,24 +154,24 @@ too_long most count more {long} is within = let above = ltb-true most (count + m
 pub scans_tell : {job : Job} {past : Past} {s : Reading} {prefix : List ℕ} {root : Tree} {here next : Phase} {held after : Held} {calls : Calls} → Scans job here held after calls (Ok next) → is_trail held.trail ≡ true → SourcePart job past here prefix held s
     → IsFreeAt here job s.tree root past.count → (new : Reading) → Answers calls.asked (Some s) (Some new) → Tells job s.tree root past.count next calls.line (done_after here held.trail next past.count) []
 unfolding Answers IsRead
-scans_tell (StartsInSite was object gathered) is_one source_part free new answers = Nothing (phase.Scan object)
-scans_tell (EntersObject was object items apart shallow) is_one source_part free new answers = Nothing (phase.Scan (with_directory object items))
-scans_tell {root} (IsTooDeep was object apart deep) is_one source_part free new answers = gives_up {root = root} was {why = cause.Limit} source_part.at.1 source_part.at.2 free (fails_before was.trail is_one apart deep source_part.at.3 source_part.at.2)
-scans_tell (PassesShorty was object item e passed) is_one source_part free new answers = Nothing (phase.Scan object)
-scans_tell (EntersDirectory was object name items e apart shallow) is_one source_part free new answers = Nothing (phase.Scan (with_directory object items))
-scans_tell {s} {root} (MeetsDeep was object name e apart deep) is_one source_part free new answers = gives_up {root = root} was {why = cause.Limit} source_part.at.0 source_part.at.1.stands free (fails_at_directory s.tree object was.trail {name = name} (pairtree_proper s.tree source_part.at.0.store source_part.proper) is_one e apart deep source_part.at.1.stands.fits source_part.at.1.stands.within source_part.at.1.inside source_part.at.1.scanned)
-scans_tell (OpensFile was object name e room) is_one source_part free new answers = Nothing (phase.Read object 0)
-scans_tell {job} {s} {root} (MeetsLimit was object name e room) is_one source_part free new answers = gives_up {root = root} was {why = cause.Limit} source_part.at.0 source_part.at.1.stands free
-    (fails_at_file s.tree object was.trail {name = name} (pairtree_proper s.tree source_part.at.0.store source_part.proper) e (or_left (is_beyond job was (logical_path object was.trail)) (nat_lt job.limits.file_bytes (length (bytes_at (pairtree_of s.tree) (names_to was.trail)))) room) source_part.at.1.stands.fits source_part.at.1.inside source_part.at.1.scanned)
-scans_tell {s} {root} (MeetsOther was object name e) is_one source_part free new answers = gives_up {root = root} was {why = cause.Other} source_part.at.0 source_part.at.1.stands free (fails_at_other s.tree object was.trail {name = name} (pairtree_proper s.tree source_part.at.0.store source_part.proper) e source_part.at.1.stands.fits source_part.at.1.inside source_part.at.1.scanned)
-scans_tell (EndsSite was object e there) is_one source_part free new answers = Nothing (phase.Make object part.Staging)
-scans_tell (EndsObject was object e apart own) is_one source_part free new answers = Nothing (phase.Make object part.Staging)
-scans_tell (LeavesDirectory was object e apart outside) is_one source_part free new answers = Nothing (phase.Scan object)
-scans_tell (ReadsOn was object bytes byte block short) is_one source_part free new answers = Nothing (phase.Read object (bytes + length (byte ∷ block)))
+scans_tell (StartsInSite was object gathered) is_one source_part free new answers = Nothing
+scans_tell (EntersObject was object items apart shallow) is_one source_part free new answers = Nothing
+scans_tell {root} (IsTooDeep was object apart deep) is_one source_part free new answers = gives_up was source_part.at.1 source_part.at.2 free (fails_before was.trail is_one apart deep source_part.at.3 source_part.at.2)
+scans_tell (PassesShorty was object item e passed) is_one source_part free new answers = Nothing
+scans_tell (EntersDirectory was object name items e apart shallow) is_one source_part free new answers = Nothing
+scans_tell {s} {root} (MeetsDeep was object name e apart deep) is_one source_part free new answers = gives_up was source_part.at.0 source_part.at.1.stands free (fails_at_directory s.tree object was.trail (pairtree_proper s.tree source_part.at.0.store source_part.proper) is_one e apart deep source_part.at.1.stands.fits source_part.at.1.stands.within source_part.at.1.inside source_part.at.1.scanned)
+scans_tell (OpensFile was object name e room) is_one source_part free new answers = Nothing
+scans_tell {job} {s} {root} (MeetsLimit was object name e room) is_one source_part free new answers = gives_up was source_part.at.0 source_part.at.1.stands free
+    (fails_at_file s.tree object was.trail (pairtree_proper s.tree source_part.at.0.store source_part.proper) e (or_left (is_beyond job was (logical_path object was.trail)) (nat_lt job.limits.file_bytes (length (bytes_at (pairtree_of s.tree) (names_to was.trail)))) room) source_part.at.1.stands.fits source_part.at.1.inside source_part.at.1.scanned)
+scans_tell {s} {root} (MeetsOther was object name e) is_one source_part free new answers = gives_up was source_part.at.0 source_part.at.1.stands free (fails_at_other s.tree object was.trail (pairtree_proper s.tree source_part.at.0.store source_part.proper) e source_part.at.1.stands.fits source_part.at.1.inside source_part.at.1.scanned)
+scans_tell (EndsSite was object e there) is_one source_part free new answers = Nothing
+scans_tell (EndsObject was object e apart own) is_one source_part free new answers = Nothing
+scans_tell (LeavesDirectory was object e apart outside) is_one source_part free new answers = Nothing
+scans_tell (ReadsOn was object bytes byte block short) is_one source_part free new answers = Nothing
 scans_tell {job} {s} {root} (IsTooLong was object bytes byte block long) is_one source_part free new answers =
     let whole = bytes_at (pairtree_of s.tree) (names_to was.trail) in
     let within = (reads_block 8192 whole bytes was.fed (byte ∷ block) s.unread source_part.at.2.read (answers.0 s refl)).within in
-    gives_up {root = root} was {why = cause.Limit} source_part.at.0 source_part.at.1.stands free
-    (fails_at_file s.tree object was.trail {name = source_part.at.2.name} (pairtree_proper s.tree source_part.at.0.store source_part.proper) source_part.at.2.file
-    (or_right (is_beyond job was (logical_path object was.trail)) (nat_lt job.limits.file_bytes (length whole)) (too_long job.limits.file_bytes bytes (length (byte ∷ block)) {long = length whole} long within)) source_part.at.1.stands.fits source_part.at.1.inside source_part.at.1.scanned)
-scans_tell (EndsFile was object bytes) is_one source_part free new answers = Nothing (phase.Scan object)
+    gives_up was source_part.at.0 source_part.at.1.stands free
+    (fails_at_file s.tree object was.trail (pairtree_proper s.tree source_part.at.0.store source_part.proper) source_part.at.2.file
+    (or_right (is_beyond job was (logical_path object was.trail)) (nat_lt job.limits.file_bytes (length whole)) (too_long job.limits.file_bytes bytes (length (byte ∷ block)) long within)) source_part.at.1.stands.fits source_part.at.1.inside source_part.at.1.scanned)
+scans_tell (EndsFile was object bytes) is_one source_part free new answers = Nothing

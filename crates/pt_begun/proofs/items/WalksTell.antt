@@ -1,5 +1,5 @@
 -- What the turns of the walk tell is the line of the item that they end.
-use Rattle.std.proofs.Common.{◌≡◌, ℕ, suc, true, List, [], ◌∷◌, refl, ap, sym, ◌∙◌, subst, arith, cond, length, take, ◌<◌}
+use Rattle.std.proofs.Common.{◌≡◌, ℕ, suc, true, List, [], ◌∷◌, refl, ap, sym, ◌∙◌, subst, arith, length, take, ◌<◌}
 use Rattle.std.specs.Prelude.{Option, None, Some, Ok, is_some, slice_get}
 use Rattle.std.specs.Option.{option_map}
 use Rattle.pt_name.specs.Place.{place_of}
@@ -20,7 +20,7 @@ use Rattle.pt_walk.specs.declared.frame.Frame.{Frame}
 use Rattle.pt_plan.specs.Carried.{Carried, carried_among, is_taken}
 use Rattle.pt_plan.specs.Items.{Item, Named, PairtreeObject, Verdict, VerdictOn, item_of, items, verdict_of}
 use Rattle.pt_plan.specs.Job.{Job}
-use Rattle.pt_plan.specs.Lines.{Line, Present, Skipped}
+use Rattle.pt_plan.specs.Lines.{Line, Present}
 use Rattle.pt_plan.specs.PlaceLaws.{IsRooted}
 use Rattle.pt_plan.specs.Roots.{root_in}
 use Rattle.pt_plan.specs.Run.{Held}
@@ -76,7 +76,7 @@ taken_as_found : {job : Job} (source : Forest) {start : Tree} (past : Past) {w :
     → (item_judged job source t).verdict ≡ Named id object → past.placed ≡ carried_among job source (root_in start) past.count → IsBetweenObjects job start past.placed w → option_map kind_of_entry (w.tree (in_root (place_of job.tuples id))) ≡ what
     → is_taken job (root_in start) (take past.count (items job source)) (item_judged job source t).verdict ≡ is_some what
 taken_as_found {job} source {start} past {w} t {id} {object} {what} rooted is named placed between found =
-    mark_where_stands job source {root = root_in start} past.count {id = id} {object = object} rooted is named
+    mark_where_stands job source past.count rooted is named
     ∙ ap (λ (l : List Carried). is_some (root_now job start l (place_of job.tuples id))) (sym placed)
     ∙ ap is_some (sym (ap (λ (r : Tree). r (in_root (place_of job.tuples id))) between.tree))
     ∙ some_kind (w.tree (in_root (place_of job.tuples id))) what found
@@ -92,30 +92,30 @@ pub walks_tell : {job : Job} {past : Past} {s : Reading} {prefix : List ℕ} (st
     → IsRooted (root_in start) → past.placed ≡ carried_among job s.tree (root_in start) (items_placed here past.count) → DestAt job start past here held w → Changes calls.change (Some w) (Some new)
     → Tells job s.tree (root_in start) past.count next calls.line (done_after here held.trail next past.count) []
 unfolding Changes IsKindAt
-walks_tell {job} {past} {s} {prefix} start w new (LeadsOn was is) is_one part rooted placed dest change = OneItem phase.Walk None [] (interior_item {job = job} {source = s.tree} (root_in start) {count = past.count} (judged_next part.at.2) (with_prefix job was.trail part.at.1 (judged_verdict job s.tree prefix was.trail (pairtree_proper s.tree part.at.1.store part.proper) part.at.2.way.entered part.at.2.way.fits is)))
-walks_tell {job} {past} {s} {prefix} start w new (IsSkipped was why is) is_one part rooted placed dest change = OneItem phase.Walk (Some (Skipped (trail_path was.trail) why)) [] (skipped_item {job = job} {source = s.tree} (root_in start) {count = past.count} {why = why} (judged_next part.at.2) (with_prefix job was.trail part.at.1 (judged_verdict job s.tree prefix was.trail (pairtree_proper s.tree part.at.1.store part.proper) part.at.2.way.entered part.at.2.way.fits is)))
+walks_tell {job} {past} {s} {prefix} start w new (LeadsOn was is) is_one part rooted placed dest change = OneItem (interior_item (root_in start) (judged_next part.at.2) (with_prefix job was.trail part.at.1 (judged_verdict job s.tree prefix was.trail (pairtree_proper s.tree part.at.1.store part.proper) part.at.2.way.entered part.at.2.way.fits is)))
+walks_tell {job} {past} {s} {prefix} start w new (IsSkipped was why is) is_one part rooted placed dest change = OneItem (skipped_item (root_in start) (judged_next part.at.2) (with_prefix job was.trail part.at.1 (judged_verdict job s.tree prefix was.trail (pairtree_proper s.tree part.at.1.store part.proper) part.at.2.way.entered part.at.2.way.fits is)))
 walks_tell {job} {past} {s} {prefix} start w new (IsPresent was index id here_is is) is_one part rooted placed dest change =
     let object = object_at s.tree (new_object job id index was.trail) (at_object index was.trail) in
     let named = (with_prefix job was.trail part.at.1 (judged_verdict job s.tree prefix was.trail (pairtree_proper s.tree part.at.1.store part.proper) part.at.2.way.entered part.at.2.way.fits is)) in
     let item = judged_next part.at.2 in
-    let taken = taken_as_found s.tree past was.trail {id = id} {object = object} rooted item named placed dest (change.0 w refl) in
+    let taken = taken_as_found s.tree past was.trail rooted item named placed dest (change.0 w refl) in
     subst (λ (p : Path). Tells job s.tree (root_in start) past.count phase.Walk (Some (Present p id (place_of job.tuples id))) (suc past.count) []) (path_at job id index was.trail)
-    (OneItem phase.Walk (Some (Present object.at id (place_of job.tuples id))) [] (present_item {job = job} {source = s.tree} {root = root_in start} {count = past.count} {id = id} {object = object} item named taken))
-walks_tell {job} start w new (IsNew was index id is) is_one part rooted placed dest change = Nothing (phase.OpenObject (new_object job id index was.trail))
+    (OneItem (present_item item named taken))
+walks_tell {job} start w new (IsNew was index id is) is_one part rooted placed dest change = Nothing
 walks_tell {job} {past} {s} start w new (IsPast was name e short last) is_one part rooted placed dest change =
-    at_shorty was.trail {name = name} e short
-    (OneItem phase.Walk (cond (is_first job.share) (Some (Skipped (names_to was.trail) cause.Past)) None) [] (passed_item (is_first job.share) {job = job} {source = s.tree} (root_in start) {count = past.count} cause.Past
+    at_shorty was.trail e short
+    (OneItem (passed_item (is_first job.share) (root_in start) cause.Past
     (get_map (item_of job (prefix_of s.tree)) (sites_of job.limits.depth s.tree) past.count (names_to was.trail, past_visit) (past_next job s.tree was.trail name past.count (pairtree_proper s.tree part.at.1.store part.proper) e short last part.at.2)) refl))
 walks_tell {job} {past} {s} start w new (IsDeep was name e short last deep) is_one part rooted placed dest change =
-    at_shorty was.trail {name = name} e short
-    (OneItem phase.Walk (cond (is_first job.share) (Some (Skipped (names_to was.trail) cause.Limit)) None) [] (passed_item (is_first job.share) {job = job} {source = s.tree} (root_in start) {count = past.count} cause.Limit
+    at_shorty was.trail e short
+    (OneItem (passed_item (is_first job.share) (root_in start) cause.Limit
     (get_map (item_of job (prefix_of s.tree)) (sites_of job.limits.depth s.tree) past.count (names_to was.trail, Deep) (deep_next job s.tree was.trail name past.count (pairtree_proper s.tree part.at.1.store part.proper) is_one e short last deep part.at.2)) refl))
 walks_tell {job} {past} {s} start w new (PassesEntry was item e apart) is_one part rooted placed dest change =
-    subst (λ (n : ℕ). Tells job s.tree (root_in start) past.count phase.Walk None n []) (sym (none_at_entry was.trail item past.count e apart)) (Nothing phase.Walk)
+    subst (λ (n : ℕ). Tells job s.tree (root_in start) past.count phase.Walk None n []) (sym (none_at_entry was.trail item past.count e apart)) Nothing
 walks_tell {job} {past} {s} start w new (LeavesSite was e long) is_one part rooted placed dest change =
-    subst (λ (n : ℕ). Tells job s.tree (root_in start) past.count phase.Walk None n []) (sym (none_at_end was.trail past.count e)) (Nothing phase.Walk)
-walks_tell start w new (EndsWalk was e short) is_one part rooted placed dest change = Nothing phase.End
-walks_tell start w new _ is_one part rooted placed dest change = Nothing phase.Judge
+    subst (λ (n : ℕ). Tells job s.tree (root_in start) past.count phase.Walk None n []) (sym (none_at_end was.trail past.count e)) Nothing
+walks_tell start w new (EndsWalk was e short) is_one part rooted placed dest change = Nothing
+walks_tell start w new _ is_one part rooted placed dest change = Nothing
 
 -- the place of a new object isn't taken
 pub new_is_free : {job : Job} {past : Past} {s : Reading} {prefix : List ℕ} {start : Tree} {w : Writing} {held : Held} {index : Option ℕ} {id : List ℕ} → SourcePart job past phase.Judge prefix held s
