@@ -26,15 +26,15 @@ pub record IsOne {X : Type 0} (x : X) (xs : List X) : Type 0 where
 
 front_one : {X : Type 0} → {x : X} (xs ys : List X) (n : ℕ) → slice_get xs n ≡ Some x → slice_get (xs ++ ys) n ≡ Some x
 front_one [] ys n is = absurd (cc)
-front_one (y ∷ xs) ys zero is = is
-front_one (y ∷ xs) ys (suc n) is = front_one xs ys n is
+front_one (_ ∷ _) _ zero is = is
+front_one (_ ∷ xs) ys (suc n) is = front_one xs ys n is
 
 pub one_in_front : {X : Type 0} → {x : X} {xs : List X} (ys : List X) → IsOne x xs → IsOne x (xs ++ ys)
 one_in_front {xs} ys it = record { index = it.index; is = front_one xs ys it.index it.is }
 
 pub one_behind : {X : Type 0} → {x : X} (xs : List X) {ys : List X} → IsOne x ys → IsOne x (xs ++ ys)
 one_behind [] it = it
-one_behind (y ∷ xs) it = let later = one_behind xs it in record { index = suc later.index; is = later.is }
+one_behind (_ ∷ xs) it = let later = one_behind xs it in record { index = suc later.index; is = later.is }
 
 one_in_all : {X : Type 0} → (h : X → List ℕ) {x : X} {n : ℕ} (xs : List X) (k : ℕ) → slice_get xs k ≡ Some x → IsOne n (h x) → IsOne n (flat_map h xs)
 one_in_all h [] k is it = absurd (cc)
@@ -115,7 +115,7 @@ front_records job object front left all good =
     subst (λ (l : List File). records_of job (files front) ≤ records_of job l) (sym same) fewer
 
 dirs_in_turn : (first later : List Entry) → dirs (first ++ later) ≡ dirs first ++ dirs later
-dirs_in_turn [] later = refl
+dirs_in_turn [] _ = refl
 dirs_in_turn (entry ∷ first) later = ap (λ (l : List Path). path_of_dir entry.0 entry.1 ++ l) (dirs_in_turn first later) ∙ sym (append_assoc (path_of_dir entry.0 entry.1) (dirs first) (dirs later))
 
 -- a directory that was scanned is one of those

@@ -70,36 +70,36 @@ few_with_file {job} {past} {prefix} {held} {object} {bytes} {s} new at known ans
     omega (arith, few, same, fewer)
 
 walks_few : {job : Job} (source : Forest) {prefix : List ℕ} {here : Phase} {held new : Held} {calls : Calls} {answer : Answer} → Walks job prefix here held new calls answer → IsWithinBound job source held → AreFew job source held new.rows
-walks_few source (OpensRoot _ _) few = few
-walks_few source _ few = few
+walks_few _ (OpensRoot _ _) few = few
+walks_few _ _ few = few
 
 scans_few : {job : Job} {past : Past} {prefix : List ℕ} {here : Phase} {held new : Held} {calls : Calls} {answer : Answer} {s : Reading} (now : Option Reading) → Scans job here held new calls answer → HeldAt job past here held → SourcePart job past here prefix held s
     → Answers calls.asked (Some s) now → IsWithinBound job s.tree held → AreFew job s.tree held new.rows
-scans_few {job} {s} now (IsTooDeep was object apart deep) at known answers few = few_none job s.tree was few
-scans_few {job} {s} now (MeetsDeep was object name e apart deep) at known answers few = few_none job s.tree was few
-scans_few {job} {s} now (MeetsLimit was object name e room) at known answers few = few_none job s.tree was few
-scans_few {job} {s} now (MeetsOther was object name e) at known answers few = few_none job s.tree was few
-scans_few {job} {s} now (IsTooLong was object bytes byte block long) at known answers few = few_none job s.tree was few
-scans_few now (EndsFile was object bytes) at known answers few = few_with_file now at known answers
-scans_few now _ at known answers few = few
+scans_few {job} {s} _ (IsTooDeep was _ _ _) _ _ _ few = few_none job s.tree was few
+scans_few {job} {s} _ (MeetsDeep was _ _ _ _ _) _ _ _ few = few_none job s.tree was few
+scans_few {job} {s} _ (MeetsLimit was _ _ _ _) _ _ _ few = few_none job s.tree was few
+scans_few {job} {s} _ (MeetsOther was _ _ _) _ _ _ few = few_none job s.tree was few
+scans_few {job} {s} _ (IsTooLong was _ _ _ _ _) _ _ _ few = few_none job s.tree was few
+scans_few now (EndsFile _ _ _) at known answers _ = few_with_file now at known answers
+scans_few _ _ _ _ _ few = few
 
 makes_few : {job : Job} (source : Forest) {here : Phase} {held new : Held} {calls : Calls} {answer : Answer} → Makings job here held new calls answer → IsWithinBound job source held → AreFew job source held new.rows
-makes_few source (MakesStaging _ _) few = few
-makes_few source _ few = few
+makes_few _ (MakesStaging _ _) few = few
+makes_few _ _ few = few
 
 places_few : {job : Job} (source : Forest) {counts : Counts} {here : Phase} {held new : Held} {calls : Calls} {answer : Answer} → Places job counts here held new calls answer → IsWithinBound job source held → AreFew job source held new.rows
-places_few {job} source (TellsDone was object) few = few_none job source was few
-places_few source _ few = few
+places_few {job} source (TellsDone was _) few = few_none job source was few
+places_few _ _ few = few
 
 -- ---- a turn that halts
 
 follows_few : {job : Job} {past : Past} {counts : Counts} {here : Phase} {prefix : List ℕ} {held : Held} {read : List ℕ} {new : Held} {calls : Calls} {answer : Answer} {s : Reading} (now : Option Reading) → Follows job counts here prefix held read new calls answer
     → HeldAt job past here held → SourcePart job past here prefix held s → Answers calls.asked (Some s) now → IsWithinBound job s.tree held → AreFew job s.tree held new.rows
-follows_few now (a_start h p r x c a turn) at known answers few = few
-follows_few {s} now (Walk h p x n c a turn) at known answers few = walks_few s.tree turn few
-follows_few now (Scan h p x n c a turn) at known answers few = scans_few now turn at known answers few
-follows_few {s} now (Make h p x n c a turn) at known answers few = makes_few s.tree turn few
-follows_few {s} now (Place h p x n c a turn) at known answers few = places_few s.tree turn few
+follows_few _ (a_start _ _ _ _ _ _ _) _ _ _ few = few
+follows_few {s} _ (Walk _ _ _ _ _ _ turn) _ _ _ few = walks_few s.tree turn few
+follows_few now (Scan _ _ _ _ _ _ turn) at known answers few = scans_few now turn at known answers few
+follows_few {s} _ (Make _ _ _ _ _ _ turn) _ _ _ few = makes_few s.tree turn few
+follows_few {s} _ (Place _ _ _ _ _ _ turn) _ _ _ few = places_few s.tree turn few
 
 halted_few : (job : Job) (source : Forest) {rows : List Row} {before after : Kept} → IsHalted rows before after → AreFew job source before.held rows → IsWithinBound job source after.held
 halted_few job source halted few =
@@ -110,11 +110,11 @@ halted_few job source halted few =
 
 pub halted_is_within_bound : HaltedIsWithinBound
 unfolding Begun
-halted_is_within_bound job start old new run after why s (past, is) not (IsRefused prefix held calls reason turn did halted) told =
+halted_is_within_bound job _ _ _ run _ _ s (past, is) not (IsRefused _ _ _ _ _ _ halted) told =
     halted_few job s.tree halted (within job past run.phase run.kept.prefix run.kept.held s is.held (is.source s told) not)
-halted_is_within_bound job start old new run after why s (past, is) not (FailsAtFirst reason stays halted) told =
+halted_is_within_bound job _ _ _ run _ _ s (past, is) not (FailsAtFirst _ _ halted) told =
     halted_few job s.tree halted (within job past run.phase run.kept.prefix run.kept.held s is.held (is.source s told) not)
-halted_is_within_bound job start old new run after why s (past, is) not (FailsLater prefix held calls answer rows reason turn leaves which halted) told =
+halted_is_within_bound job _ _ new run _ _ s (past, is) not (FailsLater _ _ calls _ _ _ turn _ which halted) told =
     halted_few job s.tree halted
     (elim which [
       | inl same ↦ subst (AreFew job s.tree run.kept.held) (sym same) few

@@ -35,11 +35,11 @@ use Rattle.pt_begun.proofs.source.ScansKeep.{no_cause_dir}
 
 pub entries_advanced : (t : List Frame) → entries_held (advanced t) ≡ entries_held t
 entries_advanced [] = refl
-entries_advanced (frame ∷ frames) = refl
+entries_advanced (_ ∷ _) = refl
 
 pub entries_sought : (place : ℕ) (t : List Frame) → entries_held (sought place t) ≡ entries_held t
-entries_sought place [] = refl
-entries_sought place (frame ∷ frames) = refl
+entries_sought _ [] = refl
+entries_sought _ (_ ∷ _) = refl
 
 pub entries_parent : (t : List Frame) → entries_held (parent t) ≤ entries_held t
 entries_parent [] = omega arith
@@ -53,7 +53,7 @@ entries_dropped (suc n) (frame ∷ frames) = let later = entries_dropped n frame
 -- the trail lists what the directories down to its innermost one list
 lists : (top : Forest) (t : List Frame) → 0 < length t → is_trail t ≡ true → Fits top t → entries_held t ≡ listed top (trail_path t)
 lists top [] some is_one fits = absurd (omega (arith, some))
-lists top (frame ∷ frames) some is_one fits = holds_listed top frame frames is_one fits
+lists top (frame ∷ frames) _ is_one fits = holds_listed top frame frames is_one fits
 
 -- ---- at a site
 

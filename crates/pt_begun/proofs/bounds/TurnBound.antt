@@ -20,24 +20,24 @@ use Rattle.pt_begun.proofs.bounds.WithinBound.{begun_is_within_bound}
 -- a source that told tells after it answered, and the same tree
 answered : (asked : Asked) (s : Reading) (new : Option Reading) → Answers asked (Some s) new → (v : Reading) × (new ≡ Some v) × (v.tree ≡ s.tree)
 unfolding Answers
-answered AsksNothing s new answers = (s, answers, refl)
-answered (Lists path entries) s new answers = (s, answers.2, refl)
-answered (Opens path) s new answers = (after_open path s, answers, refl)
-answered (Reads block) s new answers = (after_next s, answers.1, refl)
-answered (OpensAndReads path block) s new answers = (after_next (after_open path s), answers.1, refl)
+answered AsksNothing s _ answers = (s, answers, refl)
+answered (Lists _ _) s _ answers = (s, answers.2, refl)
+answered (Opens path) s _ answers = (after_open path s, answers, refl)
+answered (Reads _) s _ answers = (after_next s, answers.1, refl)
+answered (OpensAndReads path _) s _ answers = (after_next (after_open path s), answers.1, refl)
 
 -- a source that told tells after a turn that goes on, and the same tree
 tells_on : {old new : World} (run : Run) {after : Kept} {job : Job} {next : Phase} {s : Reading} → Turn job run.phase (turning run.kept) after old new (Ok next) → old.source ≡ Some s → (v : Reading) × (new.source ≡ Some v) × (v.tree ≡ s.tree)
 unfolding Did
-tells_on {new} run {s} (GoesOn calls to turn did counts) told = answered calls.asked s new.source (subst (λ o. Answers calls.asked o new.source) told did.0.source)
+tells_on {new} _ {s} (GoesOn calls _ _ did _) told = answered calls.asked s new.source (subst (λ o. Answers calls.asked o new.source) told did.0.source)
 
 goes_within : (job : Job) (start : Start) (old new : World) (run : Run) (after : Kept) (next : Phase) (s : Reading) → Begun job start old run → is_ended run.phase ≡ false → Turn job run.phase (turning run.kept) after old new (Ok next) → old.source ≡ Some s
     → (last : Bool) → is_ended next ≡ last → IsWithinBound job s.tree after.held
-goes_within job start old new run after next s begun going turn told false more =
+goes_within job start old new run after next _ begun _ turn told false more =
     let v = tells_on run turn told in
     subst (λ (f : Forest). IsWithinBound job f after.held) v.2
     (begun_is_within_bound job start new (record { phase = next; kept = after }) v.0 (turn_keeps_begun job start old new run after next begun turn) more v.1)
-goes_within job start old new run after next s begun going (GoesOn calls to turn did counts) told true ended =
+goes_within job start old _ run _ _ s begun going (GoesOn _ _ turn _ _) told true ended =
     subst (λ (h : Held). IsWithinBound job s.tree h) (sym (last_turn turn ended).held_is)
     (begun_is_within_bound job start old run s begun going told)
 

@@ -23,11 +23,11 @@ in_object {job} {source} past {object} {held} rows it room =
     omega (arith, few, room)
 
 pub within : (job : Job) (past : Past) (here : Phase) (prefix : List ℕ) (held : Held) (s : Reading) → HeldAt job past here held → SourcePart job past here prefix held s → is_ended here ≡ false → IsWithinBound job s.tree held
-within job past (phase.Scan object) prefix held s has it not = in_object past has.rows it.at.1 it.few
-within job past (phase.Read object bytes) prefix held s has it not = in_object past has.rows it.at.1 it.few
-within job past phase.Ended prefix held s has it not = absurd (true≢false not)
-within job past _ prefix held s has it not = it.few
+within _ past (phase.Scan _) _ _ _ has it _ = in_object past has.rows it.at.1 it.few
+within _ past (phase.Read _ _) _ _ _ has it _ = in_object past has.rows it.at.1 it.few
+within _ _ phase.Ended _ _ _ _ _ not = absurd (true≢false not)
+within _ _ _ _ _ _ _ it _ = it.few
 
 pub begun_is_within_bound : BegunIsWithinBound
 unfolding Begun
-begun_is_within_bound job start world run s (past, is) not told = within job past run.phase run.kept.prefix run.kept.held s is.held (is.source s told) not
+begun_is_within_bound job _ _ run s (past, is) not told = within job past run.phase run.kept.prefix run.kept.held s is.held (is.source s told) not

@@ -34,4 +34,4 @@ end_left {job} {source} {start} {told} log is =
 -- of a run that hasn't ended nothing is said
 pub left_unless : (here : Phase) {job : Job} {source : Forest} {start now : Tree} {first last : List ℕ} → (here ≡ phase.Ended → IsLeftByFault job source start now first last) → LeftAt here job source start now first last
 left_unless phase.Ended at_end = at_end refl
-left_unless _ at_end = tt
+left_unless _ _ = tt

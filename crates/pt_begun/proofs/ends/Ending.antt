@@ -42,8 +42,8 @@ use Rattle.pt_begun.proofs.dest.WaysLeft.{ways_left}
 -- ---- the turn that ends the run
 
 either_not : (this : Bool) (p q : Phase) → is_ended p ≡ false → is_ended q ≡ false → is_ended (cond this p q) ≡ false
-either_not true p q one two = one
-either_not false p q one two = two
+either_not true _ _ one _ = one
+either_not false _ _ _ two = two
 
 -- it tells the end, and changes nothing
 pub record IsLastTurn (counts : Counts) (here : Phase) (held after : Held) (calls : Calls) : Type 0 where
@@ -52,8 +52,8 @@ pub record IsLastTurn (counts : Counts) (here : Phase) (held after : Held) (call
   pub held_is : after ≡ held
 
 starts_go : {job : Job} {prefix read : List ℕ} {here next : Phase} {calls : Calls} → Starts job here prefix read calls (Ok next) → is_ended next ≡ false
-starts_go (MakesRoot was number item is) = either_not (number == 5) phase.RootRename (phase.RootMake (number + 1)) refl refl
-starts_go (IsSame was number path bytes is) = either_not (number == 2) phase.OpenRoot (phase.RootCheck (number + 1)) refl refl
+starts_go (MakesRoot _ number _ _) = either_not (number == 5) phase.RootRename (phase.RootMake (number + 1)) refl refl
+starts_go (IsSame _ number _ _ _) = either_not (number == 2) phase.OpenRoot (phase.RootCheck (number + 1)) refl refl
 starts_go _ = refl
 
 walks_go : {job : Job} {prefix : List ℕ} {here next : Phase} {held after : Held} {calls : Calls} → Walks job prefix here held after calls (Ok next) → is_ended next ≡ false
@@ -65,21 +65,21 @@ scans_go (StartsInSite _ _ _) = refl
 scans_go _ = refl
 
 makes_go : {job : Job} {here : Phase} {held after : Held} {calls : Calls} {next : Phase} → Makings job here held after calls (Ok next) → is_ended next ≡ false
-makes_go {job} (MakesSidecar was object) = either_not (job.tuples.count == 0) (phase.Rename object) (phase.Tuples object 0) refl refl
+makes_go {job} (MakesSidecar _ object) = either_not (job.tuples.count == 0) (phase.Rename object) (phase.Tuples object 0) refl refl
 makes_go _ = refl
 
 places_last : {job : Job} {counts : Counts} {here next : Phase} {held after : Held} {calls : Calls} → Places job counts here held after calls (Ok next) → is_ended next ≡ true → IsLastTurn counts here held after calls
-places_last {job} (MakesTuple was object number) ended = absurd (let no = either_not (nat_lt (number + 1) job.tuples.count) (phase.Tuples object (number + 1)) (phase.Rename object) refl refl in true≢false (sym ended ∙ no))
-places_last {job} (FindsTuple was object number) ended = absurd (let no = either_not (nat_lt (number + 1) job.tuples.count) (phase.Tuples object (number + 1)) (phase.Rename object) refl refl in true≢false (sym ended ∙ no))
-places_last (TellsEnd was) ended = record { phase_is = refl; calls_are = refl; held_is = refl }
+places_last {job} (MakesTuple _ object number) ended = absurd (let no = either_not (nat_lt (number + 1) job.tuples.count) (phase.Tuples object (number + 1)) (phase.Rename object) refl refl in true≢false (sym ended ∙ no))
+places_last {job} (FindsTuple _ object number) ended = absurd (let no = either_not (nat_lt (number + 1) job.tuples.count) (phase.Tuples object (number + 1)) (phase.Rename object) refl refl in true≢false (sym ended ∙ no))
+places_last (TellsEnd _) _ = record { phase_is = refl; calls_are = refl; held_is = refl }
 places_last _ ended = absurd (false≢true ended)
 
 pub last_turn : {job : Job} {counts : Counts} {here : Phase} {prefix : List ℕ} {held : Held} {read : List ℕ} {after : Held} {calls : Calls} {next : Phase} → Follows job counts here prefix held read after calls (Ok next) → is_ended next ≡ true → IsLastTurn counts here held after calls
-last_turn (a_start h p r w c a turn) ended = absurd (true≢false (sym ended ∙ starts_go turn))
-last_turn (Walk h p w n c a turn) ended = absurd (true≢false (sym ended ∙ walks_go turn))
-last_turn (Scan h p w n c a turn) ended = absurd (true≢false (sym ended ∙ scans_go turn))
-last_turn (Make h p w n c a turn) ended = absurd (true≢false (sym ended ∙ makes_go turn))
-last_turn (Place h p w n c a turn) ended = places_last turn ended
+last_turn (a_start _ _ _ _ _ _ turn) ended = absurd (true≢false (sym ended ∙ starts_go turn))
+last_turn (Walk _ _ _ _ _ _ turn) ended = absurd (true≢false (sym ended ∙ walks_go turn))
+last_turn (Scan _ _ _ _ _ _ turn) ended = absurd (true≢false (sym ended ∙ scans_go turn))
+last_turn (Make _ _ _ _ _ _ turn) ended = absurd (true≢false (sym ended ∙ makes_go turn))
+last_turn (Place _ _ _ _ _ _ turn) ended = places_last turn ended
 
 -- ---- all items are done
 
@@ -98,7 +98,7 @@ all_done job source {count} none =
 
 -- the ways to objects are as free in a root as in what objects are put on there
 ways_in_base : (job : Job) {root : Tree} (objects : List Carried) → IsRooted root → list_all (is_way_free job (base job.tuples root)) objects ≡ list_all (is_way_free job root) objects
-ways_in_base job [] rooted = refl
+ways_in_base _ [] _ = refl
 ways_in_base job {root} (object ∷ objects) rooted =
     ap (λ b. b && list_all (is_way_free job (base job.tuples root)) objects) (way_in_base job root object rooted)
     ∙ ap (λ b. is_way_free job root object && b) (ways_in_base job objects rooted)
@@ -133,7 +133,7 @@ module _ (job : Job) (past : Past) (held : Held) (prefix : List ℕ) (counts : C
   is_start = record { store = source.at.1.store; prefix = source.at.1.good; target = target dest.at.root.root }
 
   pub log_all : (first last : List ℕ) → last ≡ (first ++ text job s.tree (root_in t) past.count) ++ line_text (last_line counts) → (told : List ℕ) × (last ≡ first ++ told) × (told ≡ log_of job s.tree (root_in t))
-  log_all first last is = (
+  log_all first _ is = (
     text job s.tree (root_in t) past.count ++ line_text (last_line counts),
     is ∙ append_assoc first (text job s.tree (root_in t) past.count) (line_text (last_line counts)),
     ap (λ (l : Line). text job s.tree (root_in t) past.count ++ line_text l) line_is ∙ sym (all_are).3,
@@ -150,7 +150,7 @@ module _ (job : Job) (past : Past) (held : Held) (prefix : List ℕ) (counts : C
 -- a turn that tells a line puts it behind the log
 put_behind : (line : Line) (old : List ℕ) {new : List ℕ} → Puts (Some line) (Some old) (Some new) → new ≡ old ++ line_text line
 unfolding Puts
-put_behind line old puts = puts
+put_behind _ _ puts = puts
 
 dest_same : {old new : Option Writing} → Changes ChangesNothing old new → new ≡ old
 unfolding Changes
@@ -204,5 +204,5 @@ module _ (job : Job) (past : Past) (start : Start) (old new : World) (run : Run)
 
 pub ends_well : EndsWell
 unfolding Begun Did
-ends_well job start old new run after s t now first last (past, is) (GoesOn calls to turn did counts) source_is start_is dest_is first_is last_is =
+ends_well job start old new run after s t now first last (past, is) (GoesOn calls _ turn did counts) source_is start_is dest_is first_is last_is =
     ended job past start old new run after s t now first last calls is turn did.0 counts source_is start_is dest_is first_is last_is

@@ -20,7 +20,7 @@ use Rattle.pt_plan.specs.World.{World, dest_tree}
 use Rattle.pt_plan.specs.declared.phase.Phase.TheVariants as phase
 
 held_new : (job : Job) → HeldAt job no_past phase.Begin nothing_held
-held_new job = record {
+held_new _ = record {
   trail = record { is_one = refl; none = refl; entry = tt };
   ends = tt;
   rows = record { rows = refl; contents = refl };
@@ -38,16 +38,16 @@ source_new job proper = record {
 }
 
 dest_new : (job : Job) (dest : Option Writing) → ForSome dest (λ now. IsTree now.tree) → TellsAsBefore (dest_tree dest) dest (DestPart job no_past phase.Begin nothing_held)
-dest_new job None tree = tt
-dest_new job (Some now) tree = record { started = tree now refl; tree = tree now refl; at = record { tree = refl } }
+dest_new _ None _ = tt
+dest_new _ (Some now) tree = record { started = tree now refl; tree = tree now refl; at = record { tree = refl } }
 
 log_new : (job : Job) (source : Forest) (root : Tree) (log : Option (List ℕ)) → TellsStill log log (HasTold job source root no_past phase.Begin)
-log_new job source root None = tt
-log_new job source root (Some bytes) = sym (append-nil bytes)
+log_new _ _ _ None = tt
+log_new _ _ _ (Some bytes) = sym (append-nil bytes)
 
 quiet_new : (log : Option (List ℕ)) → TellsStill log log (IsQuiet phase.Begin)
 quiet_new None = tt
-quiet_new (Some bytes) = refl
+quiet_new (Some _) = refl
 
 -- nothing is behind it
 pub new_past : {job : Job} {world : World} → IsLayout job.tuples → IsWorld world → IsPast job (start_of world) world new_run no_past
@@ -64,4 +64,4 @@ new_past {job} {world} layout is = record {
 
 pub new_run_is_begun : NewRunIsBegun
 unfolding Begun
-new_run_is_begun job world layout is = (no_past, new_past layout is)
+new_run_is_begun _ _ layout is = (no_past, new_past layout is)

@@ -76,7 +76,7 @@ IsThrough t s = (is_store s.tree ≡ true) × (is_proper s.tree ≡ true) × Fit
 
 may_enter : {reading : Option Reading} (t : List Frame) → ForSome reading (IsThrough t) → MayEnter reading t
 unfolding MayEnter CanList
-may_enter t knows name e s is = let it = knows s is in enterable s.tree t it.0 (pairtree_proper s.tree it.0 it.1) it.2 e
+may_enter t knows _ e s is = let it = knows s is in enterable s.tree t it.0 (pairtree_proper s.tree it.0 it.1) it.2 e
 
 may_open : {reading : Option Reading} (t : List Frame) → ForSome reading (IsThrough t) → MayOpen reading t
 unfolding MayOpen CanOpen
@@ -84,7 +84,7 @@ may_open t knows name e s is = let it = knows s is in ap is_some (opened s.tree 
 
 -- the prefix file is there, where it is a file
 prefix_there : (o : Option Node) → option_map kind_of o ≡ Some kind.File → IsSome (option_and_then as_file (option_and_then (λ node. node_at node []) o))
-prefix_there (Some (File bytes)) is = refl
+prefix_there (Some (File bytes)) _ = refl
 prefix_there _ is = absurd (cc)
 
 may_open_prefix : {reading : Option Reading} {here : Option Kind} → ForSome reading (λ s. here ≡ option_map kind_of (find s.tree prefix_file)) → MayOpenPrefix reading here
@@ -93,7 +93,7 @@ may_open_prefix knows file s is = prefix_there (find s.tree prefix_file) (sym (k
 
 top_listed : (reading : Option Reading) → CanList reading []
 unfolding CanList
-top_listed reading s is = refl
+top_listed _ _ _ = refl
 
 may_read : {reading : Option Reading} → ForSome reading (λ s. (left : List ℕ) × (s.unread ≡ Some left)) → CanRead reading
 unfolding CanRead
@@ -115,11 +115,11 @@ may_write knows now is = knows now is
 
 may_make_root : (job : Job) {writing : Option Writing} (number : ℕ) → ((item : Item) → slice_get (root_script job.tuples) number ≡ Some item → ForSome writing (λ now. CanMake now.tree (item_path item))) → MayMakeRootItem writing job.tuples number
 unfolding MayMakeRootItem
-may_make_root job {writing} number knows item is = may_make (knows item is)
+may_make_root _ {writing} _ knows item is = may_make (knows item is)
 
 has_parent : {writing : Option Writing} (path : Path) → ForSome writing (λ now. now.tree (parent path) ≡ Some Folder) → HasParent writing path
 unfolding HasParent
-has_parent path knows now is = knows now is
+has_parent _ knows now is = knows now is
 
 -- ---- an object that is made
 
@@ -152,44 +152,44 @@ may_make_content {job} {past} {object} {position} {held} at source dest row is s
 
 may_make_part : {job : Job} {past : Past} {object : Object} (here : Part) {prefix : List ℕ} {held : Held} {reading : Option Reading} {writing : Option Writing} → HeldAt job past (phase.Make object here) held
     → KnowsSource job past (phase.Make object here) prefix held reading → KnowsDest job past (phase.Make object here) held writing → MayMakePart job object here held reading writing
-may_make_part {job} {past} {object} a_part.Staging {held} at source dest = next_item at dest (next_staging job object held.rows past.bytes)
-may_make_part {job} {past} {object} a_part.Declaration {held} at source dest =
+may_make_part {job} {past} {object} a_part.Staging {held} at _ dest = next_item at dest (next_staging job object held.rows past.bytes)
+may_make_part {job} {past} {object} a_part.Declaration {held} at _ dest =
     next_item at dest (next_declaration job object held.rows past.bytes)
-may_make_part {job} {past} {object} a_part.Version {held} at source dest = next_item at dest (next_version job object held.rows past.bytes)
-may_make_part (a_part.Content position) at source dest = may_make_content at source dest
-may_make_part {job} {past} {object} a_part.VersionInventory {held} at source dest =
+may_make_part {job} {past} {object} a_part.Version {held} at _ dest = next_item at dest (next_version job object held.rows past.bytes)
+may_make_part (a_part.Content _) at source dest = may_make_content at source dest
+may_make_part {job} {past} {object} a_part.VersionInventory {held} at _ dest =
     next_item at dest (next_first job object held.rows past.bytes)
-may_make_part {job} {past} {object} a_part.VersionSidecar {held} at source dest =
+may_make_part {job} {past} {object} a_part.VersionSidecar {held} at _ dest =
     next_item at dest (next_second job object held.rows past.bytes)
-may_make_part {job} {past} {object} a_part.Inventory {held} at source dest = next_item at dest (next_third job object held.rows past.bytes)
-may_make_part {job} {past} {object} a_part.Sidecar {held} at source dest = next_item at dest (next_fourth job object held.rows past.bytes)
+may_make_part {job} {past} {object} a_part.Inventory {held} at _ dest = next_item at dest (next_third job object held.rows past.bytes)
+may_make_part {job} {past} {object} a_part.Sidecar {held} at _ dest = next_item at dest (next_fourth job object held.rows past.bytes)
 
 -- ---- by the phase
 
 permits : {job : Job} {past : Past} (here : Phase) {prefix : List ℕ} {held : Held} {reading : Option Reading} {writing : Option Writing} → HeldAt job past here held → KnowsSource job past here prefix held reading → KnowsDest job past here held writing → Permits job here held reading writing
-permits phase.Begin {reading} at source dest = top_listed reading
-permits (phase.Prefix here) at source dest = may_open_prefix (λ s is. (source s is).at.3)
-permits {job} (phase.RootMake number) at source dest = may_make_root job number (λ item is now same. let known = dest now same in root_item_made job known.0 number item now known.1.started is known.1.at)
-permits {job} phase.RootRename at source dest = may_move (λ now is. let known = dest now is in root_may_move job known.0 now known.1.started known.1.at)
-permits phase.OpenRoot at source dest = enters_root (λ s is. (source s is).at.2.store)
-permits (phase.OpenObject object) {held} at source dest = λ apart. may_enter held.trail (λ s is. let known = source s is in (known.at.1.store, known.proper, known.at.2.fits))
-permits (phase.Scan object) {held} at source dest = (
+permits phase.Begin {reading} _ _ _ = top_listed reading
+permits (phase.Prefix _) _ source _ = may_open_prefix (λ s is. (source s is).at.3)
+permits {job} (phase.RootMake number) _ _ dest = may_make_root job number (λ item is now same. let known = dest now same in root_item_made job known.0 number item now known.1.started is known.1.at)
+permits {job} phase.RootRename _ _ dest = may_move (λ now is. let known = dest now is in root_may_move job known.0 now known.1.started known.1.at)
+permits phase.OpenRoot _ source _ = enters_root (λ s is. (source s is).at.2.store)
+permits (phase.OpenObject _) {held} _ source _ = λ apart. may_enter held.trail (λ s is. let known = source s is in (known.at.1.store, known.proper, known.at.2.fits))
+permits (phase.Scan _) {held} _ source _ = (
   may_enter held.trail (λ s is. let known = source s is in (known.at.0.store, known.proper, known.at.1.stands.fits)),
   may_open held.trail (λ s is. let known = source s is in (known.at.0.store, known.proper, known.at.1.stands.fits)),
 )
-permits (phase.Read object count) at source dest = may_read (λ s is. (_, (source s is).at.2.read.left))
-permits (phase.Make object here) at source dest = may_make_part here at source dest
-permits (phase.Copy object position left) at source dest = (may_read (λ s is. (_, (source s is).at.2.read.left)), may_write (λ now is. ap is_some (dest now is).1.at.writes.writing))
-permits {job} {past} (phase.Tuples object number) {held} at source dest = has_parent (tuple_folder object number) (λ now is. let known = dest now is in tuple_parent job past known.0 object held number now at.numbers at known.1)
-permits {job} {past} (phase.Rename object) {held} at source dest = may_move (λ now is. let known = dest now is in object_may_move job past known.0 object held now at known.1)
-permits phase.Walk {held} at source dest = may_enter held.trail (λ s is. let known = source s is in (known.at.1.store, known.proper, known.at.2.fits))
-permits _ at source dest = tt
+permits (phase.Read _ _) _ source _ = may_read (λ s is. (_, (source s is).at.2.read.left))
+permits (phase.Make _ here) at source dest = may_make_part here at source dest
+permits (phase.Copy _ _ _) _ source dest = (may_read (λ s is. (_, (source s is).at.2.read.left)), may_write (λ now is. ap is_some (dest now is).1.at.writes.writing))
+permits {job} {past} (phase.Tuples object number) {held} at _ dest = has_parent (tuple_folder object number) (λ now is. let known = dest now is in tuple_parent job past known.0 object held number now at.numbers at known.1)
+permits {job} {past} (phase.Rename object) {held} at _ dest = may_move (λ now is. let known = dest now is in object_may_move job past known.0 object held now at known.1)
+permits phase.Walk {held} _ source _ = may_enter held.trail (λ s is. let known = source s is in (known.at.1.store, known.proper, known.at.2.fits))
+permits _ _ _ _ = tt
 
 -- a destination that tells told at the start
 told_both : {A B : Type 0} → (P : A → B → Type 0) (start : Option A) (now : Option B) → TellsAsBefore start now P → ForSome now (λ b. (a : A) × P a b)
 told_both P None None tells b is = absurd (cc)
-told_both P None (Some now) tells b is = absurd (tells)
-told_both P (Some start) None tells b is = absurd (tells)
+told_both P None (Some _) tells _ _ = absurd (tells)
+told_both P (Some _) None tells _ _ = absurd (tells)
 told_both P (Some start) (Some now) tells b is = (start, subst (P start) (some_same now b is) tells)
 
 pub begun_permits : BegunPermits

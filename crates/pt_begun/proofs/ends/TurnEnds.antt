@@ -43,13 +43,13 @@ is_halt (Err why) = true
 
 starts_same : {job : Job} {prefix read : List ℕ} {here : Phase} {calls : Calls} {answer : Answer} {old new : Option Writing} → Starts job here prefix read calls answer → is_halt answer ≡ true → Changes calls.change old new → new ≡ old
 unfolding Changes
-starts_same (IsNoStore was entries e) halts change = change
-starts_same (IsNoPrefixFile was kind some e) halts change = change
-starts_same (IsNoPrefix was block why e) halts change = change
-starts_same (HasStaging was kind) halts change = change.1
-starts_same (IsNoRoot was kind e) halts change = change.1
-starts_same (IsNoFile was number path bytes kind is e) halts change = change.1
-starts_same (Differs was number path bytes block is e) halts change = change.2
+starts_same (IsNoStore _ _ _) _ change = change
+starts_same (IsNoPrefixFile _ _ _ _) _ change = change
+starts_same (IsNoPrefix _ _ _ _) _ change = change
+starts_same (HasStaging _ _) _ change = change.1
+starts_same (IsNoRoot _ _ _) _ change = change.1
+starts_same (IsNoFile _ _ _ _ _ _ _) _ change = change.1
+starts_same (Differs _ _ _ _ _ _ _) _ change = change.2
 starts_same _ halts change = absurd (cc)
 
 walks_same : {job : Job} {prefix : List ℕ} {here : Phase} {held after : Held} {calls : Calls} {answer : Answer} {old new : Option Writing} → Walks job prefix here held after calls answer → is_halt answer ≡ true → Changes calls.change old new → new ≡ old
@@ -64,39 +64,39 @@ scans_same _ halts change = absurd (cc)
 
 makes_same : {job : Job} {here : Phase} {held after : Held} {calls : Calls} {answer : Answer} {old new : Option Writing} → Makings job here held after calls answer → is_halt answer ≡ true → Changes calls.change old new → new ≡ old
 unfolding Changes
-makes_same (ReadsMore was object position left byte block e) halts change = change
-makes_same (ReadsOther was object position row left is e) halts change = change
+makes_same (ReadsMore _ _ _ _ _ _ _) _ change = change
+makes_same (ReadsOther _ _ _ _ _ _ _) _ change = change
 makes_same _ halts change = absurd (cc)
 
 places_same : {job : Job} {counts : Counts} {here : Phase} {held after : Held} {calls : Calls} {answer : Answer} {old new : Option Writing} → Places job counts here held after calls answer → is_halt answer ≡ true → Changes calls.change old new → new ≡ old
 unfolding Changes
-places_same (IsInTheWay was object number kind e) halts change = change.1
+places_same (IsInTheWay _ _ _ _ _) _ change = change.1
 places_same _ halts change = absurd (cc)
 
 pub refused_same : {job : Job} {counts : Counts} {here : Phase} {prefix : List ℕ} {held : Held} {read : List ℕ} {after : Held} {calls : Calls} {why : Halt} {old new : Option Writing} → Follows job counts here prefix held read after calls (Err why) → Changes calls.change old new → new ≡ old
-refused_same (a_start h p r w c a turn) change = starts_same turn refl change
-refused_same (Walk h p w n c a turn) change = walks_same turn refl change
-refused_same (Scan h p w n c a turn) change = scans_same turn refl change
-refused_same (Make h p w n c a turn) change = makes_same turn refl change
-refused_same (Place h p w n c a turn) change = places_same turn refl change
+refused_same (a_start _ _ _ _ _ _ turn) change = starts_same turn refl change
+refused_same (Walk _ _ _ _ _ _ turn) change = walks_same turn refl change
+refused_same (Scan _ _ _ _ _ _ turn) change = scans_same turn refl change
+refused_same (Make _ _ _ _ _ _ turn) change = makes_same turn refl change
+refused_same (Place _ _ _ _ _ _ turn) change = places_same turn refl change
 
 -- ---- which devices tell
 
 pub answers_tree : (asked : Asked) (old new : Option Reading) → Answers asked old new → source_tree new ≡ source_tree old
 unfolding Answers
-answers_tree AsksNothing old new answers = ap source_tree answers
-answers_tree (Lists path entries) old new answers = ap source_tree answers.2
-answers_tree (Opens path) None new answers = ap source_tree answers
-answers_tree (Opens path) (Some s) new answers = ap source_tree answers
-answers_tree (Reads block) None new answers = ap source_tree answers.1
-answers_tree (Reads block) (Some s) new answers = ap source_tree answers.1
-answers_tree (OpensAndReads path block) None new answers = ap source_tree answers.1
-answers_tree (OpensAndReads path block) (Some s) new answers = ap source_tree answers.1
+answers_tree AsksNothing _ _ answers = ap source_tree answers
+answers_tree (Lists _ _) _ _ answers = ap source_tree answers.2
+answers_tree (Opens _) None _ answers = ap source_tree answers
+answers_tree (Opens _) (Some _) _ answers = ap source_tree answers
+answers_tree (Reads _) None _ answers = ap source_tree answers.1
+answers_tree (Reads _) (Some _) _ answers = ap source_tree answers.1
+answers_tree (OpensAndReads _ _) None _ answers = ap source_tree answers.1
+answers_tree (OpensAndReads _ _) (Some _) _ answers = ap source_tree answers.1
 
 -- the source that told tells the same tree
 pub same_tree : (old new : Option Reading) (v : Reading) → source_tree new ≡ source_tree old → new ≡ Some v → (s : Reading) × (old ≡ Some s) × (v.tree ≡ s.tree)
 same_tree None new v same is = absurd (let no : Some v.tree ≡ None = sym (ap source_tree is) ∙ same in cc)
-same_tree (Some s) new v same is = (s, refl, some_same v.tree s.tree (sym (ap source_tree is) ∙ same))
+same_tree (Some s) _ v same is = (s, refl, some_same v.tree s.tree (sym (ap source_tree is) ∙ same))
 
 -- a destination of which a part of a change is left tells where it told
 part_told : {change : Change} {w : Writing} (new : Option Writing) → LeavesPart (Some w) new change → (v : Writing) × (new ≡ Some v)
@@ -104,19 +104,19 @@ part_told None (Untouched change same) = absurd (cc)
 part_told None (OfFile path bytes count same) = absurd (cc)
 part_told None (NewFile path same) = absurd (cc)
 part_told None (OfPiece piece count same) = absurd (cc)
-part_told (Some v) left = (v, refl)
+part_told (Some v) _ = (v, refl)
 
 part_untold : {change : Change} (new : Option Writing) → LeavesPart None new change → new ≡ None
-part_untold None left = refl
+part_untold None _ = refl
 part_untold (Some v) (Untouched change same) = absurd (cc)
 part_untold (Some v) (OfFile path bytes count same) = absurd (cc)
 part_untold (Some v) (NewFile path same) = absurd (cc)
 part_untold (Some v) (OfPiece piece count same) = absurd (cc)
 
 front_told : (line : Option Line) (old : List ℕ) (new : Option (List ℕ)) → LeavesFront line (Some old) new → (now : List ℕ) × (new ≡ Some now)
-front_told None old new left = (old, left)
-front_told (Some line) old None left = absurd (left.1)
-front_told (Some line) old (Some now) left = (now, refl)
+front_told None old _ left = (old, left)
+front_told (Some _) _ None left = absurd (left.1)
+front_told (Some _) _ (Some now) _ = (now, refl)
 
 -- ---- the run has ended
 
@@ -203,11 +203,11 @@ module _ (job : Job) (past : Past) (start : Start) (old new : World) (run : Run)
 
   pub halted_left : (after : Kept) (why : Halt) → a_past job start old run past → Turn job run.phase (turning run.kept) after old new (Err why) → old.source ≡ Some s → start.dest ≡ Some t → new.dest ≡ Some now → start.log ≡ Some first → new.log ≡ Some last → IsLeftByFault job s.tree t now.tree first last
   unfolding Did Stays LeavesSome
-  halted_left after why is (IsRefused prefix held calls reason turn did halted) source_is start_is dest_is first_is last_is =
+  halted_left _ _ is (IsRefused _ _ calls _ turn did _) source_is start_is dest_is first_is last_is =
       left_same is source_is start_is (sym dest_is ∙ refused_same turn did.0.dest) first_is
       (sym last_is ∙ none_put calls.line (refused_quiet turn) did.0.log) run.phase refl
-  halted_left after why is (FailsAtFirst reason stays halted) source_is start_is dest_is first_is last_is = left_same is source_is start_is (sym dest_is ∙ stays.1) first_is (sym last_is ∙ stays.2) run.phase refl
-  halted_left after why is (FailsLater prefix held calls answer rows reason turn leaves which halted) source_is start_is dest_is first_is last_is =
+  halted_left _ _ is (FailsAtFirst _ stays _) source_is start_is dest_is first_is last_is = left_same is source_is start_is (sym dest_is ∙ stays.1) first_is (sym last_is ∙ stays.2) run.phase refl
+  halted_left _ _ is (FailsLater prefix held calls answer _ _ turn leaves _ _) source_is start_is dest_is first_is last_is =
       broken_leaves job past start old run s t first new prefix held calls answer now last
       (tells_all job past start old run s t first is (follows_runs turn) source_is start_is first_is) turn leaves.0 source_is dest_is last_is
 

@@ -48,7 +48,7 @@ told_source (Lists path entries) None new answers = absurd (let none = answers.2
 told_source (Opens path) None new answers = absurd (cc)
 told_source (Reads block) None new answers = absurd (let none = answers.1 in cc)
 told_source (OpensAndReads path block) None new answers = absurd (let none = answers.1 in cc)
-told_source asked (Some s) new answers = (s, refl)
+told_source _ (Some s) _ _ = (s, refl)
 
 -- a destination tells exactly where it told before
 data SameTold (old new : Option Writing) : Type 0 where
@@ -58,17 +58,17 @@ data SameTold (old new : Option Writing) : Type 0 where
 told_dest : (change : Change) (old : Option Writing) {new : Option Writing} → Changes change old new → SameTold old new
 unfolding Changes
 told_dest ChangesNothing None change = Neither refl change
-told_dest (Finds path here) None change = Neither refl change.1
-told_dest (Peeks path block) None change = Neither refl change.2
-told_dest (FindsNoneAndMakes path) None change = Neither refl change.1
-told_dest (Makes item) None change = Neither refl change
-told_dest (Creates path) None change = Neither refl change
-told_dest (Adds piece) None change = Neither refl change
+told_dest (Finds _ _) None change = Neither refl change.1
+told_dest (Peeks _ _) None change = Neither refl change.2
+told_dest (FindsNoneAndMakes _) None change = Neither refl change.1
+told_dest (Makes _) None change = Neither refl change
+told_dest (Creates _) None change = Neither refl change
+told_dest (Adds _) None change = Neither refl change
 told_dest Finishes None change = Neither refl change
-told_dest (Renames from to) None change = Neither refl change
+told_dest (Renames _ _) None change = Neither refl change
 told_dest ChangesNothing (Some w) change = Both w w refl change
-told_dest (Finds path here) (Some w) change = Both w w refl change.1
-told_dest (Peeks path block) (Some w) change = Both w w refl change.2
+told_dest (Finds _ _) (Some w) change = Both w w refl change.1
+told_dest (Peeks _ _) (Some w) change = Both w w refl change.2
 told_dest (FindsNoneAndMakes path) (Some w) change = Both w (after_mkdir path w) refl change.1
 told_dest (Makes item) (Some w) change = Both w (after_make item w) refl change
 told_dest (Creates path) (Some w) change = Both w (after_create path w) refl change
@@ -79,50 +79,50 @@ told_dest (Renames from to) (Some w) change = Both w (after_rename from to w) re
 -- a log that tells goes on telling
 pub told_log : (line : Option Line) (old : List ℕ) (new : Option (List ℕ)) → Puts line (Some old) new → (now : List ℕ) × (new ≡ Some now)
 unfolding Puts
-told_log None old new puts = (old, puts)
-told_log (Some line) old None puts = absurd (puts)
-told_log (Some line) old (Some now) puts = (now, refl)
+told_log None old _ puts = (old, puts)
+told_log (Some _) _ None puts = absurd (puts)
+told_log (Some _) _ (Some now) _ = (now, refl)
 
 -- ---- the laws of the groups, together
 
 module _ (job : Job) (past : Past) where
   follows_held : (counts : Counts) (here : Phase) (prefix : List ℕ) (held : Held) (read : List ℕ) (after : Held) (calls : Calls) (next : Phase) (old new : Option Reading) → Follows job counts here prefix held read after calls (Ok next)
       → Answers calls.asked old new → HeldAt job past here held → HeldAt job (past_after here next held past) next after
-  follows_held counts here prefix held read after calls next old new (a_start h p r w c a turn) answers at = starts_hold job past prefix read here next held calls turn at
-  follows_held counts here prefix held read after calls next old new (Walk h p w n c a turn) answers at = walks_hold job past old new prefix here next held after calls turn answers at
-  follows_held counts here prefix held read after calls next old new (Scan h p w n c a turn) answers at = scans_hold job past old new here next held after calls turn answers at
-  follows_held counts here prefix held read after calls next old new (Make h p w n c a turn) answers at = makes_hold job past here held after calls next turn at
-  follows_held counts here prefix held read after calls next old new (Place h p w n c a turn) answers at = places_hold job counts past here next held after calls turn at
+  follows_held _ here prefix held read _ calls next _ _ (a_start _ _ _ _ _ _ turn) _ at = starts_hold job past prefix read here next held calls turn at
+  follows_held _ here prefix held _ after calls next old new (Walk _ _ _ _ _ _ turn) answers at = walks_hold job past old new prefix here next held after calls turn answers at
+  follows_held _ here _ held _ after calls next old new (Scan _ _ _ _ _ _ turn) answers at = scans_hold job past old new here next held after calls turn answers at
+  follows_held _ here _ held _ after calls next _ _ (Make _ _ _ _ _ _ turn) _ at = makes_hold job past here held after calls next turn at
+  follows_held counts here _ held _ after calls next _ _ (Place _ _ _ _ _ _ turn) _ at = places_hold job counts past here next held after calls turn at
 
   follows_source : (counts : Counts) (here : Phase) (prefix : List ℕ) (held : Held) (read : List ℕ) (after : Held) (calls : Calls) (next : Phase) (s new : Reading) → Follows job counts here prefix held read after calls (Ok next)
       → Answers calls.asked (Some s) (Some new) → HeldAt job past here held → SourcePart job past here prefix held s → SourcePart job (past_after here next held past) next read after new
-  follows_source counts here prefix held read after calls next s new (a_start h p r w c a turn) answers at known = starts_source job past s new prefix read here next held calls turn answers at known
-  follows_source counts here prefix held read after calls next s new (Walk h p w n c a turn) answers at known = walks_source job past s new prefix here next held after calls turn answers at known
-  follows_source counts here prefix held read after calls next s new (Scan h p w n c a turn) answers at known = scans_source job past s new prefix here next held after calls turn answers at known
-  follows_source counts here prefix held read after calls next s new (Make h p w n c a turn) answers at known = makes_source job past s new prefix here held after calls next turn answers at known
-  follows_source counts here prefix held read after calls next s new (Place h p w n c a turn) answers at known = places_source job counts past s new prefix here next held after calls turn answers at known
+  follows_source _ here prefix held read _ calls next s new (a_start _ _ _ _ _ _ turn) answers at known = starts_source job past s new prefix read here next held calls turn answers at known
+  follows_source _ here prefix held _ after calls next s new (Walk _ _ _ _ _ _ turn) answers at known = walks_source job past s new prefix here next held after calls turn answers at known
+  follows_source _ here prefix held _ after calls next s new (Scan _ _ _ _ _ _ turn) answers at known = scans_source job past s new prefix here next held after calls turn answers at known
+  follows_source _ here prefix held _ after calls next s new (Make _ _ _ _ _ _ turn) answers at known = makes_source job past s new prefix here held after calls next turn answers at known
+  follows_source counts here prefix held _ after calls next s new (Place _ _ _ _ _ _ turn) answers at known = places_source job counts past s new prefix here next held after calls turn answers at known
 
   follows_dest : (counts : Counts) (here : Phase) (prefix : List ℕ) (held : Held) (read : List ℕ) (after : Held) (calls : Calls) (next : Phase) (start : Tree) (w v : Writing) → IsLayout job.tuples → Follows job counts here prefix held read after calls (Ok next)
       → Changes calls.change (Some w) (Some v) → HeldAt job past here held → DestPart job past here held start w → DestPart job (past_after here next held past) next after start v
-  follows_dest counts here prefix held read after calls next start w v layout (a_start h p r x c a turn) change at known = starts_dest job past start w v prefix read here next held calls layout turn change at known
-  follows_dest counts here prefix held read after calls next start w v layout (Walk h p x n c a turn) change at known = walks_dest job past start w v prefix here next held after calls turn change at known
-  follows_dest counts here prefix held read after calls next start w v layout (Scan h p x n c a turn) change at known = scans_dest job past start w v here next held after calls turn change at known
-  follows_dest counts here prefix held read after calls next start w v layout (Make h p x n c a turn) change at known = makes_dest job past start w v here held after calls next turn change at known
-  follows_dest counts here prefix held read after calls next start w v layout (Place h p x n c a turn) change at known = places_dest job counts past start w v here next held after calls turn change at known
+  follows_dest _ here prefix held read _ calls next start w v layout (a_start _ _ _ _ _ _ turn) change at known = starts_dest job past start w v prefix read here next held calls layout turn change at known
+  follows_dest _ here prefix held _ after calls next start w v _ (Walk _ _ _ _ _ _ turn) change at known = walks_dest job past start w v prefix here next held after calls turn change at known
+  follows_dest _ here _ held _ after calls next start w v _ (Scan _ _ _ _ _ _ turn) change at known = scans_dest job past start w v here next held after calls turn change at known
+  follows_dest _ here _ held _ after calls next start w v _ (Make _ _ _ _ _ _ turn) change at known = makes_dest job past start w v here held after calls next turn change at known
+  follows_dest counts here _ held _ after calls next start w v _ (Place _ _ _ _ _ _ turn) change at known = places_dest job counts past start w v here next held after calls turn change at known
 
   follows_items : (counts : Counts) (here : Phase) (prefix : List ℕ) (held : Held) (read : List ℕ) (after : Held) (calls : Calls) (next : Phase) (start : Tree) (s new : Reading) (w v : Writing) → Follows job counts here prefix held read after calls (Ok next)
       → Answers calls.asked (Some s) (Some new) → Changes calls.change (Some w) (Some v) → KnowsItems job past here prefix held counts s start w → KeepsItems job past here held counts s start calls next × KeepsLog job past here held s start calls next
-  follows_items counts here prefix held read after calls next start s new w v (a_start h p r x c a turn) answers change known = starts_items job past s prefix read start w here next held counts calls turn known
-  follows_items counts here prefix held read after calls next start s new w v (Walk h p x n c a turn) answers change known = walks_items job past s prefix start w v here next held after counts calls turn change known
-  follows_items counts here prefix held read after calls next start s new w v (Scan h p x n c a turn) answers change known = scans_items job past s new prefix start w here next held after counts calls turn answers known
-  follows_items counts here prefix held read after calls next start s new w v (Make h p x n c a turn) answers change known = makes_items job past s prefix start w here held after counts calls next turn known
-  follows_items counts here prefix held read after calls next start s new w v (Place h p x n c a turn) answers change known = places_items job past s prefix start w here next held after counts calls turn known
+  follows_items counts here prefix held read _ calls next start s _ w _ (a_start _ _ _ _ _ _ turn) _ _ known = starts_items job past s prefix read start w here next held counts calls turn known
+  follows_items counts here prefix held _ after calls next start s _ w v (Walk _ _ _ _ _ _ turn) _ change known = walks_items job past s prefix start w v here next held after counts calls turn change known
+  follows_items counts here prefix held _ after calls next start s new w _ (Scan _ _ _ _ _ _ turn) answers _ known = scans_items job past s new prefix start w here next held after counts calls turn answers known
+  follows_items counts here prefix held _ after calls next start s _ w _ (Make _ _ _ _ _ _ turn) _ _ known = makes_items job past s prefix start w here held after counts calls next turn known
+  follows_items counts here prefix held _ after calls next start s _ w _ (Place _ _ _ _ _ _ turn) _ _ known = places_items job past s prefix start w here next held after counts calls turn known
 
 -- ---- all parts
 
 -- the turn is counted, which no part speaks of
 pub still_counts : {job : Job} {past : Past} {here : Phase} (kept : Kept) {source : Forest} {root : Tree} → ItemsPart job past here kept.counts source root → ItemsPart job past here (turning kept).counts source root
-still_counts kept it = record { places = it.places; lines_are = record { done = it.lines_are.done; present = it.lines_are.present; skipped = it.lines_are.skipped } }
+still_counts _ it = record { places = it.places; lines_are = record { done = it.lines_are.done; present = it.lines_are.present; skipped = it.lines_are.skipped } }
 
 module _ (job : Job) (past : Past) (start : Start) (old new : World) (run : Run) (after : Kept) (next : Phase) (calls : Calls) where
   abbrev before : Kept
@@ -227,5 +227,5 @@ module _ (job : Job) (past : Past) (start : Start) (old new : World) (run : Run)
 
 pub turn_keeps_begun : TurnKeepsBegun
 unfolding Begun Did
-turn_keeps_begun job start old new run after next (past, is) (GoesOn calls to turn did counts) =
+turn_keeps_begun job start old new run after next (past, is) (GoesOn calls _ turn did counts) =
     (past_after run.phase next run.kept.held past, turned job past start old new run after next calls turn did.0 counts is)

@@ -60,9 +60,9 @@ module _ (job : Job) (past : Past) (s : Reading) (start : Tree) (prefix : List �
   -- ---- a new root
 
   root_broken : (number : ℕ) (item : Item) (held : Held) → Before held (phase.RootMake number) → slice_get (root_script job.tuples) number ≡ Some item → LeavesPart (Some old) (Some new) (Makes item) → Quiet → Left
-  root_broken number (MakeFolder path) held before is left put = left_quiet job past s start prefix counts old new first log last held (phase.RootMake number) before (plain_same refl left) put
-  root_broken number (MakeFile path bytes) held before is (Untouched change same) put = left_quiet job past s start prefix counts old new first log last held (phase.RootMake number) before (some_same new.tree old.tree same) put
-  root_broken number (MakeFile path bytes) held before is (OfFile p b count same) put =
+  root_broken number (MakeFolder _) held before _ left put = left_quiet job past s start prefix counts old new first log last held (phase.RootMake number) before (plain_same refl left) put
+  root_broken number (MakeFile _ _) held before _ (Untouched _ same) put = left_quiet job past s start prefix counts old new first log last held (phase.RootMake number) before (some_same new.tree old.tree same) put
+  root_broken number (MakeFile path bytes) held before is (OfFile _ _ count same) put =
       let script = root_script job.tuples in
       let at = before.known.dest.at in
       let tree_is = some_same new.tree (done (MakeFile path (take count bytes)) old.tree) same in
@@ -72,14 +72,14 @@ module _ (job : Job) (past : Past) (s : Reading) (start : Tree) (prefix : List �
       (stands_cut count next (tree_is ∙ ap (done (MakeFile path (take count bytes))) at.tree)))
 
   pub starts_broken : (read : List ℕ) (here : Phase) (held : Held) (calls : Calls) (answer : Answer) → Starts job here prefix read calls answer → Before held here → LeavesPart (Some old) (Some new) calls.change → LeavesFront calls.line (Some log) (Some last) → Left
-  starts_broken read here held calls answer (MakesRoot was number item is) before left put = root_broken number item held before is left put
-  starts_broken read here held calls answer _ before left put = left_quiet job past s start prefix counts old new first log last held here before (plain_same refl left) put
+  starts_broken _ _ held _ _ (MakesRoot _ number item is) before left put = root_broken number item held before is left put
+  starts_broken _ here held _ _ _ before left put = left_quiet job past s start prefix counts old new first log last held here before (plain_same refl left) put
 
   -- ---- a part of an object
 
   part_broken : (object : Object) (here : Part) (path : Path) (bytes : List ℕ) (held : Held) → Before held (phase.Make object here) → IsNext (script_of_object job object held.rows past.bytes) (made_before job object held.rows past.bytes here) (MakeFile path bytes)
       → LeavesPart (Some old) (Some new) (Makes (MakeFile path bytes)) → Quiet → Left
-  part_broken object here path bytes held before next (Untouched change same) put = left_quiet job past s start prefix counts old new first log last held (phase.Make object here) before (some_same new.tree old.tree same) put
+  part_broken object here _ _ held before _ (Untouched _ same) put = left_quiet job past s start prefix counts old new first log last held (phase.Make object here) before (some_same new.tree old.tree same) put
   part_broken object here path bytes held before next (OfFile p b count same) put =
       let known = before.known in
       let source = known.source in
@@ -92,7 +92,7 @@ module _ (job : Job) (past : Past) (s : Reading) (start : Tree) (prefix : List �
 
   opened_broken : (object : Object) (position : Position) (held : Held) (row : Row) → Before held (phase.Make object (a_part.Content position))
       → IsNext (script_of_object job object held.rows past.bytes) (made_before job object held.rows past.bytes (a_part.Content position)) (MakeFile (in_content row.path) (past.bytes row.path)) → LeavesPart (Some old) (Some new) (Creates (in_content row.path)) → Quiet → Left
-  opened_broken object position held row before next (Untouched change same) put = left_quiet job past s start prefix counts old new first log last held (phase.Make object (a_part.Content position)) before (some_same new.tree old.tree same) put
+  opened_broken object position held _ before _ (Untouched _ same) put = left_quiet job past s start prefix counts old new first log last held (phase.Make object (a_part.Content position)) before (some_same new.tree old.tree same) put
   opened_broken object position held row before next (NewFile p same) put =
       let known = before.known in
       let source = known.source in
@@ -106,7 +106,7 @@ module _ (job : Job) (past : Past) (s : Reading) (start : Tree) (prefix : List �
 
   copied_broken : (object : Object) (position : Position) (left : ℕ) (piece : List ℕ) (held : Held) → Before held (phase.Copy object position left) → IsRead (Some s) piece → LeavesPart (Some old) (Some new) (Adds piece) → Quiet → Left
   unfolding IsRead
-  copied_broken object position left piece held before read (Untouched change same) put = left_quiet job past s start prefix counts old new first log last held (phase.Copy object position left) before (some_same new.tree old.tree same) put
+  copied_broken object position left _ held before _ (Untouched _ same) put = left_quiet job past s start prefix counts old new first log last held (phase.Copy object position left) before (some_same new.tree old.tree same) put
   copied_broken object position left piece held before read (OfPiece p count same) put =
       let known = before.known in
       let source = known.source in
@@ -131,11 +131,11 @@ module _ (job : Job) (past : Past) (s : Reading) (start : Tree) (prefix : List �
       (it.at.making.tree ∙ made_in_turn front (MakeFile (in_content row.path) (held.fed ++ more) ∷ []) root)))
 
   pub makes_broken : (here : Phase) (held after : Held) (calls : Calls) (answer : Answer) → Makings job here held after calls answer → Before held here → WereAnswered calls s old → LeavesPart (Some old) (Some new) calls.change → LeavesFront calls.line (Some log) (Some last) → Left
-  makes_broken here held after calls answer (MakesDeclaration was object) before answered left put = part_broken object a_part.Declaration (staging ++ object_declaration_name ∷ []) object_declaration_bytes was before (next_declaration job object was.rows past.bytes) left put
-  makes_broken here held after calls answer (OpensCopy was object position row is stored all) before answered left put = opened_broken object position was row before (file_next job object was.rows was.contents past.bytes position row (is_here job past object position was row before.known.held_at is stored) (ltb-false position.directories (length row.path) all)) left put
-  makes_broken here held after calls answer (CopiesOn was object position n byte block fits) before answered left put = copied_broken object position n (byte ∷ block) was before answered.read left put
-  makes_broken here held after calls answer (MakesVersionInventory was object) before answered left put = part_broken object a_part.VersionInventory (in_version [] ++ inventory_name ∷ []) (text_of_inventory job object was.rows) was before (next_first job object was.rows past.bytes) left put
-  makes_broken here held after calls answer (MakesVersionSidecar was object) before answered left put = part_broken object a_part.VersionSidecar (in_version [] ++ sidecar_name job.algorithm ∷ []) (sidecar_text job.algorithm (text_of_inventory job object was.rows)) was before (next_second job object was.rows past.bytes) left put
-  makes_broken here held after calls answer (MakesInventory was object) before answered left put = part_broken object a_part.Inventory (staging ++ inventory_name ∷ []) (text_of_inventory job object was.rows) was before (next_third job object was.rows past.bytes) left put
-  makes_broken here held after calls answer (MakesSidecar was object) before answered left put = part_broken object a_part.Sidecar (staging ++ sidecar_name job.algorithm ∷ []) (sidecar_text job.algorithm (text_of_inventory job object was.rows)) was before (next_fourth job object was.rows past.bytes) left put
-  makes_broken here held after calls answer _ before answered left put = left_quiet job past s start prefix counts old new first log last held here before (plain_same refl left) put
+  makes_broken _ _ _ _ _ (MakesDeclaration was object) before _ left put = part_broken object a_part.Declaration (staging ++ object_declaration_name ∷ []) object_declaration_bytes was before (next_declaration job object was.rows past.bytes) left put
+  makes_broken _ _ _ _ _ (OpensCopy was object position row is stored all) before _ left put = opened_broken object position was row before (file_next job object was.rows was.contents past.bytes position row (is_here job past object position was row before.known.held_at is stored) (ltb-false position.directories (length row.path) all)) left put
+  makes_broken _ _ _ _ _ (CopiesOn was object position n byte block _) before answered left put = copied_broken object position n (byte ∷ block) was before answered.read left put
+  makes_broken _ _ _ _ _ (MakesVersionInventory was object) before _ left put = part_broken object a_part.VersionInventory (in_version [] ++ inventory_name ∷ []) (text_of_inventory job object was.rows) was before (next_first job object was.rows past.bytes) left put
+  makes_broken _ _ _ _ _ (MakesVersionSidecar was object) before _ left put = part_broken object a_part.VersionSidecar (in_version [] ++ sidecar_name job.algorithm ∷ []) (sidecar_text job.algorithm (text_of_inventory job object was.rows)) was before (next_second job object was.rows past.bytes) left put
+  makes_broken _ _ _ _ _ (MakesInventory was object) before _ left put = part_broken object a_part.Inventory (staging ++ inventory_name ∷ []) (text_of_inventory job object was.rows) was before (next_third job object was.rows past.bytes) left put
+  makes_broken _ _ _ _ _ (MakesSidecar was object) before _ left put = part_broken object a_part.Sidecar (staging ++ sidecar_name job.algorithm ∷ []) (sidecar_text job.algorithm (text_of_inventory job object was.rows)) was before (next_fourth job object was.rows past.bytes) left put
+  makes_broken here held _ _ _ _ before _ left put = left_quiet job past s start prefix counts old new first log last held here before (plain_same refl left) put

@@ -70,14 +70,14 @@ module _ (job : Job) (past : Past) (s : Reading) (start : Tree) (prefix : List �
       known.dest.at.root.free (same ∙ tree_between s.tree (suc past.count) known.items.places.placed known.dest.at) put
 
   places_broken : (here : Phase) (held later : Held) (calls : Calls) (answer : Answer) → Places job counts here held later calls answer → Before held here → LeavesPart (Some old) (Some new) calls.change → LeavesFront calls.line (Some log) (Some last) → Left
-  places_broken here held later calls answer (TellsDone was object) before left put = done_told object was before (plain_same refl left) put
-  places_broken here held later calls answer (TellsEnd was) before left put = end_told was before (plain_same refl left) put
-  places_broken here held later calls answer _ before left put = left_quiet job past s start prefix counts old new first log last held here before (plain_same refl left) put
+  places_broken _ _ _ _ _ (TellsDone was object) before left put = done_told object was before (plain_same refl left) put
+  places_broken _ _ _ _ _ (TellsEnd was) before left put = end_told was before (plain_same refl left) put
+  places_broken here held _ _ _ _ before left put = left_quiet job past s start prefix counts old new first log last held here before (plain_same refl left) put
 
   pub follows_broken : (here : Phase) (held : Held) (read : List ℕ) (later : Held) (calls : Calls) (answer : Answer) → Follows job counts here prefix held read later calls answer → Before held here → WereAnswered calls s old
       → LeavesPart (Some old) (Some new) calls.change → LeavesFront calls.line (Some log) (Some last) → Left
-  follows_broken here held read later calls answer (a_start h p r w c a turn) before answered left put = starts_broken job past s start prefix counts old new first log last read here held calls answer turn before left put
-  follows_broken here held read later calls answer (Walk h p w n c a turn) before answered left put = walks_broken job past s start prefix counts old new first log last here held later calls answer turn before answered left put
-  follows_broken here held read later calls answer (Scan h p w n c a turn) before answered left put = scans_broken job past s start prefix counts old new first log last here held later calls answer turn before answered left put
-  follows_broken here held read later calls answer (Make h p w n c a turn) before answered left put = makes_broken job past s start prefix counts old new first log last here held later calls answer turn before answered left put
-  follows_broken here held read later calls answer (Place h p w n c a turn) before answered left put = places_broken here held later calls answer turn before left put
+  follows_broken here held read _ calls answer (a_start _ _ _ _ _ _ turn) before _ left put = starts_broken job past s start prefix counts old new first log last read here held calls answer turn before left put
+  follows_broken here held _ later calls answer (Walk _ _ _ _ _ _ turn) before answered left put = walks_broken job past s start prefix counts old new first log last here held later calls answer turn before answered left put
+  follows_broken here held _ later calls answer (Scan _ _ _ _ _ _ turn) before answered left put = scans_broken job past s start prefix counts old new first log last here held later calls answer turn before answered left put
+  follows_broken here held _ later calls answer (Make _ _ _ _ _ _ turn) before answered left put = makes_broken job past s start prefix counts old new first log last here held later calls answer turn before answered left put
+  follows_broken here held _ later calls answer (Place _ _ _ _ _ _ turn) before _ left put = places_broken here held later calls answer turn before left put

@@ -39,7 +39,7 @@ pub record IsBefore (job : Job) (past : Past) (s : Reading) (start : Tree) (pref
 
 -- a turn that tells a line of an item ends that item
 pub ends_item : {job : Job} {source : Forest} {root : Tree} {count : ℕ} {next : Phase} {told : Option Line} {n : ℕ} {gained : List Carried} → Tells job source root count next told n gained → {line : Line} → told ≡ Some line → is_ended next ≡ false → EndsItem job source root count (Some line) gained
-ends_item {job} {source} {root} {count} (OneItem {more = more} it) is runs = subst (λ o. EndsItem job source root count o more) is it
+ends_item {job} {source} {root} {count} (OneItem {more = more} it) is _ = subst (λ o. EndsItem job source root count o more) is it
 ends_item _ is runs = absurd (cc)
 
 -- ---- by what is left
@@ -53,7 +53,7 @@ module _ (job : Job) (past : Past) (s : Reading) (start : Tree) (prefix : List �
 
   -- nothing more was told
   pub left_untold : (held : Held) (here : Phase) → Before held here → Some last ≡ Some log → MayBeLeft job s.tree start new.tree (text job s.tree (root_in start) past.count) → Left
-  left_untold held here before same left = record { told = text job s.tree (root_in start) past.count; log = some_same last log same ∙ before.log_is; left = left }
+  left_untold _ _ before same left = record { told = text job s.tree (root_in start) past.count; log = some_same last log same ∙ before.log_is; left = left }
 
   -- nothing was changed
   pub left_quiet : (held : Held) (here : Phase) → Before held here → new.tree ≡ old.tree → Some last ≡ Some log → Left
@@ -64,7 +64,7 @@ module _ (job : Job) (past : Past) (s : Reading) (start : Tree) (prefix : List �
   -- of the line of the next item a front was put
   pub left_told : (held : Held) (here : Phase) (line : Line) (more : List Carried) → Before held here → EndsItem job s.tree (root_in start) past.count (Some line) more → IsFree start staging
       → new.tree ≡ with_root start (after job s.tree (root_in start) (suc past.count)) → LeavesFront (Some line) (Some log) (Some last) → Left
-  left_told held here line more before ends free is (n, put) =
+  left_told _ _ line _ before ends free is (n, put) =
       let root = root_in start in
       let so_far = text job s.tree root past.count in
       let front = take n (line_text line) in
@@ -80,6 +80,6 @@ module _ (job : Job) (past : Past) (s : Reading) (start : Tree) (prefix : List �
   -- of an item of which nothing is carried
   pub left_skipped : (held : Held) (here next : Phase) (told : Option Line) (line : Line) (n : ℕ) → Before held here → is_ended next ≡ false → Tells job s.tree (root_in start) past.count next told n [] → told ≡ Some line → IsFree start staging
       → old.tree ≡ with_root start (after job s.tree (root_in start) past.count) → new.tree ≡ old.tree → LeavesFront (Some line) (Some log) (Some last) → Left
-  left_skipped held here next told line n before runs tells is free tree same put =
+  left_skipped held here _ _ line _ before runs tells is free tree same put =
       let ends = ends_item tells is runs in
       left_told held here line [] before ends free (same ∙ tree ∙ ap (with_root start) (sym (after_stays job s.tree (root_in start) past.count ends.m ends.is ends.gained))) put

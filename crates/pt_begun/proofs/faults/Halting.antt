@@ -27,7 +27,7 @@ use Rattle.pt_begun.proofs.ends.TurnKeeps.{still_counts}
 -- a run that hasn't ended has told the lines of the items done
 pub told_now : (job : Job) (s : Reading) (t : Tree) (past : Past) (here : Phase) (first : List ℕ) {now : List ℕ} → is_ended here ≡ false → HasTold job s.tree (root_in t) past here first now → now ≡ first ++ text job s.tree (root_in t) past.count
 told_now job s t past phase.Ended first runs had = absurd (cc)
-told_now job s t past _ first runs had = had
+told_now _ _ _ _ _ _ _ had = had
 
 module _ (job : Job) (past : Past) (start : Start) (old : World) (run : Run) (s : Reading) (t : Tree) (first : List ℕ) where
   -- all three tell, and this is what is known of them
@@ -63,7 +63,7 @@ module _ (job : Job) (past : Past) (start : Start) (old : World) (run : Run) (s 
   -- and where a turn broke off
   pub broken_leaves : (new : World) (prefix : List ℕ) (held : Held) (calls : Calls) (answer : Answer) (now : Writing) (last : List ℕ) → TellsAll → Follows job (turning run.kept).counts run.phase run.kept.prefix run.kept.held prefix held calls answer
       → BreaksOff calls old new → old.source ≡ Some s → new.dest ≡ Some now → new.log ≡ Some last → IsLeftByFault job s.tree t now.tree first last
-  broken_leaves new prefix held calls answer now last had turn broken source_is dest_is log_is =
+  broken_leaves _ prefix held calls answer now last had turn broken source_is dest_is log_is =
       follows_broken job past s t run.kept.prefix (turning run.kept).counts had.now now first had.log last run.phase run.kept.held prefix held calls answer turn had.before
       (record { read = subst (WasRead calls.asked) source_is broken.read; found = subst (WasFound calls.line calls.change) had.dest_is broken.found })
       (subst (λ o. LeavesPart o (Some now) calls.change) had.dest_is (subst (λ o. LeavesPart old.dest o calls.change) dest_is broken.dest))

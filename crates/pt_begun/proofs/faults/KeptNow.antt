@@ -55,12 +55,12 @@ stands_whole {script} n {start} is = let cut = uncut (take n script) in record {
 
 -- and of the next one, a file, the first bytes
 cut_push : (count : ℕ) (front : List Item) (item : Item) → cut_last count (front ++ item ∷ []) ≡ front ++ cut_item count item ∷ []
-cut_push count [] item = refl
-cut_push count (x ∷ []) item = refl
+cut_push _ [] _ = refl
+cut_push _ (x ∷ []) _ = refl
 cut_push count (x ∷ y ∷ front) item = ap (λ l. x ∷ l) (cut_push count (y ∷ front) item)
 
 take_next : (front : List Item) (item : Item) (rest : List Item) → take (suc (length front)) (front ++ item ∷ rest) ≡ front ++ item ∷ []
-take_next [] item rest = refl
+take_next [] _ _ = refl
 take_next (x ∷ front) item rest = ap (λ l. x ∷ l) (take_next front item rest)
 
 pub stands_cut : {script front : List Item} {path : Path} {bytes : List ℕ} (count : ℕ) {start : Tree} {now : Tree} → IsNext script front (MakeFile path bytes) → now ≡ done (MakeFile path (take count bytes)) (made front start) → StandsAtPrefix script start now
@@ -105,7 +105,7 @@ module _ (job : Job) (past : Past) (start : Tree) (object : Object) (held : Held
   -- so what is made of it is kept
   pub made_kept : (n : ℕ) (items : List Item) (now : Tree) → IsTree start → IsObject job object → AreRows job past.bytes held → n ≤ job.tuples.count → (w : Writing) → IsMakingObject job start past.placed object items n w
       → StandsAtPrefix script (with_root start (root_on_way job start past.placed object.place n)) now → IsKept job start now
-  made_kept n items now tree it rows few w making at =
+  made_kept n _ now tree it rows few _ making at =
       Making past.placed carried n now (comes it rows making.came making.free)
       (inl (subst (λ (t : Tree). StandsAtPrefix (script_of carried.id carried.files job.meta job.algorithm) t now) (on_way n tree making.root it few)
       (subst (λ (l : List Item). StandsAtPrefix l (with_root start (root_on_way job start past.placed object.place n)) now) (own_script rows) at)))
@@ -130,7 +130,7 @@ module _ (job : Job) (past : Past) (start : Tree) (object : Object) (held : Held
 
   -- before its script it is not there
   pub not_begun : (w : Writing) → IsMakingObject job start past.placed object [] 0 w → IsKept job start w.tree
-  not_begun w making = subst (IsKept job start) (sym (making.tree ∙ ap (with_root start) (no_folders job start past.placed object.place))) (Holding past.placed making.came)
+  not_begun _ making = subst (IsKept job start) (sym (making.tree ∙ ap (with_root start) (no_folders job start past.placed object.place))) (Holding past.placed making.came)
 
 -- a front of the script
 pub front_stands : {script front : List Item} {start : Tree} {now : Tree} → IsFront script front → now ≡ made front start → StandsAtPrefix script start now
@@ -140,7 +140,7 @@ front_stands {script} {front} {start} it is =
 -- ---- a new root
 
 pub root_free : (start : Tree) → IsFree start storage_root → IsFree (root_in start) []
-root_free start free path = free path
+root_free _ free path = free path
 
 pub root_kept : {job : Job} {start now : Tree} {items : List Item} {w : Writing} → IsMakingRoot start items w → StandsAtPrefix (root_script job.tuples) start now → IsKept job start now
 root_kept {start} {now} making at = kept.MakingRoot now (root_free start making.root) at
@@ -172,27 +172,27 @@ copying_kept {job} {past} {start} {object} {position} {left} {held} {now} at des
     (dest.at.making.tree ∙ made_in_turn front (MakeFile (in_content row.path) held.fed ∷ []) root)
 
 as_it_was : (job : Job) (start : Tree) (now : Writing) → now.tree ≡ start → IsKept job start now.tree
-as_it_was job start now same = subst (IsKept job start) (sym same) kept.AsItWas
+as_it_was job start _ same = subst (IsKept job start) (sym same) kept.AsItWas
 
 pub kept_now : (job : Job) (past : Past) (start : Tree) (here : Phase) (held : Held) (now : Writing) → HeldAt job past here held → DestPart job past here held start now → IsLeftBehind job start now
-kept_now job past start phase.Begin held now at dest = record { kept = as_it_was job start now dest.at.tree; stood = inr dest.at.tree }
-kept_now job past start (phase.Prefix here) held now at dest = record { kept = as_it_was job start now dest.at.tree; stood = inr dest.at.tree }
-kept_now job past start phase.Staging held now at dest = record { kept = as_it_was job start now dest.at.tree; stood = inr dest.at.tree }
-kept_now job past start phase.Root held now at dest = record { kept = as_it_was job start now dest.at.0.tree; stood = inr dest.at.0.tree }
-kept_now job past start (phase.RootMake number) held now at dest = record {
+kept_now job _ start phase.Begin _ now _ dest = record { kept = as_it_was job start now dest.at.tree; stood = inr dest.at.tree }
+kept_now job _ start (phase.Prefix _) _ now _ dest = record { kept = as_it_was job start now dest.at.tree; stood = inr dest.at.tree }
+kept_now job _ start phase.Staging _ now _ dest = record { kept = as_it_was job start now dest.at.tree; stood = inr dest.at.tree }
+kept_now job _ start phase.Root _ now _ dest = record { kept = as_it_was job start now dest.at.0.tree; stood = inr dest.at.0.tree }
+kept_now _ _ _ (phase.RootMake number) _ _ _ dest = record {
   kept = root_kept dest.at (stands_whole number dest.at.tree);
   stood = inl (record { free = dest.at.free; root = inl dest.at.root });
 }
-kept_now job past start phase.RootRename held now at dest = record { kept = root_kept dest.at (stands_whole 6 dest.at.tree); stood = inl (record { free = dest.at.free; root = inl dest.at.root }) }
-kept_now job past start (phase.RootCheck number) held now at dest = record { kept = as_it_was job start now dest.at.tree; stood = inr dest.at.tree }
-kept_now job past start (phase.OpenObject object) held now at dest = record { kept = not_begun job past start object held now dest.at; stood = inl dest.at.root }
-kept_now job past start (phase.Scan object) held now at dest = record { kept = not_begun job past start object held now dest.at; stood = inl dest.at.root }
-kept_now job past start (phase.Read object count) held now at dest = record { kept = not_begun job past start object held now dest.at; stood = inl dest.at.root }
-kept_now job past start (phase.Make object here) held now at dest = record { kept = part_kept at dest; stood = inl dest.at.root }
-kept_now job past start (phase.Copy object position left) held now at dest = record { kept = copying_kept at dest; stood = inl dest.at.making.root }
+kept_now _ _ _ phase.RootRename _ _ _ dest = record { kept = root_kept dest.at (stands_whole 6 dest.at.tree); stood = inl (record { free = dest.at.free; root = inl dest.at.root }) }
+kept_now job _ start (phase.RootCheck _) _ now _ dest = record { kept = as_it_was job start now dest.at.tree; stood = inr dest.at.tree }
+kept_now job past start (phase.OpenObject object) held now _ dest = record { kept = not_begun job past start object held now dest.at; stood = inl dest.at.root }
+kept_now job past start (phase.Scan object) held now _ dest = record { kept = not_begun job past start object held now dest.at; stood = inl dest.at.root }
+kept_now job past start (phase.Read object _) held now _ dest = record { kept = not_begun job past start object held now dest.at; stood = inl dest.at.root }
+kept_now _ _ _ (phase.Make _ _) _ _ at dest = record { kept = part_kept at dest; stood = inl dest.at.root }
+kept_now _ _ _ (phase.Copy _ _ _) _ _ at dest = record { kept = copying_kept at dest; stood = inl dest.at.making.root }
 kept_now job past start (phase.Tuples object number) held now at dest =
     let few = at.numbers in
     record { kept = whole_kept past dest.started at.ends.0 at.rows (omega (arith, few)) dest.at.0; stood = inl dest.at.0.root }
 kept_now job past start (phase.Rename object) held now at dest = record { kept = whole_kept past dest.started at.ends.0 at.rows (omega arith) dest.at.0; stood = inl dest.at.0.root }
-kept_now job past start phase.Ended held now at dest = dest.at
-kept_now job past start _ held now at dest = record { kept = held_so job start past.placed now dest.at; stood = inl dest.at.root }
+kept_now _ _ _ phase.Ended _ _ _ dest = dest.at
+kept_now job past start _ _ now _ dest = record { kept = held_so job start past.placed now dest.at; stood = inl dest.at.root }

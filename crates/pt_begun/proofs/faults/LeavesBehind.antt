@@ -72,16 +72,16 @@ is_plain Finishes = true
 is_plain (Renames from to) = true
 
 pub plain_same : {change : Change} {old new : Writing} → is_plain change ≡ true → LeavesPart (Some old) (Some new) change → new.tree ≡ old.tree
-plain_same {old} {new} plain (Untouched change same) = some_same new.tree old.tree same
+plain_same {old} {new} _ (Untouched _ same) = some_same new.tree old.tree same
 plain_same plain _ = absurd (cc)
 
 -- ---- a new root
 
 root_left : (job : Job) (past : Past) (start : Tree) (number : ℕ) (item : Item) (held : Held) (old new : Writing) → HeldAt job past (phase.RootMake number) held → DestPart job past (phase.RootMake number) held start old → slice_get (root_script job.tuples) number ≡ Some item
     → LeavesPart (Some old) (Some new) (Makes item) → IsLeftTree job start new
-root_left job past start number (MakeFolder path) held old new at dest is left = same_left job past start (phase.RootMake number) held old new at dest (plain_same refl left)
-root_left job past start number (MakeFile path bytes) held old new at dest is (Untouched change same) = same_left job past start (phase.RootMake number) held old new at dest (some_same new.tree old.tree same)
-root_left job past start number (MakeFile path bytes) held old new at dest is (OfFile p b count same) =
+root_left job past start number (MakeFolder _) held old new at dest _ left = same_left job past start (phase.RootMake number) held old new at dest (plain_same refl left)
+root_left job past start number (MakeFile _ _) held old new at dest _ (Untouched _ same) = same_left job past start (phase.RootMake number) held old new at dest (some_same new.tree old.tree same)
+root_left job _ start number (MakeFile path bytes) _ old new _ dest is (OfFile _ _ count same) =
     let tree_is = some_same new.tree (done (MakeFile path (take count bytes)) old.tree) same in
     let next : IsNext (root_script job.tuples) (take number (root_script job.tuples)) (MakeFile path bytes) = record { rest = drop (suc number) (root_script job.tuples); is = split_at number (root_script job.tuples) (MakeFile path bytes) is } in
     record {
@@ -97,7 +97,7 @@ root_left job past start number (MakeFile path bytes) held old new at dest is (O
 
 part_left : (job : Job) (past : Past) (start : Tree) (object : Object) (here : Part) (path : Path) (bytes : List ℕ) (held : Held) (old new : Writing) → HeldAt job past (phase.Make object here) held → DestPart job past (phase.Make object here) held start old
     → IsNext (script_of_object job object held.rows past.bytes) (made_before job object held.rows past.bytes here) (MakeFile path bytes) → LeavesPart (Some old) (Some new) (Makes (MakeFile path bytes)) → IsLeftTree job start new
-part_left job past start object here path bytes held old new at dest next (Untouched change same) = same_left job past start (phase.Make object here) held old new at dest (some_same new.tree old.tree same)
+part_left job past start object here _ _ held old new at dest _ (Untouched _ same) = same_left job past start (phase.Make object here) held old new at dest (some_same new.tree old.tree same)
 part_left job past start object here path bytes held old new at dest next (OfFile p b count same) =
     let front = made_before job object held.rows past.bytes here in
     let tree_is = some_same new.tree (done (MakeFile path (take count bytes)) old.tree) same in
@@ -113,8 +113,8 @@ part_left job past start object here path bytes held old new at dest next (OfFil
 
 opened_left : {job : Job} {past : Past} {start : Tree} {object : Object} {position : Position} {held : Held} (row : Row) {old new : Writing} → HeldAt job past (phase.Make object (a_part.Content position)) held → DestPart job past (phase.Make object (a_part.Content position)) held start old
     → IsNext (script_of_object job object held.rows past.bytes) (made_before job object held.rows past.bytes (a_part.Content position)) (MakeFile (in_content row.path) (past.bytes row.path)) → LeavesPart (Some old) (Some new) (Creates (in_content row.path)) → IsLeftTree job start new
-opened_left {job} {past} {start} {object} {position} {held} row {old} {new} at dest next (Untouched change same) = same_left job past start (phase.Make object (a_part.Content position)) held old new at dest (some_same new.tree old.tree same)
-opened_left {job} {past} {start} {object} {position} {held} row {old} {new} at dest next (NewFile p same) =
+opened_left {job} {past} {start} {object} {position} {held} _ {old} {new} at dest _ (Untouched _ same) = same_left job past start (phase.Make object (a_part.Content position)) held old new at dest (some_same new.tree old.tree same)
+opened_left {job} {past} {start} {object} {position} {held} row {old} {new} at dest next (NewFile _ same) =
     let front = made_before job object held.rows past.bytes (a_part.Content position) in
     let item = MakeFile (in_content row.path) [] in
     let tree_is = some_same new.tree (done (MakeFile (in_content row.path) []) old.tree) same in
@@ -139,8 +139,8 @@ fed_held {job} {past} {held} fed at = record {
 
 copied_left : {job : Job} {past : Past} {start : Tree} {object : Object} {position : Position} {left : ℕ} {piece : List ℕ} {held : Held} {old new : Writing} → HeldAt job past (phase.Copy object position left) held → DestPart job past (phase.Copy object position left) held start old
     → LeavesPart (Some old) (Some new) (Adds piece) → IsLeftTree job start new
-copied_left {job} {past} {start} {object} {position} {left} {held} {old} {new} at dest (Untouched change same) = same_left job past start (phase.Copy object position left) held old new at dest (some_same new.tree old.tree same)
-copied_left {job} {past} {start} {object} {position} {left} {piece} {held} {old} {new} at dest (OfPiece p count same) =
+copied_left {job} {past} {start} {object} {position} {left} {held} {old} {new} at dest (Untouched _ same) = same_left job past start (phase.Copy object position left) held old new at dest (some_same new.tree old.tree same)
+copied_left {job} {past} {start} {object} {position} {left} {piece} {held} {old} {new} at dest (OfPiece _ count same) =
     let part = take count piece in
     let it = copied job past start object position left left held old new None part (some_same new (after_append part old) same) dest in
     record { tree = it.tree; left = kept_now job past start (phase.Copy object position left) (with_fed held (held.fed ++ part)) new (fed_held (held.fed ++ part) at) it }
@@ -149,7 +149,7 @@ copied_left {job} {past} {start} {object} {position} {left} {piece} {held} {old}
 
 starts_left : {job : Job} {past : Past} {start : Tree} {prefix read : List ℕ} {here : Phase} {held : Held} {calls : Calls} {answer : Answer} {old new : Writing} → Starts job here prefix read calls answer → HeldAt job past here held → DestPart job past here held start old
     → LeavesPart (Some old) (Some new) calls.change → IsLeftTree job start new
-starts_left {job} {past} {start} {held} {old} {new} (MakesRoot was number item is) at dest left = root_left job past start number item held old new at dest is left
+starts_left {job} {past} {start} {held} {old} {new} (MakesRoot _ number item is) at dest left = root_left job past start number item held old new at dest is left
 starts_left {job} {past} {start} {here} {held} {old} {new} _ at dest left = same_left job past start here held old new at dest (plain_same refl left)
 
 walks_left : {job : Job} {past : Past} {start : Tree} {prefix : List ℕ} {here : Phase} {held after : Held} {calls : Calls} {answer : Answer} {old new : Writing} → Walks job prefix here held after calls answer → HeldAt job past here held → DestPart job past here held start old → LeavesPart (Some old) (Some new) calls.change → IsLeftTree job start new
@@ -166,25 +166,25 @@ places_left {job} {past} {start} {here} {held} {old} {new} _ at dest left = same
 
 makes_left : {job : Job} {past : Past} {start : Tree} {here : Phase} {held after : Held} {calls : Calls} {answer : Answer} {old new : Writing} → Makings job here held after calls answer → HeldAt job past here held → DestPart job past here held start old
     → LeavesPart (Some old) (Some new) calls.change → IsLeftTree job start new
-makes_left {job} {past} {start} {here} {held} {old} {new} (MakesStaging was object) at dest broken = same_left job past start here held old new at dest (plain_same refl broken)
+makes_left {job} {past} {start} {here} {held} {old} {new} (MakesStaging _ _) at dest broken = same_left job past start here held old new at dest (plain_same refl broken)
 makes_left {job} {past} {start} {old} {new} (MakesDeclaration was object) at dest left = part_left job past start object a_part.Declaration (staging ++ object_declaration_name ∷ []) object_declaration_bytes was old new at dest (next_declaration job object was.rows past.bytes) left
-makes_left {job} {past} {start} {here} {held} {old} {new} (MakesVersion was object) at dest broken = same_left job past start here held old new at dest (plain_same refl broken)
-makes_left {job} {past} {start} {here} {held} {old} {new} (PassesRow was object position row is other) at dest broken = same_left job past start here held old new at dest (plain_same refl broken)
-makes_left {job} {past} {start} {here} {held} {old} {new} (MakesFolder was object position row is stored more) at dest broken = same_left job past start here held old new at dest (plain_same refl broken)
+makes_left {job} {past} {start} {here} {held} {old} {new} (MakesVersion _ _) at dest broken = same_left job past start here held old new at dest (plain_same refl broken)
+makes_left {job} {past} {start} {here} {held} {old} {new} (PassesRow _ _ _ _ _ _) at dest broken = same_left job past start here held old new at dest (plain_same refl broken)
+makes_left {job} {past} {start} {here} {held} {old} {new} (MakesFolder _ _ _ _ _ _ _) at dest broken = same_left job past start here held old new at dest (plain_same refl broken)
 makes_left {job} {past} (OpensCopy was object position row is stored all) at dest broken = opened_left row at dest (file_next job object was.rows was.contents past.bytes position row (is_here job past object position was row at is stored) (ltb-false position.directories (length row.path) all)) broken
-makes_left (CopiesOn was object position left byte block fits) at dest broken = copied_left at dest broken
-makes_left {job} {past} {start} {here} {held} {old} {new} (EndsCopy was object position row left is same) at dest broken = same_left job past start here held old new at dest (plain_same refl broken)
+makes_left (CopiesOn _ _ _ _ _ _ _) at dest broken = copied_left at dest broken
+makes_left {job} {past} {start} {here} {held} {old} {new} (EndsCopy _ _ _ _ _ _ _) at dest broken = same_left job past start here held old new at dest (plain_same refl broken)
 makes_left {job} {past} {start} {old} {new} (MakesVersionInventory was object) at dest left = part_left job past start object a_part.VersionInventory (in_version [] ++ inventory_name ∷ []) (text_of_inventory job object was.rows) was old new at dest (next_first job object was.rows past.bytes) left
 makes_left {job} {past} {start} {old} {new} (MakesVersionSidecar was object) at dest left = part_left job past start object a_part.VersionSidecar (in_version [] ++ sidecar_name job.algorithm ∷ []) (sidecar_text job.algorithm (text_of_inventory job object was.rows)) was old new at dest (next_second job object was.rows past.bytes) left
 makes_left {job} {past} {start} {old} {new} (MakesInventory was object) at dest left = part_left job past start object a_part.Inventory (staging ++ inventory_name ∷ []) (text_of_inventory job object was.rows) was old new at dest (next_third job object was.rows past.bytes) left
 makes_left {job} {past} {start} {old} {new} (MakesSidecar was object) at dest left = part_left job past start object a_part.Sidecar (staging ++ sidecar_name job.algorithm ∷ []) (sidecar_text job.algorithm (text_of_inventory job object was.rows)) was old new at dest (next_fourth job object was.rows past.bytes) left
-makes_left {job} {past} {start} {here} {held} {old} {new} (ReadsMore was object position left byte block e) at dest broken = same_left job past start here held old new at dest (plain_same refl broken)
-makes_left {job} {past} {start} {here} {held} {old} {new} (ReadsOther was object position row left is e) at dest broken = same_left job past start here held old new at dest (plain_same refl broken)
+makes_left {job} {past} {start} {here} {held} {old} {new} (ReadsMore _ _ _ _ _ _ _) at dest broken = same_left job past start here held old new at dest (plain_same refl broken)
+makes_left {job} {past} {start} {here} {held} {old} {new} (ReadsOther _ _ _ _ _ _ _) at dest broken = same_left job past start here held old new at dest (plain_same refl broken)
 
 pub follows_left : {job : Job} {past : Past} {start : Tree} {counts : Counts} {here : Phase} {prefix : List ℕ} {held : Held} {read : List ℕ} {after : Held} {calls : Calls} {answer : Answer} {old new : Writing} → Follows job counts here prefix held read after calls answer
     → HeldAt job past here held → DestPart job past here held start old → LeavesPart (Some old) (Some new) calls.change → IsLeftTree job start new
-follows_left (a_start h p r w c a turn) at dest left = starts_left turn at dest left
-follows_left (Walk h p w n c a turn) at dest left = walks_left turn at dest left
-follows_left (Scan h p w n c a turn) at dest left = scans_left turn at dest left
-follows_left (Make h p w n c a turn) at dest left = makes_left turn at dest left
-follows_left (Place h p w n c a turn) at dest left = places_left turn at dest left
+follows_left (a_start _ _ _ _ _ _ turn) at dest left = starts_left turn at dest left
+follows_left (Walk _ _ _ _ _ _ turn) at dest left = walks_left turn at dest left
+follows_left (Scan _ _ _ _ _ _ turn) at dest left = scans_left turn at dest left
+follows_left (Make _ _ _ _ _ _ turn) at dest left = makes_left turn at dest left
+follows_left (Place _ _ _ _ _ _ turn) at dest left = places_left turn at dest left

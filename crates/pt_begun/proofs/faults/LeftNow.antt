@@ -41,11 +41,11 @@ use Rattle.pt_begun.proofs.dest.ObjectParts.{front_made}
 
 -- all as it was, before the first item
 pub as_it_was : (job : Job) (source : Forest) (start now : Tree) (count : ℕ) → count ≡ 0 → now ≡ start → MayBeLeft job source start now (text job source (root_in start) count)
-as_it_was job source start now count first same = inl (same, ap (text job source (root_in start)) first)
+as_it_was job source start _ _ first same = inl (same, ap (text job source (root_in start)) first)
 
 -- a part of a new root
 pub root_left : (job : Job) (source : Forest) (start now : Tree) (count : ℕ) (items : List Item) (w : Writing) → count ≡ 0 → IsMakingRoot start items w → StandsAtPrefix (root_script job.tuples) start now → MayBeLeft job source start now (text job source (root_in start) count)
-root_left job source start now count items w first making at =
+root_left job source start now _ _ _ first making at =
     inr (making.free, subst (IsLeft job source start now) (sym (ap (text job source (root_in start)) first)) (MakingRoot now (root_free start making.root) at))
 
 -- the root after some items, with this in the log
@@ -63,7 +63,7 @@ counted_left {job} {source} {start} count free is =
 
 -- the root with the objects placed, where those are the ones that are carried
 root_after : (job : Job) (source : Forest) (start : Tree) {placed : List Carried} (k : ℕ) → placed ≡ carried_among job source (root_in start) k → root_now job start placed ≡ after job source (root_in start) k
-root_after job source start k is = ap (root_now job start) is
+root_after job _ start _ is = ap (root_now job start) is
 
 pub tree_between : {job : Job} (source : Forest) {start : Tree} {placed : List Carried} (k : ℕ) {w : Writing} → placed ≡ carried_among job source (root_in start) k → IsBetweenObjects job start placed w → w.tree ≡ with_root start (after job source (root_in start) k)
 tree_between {job} source {start} k is between = between.tree ∙ ap (with_root start) (root_after job source start k is)
@@ -112,7 +112,7 @@ module _ (job : Job) (past : Past) (s : Reading) (start : Tree) (prefix : List �
   -- all of the object is made, and some folders on the way to its place
   script_stands : (object : Object) (n : ℕ) → IsMakingObject job start past.placed object (script_of_object job object held.rows past.bytes) n now
       → StandsAtPrefix (script_of_object job object held.rows past.bytes) (with_root start (root_on_way job start past.placed object.place n)) now.tree
-  script_stands object n making =
+  script_stands object _ making =
       front_stands {front = script_of_object job object held.rows past.bytes} (record { rest = []; is = sym (append-nil (script_of_object job object held.rows past.bytes)) }) making.tree
 
   tuples_left : (object : Object) (number : ℕ) → Known (phase.Tuples object number) → Left
@@ -132,7 +132,7 @@ module _ (job : Job) (past : Past) (s : Reading) (start : Tree) (prefix : List �
 
   -- the object is at its place, and its line isn't told yet
   line_left : (object : Object) → Known (phase.Line object) → Left
-  line_left object known =
+  line_left _ known =
       let source = known.source in
       let is = carried_next past s (root_in start) source.proper source.at.0 source.at.1 source.bytes known.items.places.next in
       between_left known.dest.at.root.free (marked_within job s.tree (root_in start) is.1)
@@ -140,21 +140,21 @@ module _ (job : Job) (past : Past) (s : Reading) (start : Tree) (prefix : List �
       (tree_between s.tree (suc past.count) known.items.places.placed known.dest.at)
 
   pub left_now : (here : Phase) → is_ended here ≡ false → Known here → Left
-  left_now phase.Begin runs known = as_it_was job s.tree start now.tree past.count known.source.at.1 known.dest.at.tree
-  left_now (phase.Prefix here) runs known = as_it_was job s.tree start now.tree past.count known.source.at.1 known.dest.at.tree
-  left_now phase.Staging runs known = as_it_was job s.tree start now.tree past.count known.source.at.1 known.dest.at.tree
-  left_now phase.Root runs known = as_it_was job s.tree start now.tree past.count known.source.at.1 known.dest.at.0.tree
-  left_now (phase.RootMake number) runs known =
+  left_now phase.Begin _ known = as_it_was job s.tree start now.tree past.count known.source.at.1 known.dest.at.tree
+  left_now (phase.Prefix _) _ known = as_it_was job s.tree start now.tree past.count known.source.at.1 known.dest.at.tree
+  left_now phase.Staging _ known = as_it_was job s.tree start now.tree past.count known.source.at.1 known.dest.at.tree
+  left_now phase.Root _ known = as_it_was job s.tree start now.tree past.count known.source.at.1 known.dest.at.0.tree
+  left_now (phase.RootMake number) _ known =
       root_left job s.tree start now.tree past.count (take number (root_script job.tuples)) now known.source.at.1 known.dest.at (stands_whole number known.dest.at.tree)
-  left_now phase.RootRename runs known = root_left job s.tree start now.tree past.count (root_script job.tuples) now known.source.at.1 known.dest.at (stands_whole 6 known.dest.at.tree)
-  left_now (phase.RootCheck number) runs known = as_it_was job s.tree start now.tree past.count known.source.at.1 known.dest.at.tree
-  left_now (phase.OpenObject object) runs known = counted_left past.count known.dest.at.root.free (tree_entered s.tree past.count known.items.places.placed known.dest.at)
-  left_now (phase.Scan object) runs known = counted_left past.count known.dest.at.root.free (tree_entered s.tree past.count known.items.places.placed known.dest.at)
-  left_now (phase.Read object bytes) runs known = counted_left past.count known.dest.at.root.free (tree_entered s.tree past.count known.items.places.placed known.dest.at)
-  left_now (phase.Make object here) runs known = part_left object here known
-  left_now (phase.Copy object position left) runs known = copy_left object position left known
-  left_now (phase.Tuples object number) runs known = tuples_left object number known
-  left_now (phase.Rename object) runs known = rename_left object known
-  left_now (phase.Line object) runs known = line_left object known
+  left_now phase.RootRename _ known = root_left job s.tree start now.tree past.count (root_script job.tuples) now known.source.at.1 known.dest.at (stands_whole 6 known.dest.at.tree)
+  left_now (phase.RootCheck _) _ known = as_it_was job s.tree start now.tree past.count known.source.at.1 known.dest.at.tree
+  left_now (phase.OpenObject _) _ known = counted_left past.count known.dest.at.root.free (tree_entered s.tree past.count known.items.places.placed known.dest.at)
+  left_now (phase.Scan _) _ known = counted_left past.count known.dest.at.root.free (tree_entered s.tree past.count known.items.places.placed known.dest.at)
+  left_now (phase.Read _ _) _ known = counted_left past.count known.dest.at.root.free (tree_entered s.tree past.count known.items.places.placed known.dest.at)
+  left_now (phase.Make object here) _ known = part_left object here known
+  left_now (phase.Copy object position left) _ known = copy_left object position left known
+  left_now (phase.Tuples object number) _ known = tuples_left object number known
+  left_now (phase.Rename object) _ known = rename_left object known
+  left_now (phase.Line object) _ known = line_left object known
   left_now phase.Ended runs known = absurd (cc)
-  left_now _ runs known = counted_left past.count known.dest.at.root.free (tree_between s.tree past.count known.items.places.placed known.dest.at)
+  left_now _ _ known = counted_left past.count known.dest.at.root.free (tree_between s.tree past.count known.items.places.placed known.dest.at)

@@ -40,14 +40,14 @@ before_making : {job : Job} {t : Tree} {placed : List Carried} {object : Object}
 before_making at = λ q. ap (λ (x : Tree). x (staging ++ q)) at.tree ∙ at.root.free q
 
 free_there : {job : Job} {past : Past} (here : Phase) {held : Held} {t : Tree} {now : Writing} → may_tell here ≡ true → DestPart job past here held t now → IsFree now.tree staging
-free_there phase.OpenRoot tells dest = between dest.at
-free_there phase.Judge tells dest = between dest.at
-free_there (phase.OpenObject object) tells dest = before_making dest.at
-free_there (phase.Scan object) tells dest = before_making dest.at
-free_there (phase.Read object bytes) tells dest = before_making dest.at
-free_there (phase.Line object) tells dest = between dest.at
-free_there phase.Walk tells dest = between dest.at
-free_there phase.End tells dest = between dest.at
+free_there phase.OpenRoot _ dest = between dest.at
+free_there phase.Judge _ dest = between dest.at
+free_there (phase.OpenObject _) _ dest = before_making dest.at
+free_there (phase.Scan _) _ dest = before_making dest.at
+free_there (phase.Read _ _) _ dest = before_making dest.at
+free_there (phase.Line _) _ dest = between dest.at
+free_there phase.Walk _ dest = between dest.at
+free_there phase.End _ dest = between dest.at
 free_there _ tells dest = absurd (cc)
 
 -- ---- what its turn does
@@ -59,7 +59,7 @@ is_quiet (Finds path here) = true
 is_quiet _ = false
 
 quiet_leaves : {old new : Option Writing} {change : Change} → LeavesPart old new change → is_quiet change ≡ true → dest_tree new ≡ dest_tree old
-quiet_leaves (Untouched change same) quiet = same
+quiet_leaves (Untouched _ same) _ = same
 quiet_leaves _ quiet = absurd (cc)
 
 starts_late : {job : Job} {here : Phase} {prefix read : List ℕ} {calls : Calls} {answer : Answer} → Starts job here prefix read calls answer → may_tell here ≡ false
@@ -75,28 +75,28 @@ scans_quiet (scan.StartsInSite _ _ _) = refl
 scans_quiet _ = refl
 
 makes_late : (job : Job) (here : Phase) (held new : Held) (calls : Calls) (answer : Answer) → Makings job here held new calls answer → may_tell here ≡ false
-makes_late job _ held _ _ _ (make.MakesStaging _ _) = refl
-makes_late job _ held _ _ _ _ = refl
+makes_late _ _ _ _ _ _ (make.MakesStaging _ _) = refl
+makes_late _ _ _ _ _ _ _ = refl
 
 places_quiet : (job : Job) (counts : Counts) (here : Phase) (held new : Held) (calls : Calls) (answer : Answer) → Places job counts here held new calls answer → may_tell here ≡ true → is_quiet calls.change ≡ true
-places_quiet job counts _ held _ _ _ (place.TellsDone _ object) tells = refl
-places_quiet job counts _ held _ _ _ (place.TellsEnd _) tells = refl
+places_quiet _ _ _ _ _ _ _ (place.TellsDone _ _) _ = refl
+places_quiet _ _ _ _ _ _ _ (place.TellsEnd _) _ = refl
 places_quiet job counts _ held _ _ _ _ tells = absurd (cc)
 
 follows_quiet : {job : Job} {counts : Counts} {here : Phase} {prefix : List ℕ} {held : Held} {read : List ℕ} {after : Held} {calls : Calls} {answer : Answer} → Follows job counts here prefix held read after calls answer → may_tell here ≡ true → is_quiet calls.change ≡ true
 follows_quiet (a_start h p r w c a turn) tells = let late = starts_late turn in absurd (let no : true ≡ false = sym tells ∙ late in cc)
-follows_quiet (Walk h p w n c a turn) tells = walks_quiet turn
-follows_quiet (Scan h p w n c a turn) tells = scans_quiet turn
+follows_quiet (Walk _ _ _ _ _ _ turn) _ = walks_quiet turn
+follows_quiet (Scan _ _ _ _ _ _ turn) _ = scans_quiet turn
 follows_quiet {job} {here} {held} {after} {calls} {answer} (Make h p w n c a turn) tells = let late = makes_late job here held after calls answer turn in absurd (let no : true ≡ false = sym tells ∙ late in cc)
-follows_quiet {job} {counts} {here} {held} {after} {calls} {answer} (Place h p w n c a turn) tells = places_quiet job counts here held after calls answer turn tells
+follows_quiet {job} {counts} {here} {held} {after} {calls} {answer} (Place _ _ _ _ _ _ turn) tells = places_quiet job counts here held after calls answer turn tells
 
 -- ---- the law
 
 -- the start told too
 now_tells : {A B : Type 0} (P : A → B → Type 0) (start : Option A) (now : Option B) {b : B} → now ≡ Some b → TellsAsBefore start now P → (a : A) × P a b
 now_tells P None None is tells = absurd (cc)
-now_tells P None (Some x) is tells = absurd (tells)
-now_tells P (Some a) None is tells = absurd (tells)
+now_tells P None (Some _) _ tells = absurd (tells)
+now_tells P (Some _) None _ tells = absurd (tells)
 now_tells P (Some a) (Some x) {b} is tells = (a, subst (λ y. P a y) (some_same x b is) tells)
 
 same_tree : (old : Option Writing) (t : Tree) → Some t ≡ dest_tree old → (w : Writing) × ((old ≡ Some w) × (t ≡ w.tree))
@@ -105,14 +105,14 @@ same_tree (Some w) t is = (w, (refl, some_same t w.tree is))
 
 pub failed_log_leaves_no_staging : FailedLogLeavesNoStaging
 unfolding Begun Did Stays LeavesSome
-failed_log_leaves_no_staging job start old new run after now (past, is) (IsRefused prefix held calls why turn did halted) tells dest_is =
+failed_log_leaves_no_staging job start old _ run _ _ (past, is) (IsRefused _ _ _ _ turn did _) tells dest_is =
     let same = refused_same turn did.0.dest in
     let had = now_tells (DestPart job past run.phase run.kept.held) start.dest old.dest (sym same ∙ dest_is) is.dest in
     free_there run.phase tells had.1
-failed_log_leaves_no_staging job start old new run after now (past, is) (FailsAtFirst why stays halted) tells dest_is =
+failed_log_leaves_no_staging job start old _ run _ _ (past, is) (FailsAtFirst _ stays _) tells dest_is =
     let had = now_tells (DestPart job past run.phase run.kept.held) start.dest old.dest (sym stays.1 ∙ dest_is) is.dest in
     free_there run.phase tells had.1
-failed_log_leaves_no_staging job start old new run after now (past, is) (FailsLater prefix held calls answer rows why turn leaves which halted) tells dest_is =
+failed_log_leaves_no_staging job start old _ run _ now (past, is) (FailsLater _ _ _ _ _ _ turn leaves _ _) tells dest_is =
     let quiet = follows_quiet turn tells in
     let same = quiet_leaves leaves.0.dest quiet in
     let was = same_tree old.dest now.tree (sym (ap dest_tree dest_is) ∙ same) in

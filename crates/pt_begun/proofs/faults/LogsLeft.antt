@@ -25,12 +25,12 @@ get_within (y ∷ xs) (suc k) is = let later = get_within xs k is in omega (arit
 
 there_is : {X : Type 0} → (xs : List X) (k : ℕ) → suc k ≤ length xs → (x : X) × (slice_get xs k ≡ Some x)
 there_is [] k within = absurd (omega (arith, within))
-there_is (y ∷ xs) zero within = (y, refl)
+there_is (y ∷ _) zero _ = (y, refl)
 there_is (y ∷ xs) (suc k) within = there_is xs k (omega (arith, within))
 
 some_before : {X Y : Type 0} → (f : X → Y) (o : Option X) {y : Y} → option_map f o ≡ Some y → (x : X) × (o ≡ Some x)
 some_before f None is = absurd (cc)
-some_before f (Some x) is = (x, refl)
+some_before _ (Some x) _ = (x, refl)
 
 -- an item that is marked is one of the items
 pub marked_within : (job : Job) (source : Forest) (root : Tree) {k : ℕ} {m : Marked} → slice_get (marked job source root) k ≡ Some m → suc k ≤ length (items job source)
@@ -75,7 +75,7 @@ not_told job source root k {m} is told = told_in_part job source root k [] (flat
 -- ---- between two items
 
 pub told_so_far : (job : Job) (source : Forest) (root : Tree) (k : ℕ) → k ≤ length (items job source) → IsLogAfter job source root k (text job source root k)
-told_so_far job source root zero within = refl
+told_so_far _ _ _ zero _ = refl
 told_so_far job source root (suc k) within =
     let m = marked_at job source root within in
     told_in_part job source root k (flat_map line_text (line_of job m.0)) [] m.1 (sym (append-nil (flat_map line_text (line_of job m.0)))) (text_grows job source root k m.0 m.1).1
@@ -108,7 +108,7 @@ as_after job source root count = elim (cases_lt (length (items job source)) coun
 
 some_sites : (depth : ℕ) (top : Option Forest) → is_some top ≡ true → (n : ℕ) × (length (sites_in_root depth top) ≡ suc n)
 some_sites depth None is = absurd (cc)
-some_sites depth (Some top) is = (length (sites_in depth [] top), refl)
+some_sites depth (Some top) _ = (length (sites_in depth [] top), refl)
 
 pub some_items : (job : Job) (source : Forest) → is_store source ≡ true → (n : ℕ) × (length (items job source) ≡ suc n)
 some_items job source is =

@@ -32,7 +32,7 @@ use Rattle.pt_begun.proofs.items.Telling.{both_tell}
 -- ---- nothing was made
 
 pub all_still : (start : Tree) → StandsStill start start
-all_still start = record { stays = λ path entry is. is; new = λ path none some. absurd (true≢false (sym some ∙ ap is_some none)) }
+all_still _ = record { stays = λ path entry is. is; new = λ path none some. absurd (true≢false (sym some ∙ ap is_some none)) }
 
 -- ---- in the root
 
@@ -75,7 +75,7 @@ in_staging item = is_some (rest_below staging (item_path item))
 
 -- what is made there leaves what stands beside
 made_beside : (items : List Item) (t : Tree) {path : Path} → list_all in_staging items ≡ true → rest_below staging path ≡ None → made items t path ≡ t path
-made_beside [] t all out = refl
+made_beside [] _ _ _ = refl
 made_beside (item ∷ items) t {path} all out =
     let parts = and_parts (in_staging item) (list_all in_staging items) all in
     made_beside items (done item t) parts.1 out ∙ by (same_path path (item_path item)) refl parts.0
@@ -86,13 +86,13 @@ made_beside (item ∷ items) t {path} all out =
 
 items_in : (items : List Item) → list_all in_staging (map (item_in staging) items) ≡ true
 items_in [] = refl
-items_in (MakeFolder path ∷ items) = items_in items
-items_in (MakeFile path bytes ∷ items) = items_in items
+items_in (MakeFolder _ ∷ items) = items_in items
+items_in (MakeFile _ _ ∷ items) = items_in items
 
 cut_in : (count : ℕ) (items : List Item) → list_all in_staging items ≡ true → list_all in_staging (cut_last count items) ≡ true
-cut_in count [] all = refl
-cut_in count (MakeFolder path ∷ []) all = all
-cut_in count (MakeFile path bytes ∷ []) all = all
+cut_in _ [] _ = refl
+cut_in _ (MakeFolder path ∷ []) all = all
+cut_in _ (MakeFile path bytes ∷ []) all = all
 cut_in count (item ∷ next ∷ items) all =
     let parts = and_parts (in_staging item) (list_all in_staging (next ∷ items)) all in
     and_from (in_staging item) (list_all in_staging (cut_last count (next ∷ items))) parts.0 (cut_in count (next ∷ items) parts.1)
@@ -126,10 +126,10 @@ made_still {start} {now} free still beside = record { stays = λ path entry is. 
 -- ---- whatever is left
 
 kept_still : {job : Job} {start now : Tree} → IsTree start → IsFree start staging → IsKept job start now → StandsStill start now
-kept_still {start} tree free AsItWas = all_still start
-kept_still {job} {start} tree free (MakingRoot now none at) = made_still free (all_still start) (prefix_beside (root_items job.tuples) at)
-kept_still {job} tree free (Holding objects come) = objects_still job objects tree
-kept_still {job} {start} tree free (Making objects next tuples now come at) =
+kept_still {start} _ _ AsItWas = all_still start
+kept_still {job} {start} _ free (MakingRoot _ _ at) = made_still free (all_still start) (prefix_beside (root_items job.tuples) at)
+kept_still {job} tree _ (Holding objects _) = objects_still job objects tree
+kept_still {job} {start} tree free (Making objects next tuples _ _ at) =
     let folders = take tuples (tuple_folders job next) in
     let mid = with_root start (with_folders folders (with_objects job objects (base job.tuples (root_in start)))) in
     let rows = rows_of job.algorithm next.files in

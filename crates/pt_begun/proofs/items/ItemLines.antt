@@ -67,8 +67,8 @@ counts_kept _ are = are
 
 -- of a run that hasn't ended the log has got the lines of the items done
 pub told_at : (job : Job) (source : Forest) (root : Tree) (past : Past) (next : Phase) (old : List ℕ) {now : List ℕ} → now ≡ old ++ text job source root past.count → HasTold job source root past next old now
-told_at job source root past phase.Ended old told = tt
-told_at job source root past _ old told = told
+told_at _ _ _ _ phase.Ended _ _ = tt
+told_at _ _ _ _ _ _ told = told
 
 -- with one item more it gets its line
 text_after : {job : Job} {source : Forest} {root : Tree} {count : ℕ} {line : Option Line} {more : List Carried} → EndsItem job source root count line more
@@ -84,12 +84,12 @@ line_put (Some line) old before grown told puts =
 pub log_kept : {job : Job} {source : Forest} {root : Tree} (past later : Past) {next : Phase} {line : Option Line} {n : ℕ} (old : List ℕ) {now : List ℕ} (new : List ℕ) {gained : List Carried} → later.count ≡ n → Tells job source root past.count next line n gained
     → now ≡ old ++ text job source root past.count → Puts line (Some now) (Some new) → HasTold job source root later next old new
 unfolding Puts
-log_kept {job} {source} {root} past later {next} old {now} new is Nothing told puts =
+log_kept {job} {source} {root} _ later {next} old {now} new is Nothing told puts =
     told_at job source root later next old (some_same new now puts ∙ told ∙ ap (λ k. old ++ text job source root k) (sym is))
-log_kept {job} {source} {root} past later {next} {line} old new is (OneItem it) told puts =
+log_kept {job} {source} {root} past later {next} {line} old _ is (OneItem it) told puts =
     told_at job source root later next old
     (line_put line old (text job source root past.count) (text_after it) told puts ∙ ap (λ k. old ++ text job source root k) (sym is))
-log_kept past later old new is (Last done present skipped) told puts = tt
+log_kept _ _ _ _ _ (Last _ _ _) _ _ = tt
 
 -- ---- the objects placed
 
@@ -98,7 +98,7 @@ pub placed_kept : {job : Job} {source : Forest} {root : Tree} {count new : ℕ} 
     → placed ≡ carried_among job source root new
 placed_kept {job} {source} {root} {count} none (OneItem it) are =
     are ∙ sym (carried_grows job source root count it.m it.is ∙ ap (λ (l : List Carried). carried_among job source root count ++ l) (it.gained ∙ none) ∙ append-nil (carried_among job source root count))
-placed_kept none _ are = are
+placed_kept _ _ are = are
 
 -- ---- each kind of item
 
@@ -129,8 +129,8 @@ skipped_item {job} {source} root {count} {item} is what = record {
 -- it is passed over and told, or only leads on
 pub passed_item : (told : Bool) {job : Job} {source : Forest} (root : Tree) {count : ℕ} {item : Item} (why : Cause) → slice_get (items job source) count ≡ Some item → item.verdict ≡ cond told (Skip why) Interior
     → EndsItem job source root count (cond told (Some (Skipped item.path why)) None) []
-passed_item true {job} {source} root {count} why is what = skipped_item root is what
-passed_item false {job} {source} root {count} why is what = interior_item root is what
+passed_item true {job} {source} root {count} _ is what = skipped_item root is what
+passed_item false {job} {source} root {count} _ is what = interior_item root is what
 
 -- whether its place is taken is whether something stands there
 pub mark_where_stands : (job : Job) (source : Forest) {root : Tree} (count : ℕ) {item : Item} {id : List ℕ} {object : PairtreeObject} → IsRooted root → slice_get (items job source) count ≡ Some item → item.verdict ≡ Named id object

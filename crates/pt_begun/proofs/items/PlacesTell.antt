@@ -51,7 +51,7 @@ all_at P (y ∷ xs) zero {x} all is = subst P (let same : y ≡ x = cc in same) 
 all_at P (y ∷ xs) (suc k) all is = all_at P xs k (λ j d h. all (suc j) d (omega (arith, h))) is
 
 same_files : (job : Job) (bytes : Path → List ℕ) (some : List File) → ((k : ℕ) (f : File) → slice_get some k ≡ Some f → bytes f.0 ≡ f.1) → files_held (rows_of job.algorithm some) bytes ≡ some
-same_files job bytes [] each = refl
+same_files _ _ [] _ = refl
 same_files job bytes ((path, held) ∷ some) each = λ i. (path, each 0 (path, held) refl i) ∷ same_files job bytes some (λ k f is. each (suc k) f is) i
 
 -- what is held of the files is what they are
@@ -97,13 +97,13 @@ held_is_carried {job} past s root {object} {held} {count} proper started it ther
 -- ---- its line
 
 long_from : (job : Job) (start : ℕ) (some : List File) → fold (λ (a : ℕ) (row : Row). a + row.length) start (rows_of job.algorithm some) ≡ fold (λ (a : ℕ) (file : File). a + length file.1) start some
-long_from job start [] = refl
+long_from _ _ [] = refl
 long_from job start (file ∷ some) = long_from job (start + length file.1) some
 
 -- it tells the numbers of the rows
 done_told : (job : Job) (past : Past) (source : Forest) (object : Object) (held : Held) → HeldAt job past (phase.Line object) held → HasScanned job (object_at source object (to_site object held.trail)) held.rows object.empty []
     → line_by_outcome (trail_path (to_site object held.trail)) object.id (object_at source object (to_site object held.trail)) (place_of job.tuples object.id) (Holds (files (entries (object_at source object (to_site object held.trail)).inside))) ≡ done_line object held
-done_told job past source object held at it =
+done_told job _ source object held at it =
     let what = object_at source object (to_site object held.trail) in
     let all : entries what.inside ≡ it.front = it.all ∙ append-nil it.front in
     let path : what.at ≡ path_of_source object held.trail = ap (path_of_source object) (site_itself object held.trail at.ends.1) in
@@ -117,14 +117,14 @@ done_told job past source object held at it =
 
 after_a_tuple : (job : Job) (source : Forest) (root : Tree) (count number : ℕ) (object : Object) (more : Bool)
     → Tells job source root count (cond more (phase.Tuples object (number + 1)) (phase.Rename object)) None (done_after (phase.Tuples object number) [] (cond more (phase.Tuples object (number + 1)) (phase.Rename object)) count) []
-after_a_tuple job source root count number object true = Nothing
-after_a_tuple job source root count number object false = Nothing
+after_a_tuple _ _ _ _ _ _ true = Nothing
+after_a_tuple _ _ _ _ _ _ false = Nothing
 
 pub places_tell : {job : Job} {counts : Counts} {past : Past} {s : Reading} {prefix : List ℕ} {root : Tree} {here next : Phase} {held after : Held} {calls : Calls} → Places job counts here held after calls (Ok next) → HeldAt job past here held → SourcePart job past here prefix held s
     → IsFreeAt here job s.tree root past.count → (gained : List Carried) × Tells job s.tree root past.count next calls.line (done_after here held.trail next past.count) gained
-places_tell {job} {past} {s} {root} (MakesTuple was object number) at part free = ([], after_a_tuple job s.tree root past.count number object (nat_lt (number + 1) job.tuples.count))
-places_tell {job} {past} {s} {root} (FindsTuple was object number) at part free = ([], after_a_tuple job s.tree root past.count number object (nat_lt (number + 1) job.tuples.count))
-places_tell (RenamesObject was object) at part free = ([], Nothing)
+places_tell {job} {past} {s} {root} (MakesTuple _ object number) _ _ _ = ([], after_a_tuple job s.tree root past.count number object (nat_lt (number + 1) job.tuples.count))
+places_tell {job} {past} {s} {root} (FindsTuple _ object number) _ _ _ = ([], after_a_tuple job s.tree root past.count number object (nat_lt (number + 1) job.tuples.count))
+places_tell (RenamesObject _ _) _ _ _ = ([], Nothing)
 places_tell {job} {past} {s} {root} (TellsDone was object) at part free =
     let site = to_site object was.trail in
     let whole = files (entries (object_at s.tree object site).inside) in
@@ -134,4 +134,4 @@ places_tell {job} {past} {s} {root} (TellsDone was object) at part free =
           (OneItem
           (ends_with part.at.0 part.at.1 free)),
     )
-places_tell {counts} (TellsEnd was) at part free = ([], Last counts.done counts.present counts.skipped)
+places_tell {counts} (TellsEnd _) _ _ _ = ([], Last counts.done counts.present counts.skipped)

@@ -31,24 +31,24 @@ is_start _ = false
 -- at these the log is as it was, and elsewhere nothing is said
 pub quiet_if : (here : Phase) {old now : List ℕ} → (is_start here ≡ true → now ≡ old) → IsQuiet here old now
 quiet_if phase.Begin same = same refl
-quiet_if (phase.Prefix here) same = same refl
+quiet_if (phase.Prefix _) same = same refl
 quiet_if phase.Staging same = same refl
 quiet_if phase.Root same = same refl
-quiet_if (phase.RootMake number) same = same refl
+quiet_if (phase.RootMake _) same = same refl
 quiet_if phase.RootRename same = same refl
-quiet_if (phase.RootCheck number) same = same refl
+quiet_if (phase.RootCheck _) same = same refl
 quiet_if phase.OpenRoot same = same refl
-quiet_if _ same = tt
+quiet_if _ _ = tt
 
 pub quiet_is : (here : Phase) {old now : List ℕ} → is_start here ≡ true → IsQuiet here old now → now ≡ old
-quiet_is phase.Begin start is = is
-quiet_is (phase.Prefix here) start is = is
-quiet_is phase.Staging start is = is
-quiet_is phase.Root start is = is
-quiet_is (phase.RootMake number) start is = is
-quiet_is phase.RootRename start is = is
-quiet_is (phase.RootCheck number) start is = is
-quiet_is phase.OpenRoot start is = is
+quiet_is phase.Begin _ is = is
+quiet_is (phase.Prefix _) _ is = is
+quiet_is phase.Staging _ is = is
+quiet_is phase.Root _ is = is
+quiet_is (phase.RootMake _) _ is = is
+quiet_is phase.RootRename _ is = is
+quiet_is (phase.RootCheck _) _ is = is
+quiet_is phase.OpenRoot _ is = is
 quiet_is _ start is = absurd (cc)
 
 -- ---- a turn that leads to one begins at one, and tells nothing
@@ -58,8 +58,8 @@ pub record StartsQuietly (here : Phase) (calls : Calls) : Type 0 where
   pub line : calls.line ≡ None
 
 either_later : (this : Bool) (p q : Phase) → is_start p ≡ false → is_start q ≡ false → is_start (cond this p q) ≡ false
-either_later true p q one two = one
-either_later false p q one two = two
+either_later true _ _ one _ = one
+either_later false _ _ _ two = two
 
 starts_quietly : {job : Job} {prefix read : List ℕ} {here next : Phase} {calls : Calls} → Starts job here prefix read calls (Ok next) → StartsQuietly here calls
 starts_quietly (IsStore _ _ _) = record { start = refl; line = refl }
@@ -74,17 +74,17 @@ scans_later (StartsInSite _ _ _) = refl
 scans_later _ = refl
 
 makes_later : {job : Job} {here : Phase} {held after : Held} {calls : Calls} {next : Phase} → Makings job here held after calls (Ok next) → is_start next ≡ false
-makes_later {job} (MakesSidecar was object) = either_later (job.tuples.count == 0) (phase.Rename object) (phase.Tuples object 0) refl refl
+makes_later {job} (MakesSidecar _ object) = either_later (job.tuples.count == 0) (phase.Rename object) (phase.Tuples object 0) refl refl
 makes_later _ = refl
 
 places_later : {job : Job} {counts : Counts} {here next : Phase} {held after : Held} {calls : Calls} → Places job counts here held after calls (Ok next) → is_start next ≡ false
-places_later {job} (MakesTuple was object number) = either_later (nat_lt (number + 1) job.tuples.count) (phase.Tuples object (number + 1)) (phase.Rename object) refl refl
-places_later {job} (FindsTuple was object number) = either_later (nat_lt (number + 1) job.tuples.count) (phase.Tuples object (number + 1)) (phase.Rename object) refl refl
+places_later {job} (MakesTuple _ object number) = either_later (nat_lt (number + 1) job.tuples.count) (phase.Tuples object (number + 1)) (phase.Rename object) refl refl
+places_later {job} (FindsTuple _ object number) = either_later (nat_lt (number + 1) job.tuples.count) (phase.Tuples object (number + 1)) (phase.Rename object) refl refl
 places_later _ = refl
 
 pub follows_quietly : {job : Job} {counts : Counts} {here : Phase} {prefix : List ℕ} {held : Held} {read : List ℕ} {after : Held} {calls : Calls} {next : Phase} → Follows job counts here prefix held read after calls (Ok next) → is_start next ≡ true → StartsQuietly here calls
-follows_quietly (a_start h p r w c a turn) start = starts_quietly turn
-follows_quietly (Walk h p w n c a turn) start = absurd (true≢false (sym start ∙ walks_later turn))
-follows_quietly (Scan h p w n c a turn) start = absurd (true≢false (sym start ∙ scans_later turn))
-follows_quietly (Make h p w n c a turn) start = absurd (true≢false (sym start ∙ makes_later turn))
-follows_quietly (Place h p w n c a turn) start = absurd (true≢false (sym start ∙ places_later turn))
+follows_quietly (a_start _ _ _ _ _ _ turn) _ = starts_quietly turn
+follows_quietly (Walk _ _ _ _ _ _ turn) start = absurd (true≢false (sym start ∙ walks_later turn))
+follows_quietly (Scan _ _ _ _ _ _ turn) start = absurd (true≢false (sym start ∙ scans_later turn))
+follows_quietly (Make _ _ _ _ _ _ turn) start = absurd (true≢false (sym start ∙ makes_later turn))
+follows_quietly (Place _ _ _ _ _ _ turn) start = absurd (true≢false (sym start ∙ places_later turn))

@@ -85,7 +85,7 @@ gives_up {job} {source} {root} {object} held {count} {why} started it free comes
 -- ---- at an entry
 
 deep_entry : (job : Job) (at path : Path) {whole : Path} (held : ℕ) (t : List Frame) (inside : Forest) → whole ≡ at ++ path → length whole ≡ length t → nat_lt job.limits.depth (length t) ≡ true → entry_cause job.limits (length at) held (path, Dir inside) ≡ Some cause.Limit
-deep_entry job at path held t inside is long deep =
+deep_entry job at path _ t _ is long deep =
     let sum : length at + length path ≡ length t = sym (ap length is ∙ length-append at path) ∙ long in
     ap (λ (n : ℕ). cond (nat_lt job.limits.depth n) (Some cause.Limit) None) sum ∙ ap (λ b. cond b (Some cause.Limit) None) deep
 
@@ -154,24 +154,24 @@ too_long most count more {long} is within = let above = ltb-true most (count + m
 pub scans_tell : {job : Job} {past : Past} {s : Reading} {prefix : List ℕ} {root : Tree} {here next : Phase} {held after : Held} {calls : Calls} → Scans job here held after calls (Ok next) → is_trail held.trail ≡ true → SourcePart job past here prefix held s
     → IsFreeAt here job s.tree root past.count → (new : Reading) → Answers calls.asked (Some s) (Some new) → Tells job s.tree root past.count next calls.line (done_after here held.trail next past.count) []
 unfolding Answers IsRead
-scans_tell (StartsInSite was object gathered) is_one source_part free new answers = Nothing
-scans_tell (EntersObject was object items apart shallow) is_one source_part free new answers = Nothing
-scans_tell {root} (IsTooDeep was object apart deep) is_one source_part free new answers = gives_up was source_part.at.1 source_part.at.2 free (fails_before was.trail is_one apart deep source_part.at.3 source_part.at.2)
-scans_tell (PassesShorty was object item e passed) is_one source_part free new answers = Nothing
-scans_tell (EntersDirectory was object name items e apart shallow) is_one source_part free new answers = Nothing
-scans_tell {s} {root} (MeetsDeep was object name e apart deep) is_one source_part free new answers = gives_up was source_part.at.0 source_part.at.1.stands free (fails_at_directory s.tree object was.trail (pairtree_proper s.tree source_part.at.0.store source_part.proper) is_one e apart deep source_part.at.1.stands.fits source_part.at.1.stands.within source_part.at.1.inside source_part.at.1.scanned)
-scans_tell (OpensFile was object name e room) is_one source_part free new answers = Nothing
-scans_tell {job} {s} {root} (MeetsLimit was object name e room) is_one source_part free new answers = gives_up was source_part.at.0 source_part.at.1.stands free
+scans_tell (StartsInSite _ _ _) _ _ _ _ _ = Nothing
+scans_tell (EntersObject _ _ _ _ _) _ _ _ _ _ = Nothing
+scans_tell {root} (IsTooDeep was _ apart deep) is_one source_part free _ _ = gives_up was source_part.at.1 source_part.at.2 free (fails_before was.trail is_one apart deep source_part.at.3 source_part.at.2)
+scans_tell (PassesShorty _ _ _ _ _) _ _ _ _ _ = Nothing
+scans_tell (EntersDirectory _ _ _ _ _ _ _) _ _ _ _ _ = Nothing
+scans_tell {s} {root} (MeetsDeep was object _ e apart deep) is_one source_part free _ _ = gives_up was source_part.at.0 source_part.at.1.stands free (fails_at_directory s.tree object was.trail (pairtree_proper s.tree source_part.at.0.store source_part.proper) is_one e apart deep source_part.at.1.stands.fits source_part.at.1.stands.within source_part.at.1.inside source_part.at.1.scanned)
+scans_tell (OpensFile _ _ _ _ _) _ _ _ _ _ = Nothing
+scans_tell {job} {s} {root} (MeetsLimit was object _ e room) _ source_part free _ _ = gives_up was source_part.at.0 source_part.at.1.stands free
     (fails_at_file s.tree object was.trail (pairtree_proper s.tree source_part.at.0.store source_part.proper) e (or_left (is_beyond job was (logical_path object was.trail)) (nat_lt job.limits.file_bytes (length (bytes_at (pairtree_of s.tree) (names_to was.trail)))) room) source_part.at.1.stands.fits source_part.at.1.inside source_part.at.1.scanned)
-scans_tell {s} {root} (MeetsOther was object name e) is_one source_part free new answers = gives_up was source_part.at.0 source_part.at.1.stands free (fails_at_other s.tree object was.trail (pairtree_proper s.tree source_part.at.0.store source_part.proper) e source_part.at.1.stands.fits source_part.at.1.inside source_part.at.1.scanned)
-scans_tell (EndsSite was object e there) is_one source_part free new answers = Nothing
-scans_tell (EndsObject was object e apart own) is_one source_part free new answers = Nothing
-scans_tell (LeavesDirectory was object e apart outside) is_one source_part free new answers = Nothing
-scans_tell (ReadsOn was object bytes byte block short) is_one source_part free new answers = Nothing
-scans_tell {job} {s} {root} (IsTooLong was object bytes byte block long) is_one source_part free new answers =
+scans_tell {s} {root} (MeetsOther was object _ e) _ source_part free _ _ = gives_up was source_part.at.0 source_part.at.1.stands free (fails_at_other s.tree object was.trail (pairtree_proper s.tree source_part.at.0.store source_part.proper) e source_part.at.1.stands.fits source_part.at.1.inside source_part.at.1.scanned)
+scans_tell (EndsSite _ _ _ _) _ _ _ _ _ = Nothing
+scans_tell (EndsObject _ _ _ _ _) _ _ _ _ _ = Nothing
+scans_tell (LeavesDirectory _ _ _ _ _) _ _ _ _ _ = Nothing
+scans_tell (ReadsOn _ _ _ _ _ _) _ _ _ _ _ = Nothing
+scans_tell {job} {s} {root} (IsTooLong was object bytes byte block long) _ source_part free _ answers =
     let whole = bytes_at (pairtree_of s.tree) (names_to was.trail) in
     let within = (reads_block 8192 whole bytes was.fed (byte ∷ block) s.unread source_part.at.2.read (answers.0 s refl)).within in
     gives_up was source_part.at.0 source_part.at.1.stands free
     (fails_at_file s.tree object was.trail (pairtree_proper s.tree source_part.at.0.store source_part.proper) source_part.at.2.file
     (or_right (is_beyond job was (logical_path object was.trail)) (nat_lt job.limits.file_bytes (length whole)) (too_long job.limits.file_bytes bytes (length (byte ∷ block)) long within)) source_part.at.1.stands.fits source_part.at.1.inside source_part.at.1.scanned)
-scans_tell (EndsFile was object bytes) is_one source_part free new answers = Nothing
+scans_tell (EndsFile _ _ _) _ _ _ _ _ = Nothing

@@ -53,11 +53,11 @@ judged_next {job} {source} {t} {count} it = get_map (item_of job (prefix_of sour
 judged_verdict : (job : Job) (source : Forest) (prefix : List ℕ) (t : List Frame) {what : VerdictOn (Option ℕ)} → is_proper (pairtree_of source) ≡ true → 0 < length t → Fits (pairtree_of source) t → judged_at job prefix t ≡ what
     → verdict_of job prefix (trail_path t) (Listed (inside_at (pairtree_of source) (trail_path t))) ≡ verdict_there job source t what
 judged_verdict job source prefix [] proper some fits is = absurd (omega (arith, some))
-judged_verdict job source prefix (frame ∷ frames) proper some fits is = judged_there job source prefix frame frames proper fits ∙ ap (verdict_there job source (frame ∷ frames)) is
+judged_verdict job source prefix (frame ∷ frames) proper _ fits is = judged_there job source prefix frame frames proper fits ∙ ap (verdict_there job source (frame ∷ frames)) is
 
 path_at : (job : Job) (id : List ℕ) (index : Option ℕ) (t : List Frame) → path_of_source (new_object job id index t) (at_object index t) ≡ path_of_object index t
-path_at job id None t = refl
-path_at job id (Some i) t = refl
+path_at _ _ None _ = refl
+path_at _ _ (Some _) _ = refl
 
 -- its verdict with the prefix that was read
 with_prefix : (job : Job) {source : Forest} {prefix : List ℕ} (t : List Frame) {verdict : Verdict} → HasStarted source prefix → verdict_of job prefix (trail_path t) (Listed (inside_at (pairtree_of source) (trail_path t))) ≡ verdict → (item_judged job source t).verdict ≡ verdict
@@ -66,16 +66,16 @@ with_prefix job {source} t started is = ap (λ (p : List ℕ). verdict_of job p 
 -- ---- whether its place is taken
 
 some_kind : (here : Option Entry) (what : Option Kind) → option_map kind_of_entry here ≡ what → is_some here ≡ is_some what
-some_kind None None is = refl
+some_kind None None _ = refl
 some_kind None (Some kind) is = absurd (cc)
 some_kind (Some entry) None is = absurd (cc)
-some_kind (Some entry) (Some kind) is = refl
+some_kind (Some _) (Some _) _ = refl
 
 -- what the destination answers says it
 taken_as_found : {job : Job} (source : Forest) {start : Tree} (past : Past) {w : Writing} (t : List Frame) {id : List ℕ} {object : PairtreeObject} {what : Option Kind} → IsRooted (root_in start) → slice_get (items job source) past.count ≡ Some (item_judged job source t)
     → (item_judged job source t).verdict ≡ Named id object → past.placed ≡ carried_among job source (root_in start) past.count → IsBetweenObjects job start past.placed w → option_map kind_of_entry (w.tree (in_root (place_of job.tuples id))) ≡ what
     → is_taken job (root_in start) (take past.count (items job source)) (item_judged job source t).verdict ≡ is_some what
-taken_as_found {job} source {start} past {w} t {id} {object} {what} rooted is named placed between found =
+taken_as_found {job} source {start} past {w} _ {id} {object} {what} rooted is named placed between found =
     mark_where_stands job source past.count rooted is named
     ∙ ap (λ (l : List Carried). is_some (root_now job start l (place_of job.tuples id))) (sym placed)
     ∙ ap is_some (sym (ap (λ (r : Tree). r (in_root (place_of job.tuples id))) between.tree))
@@ -92,30 +92,30 @@ pub walks_tell : {job : Job} {past : Past} {s : Reading} {prefix : List ℕ} (st
     → IsRooted (root_in start) → past.placed ≡ carried_among job s.tree (root_in start) (items_placed here past.count) → DestAt job start past here held w → Changes calls.change (Some w) (Some new)
     → Tells job s.tree (root_in start) past.count next calls.line (done_after here held.trail next past.count) []
 unfolding Changes IsKindAt
-walks_tell {job} {past} {s} {prefix} start w new (LeadsOn was is) is_one part rooted placed dest change = OneItem (interior_item (root_in start) (judged_next part.at.2) (with_prefix job was.trail part.at.1 (judged_verdict job s.tree prefix was.trail (pairtree_proper s.tree part.at.1.store part.proper) part.at.2.way.entered part.at.2.way.fits is)))
-walks_tell {job} {past} {s} {prefix} start w new (IsSkipped was why is) is_one part rooted placed dest change = OneItem (skipped_item (root_in start) (judged_next part.at.2) (with_prefix job was.trail part.at.1 (judged_verdict job s.tree prefix was.trail (pairtree_proper s.tree part.at.1.store part.proper) part.at.2.way.entered part.at.2.way.fits is)))
-walks_tell {job} {past} {s} {prefix} start w new (IsPresent was index id here_is is) is_one part rooted placed dest change =
+walks_tell {job} {past} {s} {prefix} start _ _ (LeadsOn was is) _ part _ _ _ _ = OneItem (interior_item (root_in start) (judged_next part.at.2) (with_prefix job was.trail part.at.1 (judged_verdict job s.tree prefix was.trail (pairtree_proper s.tree part.at.1.store part.proper) part.at.2.way.entered part.at.2.way.fits is)))
+walks_tell {job} {past} {s} {prefix} start _ _ (IsSkipped was _ is) _ part _ _ _ _ = OneItem (skipped_item (root_in start) (judged_next part.at.2) (with_prefix job was.trail part.at.1 (judged_verdict job s.tree prefix was.trail (pairtree_proper s.tree part.at.1.store part.proper) part.at.2.way.entered part.at.2.way.fits is)))
+walks_tell {job} {past} {s} {prefix} start w _ (IsPresent was index id _ is) _ part rooted placed dest change =
     let object = object_at s.tree (new_object job id index was.trail) (at_object index was.trail) in
     let named = (with_prefix job was.trail part.at.1 (judged_verdict job s.tree prefix was.trail (pairtree_proper s.tree part.at.1.store part.proper) part.at.2.way.entered part.at.2.way.fits is)) in
     let item = judged_next part.at.2 in
     let taken = taken_as_found s.tree past was.trail rooted item named placed dest (change.0 w refl) in
     subst (λ (p : Path). Tells job s.tree (root_in start) past.count phase.Walk (Some (Present p id (place_of job.tuples id))) (suc past.count) []) (path_at job id index was.trail)
     (OneItem (present_item item named taken))
-walks_tell {job} start w new (IsNew was index id is) is_one part rooted placed dest change = Nothing
-walks_tell {job} {past} {s} start w new (IsPast was name e short last) is_one part rooted placed dest change =
+walks_tell {job} _ _ _ (IsNew _ _ _ _) _ _ _ _ _ _ = Nothing
+walks_tell {job} {past} {s} start _ _ (IsPast was name e short last) _ part _ _ _ _ =
     at_shorty was.trail e short
     (OneItem (passed_item (is_first job.share) (root_in start) cause.Past
     (get_map (item_of job (prefix_of s.tree)) (sites_of job.limits.depth s.tree) past.count (names_to was.trail, past_visit) (past_next job s.tree was.trail name past.count (pairtree_proper s.tree part.at.1.store part.proper) e short last part.at.2)) refl))
-walks_tell {job} {past} {s} start w new (IsDeep was name e short last deep) is_one part rooted placed dest change =
+walks_tell {job} {past} {s} start _ _ (IsDeep was name e short last deep) is_one part _ _ _ _ =
     at_shorty was.trail e short
     (OneItem (passed_item (is_first job.share) (root_in start) cause.Limit
     (get_map (item_of job (prefix_of s.tree)) (sites_of job.limits.depth s.tree) past.count (names_to was.trail, Deep) (deep_next job s.tree was.trail name past.count (pairtree_proper s.tree part.at.1.store part.proper) is_one e short last deep part.at.2)) refl))
-walks_tell {job} {past} {s} start w new (PassesEntry was item e apart) is_one part rooted placed dest change =
+walks_tell {job} {past} {s} start _ _ (PassesEntry was item e apart) _ _ _ _ _ _ =
     subst (λ (n : ℕ). Tells job s.tree (root_in start) past.count phase.Walk None n []) (sym (none_at_entry was.trail item past.count e apart)) Nothing
-walks_tell {job} {past} {s} start w new (LeavesSite was e long) is_one part rooted placed dest change =
+walks_tell {job} {past} {s} start _ _ (LeavesSite was e _) _ _ _ _ _ _ =
     subst (λ (n : ℕ). Tells job s.tree (root_in start) past.count phase.Walk None n []) (sym (none_at_end was.trail past.count e)) Nothing
-walks_tell start w new (EndsWalk was e short) is_one part rooted placed dest change = Nothing
-walks_tell start w new _ is_one part rooted placed dest change = Nothing
+walks_tell _ _ _ (EndsWalk _ _ _) _ _ _ _ _ _ = Nothing
+walks_tell _ _ _ _ _ _ _ _ _ _ = Nothing
 
 -- the place of a new object isn't taken
 pub new_is_free : {job : Job} {past : Past} {s : Reading} {prefix : List ℕ} {start : Tree} {w : Writing} {held : Held} {index : Option ℕ} {id : List ℕ} → SourcePart job past phase.Judge prefix held s

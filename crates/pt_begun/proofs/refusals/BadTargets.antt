@@ -27,11 +27,11 @@ one_passes f test (z ∷ xs) (suc k) all is comes =
     one_passes f test xs k parts.1 is comes
 
 pub bad_target_is_none : BadTargetIsNone
-bad_target_is_none job source t tree (IsNoFolder bad) (inl free) = true≢false (ap is_folder_or_free (sym (free [])) ∙ bad)
-bad_target_is_none job source t tree (IsNoFolder bad) (inr usable) = true≢false (ap is_folder_or_free (sym (root_stands job t tree usable.files)) ∙ bad)
+bad_target_is_none _ _ _ _ (IsNoFolder bad) (inl free) = true≢false (ap is_folder_or_free (sym (free [])) ∙ bad)
+bad_target_is_none job _ t tree (IsNoFolder bad) (inr usable) = true≢false (ap is_folder_or_free (sym (root_stands job t tree usable.files)) ∙ bad)
 bad_target_is_none job source t tree (HasOtherFile number file top is other) (inl free) = absurd (let no = sym (free []) ∙ top in cc)
-bad_target_is_none job source t tree (HasOtherFile number file top is other) (inr usable) = other (all_at (λ (f : File). root_in t f.0 ≡ Some (Bytes f.1)) (root_files_of job.tuples) number usable.files is)
-bad_target_is_none job source t tree (IsBarred object carried bad) (inl free) =
+bad_target_is_none job _ t _ (HasOtherFile number _ _ is other) (inr usable) = other (all_at (λ (f : File). root_in t f.0 ≡ Some (Bytes f.1)) (root_files_of job.tuples) number usable.files is)
+bad_target_is_none job _ t _ (IsBarred object _ bad) (inl free) =
     true≢false (sym (all_true (λ (folder : Path). is_folder_or_free (root_in t folder)) (λ folder. ap is_folder_or_free (free folder)) (tuple_folders job object)) ∙ bad)
-bad_target_is_none job source t tree (IsBarred object (k, (m, is, comes)) bad) (inr usable) =
+bad_target_is_none job source t _ (IsBarred _ (k, (_, is, comes)) bad) (inr usable) =
     true≢false (sym (one_passes (λ (n : Marked). carried_by job n.1 n.0.verdict) (is_way_free job (root_in t)) (marked job source (root_in t)) k usable.ways is comes) ∙ bad)

@@ -38,67 +38,67 @@ starts_first : {job : Job} {prefix read : List ℕ} {here : Phase} {calls : Call
 starts_first (IsNoRoot was kind e) early = absurd (cc)
 starts_first (IsNoFile was number path bytes kind is e) early = absurd (cc)
 starts_first (Differs was number path bytes block is e) early = absurd (cc)
-starts_first _ early = refl
+starts_first _ _ = refl
 
 makes_late : (job : Job) (here : Phase) (held after : Held) (calls : Calls) (why : Halt) → Makings job here held after calls (Err why) → is_early why ≡ false
-makes_late job here held after calls why (ReadsMore was object position left byte block more) = refl
-makes_late job here held after calls why (ReadsOther was object position row left is other) = refl
+makes_late _ _ _ _ _ _ (ReadsMore _ _ _ _ _ _ _) = refl
+makes_late _ _ _ _ _ _ (ReadsOther _ _ _ _ _ _ _) = refl
 
 places_late : {job : Job} {counts : Counts} {here : Phase} {held after : Held} {calls : Calls} {why : Halt} → Places job counts here held after calls (Err why) → is_early why ≡ false
-places_late (IsInTheWay was object number kind is) = refl
+places_late (IsInTheWay _ _ _ _ _) = refl
 
 follows_first : {job : Job} {counts : Counts} {here : Phase} {prefix : List ℕ} {held : Held} {read : List ℕ} {after : Held} {calls : Calls} {why : Halt} → Follows job counts here prefix held read after calls (Err why) → is_early why ≡ true → is_first here ≡ true
-follows_first (a_start h p r w c a turn) early = starts_first turn early
-follows_first (Walk h p w n c a turn) early = elim turn [ ]
-follows_first (Scan h p w n c a turn) early = elim turn [ ]
-follows_first {job} {here} {held} {after} {calls} {why} (Make h p w n c a turn) early = absurd (true≢false (sym early ∙ makes_late job here held after calls why turn))
-follows_first (Place h p w n c a turn) early = absurd (true≢false (sym early ∙ places_late turn))
+follows_first (a_start _ _ _ _ _ _ turn) early = starts_first turn early
+follows_first (Walk _ _ _ _ _ _ turn) _ = elim turn [ ]
+follows_first (Scan _ _ _ _ _ _ turn) _ = elim turn [ ]
+follows_first {job} {here} {held} {after} {calls} {why} (Make _ _ _ _ _ _ turn) early = absurd (true≢false (sym early ∙ makes_late job here held after calls why turn))
+follows_first (Place _ _ _ _ _ _ turn) early = absurd (true≢false (sym early ∙ places_late turn))
 
 -- a fault is no such halt
 failed_late : (why : Halt) (old new : Failures) → HasFailed why old new → is_early why ≡ false
-failed_late halt.Source old new it = refl
-failed_late halt.Dest old new it = refl
-failed_late halt.Log old new it = refl
-failed_late halt.Memory old new it = refl
-failed_late halt.NotPairtree old new it = absurd (it)
-failed_late halt.Prefix old new it = absurd (it)
-failed_late halt.StagingLeft old new it = absurd (it)
-failed_late halt.Target old new it = refl
-failed_late halt.Changed old new it = refl
+failed_late halt.Source _ _ _ = refl
+failed_late halt.Dest _ _ _ = refl
+failed_late halt.Log _ _ _ = refl
+failed_late halt.Memory _ _ _ = refl
+failed_late halt.NotPairtree _ _ it = absurd (it)
+failed_late halt.Prefix _ _ it = absurd (it)
+failed_late halt.StagingLeft _ _ it = absurd (it)
+failed_late halt.Target _ _ _ = refl
+failed_late halt.Changed _ _ _ = refl
 
 -- ---- what holds there
 
 first_tree : {job : Job} {past : Past} (here : Phase) {held : Held} {t : Tree} {now : Writing} → is_first here ≡ true → DestPart job past here held t now → now.tree ≡ t
-first_tree phase.Begin first dest = dest.at.tree
-first_tree (phase.Prefix here) first dest = dest.at.tree
-first_tree phase.Staging first dest = dest.at.tree
+first_tree phase.Begin _ dest = dest.at.tree
+first_tree (phase.Prefix _) _ dest = dest.at.tree
+first_tree phase.Staging _ dest = dest.at.tree
 first_tree _ first dest = absurd (cc)
 
 first_starts : (here : Phase) → is_first here ≡ true → is_start here ≡ true
-first_starts phase.Begin first = refl
-first_starts (phase.Prefix here) first = refl
-first_starts phase.Staging first = refl
+first_starts phase.Begin _ = refl
+first_starts (phase.Prefix _) _ = refl
+first_starts phase.Staging _ = refl
 first_starts _ first = absurd (cc)
 
 -- ---- the laws
 
 pub early_leaves_dest : EarlyLeavesDest
 unfolding Begun Did Stays LeavesSome
-early_leaves_dest job start old new run after why t now (past, is) (IsRefused prefix held calls reason turn did halted) early start_is dest_is =
+early_leaves_dest job start old _ run _ _ _ now (past, is) (IsRefused _ _ _ _ turn did _) early start_is dest_is =
     let had = both_tell (DestPart job past run.phase run.kept.held) start.dest old.dest start_is is.dest in
     let same = refused_same turn did.0.dest in
     ap (λ (w : Writing). w.tree) (some_same now had.0 (sym dest_is ∙ same ∙ had.1))
     ∙ first_tree run.phase (follows_first turn early) had.2
-early_leaves_dest job start old new run after why t now (past, is) (FailsAtFirst reason stays halted) early start_is dest_is = absurd (true≢false (sym early ∙ failed_late why old.failures new.failures stays.3))
-early_leaves_dest job start old new run after why t now (past, is) (FailsLater prefix held calls answer rows reason turn leaves which halted) early start_is dest_is = absurd (true≢false (sym early ∙ failed_late why old.failures new.failures leaves.1))
+early_leaves_dest _ _ old new _ _ why _ _ (_, _) (FailsAtFirst _ stays _) early _ _ = absurd (true≢false (sym early ∙ failed_late why old.failures new.failures stays.3))
+early_leaves_dest _ _ old new _ _ why _ _ (_, _) (FailsLater _ _ _ _ _ _ _ leaves _ _) early _ _ = absurd (true≢false (sym early ∙ failed_late why old.failures new.failures leaves.1))
 
 pub early_leaves_log : EarlyLeavesLog
 unfolding Begun Did Stays LeavesSome
-early_leaves_log job start old new run after why first last (past, is) (IsRefused prefix held calls reason turn did halted) early first_is last_is =
+early_leaves_log _ start old _ run _ _ _ last (_, is) (IsRefused _ _ calls _ turn did _) early first_is last_is =
     let counts = (turning run.kept).counts in
     let had = log_tells (IsQuiet run.phase) start.log old.log first_is is.quiet in
     let same = none_put calls.line (refused_quiet turn) did.0.log in
     some_same last had.0 (sym last_is ∙ same ∙ had.1)
     ∙ quiet_is run.phase (first_starts run.phase (follows_first turn early)) had.2
-early_leaves_log job start old new run after why first last (past, is) (FailsAtFirst reason stays halted) early first_is last_is = absurd (true≢false (sym early ∙ failed_late why old.failures new.failures stays.3))
-early_leaves_log job start old new run after why first last (past, is) (FailsLater prefix held calls answer rows reason turn leaves which halted) early first_is last_is = absurd (true≢false (sym early ∙ failed_late why old.failures new.failures leaves.1))
+early_leaves_log _ _ old new _ _ why _ _ (_, _) (FailsAtFirst _ stays _) early _ _ = absurd (true≢false (sym early ∙ failed_late why old.failures new.failures stays.3))
+early_leaves_log _ _ old new _ _ why _ _ (_, _) (FailsLater _ _ _ _ _ _ _ leaves _ _) early _ _ = absurd (true≢false (sym early ∙ failed_late why old.failures new.failures leaves.1))

@@ -50,25 +50,25 @@ starts_for (IsNoStore _ _ _) = refl
 starts_for _ = refl
 
 makes_for : {job : Job} {here : Phase} {held new : Held} {calls : Calls} {why : Halt} → Makings job here held new calls (Err why) → is_refusal why ≡ true
-makes_for (ReadsMore was object position left byte block more) = refl
-makes_for (ReadsOther was object position row left is other) = refl
+makes_for (ReadsMore _ _ _ _ _ _ _) = refl
+makes_for (ReadsOther _ _ _ _ _ _ _) = refl
 
 places_for : {job : Job} {counts : Counts} {here : Phase} {held new : Held} {calls : Calls} {why : Halt} → Places job counts here held new calls (Err why) → is_refusal why ≡ true
-places_for (IsInTheWay was object number kind is) = refl
+places_for (IsInTheWay _ _ _ _ _) = refl
 
 follows_for : {job : Job} {counts : Counts} {here : Phase} {prefix : List ℕ} {held : Held} {read : List ℕ} {new : Held} {calls : Calls} {why : Halt} → Follows job counts here prefix held read new calls (Err why) → is_refusal why ≡ true
-follows_for (a_start h p r x c a turn) = starts_for turn
-follows_for (Walk h p x n c a turn) = elim turn [ ]
-follows_for (Scan h p x n c a turn) = elim turn [ ]
-follows_for (Make h p x n c a turn) = makes_for turn
-follows_for (Place h p x n c a turn) = places_for turn
+follows_for (a_start _ _ _ _ _ _ turn) = starts_for turn
+follows_for (Walk _ _ _ _ _ _ turn) = elim turn [ ]
+follows_for (Scan _ _ _ _ _ _ turn) = elim turn [ ]
+follows_for (Make _ _ _ _ _ _ turn) = makes_for turn
+follows_for (Place _ _ _ _ _ _ turn) = places_for turn
 
 -- or a device that failed
 halts_for : {job : Job} {here : Phase} {before after : Kept} {old new : World} {why : Halt} → Turn job here before after old new (Err why) → (is_refusal why ≡ true) ⊎ HasFailed why old.failures new.failures
 unfolding Stays LeavesSome
-halts_for (IsRefused prefix held calls reason turn did halted) = inl (follows_for turn)
-halts_for (FailsAtFirst reason stays halted) = inr stays.3
-halts_for (FailsLater prefix held calls answer rows reason turn leaves which halted) = inr leaves.1
+halts_for (IsRefused _ _ _ _ turn _ _) = inl (follows_for turn)
+halts_for (FailsAtFirst _ stays _) = inr stays.3
+halts_for (FailsLater _ _ _ _ _ _ _ leaves _ _) = inr leaves.1
 
 -- ---- a root that can be gone on with
 
@@ -91,17 +91,17 @@ module _ (job : Job) (source : Forest) (root : Tree) where
   free_way object free = all_true (λ folder. is_folder_or_free (root folder)) (λ folder. ap is_folder_or_free (free folder)) (folders_above (place_of_carried job object))
 
   never_bad : root [] ≡ Some Folder ⊎ IsFree root [] → IsFree root [] ⊎ IsUsable job source root → IsBadTarget job root (IsCarriedOf job source root) → ⊥
-  never_bad top (inl free) (IsNoFolder else_there) = true≢false (sym (ap is_folder_or_free (free [])) ∙ else_there)
+  never_bad _ (inl free) (IsNoFolder else_there) = true≢false (sym (ap is_folder_or_free (free [])) ∙ else_there)
   never_bad top (inl free) (HasOtherFile number file there is other) = absurd (let nothing = sym (free []) ∙ there in cc)
-  never_bad top (inl free) (IsBarred object carried barred) = true≢false (sym (free_way object free) ∙ barred)
-  never_bad (inl folder) (inr usable) (IsNoFolder else_there) = true≢false (sym (ap is_folder_or_free folder) ∙ else_there)
-  never_bad (inr free) (inr usable) (IsNoFolder else_there) = true≢false (sym (ap is_folder_or_free (free [])) ∙ else_there)
-  never_bad top (inr usable) (HasOtherFile number file there is other) = other (all_at (λ (f : File). root f.0 ≡ Some (Bytes f.1)) (root_files_of job.tuples) number usable.files is)
-  never_bad top (inr usable) (IsBarred object carried barred) = true≢false (sym (way_of object carried usable.ways) ∙ barred)
+  never_bad _ (inl free) (IsBarred object _ barred) = true≢false (sym (free_way object free) ∙ barred)
+  never_bad (inl folder) (inr _) (IsNoFolder else_there) = true≢false (sym (ap is_folder_or_free folder) ∙ else_there)
+  never_bad (inr free) (inr _) (IsNoFolder else_there) = true≢false (sym (ap is_folder_or_free (free [])) ∙ else_there)
+  never_bad _ (inr usable) (HasOtherFile number _ _ is other) = other (all_at (λ (f : File). root f.0 ≡ Some (Bytes f.1)) (root_files_of job.tuples) number usable.files is)
+  never_bad _ (inr usable) (IsBarred object carried barred) = true≢false (sym (way_of object carried usable.ways) ∙ barred)
 
 -- what stands at the top of a root that holds files is a folder
 top_of : {job : Job} {source : Forest} {t : Tree} → IsTree t → IsFree (root_in t) [] ⊎ IsUsable job source (root_in t) → root_in t [] ≡ Some Folder ⊎ IsFree (root_in t) []
-top_of tree (inl free) = inr free
+top_of _ (inl free) = inr free
 top_of {job} {t} tree (inr usable) = inl (root_stands job t tree usable.files)
 
 -- ---- the law
@@ -111,27 +111,27 @@ unfolding Begun
 tree_of job start world run (past, is) some = (both_tell (DestPart job past run.phase run.kept.held) start.dest world.dest some is.dest).2.started
 
 pub nothing_is_refused : NothingIsRefused
-nothing_is_refused job start old new run after halt.Memory s t begun turn told some good free rose = refl
-nothing_is_refused job start old new run after halt.Source s t begun turn told some good free rose = elim (halts_for turn) [
+nothing_is_refused _ _ _ _ _ _ halt.Memory _ _ _ _ _ _ _ _ _ = refl
+nothing_is_refused _ _ _ _ _ _ halt.Source _ _ _ turn _ _ _ _ rose = elim (halts_for turn) [
   | inl refused ↦ absurd (false≢true refused)
   | inr failed ↦ absurd (rose.source failed.0)
 ]
-nothing_is_refused job start old new run after halt.Dest s t begun turn told some good free rose = elim (halts_for turn) [
+nothing_is_refused _ _ _ _ _ _ halt.Dest _ _ _ turn _ _ _ _ rose = elim (halts_for turn) [
   | inl refused ↦ absurd (false≢true refused)
   | inr failed ↦ absurd (rose.dest failed.1)
 ]
-nothing_is_refused job start old new run after halt.Log s t begun turn told some good free rose = elim (halts_for turn) [
+nothing_is_refused _ _ _ _ _ _ halt.Log _ _ _ turn _ _ _ _ rose = elim (halts_for turn) [
   | inl refused ↦ absurd (false≢true refused)
   | inr failed ↦ absurd (rose.log failed.2)
 ]
-nothing_is_refused job start old new run after halt.NotPairtree s t begun turn told some good free rose =
+nothing_is_refused job start old new run after halt.NotPairtree s _ begun turn told _ good _ _ =
     absurd (true≢false (sym good.store ∙ refuses_rightly job start old new run after halt.NotPairtree s begun turn told))
-nothing_is_refused job start old new run after halt.Prefix s t begun turn told some good free rose =
+nothing_is_refused job start old new run after halt.Prefix s _ begun turn told _ good _ _ =
     absurd (true≢false (sym good.prefix ∙ (refuses_rightly job start old new run after halt.Prefix s begun turn told).1))
-nothing_is_refused job start old new run after halt.StagingLeft s t begun turn told some good free rose =
+nothing_is_refused job start old new run after halt.StagingLeft _ t begun turn _ some _ free _ =
     absurd (true≢false (sym (finds_staging job start old new run after t begun turn some) ∙ ap is_some (free [])))
-nothing_is_refused job start old new run after halt.Target s t begun turn told some good free rose =
+nothing_is_refused job start old new run after halt.Target s t begun turn told some good _ _ =
     absurd
     (never_bad job s.tree (root_in t) (top_of (tree_of job start old run begun some) good.target) good.target
     (finds_target_of job start old new run after s t begun turn told some).1)
-nothing_is_refused job start old new run after halt.Changed s t begun turn told some good free rose = absurd (refuses_rightly job start old new run after halt.Changed s begun turn told)
+nothing_is_refused job start old new run after halt.Changed s _ begun turn told _ _ _ _ = absurd (refuses_rightly job start old new run after halt.Changed s begun turn told)

@@ -44,10 +44,10 @@ use Rattle.pt_begun.proofs.source.StartsKeep.{store_listed}
 -- ---- the prefix
 
 no_file : (o : Option Node) (here : Option Kind) → here ≢ None → is_file_kind here ≡ false → here ≡ option_map kind_of o → is_prefix o ≡ false
-no_file None here some other is = absurd (some is)
-no_file (Some (File bytes)) here some other is = absurd (true≢false (sym (ap is_file_kind is) ∙ other))
-no_file (Some (Dir inside)) here some other is = refl
-no_file (Some Other) here some other is = refl
+no_file None _ some _ is = absurd (some is)
+no_file (Some (File bytes)) _ _ other is = absurd (true≢false (sym (ap is_file_kind is) ∙ other))
+no_file (Some (Dir inside)) _ _ _ _ = refl
+no_file (Some Other) _ _ _ _ = refl
 
 long_refused : (bytes : List ℕ) → 1024 < length bytes → is_none (prefix_refusal bytes) ≡ false
 long_refused bytes long = ap (λ b. is_none (cond b (Some fault.TooLong) (cond (is_utf8 (without_line_ends bytes)) None (Some fault.NotUtf8)))) (lt-ltb 1024 (length bytes) long)
@@ -59,7 +59,7 @@ block_refused bytes read bad = elim (cases_lt 1024 (length bytes)) [
 ]
 
 bad_prefix : (o : Option Node) {block : List ℕ} {why : PrefixFault} → Some kind.File ≡ option_map kind_of o → option_map (take 8192) (option_and_then as_file (option_and_then (λ node. node_at node []) o)) ≡ Some block → prefix_refusal block ≡ Some why → is_prefix o ≡ false
-bad_prefix (Some (File bytes)) {block} is read bad = block_refused bytes (some_same (take 8192 bytes) block read) bad
+bad_prefix (Some (File bytes)) {block} _ read bad = block_refused bytes (some_same (take 8192 bytes) block read) bad
 bad_prefix _ is read bad = absurd (cc)
 
 -- ---- the copy
@@ -105,53 +105,53 @@ module _ (job : Job) (s : Reading) (prefix : List ℕ) (count : ℕ) (object : O
 starts_refuse : {job : Job} (s : Reading) (new : Option Reading) {prefix read : List ℕ} (count : ℕ) {here : Phase} (held : Held) {calls : Calls} {why : Halt}
     → Starts job here prefix read calls (Err why) → SourceAt job s prefix count here held → Answers calls.asked (Some s) new → SaysOfSource why s.tree
 unfolding Answers IsListed IsRead
-starts_refuse s new count held (IsNoStore was entries is) at answers =
+starts_refuse s _ _ _ (IsNoStore _ entries is) _ answers =
     let listed : entries ≡ listing_of s.tree = sym (some_same (listing_of s.tree) entries (answers.0 s refl)) in
     sym (store_listed s.tree) ∙ ap lists_store (sym listed) ∙ is
-starts_refuse s new count held (IsNoPrefixFile was kind some is) at answers = (at.2, no_file (find s.tree prefix_file) kind some is at.3)
-starts_refuse s new count held (IsNoPrefix was block reason is) at answers =
+starts_refuse s _ _ _ (IsNoPrefixFile _ kind some is) at _ = (at.2, no_file (find s.tree prefix_file) kind some is at.3)
+starts_refuse s _ _ _ (IsNoPrefix _ _ _ is) at answers =
     (at.2, bad_prefix (find s.tree prefix_file) at.3 (answers.0 (after_open (prefix_file ∷ []) s) refl) is)
-starts_refuse s new count held _ at answers = (at.2.store, at.2.good)
+starts_refuse _ _ _ _ _ at _ = (at.2.store, at.2.good)
 
 makes_refuse : {job : Job} (s : Reading) (new : Option Reading) (prefix : List ℕ) (count : ℕ) {here : Phase} {held after : Held} {calls : Calls} {why : Halt}
     → is_proper s.tree ≡ true → Makings job here held after calls (Err why) → SourceAt job s prefix count here held → Answers calls.asked (Some s) new → SaysOfSource why s.tree
 unfolding Answers IsListed IsRead
-makes_refuse {job} s new prefix count proper (ReadsMore was object position left byte block more) at answers =
+makes_refuse {job} s _ prefix count proper (ReadsMore was object position left byte block more) at answers =
     absurd (never_more job s prefix count object was position left proper at (byte ∷ block) more (answers.0 s refl))
-makes_refuse {job} s new prefix count proper (ReadsOther was object position row left is other) at answers =
+makes_refuse {job} s _ prefix count proper (ReadsOther was object position row left is other) at answers =
     absurd (let same = some_same row at.2.row (sym is ∙ at.2.is_row) in
     true≢false (sym (ap (λ (r : Row). is_as_read job r left was.fed) same ∙ as_read job s prefix count object was position left proper at (answers.0 s refl)) ∙ other))
 
 places_refuse : {job : Job} (s : Reading) {counts : Counts} (prefix : List ℕ) (count : ℕ) {here : Phase} {held after : Held} {calls : Calls} {why : Halt} → Places job counts here held after calls (Err why) → SourceAt job s prefix count here held → SaysOfSource why s.tree
-places_refuse s prefix count (IsInTheWay was object number kind is) at = (at.0.store, at.0.good)
+places_refuse _ _ _ (IsInTheWay _ _ _ _ _) at = (at.0.store, at.0.good)
 
 follows_refuse : {job : Job} (s : Reading) (new : Option Reading) {counts : Counts} (count : ℕ) {here : Phase} {prefix : List ℕ} {held : Held} {read : List ℕ} {after : Held} {calls : Calls} {why : Halt}
     → is_proper s.tree ≡ true → Follows job counts here prefix held read after calls (Err why) → SourceAt job s prefix count here held → Answers calls.asked (Some s) new → SaysOfSource why s.tree
-follows_refuse s new count {held} proper (a_start h p r w c a turn) at answers = starts_refuse s new count held turn at answers
-follows_refuse s new count proper (Walk h p w n c a turn) at answers = elim turn [ ]
-follows_refuse s new count proper (Scan h p w n c a turn) at answers = elim turn [ ]
-follows_refuse s new count {prefix} proper (Make h p w n c a turn) at answers = makes_refuse s new prefix count proper turn at answers
-follows_refuse s new count {prefix} proper (Place h p w n c a turn) at answers = places_refuse s prefix count turn at
+follows_refuse s new count {held} _ (a_start _ _ _ _ _ _ turn) at answers = starts_refuse s new count held turn at answers
+follows_refuse _ _ _ _ (Walk _ _ _ _ _ _ turn) _ _ = elim turn [ ]
+follows_refuse _ _ _ _ (Scan _ _ _ _ _ _ turn) _ _ = elim turn [ ]
+follows_refuse s new count {prefix} proper (Make _ _ _ _ _ _ turn) at answers = makes_refuse s new prefix count proper turn at answers
+follows_refuse s _ count {prefix} _ (Place _ _ _ _ _ _ turn) at _ = places_refuse s prefix count turn at
 
 -- a fault says nothing of the source
 failed : (why : Halt) (old new : Failures) (source : Forest) → HasFailed why old new → SaysOfSource why source
-failed halt.Source old new source it = tt
-failed halt.Dest old new source it = tt
-failed halt.Log old new source it = tt
-failed halt.Memory old new source it = tt
-failed halt.NotPairtree old new source it = absurd (it)
-failed halt.Prefix old new source it = absurd (it)
-failed halt.StagingLeft old new source it = absurd (it)
-failed halt.Target old new source it = absurd (it)
-failed halt.Changed old new source it = absurd (it)
+failed halt.Source _ _ _ _ = tt
+failed halt.Dest _ _ _ _ = tt
+failed halt.Log _ _ _ _ = tt
+failed halt.Memory _ _ _ _ = tt
+failed halt.NotPairtree _ _ _ it = absurd (it)
+failed halt.Prefix _ _ _ it = absurd (it)
+failed halt.StagingLeft _ _ _ it = absurd (it)
+failed halt.Target _ _ _ it = absurd (it)
+failed halt.Changed _ _ _ it = absurd (it)
 
 refused : (job : Job) (past : Past) (start : Start) (old new : World) (run : Run) (after : Kept) (why : Halt) (s : Reading) → IsPast job start old run past → Turn job run.phase (turning run.kept) after old new (Err why) → old.source ≡ Some s → SaysOfSource why s.tree
 unfolding Did Stays LeavesSome
-refused job past start old new run after why s is (IsRefused prefix held calls reason turn did halted) told =
+refused _ past _ _ new _ _ _ s is (IsRefused _ _ calls _ turn did _) told =
     let part = is.source s told in
     follows_refuse s new.source past.count part.proper turn part.at (subst (λ o. Answers calls.asked o new.source) told did.0.source)
-refused job past start old new run after why s is (FailsAtFirst reason stays halted) told = failed why old.failures new.failures s.tree stays.3
-refused job past start old new run after why s is (FailsLater prefix held calls answer rows reason turn leaves which halted) told = failed why old.failures new.failures s.tree leaves.1
+refused _ _ _ old new _ _ why s _ (FailsAtFirst _ stays _) _ = failed why old.failures new.failures s.tree stays.3
+refused _ _ _ old new _ _ why s _ (FailsLater _ _ _ _ _ _ _ leaves _ _) _ = failed why old.failures new.failures s.tree leaves.1
 
 pub refuses_rightly : RefusesRightly
 unfolding Begun

@@ -49,11 +49,11 @@ use Rattle.pt_begun.proofs.items.Telling.{both_tell}
 no_folder : (o : Option Entry) {here : Kind} → option_map kind_of_entry o ≡ Some here → is_dir_kind (Some here) ≡ false → is_folder_or_free o ≡ false
 no_folder None is other = absurd (cc)
 no_folder (Some Folder) is other = absurd (true≢false (ap is_dir_kind is ∙ other))
-no_folder _ is other = refl
+no_folder _ _ _ = refl
 
 -- no file
 no_file : (o : Option Entry) (here : Option Kind) (bytes : List ℕ) → option_map kind_of_entry o ≡ here → is_file_kind here ≡ false → o ≢ Some (Bytes bytes)
-no_file o here bytes is other same = true≢false (ap (λ (e : Option Entry). is_file_kind (option_map kind_of_entry e)) (sym same) ∙ ap is_file_kind is ∙ other)
+no_file _ _ _ is other same = true≢false (ap (λ (e : Option Entry). is_file_kind (option_map kind_of_entry e)) (sym same) ∙ ap is_file_kind is ∙ other)
 
 -- other bytes
 other_bytes : {o : Option Entry} {bytes : List ℕ} {block : List ℕ} → option_map (take 8192) (bytes_of o) ≡ Some block → bytes_eq block bytes ≡ false → length bytes < 8192 → o ≢ Some (Bytes bytes)
@@ -67,7 +67,7 @@ other_bytes {bytes} {block} read other short same =
 above_passes : (test : Path → Bool) (place : Path) (n : ℕ) → suc (suc n) ≤ length place → list_all test (folders_above place) ≡ true → test (take (suc n) place) ≡ true
 above_passes test [] n long all = absurd (omega (arith, long))
 above_passes test (name ∷ []) n long all = absurd (omega (arith, long))
-above_passes test (name ∷ next ∷ place) zero long all = (and_parts (test (name ∷ [])) (list_all test (map (λ (folder : Path). name ∷ folder) (folders_above (next ∷ place)))) all).0
+above_passes test (name ∷ next ∷ place) zero _ all = (and_parts (test (name ∷ [])) (list_all test (map (λ (folder : Path). name ∷ folder) (folders_above (next ∷ place)))) all).0
 above_passes test (name ∷ next ∷ place) (suc n) long all =
     above_passes (λ (folder : Path). test (name ∷ folder)) (next ∷ place) n (omega (arith, long))
     (sym (all_map (λ (folder : Path). name ∷ folder) test (folders_above (next ∷ place))) ∙ (and_parts (test (name ∷ [])) (list_all test (map (λ (folder : Path). name ∷ folder) (folders_above (next ∷ place)))) all).1)
@@ -83,7 +83,7 @@ barred_at test place {n} long bad = by (list_all test (folders_above place)) ref
 not_made : (o : Option Entry) (b : Bool) → is_folder_or_free (option_or o (folder_where b)) ≡ false → is_folder_or_free o ≡ false
 not_made None true bad = absurd (true≢false bad)
 not_made None false bad = absurd (true≢false bad)
-not_made (Some entry) b bad = bad
+not_made (Some _) _ bad = bad
 
 -- what is in the way to a place stood in the root
 barred : (job : Job) (past : Past) (start : Tree) (object : Object) (held : Held) (number : ℕ) (old : Writing) (here : Kind) → HeldAt job past (phase.Tuples object number) held → DestPart job past (phase.Tuples object number) held start old
@@ -112,14 +112,14 @@ module _ (job : Job) (past : Past) (t : Tree) (old : Writing) (new : Option Writ
 
   starts_find : (prefix read : List ℕ) (here : Phase) (calls : Calls) → IsLayout job.tuples → Starts job here prefix read calls (Err halt.Target) → DestPart job past here held t old → Changes calls.change (Some old) new → IsFound
   unfolding Changes IsKindAt IsPeeked
-  starts_find prefix read here calls layout (IsNoRoot was kind other) dest change =
+  starts_find _ _ _ _ _ (IsNoRoot _ _ other) dest change =
       (dest.at.1, IsNoFolder (ap (λ (tree : Tree). is_folder_or_free (tree storage_root)) (sym dest.at.0.tree) ∙ no_folder (old.tree storage_root) (change.0 old refl) other))
-  starts_find prefix read here calls layout (IsNoFile was number path bytes kind is other) dest change = (
+  starts_find _ _ _ _ _ (IsNoFile _ number path bytes kind is other) dest change = (
     dest.at.free,
     HasOtherFile number (path, bytes) dest.at.top is
         (λ same. no_file (old.tree (storage_root ++ path)) kind bytes (change.0 old refl) other (ap (λ (tree : Tree). tree (storage_root ++ path)) dest.at.tree ∙ same)),
   )
-  starts_find prefix read here calls layout (Differs was number path bytes block is other) dest change = (
+  starts_find _ _ _ _ layout (Differs _ number path bytes _ is other) dest change = (
     dest.at.free,
     HasOtherFile number (path, bytes) dest.at.top is
         (λ same. other_bytes (change.1 old refl) other (file_short job.tuples number path bytes layout is) (ap (λ (tree : Tree). tree (storage_root ++ path)) dest.at.tree ∙ same)),
@@ -128,27 +128,27 @@ module _ (job : Job) (past : Past) (t : Tree) (old : Writing) (new : Option Writ
   places_find : (counts : Counts) (here : Phase) (after : Held) (calls : Calls) → Places job counts here held after calls (Err halt.Target) → HeldAt job past here held → DestPart job past here held t old → Changes calls.change (Some old) new
       → ((object : Object) (number : ℕ) → here ≡ phase.Tuples object number → objects (object_held object held.rows past.bytes)) → IsFound
   unfolding Changes IsKindAt
-  places_find counts here after calls (IsInTheWay was object number kind other) at dest change some =
+  places_find _ _ _ _ (IsInTheWay _ object number kind other) at dest change some =
       (dest.at.0.root.free, IsBarred (object_held object held.rows past.bytes) (some object number refl) (barred job past t object held number old kind at dest (change.0 old refl) other))
 
   follows_find : (counts : Counts) (here : Phase) (prefix read : List ℕ) (after : Held) (calls : Calls) → IsLayout job.tuples → Follows job counts here prefix held read after calls (Err halt.Target) → HeldAt job past here held → DestPart job past here held t old → Changes calls.change (Some old) new
       → ((object : Object) (number : ℕ) → here ≡ phase.Tuples object number → objects (object_held object held.rows past.bytes)) → IsFound
-  follows_find counts here prefix read after calls layout (a_start h p r w c a turn) at dest change some = starts_find prefix read here calls layout turn dest change
-  follows_find counts here prefix read after calls layout (Walk h p w n c a turn) at dest change some = elim turn [ ]
-  follows_find counts here prefix read after calls layout (Scan h p w n c a turn) at dest change some = elim turn [ ]
-  follows_find counts here prefix read after calls layout (Make h p w n c a turn) at dest change some = elim turn [ ]
-  follows_find counts here prefix read after calls layout (Place h p w n c a turn) at dest change some = places_find counts here after calls turn at dest change some
+  follows_find _ here prefix read _ calls layout (a_start _ _ _ _ _ _ turn) _ dest change _ = starts_find prefix read here calls layout turn dest change
+  follows_find _ _ _ _ _ _ _ (Walk _ _ _ _ _ _ turn) _ _ _ _ = elim turn [ ]
+  follows_find _ _ _ _ _ _ _ (Scan _ _ _ _ _ _ turn) _ _ _ _ = elim turn [ ]
+  follows_find _ _ _ _ _ _ _ (Make _ _ _ _ _ _ turn) _ _ _ _ = elim turn [ ]
+  follows_find counts here _ _ after calls _ (Place _ _ _ _ _ _ turn) at dest change some = places_find counts here after calls turn at dest change some
 
 -- ---- the laws
 
 found : (job : Job) (past : Past) (start : Start) (old new : World) (run : Run) (after : Kept) (t : Tree) (objects : Carried → Type 0) → IsPast job start old run past → Turn job run.phase (turning run.kept) after old new (Err halt.Target) → start.dest ≡ Some t
     → ((object : Object) (number : ℕ) → run.phase ≡ phase.Tuples object number → objects (object_held object run.kept.held.rows past.bytes)) → IsFree t staging × IsBadTarget job (root_in t) objects
 unfolding Did Stays LeavesSome
-found job past start old new run after t objects is (IsRefused prefix held calls reason turn did halted) told some =
+found job past start old new run _ t objects is (IsRefused prefix held calls _ turn did _) told some =
     let had = both_tell (DestPart job past run.phase run.kept.held) start.dest old.dest told is.dest in
     follows_find job past t had.0 new.dest run.kept.held objects (turning run.kept).counts run.phase run.kept.prefix prefix held calls is.layout turn is.held had.2 (subst (λ o. Changes calls.change o new.dest) had.1 did.0.dest) some
-found job past start old new run after t objects is (FailsAtFirst reason stays halted) told some = absurd (stays.3)
-found job past start old new run after t objects is (FailsLater prefix held calls answer rows reason turn leaves which halted) told some = absurd (leaves.1)
+found _ _ _ _ _ _ _ _ _ _ (FailsAtFirst _ stays _) _ _ = absurd (stays.3)
+found _ _ _ _ _ _ _ _ _ _ (FailsLater _ _ _ _ _ _ _ leaves _ _) _ _ = absurd (leaves.1)
 
 pub finds_target : FindsTarget
 unfolding Begun

@@ -22,7 +22,7 @@ drop_at n [] is = absurd (cc)
 drop_at zero (y ∷ xs) {x} is =
     let same : y ≡ x = cc in
     ap (λ z. z ∷ xs) same
-drop_at (suc n) (y ∷ xs) is = drop_at n xs is
+drop_at (suc n) (_ ∷ xs) is = drop_at n xs is
 
 -- one row, and those behind it
 pub copy_next : (rows : List Row) (n : ℕ) {row : Row} {known : Bool} → slice_get rows n ≡ Some row → is_known (take n rows) row ≡ known → to_copy_from rows n ≡ cond known 1 (reads row.length) + to_copy_from rows (n + 1)

@@ -21,10 +21,10 @@ use Rattle.pt_begun.proofs.turns_left.Within.{turns_are_within_work}
 -- a turn leaves the source's tree
 pub turn_tree : (job : Job) (here : Phase) (before after : Kept) (old new : World) (answer : Answer) → Turn job here before after old new answer → source_tree new.source ≡ source_tree old.source
 unfolding Did LeavesSome Stays
-turn_tree job here before after old new _ (GoesOn calls next turn did counts) = answers_tree calls.asked old.source new.source did.0.source
-turn_tree job here before after old new _ (IsRefused prefix held calls why turn did halted) = answers_tree calls.asked old.source new.source did.0.source
-turn_tree job here before after old new _ (FailsAtFirst why stays halted) = stays.0
-turn_tree job here before after old new _ (FailsLater prefix held calls answer rows why turn leaves which halted) = leaves.0.source
+turn_tree _ _ _ _ old new _ (GoesOn calls _ _ did _) = answers_tree calls.asked old.source new.source did.0.source
+turn_tree _ _ _ _ old new _ (IsRefused _ _ calls _ _ did _) = answers_tree calls.asked old.source new.source did.0.source
+turn_tree _ _ _ _ _ _ _ (FailsAtFirst _ stays _) = stays.0
+turn_tree _ _ _ _ _ _ _ (FailsLater _ _ _ _ _ _ _ leaves _ _) = leaves.0.source
 
 -- of a run that has ended no turn is left
 no_more : {job : Job} {source : Forest} {root : Tree} (count : ℕ) {kept : Kept} → kept.counts.turns ≤ work job source root → IsWithinWork job source root count (record { phase = phase.Ended; kept = kept })
@@ -45,11 +45,11 @@ turn_ends_within_work job start old new run after why (past, is, within) going t
 -- its own count has no part in what a run that ended is
 without_turn : (job : Job) (start : Start) (world : World) (kept : Kept) → Begun job start world (record { phase = phase.Ended; kept = turning kept }) → Begun job start world (record { phase = phase.Ended; kept = kept })
 unfolding Begun
-without_turn job start world kept (past, is) = (past, record { layout = is.layout; held = is.held; source = is.source; dest = is.dest; items = λ s e old f. record { places = (is.items s e old f).places; lines_are = record { done = (is.items s e old f).lines_are.done; present = (is.items s e old f).lines_are.present; skipped = (is.items s e old f).lines_are.skipped } }; log = is.log; quiet = is.quiet; left = is.left })
+without_turn _ _ _ _ (past, is) = (past, record { layout = is.layout; held = is.held; source = is.source; dest = is.dest; items = λ s e old f. record { places = (is.items s e old f).places; lines_are = record { done = (is.items s e old f).lines_are.done; present = (is.items s e old f).lines_are.present; skipped = (is.items s e old f).lines_are.skipped } }; log = is.log; quiet = is.quiet; left = is.left })
 
 no_turn : (job : Job) (here : Phase) (kept : Kept) (world : World) → Turn job here (turning kept) (turning kept) world world (Err halt.Memory)
 unfolding Stays
-no_turn job here kept world = FailsAtFirst halt.Memory (refl, refl, refl, refl) (record { prefix = refl; trail = refl; rows_are = refl; contents = refl; counts = refl })
+no_turn _ _ _ _ = FailsAtFirst halt.Memory (refl, refl, refl, refl) (record { prefix = refl; trail = refl; rows_are = refl; contents = refl; counts = refl })
 
 stops_begun : (job : Job) (start : Start) (world : World) (run : Run) → Begun job start world run → Begun job start world (record { phase = phase.Ended; kept = run.kept })
 stops_begun job start world run begun = without_turn job start world run.kept (turn_ends_begun job start world world run (turning run.kept) halt.Memory begun (no_turn job run.phase run.kept world))

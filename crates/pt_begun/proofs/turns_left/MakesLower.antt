@@ -162,6 +162,6 @@ makes_lower job past s new root prefix here held after calls next (MakesInventor
     let b = bytes_there s.tree object (to_site object was.trail) in
     let less = one_less (script_of_object job object was.rows b) (made_before job object was.rows b part.Inventory) (made_before job object was.rows b part.Sidecar) _ (next_third job object was.rows b) (after_third job object was.rows b) in
     omega (arith, less)
-makes_lower job past s new root prefix here held after calls next (MakesSidecar was object) answers at part_is =
+makes_lower job past s _ root _ _ _ _ _ _ (MakesSidecar was object) _ _ _ =
     let b = bytes_there s.tree object (to_site object was.trail) in
     after_sidecar job s.tree root past.count object was (job.tuples.count == 0) (some_left (script_of_object job object was.rows b) (made_before job object was.rows b part.Sidecar) _ (next_fourth job object was.rows b))

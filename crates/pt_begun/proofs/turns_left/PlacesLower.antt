@@ -20,8 +20,8 @@ passes_tuple job source root count held object true within = omega (arith, withi
 passes_tuple job source root count held object false within = omega (arith, within)
 
 pub places_lower : PlacingLowers
-places_lower job counts past source root here next held after calls (MakesTuple was object number) at = passes_tuple job source root past.count was object (nat_lt (number + 1) job.tuples.count) at.numbers
-places_lower job counts past source root here next held after calls (FindsTuple was object number) at = passes_tuple job source root past.count was object (nat_lt (number + 1) job.tuples.count) at.numbers
+places_lower job _ past source root _ _ _ _ _ (MakesTuple was object number) at = passes_tuple job source root past.count was object (nat_lt (number + 1) job.tuples.count) at.numbers
+places_lower job _ past source root _ _ _ _ _ (FindsTuple was object number) at = passes_tuple job source root past.count was object (nat_lt (number + 1) job.tuples.count) at.numbers
 places_lower job counts past source root here next held after calls (TellsDone was object) at =
     let same = ap (λ (t : List Frame). still_listed (sought 0 t)) (site_itself object was.trail at.ends.1) in
     omega (arith, same)

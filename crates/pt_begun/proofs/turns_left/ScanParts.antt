@@ -50,7 +50,7 @@ use Rattle.pt_begun.proofs.turns_left.WalksLower.{listed_there}
 
 -- the first, and those behind it
 pub meets_first : (limits : Bounds) (depth held : ℕ) (entry : Entry) (others : List Entry) → to_meet limits depth held (entry ∷ others) ≡ work_at entry.1 + to_meet_behind limits depth held (entry ∷ others)
-meets_first limits depth held entry others = refl
+meets_first _ _ _ _ _ = refl
 
 -- unless it is bad
 pub meets_good : (limits : Bounds) (depth held : ℕ) (entry : Entry) (others : List Entry) → entry_cause limits depth held entry ≡ None → to_meet_behind limits depth held (entry ∷ others) ≡ to_meet limits depth (files_with held entry) others
@@ -61,7 +61,7 @@ abbrev up_to_bad : Bounds → ℕ → ℕ → List Entry → List Entry
 up_to_bad limits depth held some = before_bad limits depth held some ++ option_to_list (option_map (λ (bad : Entry × Cause). bad.0) (first_bad limits depth held some))
 
 meets_those : (limits : Bounds) (depth held : ℕ) (some : List Entry) → sum_by (λ (entry : Entry). work_at entry.1) (up_to_bad limits depth held some) ≡ to_meet limits depth held some
-meets_those limits depth held [] = refl
+meets_those _ _ _ [] = refl
 meets_those limits depth held (entry ∷ others) = by (entry_cause limits depth held entry) (meets_those limits depth (files_with held entry) others)
   where
     cost : Entry → ℕ
@@ -130,8 +130,8 @@ here_less (frame ∷ frames) {item} e = let within = slice_get_within frame.list
 
 -- an object has as many listings of its own one entry on
 pub own_on : (object : Object) (trail : List Frame) → own_listings object (advanced trail) ≡ own_listings object trail
-own_on object [] = refl
-own_on object (frame ∷ frames) = refl
+own_on _ [] = refl
+own_on _ (_ ∷ _) = refl
 
 -- at the site's start all of it is to be passed
 pub here_at_start : (trail : List Frame) → still_here (sought 0 trail) ≤ still_listed (sought 0 trail)
@@ -218,7 +218,7 @@ leave_on object trail =
 
 long_on : (trail : List Frame) → length (advanced trail) ≡ length trail
 long_on [] = refl
-long_on (frame ∷ frames) = refl
+long_on (_ ∷ _) = refl
 
 -- an entry of the site that isn't of the object is passed
 pub pass_less : (object : Object) (trail : List Frame) {item : Item} → current_entry trail ≡ Some item → is_passed object trail item ≡ true → 0 < own_listings object trail → to_leave object (advanced trail) + 1 ≤ to_leave object trail
@@ -250,11 +250,11 @@ site_behind object trail below = (site_on object (parent trail)).0 ∙ ap (λ (t
 
 sought_twice : (trail : List Frame) → sought 0 (sought 0 trail) ≡ sought 0 trail
 sought_twice [] = refl
-sought_twice (frame ∷ frames) = refl
+sought_twice (_ ∷ _) = refl
 
 long_sought : (trail : List Frame) → length (sought 0 trail) ≡ length trail
 long_sought [] = refl
-long_sought (frame ∷ frames) = refl
+long_sought (_ ∷ _) = refl
 
 here_listed : (top : Forest) (trail : List Frame) → Fits top trail → still_here (sought 0 trail) ≤ length (listing_of (inside_at top (trail_path trail)))
 here_listed top [] fits = omega arith

@@ -18,6 +18,6 @@ compares_file job source root count number held true is within = let two = eqb-t
 compares_file job source root count number held false is within = omega (arith, within)
 
 pub starts_lower : StartingLowers
-starts_lower job past source root prefix read here next held calls (MakesRoot was number item is) at = makes_item job source root past.count number held (number == 5) refl at.numbers
-starts_lower job past source root prefix read here next held calls (IsSame was number path bytes is) at = compares_file job source root past.count number held (number == 2) refl at.numbers
+starts_lower job past source root _ _ _ _ held _ (MakesRoot _ number _ _) at = makes_item job source root past.count number held (number == 5) refl at.numbers
+starts_lower job past source root _ _ _ _ held _ (IsSame _ number _ _ _) at = compares_file job source root past.count number held (number == 2) refl at.numbers
 starts_lower job past source root prefix read here next held calls _ at = omega arith

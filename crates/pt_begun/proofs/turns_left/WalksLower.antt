@@ -46,7 +46,7 @@ fewer : {X : Type 0} → (f : X → ℕ) (n : ℕ) (xs : List X) → sum_by f (d
 fewer f zero [] = omega arith
 fewer f (suc n) [] = omega arith
 fewer f zero (x ∷ xs) = let one = sum_by-cons f x xs in omega (arith, one)
-fewer f (suc n) (x ∷ xs) = fewer f n xs
+fewer f (suc n) (_ ∷ xs) = fewer f n xs
 
 -- with one item done no more is left
 pub items_fewer : (job : Job) (source : Forest) (root : Tree) (count : ℕ) → items_left job source root (suc count) ≤ items_left job source root count
@@ -102,9 +102,9 @@ site_long top [] fits = omega arith
 site_long top (frame ∷ frames) fits = let same = ap length (listed_there top frame frames fits) in omega (arith, same)
 
 same_parent : (index : Option ℕ) (trail : List Frame) → still_listed (parent (at_object index trail)) ≡ still_listed (parent trail)
-same_parent None trail = refl
-same_parent (Some place) [] = refl
-same_parent (Some place) (frame ∷ frames) = refl
+same_parent None _ = refl
+same_parent (Some _) [] = refl
+same_parent (Some _) (_ ∷ _) = refl
 
 -- its object is to be scanned
 object_next : {job : Job} {source : Forest} (root : Tree) {prefix : List ℕ} {object : Object} {trail : List Frame} {outer count : ℕ} (held : Held) → HasStarted source prefix → IsInObject job source prefix object trail count → length trail ≡ object.site → held.trail ≡ trail
@@ -132,7 +132,7 @@ walks_lower job past s new root prefix here next held after calls (OpensRoot was
 walks_lower job past s new root prefix here next held after calls (LeadsOn was found) answers at part free = let walked = site_walked root was.trail part.at.2 in omega (arith, walked)
 walks_lower job past s new root prefix here next held after calls (IsSkipped was why found) answers at part free = let walked = site_walked root was.trail part.at.2 in omega (arith, walked)
 walks_lower job past s new root prefix here next held after calls (IsPresent was index id kind found) answers at part free = let walked = site_walked root was.trail part.at.2 in omega (arith, walked)
-walks_lower job past s new root prefix here next held after calls (IsNew was index id found) answers at part free =
+walks_lower job past s _ root prefix _ _ _ _ _ (IsNew was index id found) _ _ part free =
     let it = new_object_there job s.tree prefix was.trail index id past.count (pairtree_proper s.tree part.at.1.store part.proper) found part.at.2 in
     object_next root (with_trail was (at_object index was.trail)) part.at.1 it.stands it.at_site refl (same_parent index was.trail) free
 walks_lower job past s new root prefix here next held after calls (IsPast was name e short last) answers at part free =

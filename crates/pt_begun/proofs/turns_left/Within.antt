@@ -34,26 +34,26 @@ use Rattle.pt_begun.proofs.turns_left.WalksLower.{walks_lower}
 -- the groups together
 follows_lower : {job : Job} {past : Past} {s : Reading} (new : Reading) (root : Tree) {counts : Counts} {here : Phase} {prefix : List ℕ} {held : Held} {read : List ℕ} {after : Held} {calls : Calls} {next : Phase} → Follows job counts here prefix held read after calls (Ok next)
     → Answers calls.asked (Some s) (Some new) → HeldAt job past here held → SourcePart job past here prefix held s → IsFreeAt next job s.tree root (done_after here held.trail next past.count) → Lowers job s.tree root past.count here held next after
-follows_lower {job} {past} {s} new root {here} {prefix} {held} {read} {calls} {next} (a_start h p r x c a turn) answers at known free = starts_lower job past s.tree root prefix read here next held calls turn at
-follows_lower {job} {past} {s} new root {here} {prefix} {held} {after} {calls} {next} (Walk h p x n c a turn) answers at known free = walks_lower job past s new root prefix here next held after calls turn answers at known free
-follows_lower {job} {past} {s} new root {here} {prefix} {held} {after} {calls} {next} (Scan h p x n c a turn) answers at known free = scans_lower job past s new root prefix here next held after calls turn answers at known
-follows_lower {job} {past} {s} new root {here} {prefix} {held} {after} {calls} {next} (Make h p x n c a turn) answers at known free = makes_lower job past s new root prefix here held after calls next turn answers at known
-follows_lower {job} {past} {s} new root {counts} {here} {held} {after} {calls} {next} (Place h p x n c a turn) answers at known free = places_lower job counts past s.tree root here next held after calls turn at
+follows_lower {job} {past} {s} _ root {here} {prefix} {held} {read} {calls} {next} (a_start _ _ _ _ _ _ turn) _ at _ _ = starts_lower job past s.tree root prefix read here next held calls turn at
+follows_lower {job} {past} {s} new root {here} {prefix} {held} {after} {calls} {next} (Walk _ _ _ _ _ _ turn) answers at known free = walks_lower job past s new root prefix here next held after calls turn answers at known free
+follows_lower {job} {past} {s} new root {here} {prefix} {held} {after} {calls} {next} (Scan _ _ _ _ _ _ turn) answers at known _ = scans_lower job past s new root prefix here next held after calls turn answers at known
+follows_lower {job} {past} {s} new root {here} {prefix} {held} {after} {calls} {next} (Make _ _ _ _ _ _ turn) answers at known _ = makes_lower job past s new root prefix here held after calls next turn answers at known
+follows_lower {job} {past} {s} _ root {counts} {here} {held} {after} {calls} {next} (Place _ _ _ _ _ _ turn) _ at _ _ = places_lower job counts past s.tree root here next held after calls turn at
 
 -- before the end one turn is left at least
 some_left : (job : Job) (source : Forest) (root : Tree) (count : ℕ) (here : Phase) (held : Held) → is_ended here ≡ false → 0 < left job source root count here held
-some_left job source root count phase.Ended held not = absurd (true≢false not)
+some_left _ _ _ _ phase.Ended _ not = absurd (true≢false not)
 some_left job source root count _ held not = omega arith
 
 -- ---- the turns
 
 -- no line changes how many turns were made
 same_turns : (line : Option Line) (counts : Counts) → (counted line counts).turns ≡ counts.turns
-same_turns None counts = refl
-same_turns (Some (Done at bytes empty files id to)) counts = refl
-same_turns (Some (Present at id to)) counts = refl
-same_turns (Some (Skipped at why)) counts = refl
-same_turns (Some (End done present skipped)) counts = refl
+same_turns None _ = refl
+same_turns (Some (Done at bytes empty files id to)) _ = refl
+same_turns (Some (Present at id to)) _ = refl
+same_turns (Some (Skipped at why)) _ = refl
+same_turns (Some (End done present skipped)) _ = refl
 
 -- ---- the laws
 
@@ -63,7 +63,7 @@ new_run_is_within_work job world layout is = (no_past, new_past layout is, λ s 
 
 pub within_work_is_begun : WithinWorkIsBegun
 unfolding BegunWithinWork Begun
-within_work_is_begun job start world run (past, is, within) = (past, is)
+within_work_is_begun _ _ _ _ (past, is, _) = (past, is)
 
 pub turn_keeps_within_work : TurnKeepsWithinWork
 unfolding BegunWithinWork Did
