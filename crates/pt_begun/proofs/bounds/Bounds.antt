@@ -65,7 +65,7 @@ within_item : (job : Job) (source : Forest) {path : Path} (count : ℕ) {n : ℕ
     → IsOne n (held_at_item job (pairtree_of source) (item_here job source path)) → n ≤ bound job source
 within_item job source {path} count site it =
     below_greatest
-    (one_in_all (held_at_item job (pairtree_of source)) (items job source) count (get_map (item_of job (prefix_of source)) (sites_of job.limits.depth source) count (path, Listed (inside_at (pairtree_of source) path)) site) it)
+    (one_in_all (held_at_item job (pairtree_of source)) (items job source) count (get_map (item_of job (prefix_of source)) (sites_of job.limits.depth source) count _ site) it)
 
 -- what is listed on the way to a site that is listed
 pub site_within : (job : Job) (source : Forest) {path : Path} (count : ℕ) → slice_get (sites_of job.limits.depth source) count ≡ Some (path, Listed (inside_at (pairtree_of source) path))

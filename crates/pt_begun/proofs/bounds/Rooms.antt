@@ -97,10 +97,10 @@ directory_scanned job source object rows empty (frame ∷ frames) name items pro
     let in_it = inside_at top path in
     let here : names_to t ≡ path = path_grows frame frames (name, kind.Dir) e in
     let there = directory_there top frame frames name proper fits e in
-    let items_are : listing_of in_it ≡ items = some_same (listing_of in_it) items (sym (ap (option_map listing_of) there) ∙ ap (listing_at top) (sym here) ∙ listing) in
+    let items_are : listing_of in_it ≡ items = some_same _ items (sym (ap (option_map listing_of) there) ∙ ap (listing_at top) (sym here) ∙ listing) in
     let what = object_at source object (to_site object t) in
     let left = left_directory source object frame frames name items in_it proper fits within own e apart refl items_are in
-    let none = no_cause_dir job what.at (logical_path object t) (names_to t) rows t in_it (path_in_object object t) (path_length frame frames (name, kind.Dir) is_one e) shallow in
+    let none = no_cause_dir job what.at (logical_path object t) (names_to t) rows t in_it (path_in_object object t) (path_length frame frames _ is_one e) shallow in
     let many : 0 + length (files it.front) ≡ length rows = (let long : length rows ≡ length (files it.front) = ap length it.rows_are ∙ length-map (files it.front) (row_of_file job.algorithm) in omega (arith, long)) in
     let entry : Entry = (logical_path object t, Dir in_it) in
     one_directory job what it.front (left_of source object (entered items t)) in_it

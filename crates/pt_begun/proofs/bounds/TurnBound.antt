@@ -42,5 +42,5 @@ goes_within job start old _ run _ _ s begun going (GoesOn _ _ turn _ _) told tru
     (begun_is_within_bound job start old run s begun going told)
 
 pub turn_is_within_bound : TurnIsWithinBound
-turn_is_within_bound job start old new run after (Ok next) s begun going turn told = goes_within job start old new run after next s begun going turn told (is_ended next) refl
+turn_is_within_bound job start old new run after (Ok next) s begun going turn told = goes_within job start old new run after next s begun going turn told _ refl
 turn_is_within_bound job start old new run after (Err why) s begun going turn told = halted_is_within_bound job start old new run after why s begun going turn told

@@ -7,7 +7,7 @@ use Rattle.pt_object.specs.Object.{inventory_name, object_declaration_name, side
 use Rattle.pt_object.specs.Script.{Item, MakeFile, MakeFolder, done}
 use Rattle.pt_object.specs.Scripts.{root_script, staging}
 use Rattle.pt_object.specs.declared.rows.Row.{Row}
-use Rattle.pt_tree.specs.Dest.{Writing, after_append}
+use Rattle.pt_tree.specs.Dest.{Writing}
 use Rattle.pt_tree.specs.Path.{Path}
 use Rattle.pt_tree.specs.Source.{Reading, IsRead}
 use Rattle.pt_tree.specs.Tree.{Tree}
@@ -65,8 +65,8 @@ module _ (job : Job) (past : Past) (s : Reading) (start : Tree) (prefix : List â
   root_broken number (MakeFile path bytes) held before is (OfFile _ _ count same) put =
       let script = root_script job.tuples in
       let at = before.known.dest.at in
-      let tree_is = some_same new.tree (done (MakeFile path (take count bytes)) old.tree) same in
-      let next : IsNext script (take number script) (MakeFile path bytes) = record { rest = drop (suc number) script; is = split_at number script (MakeFile path bytes) is } in
+      let tree_is = some_same new.tree _ same in
+      let next : IsNext script (take number script) (MakeFile path bytes) = record { rest = drop (suc number) script; is = split_at number script _ is } in
       left_untold job past s start prefix counts old new first log last held (phase.RootMake number) before put
       (root_left job s.tree start new.tree past.count (take number script) old before.known.source.at.1 at
       (stands_cut count next (tree_is âˆ™ ap (done (MakeFile path (take count bytes))) at.tree)))
@@ -84,7 +84,7 @@ module _ (job : Job) (past : Past) (s : Reading) (start : Tree) (prefix : List â
       let known = before.known in
       let source = known.source in
       let front = made_before job object held.rows past.bytes here in
-      let tree_is = some_same new.tree (done (MakeFile path (take count bytes)) old.tree) same in
+      let tree_is = some_same new.tree _ same in
       left_untold job past s start prefix counts old new first log last held (phase.Make object here) before put
       (carrying_left job past s start object held 0 new.tree known.dest.started known.dest.at.root known.held_at.ends.0 known.held_at.rows (omega arith) known.items.places.placed
       (carried_next past s (root_in start) source.proper source.at.0 source.at.1 source.bytes known.items.places.next)
@@ -98,7 +98,7 @@ module _ (job : Job) (past : Past) (s : Reading) (start : Tree) (prefix : List â
       let source = known.source in
       let front = made_before job object held.rows past.bytes (a_part.Content position) in
       let item = MakeFile (in_content row.path) [] in
-      let tree_is = some_same new.tree (done item old.tree) same in
+      let tree_is = some_same new.tree _ same in
       left_untold job past s start prefix counts old new first log last held (phase.Make object (a_part.Content position)) before put
       (carrying_left job past s start object held 0 new.tree known.dest.started known.dest.at.root known.held_at.ends.0 known.held_at.rows (omega arith) known.items.places.placed
       (carried_next past s (root_in start) source.proper source.at.0 source.at.1 source.bytes known.items.places.next)
@@ -112,11 +112,11 @@ module _ (job : Job) (past : Past) (s : Reading) (start : Tree) (prefix : List â
       let source = known.source in
       let at = known.held_at in
       let more = take count piece in
-      let it = copied job past start object position left left held old new None more (some_same new (after_append more old) same) known.dest in
+      let it = copied job past start object position left left held old new None more (some_same new _ same) known.dest in
       let row = it.at.writes.row in
       let is = it.at.writes.is_row in
       let reads = source.at.2 in
-      let whole = reads_block 8192 _ (reads.row.length - left) held.fed piece s.unread reads.read (read s refl) in
+      let whole = reads_block 8192 _ _ held.fed piece s.unread reads.read (read s refl) in
       let front = made_before job object held.rows past.bytes (a_part.Content position) in
       let root = with_root start (root_on_way job start past.placed object.place 0) in
       let same_row = some_same reads.row row (sym reads.is_row âˆ™ is) in

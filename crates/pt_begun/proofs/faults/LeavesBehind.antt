@@ -7,7 +7,7 @@ use Rattle.pt_object.specs.Object.{inventory_name, object_declaration_name, side
 use Rattle.pt_object.specs.Script.{Item, MakeFile, MakeFolder, done}
 use Rattle.pt_object.specs.Scripts.{root_script, staging}
 use Rattle.pt_object.specs.declared.rows.Row.{Row}
-use Rattle.pt_tree.specs.Dest.{Writing, after_append}
+use Rattle.pt_tree.specs.Dest.{Writing}
 use Rattle.pt_tree.specs.Path.{Path}
 use Rattle.pt_tree.specs.Tree.{Bytes, IsTree, Tree}
 use Rattle.pt_plan.specs.Answer.{Answer}
@@ -82,10 +82,10 @@ root_left : (job : Job) (past : Past) (start : Tree) (number : ℕ) (item : Item
 root_left job past start number (MakeFolder _) held old new at dest _ left = same_left job past start (phase.RootMake number) held old new at dest (plain_same refl left)
 root_left job past start number (MakeFile _ _) held old new at dest _ (Untouched _ same) = same_left job past start (phase.RootMake number) held old new at dest (some_same new.tree old.tree same)
 root_left job _ start number (MakeFile path bytes) _ old new _ dest is (OfFile _ _ count same) =
-    let tree_is = some_same new.tree (done (MakeFile path (take count bytes)) old.tree) same in
-    let next : IsNext (root_script job.tuples) (take number (root_script job.tuples)) (MakeFile path bytes) = record { rest = drop (suc number) (root_script job.tuples); is = split_at number (root_script job.tuples) (MakeFile path bytes) is } in
+    let tree_is = some_same new.tree _ same in
+    let next : IsNext (root_script job.tuples) (take number (root_script job.tuples)) (MakeFile path bytes) = record { rest = drop (suc number) (root_script job.tuples); is = split_at number (root_script job.tuples) _ is } in
     record {
-      tree = subst IsTree (sym tree_is) (tree_put old.tree path (Bytes (take count bytes)) dest.tree (root_item_made job start number (MakeFile path bytes) old dest.started is dest.at));
+      tree = subst IsTree (sym tree_is) (tree_put old.tree path (Bytes (take count bytes)) dest.tree (root_item_made job start number _ old dest.started is dest.at));
       left = record {
         kept = root_kept dest.at
             (stands_cut count next (tree_is ∙ ap (done (MakeFile path (take count bytes))) dest.at.tree));
@@ -100,8 +100,8 @@ part_left : (job : Job) (past : Past) (start : Tree) (object : Object) (here : P
 part_left job past start object here _ _ held old new at dest _ (Untouched _ same) = same_left job past start (phase.Make object here) held old new at dest (some_same new.tree old.tree same)
 part_left job past start object here path bytes held old new at dest next (OfFile p b count same) =
     let front = made_before job object held.rows past.bytes here in
-    let tree_is = some_same new.tree (done (MakeFile path (take count bytes)) old.tree) same in
-    let may = item_may job start past.placed object held.rows past.bytes front (MakeFile path bytes) old dest.started at.rows.order next dest.at in
+    let tree_is = some_same new.tree _ same in
+    let may = item_may job start past.placed object held.rows past.bytes front _ old dest.started at.rows.order next dest.at in
     record {
       tree = subst IsTree (sym tree_is) (tree_put old.tree path (Bytes (take count bytes)) dest.tree may);
       left = record {
@@ -117,10 +117,10 @@ opened_left {job} {past} {start} {object} {position} {held} _ {old} {new} at des
 opened_left {job} {past} {start} {object} {position} {held} row {old} {new} at dest next (NewFile _ same) =
     let front = made_before job object held.rows past.bytes (a_part.Content position) in
     let item = MakeFile (in_content row.path) [] in
-    let tree_is = some_same new.tree (done (MakeFile (in_content row.path) []) old.tree) same in
-    let may = item_may job start past.placed object held.rows past.bytes front (MakeFile (in_content row.path) (past.bytes row.path)) old dest.started at.rows.order next dest.at in
+    let tree_is = some_same new.tree _ same in
+    let may = item_may job start past.placed object held.rows past.bytes front _ old dest.started at.rows.order next dest.at in
     record {
-      tree = subst IsTree (sym tree_is) (tree_put old.tree (in_content row.path) (Bytes []) dest.tree may);
+      tree = subst IsTree (sym tree_is) (tree_put old.tree _ (Bytes []) dest.tree may);
       left = record {
         kept = copy_kept job past start object held front row.path (past.bytes row.path) [] new.tree dest.started at.ends.0 at.rows new (with_item job start past.placed object front item old new tree_is dest.at) next [] (tree_is ∙ ap (done item) dest.at.tree);
         stood = inl dest.at.root;
@@ -142,8 +142,8 @@ copied_left : {job : Job} {past : Past} {start : Tree} {object : Object} {positi
 copied_left {job} {past} {start} {object} {position} {left} {held} {old} {new} at dest (Untouched _ same) = same_left job past start (phase.Copy object position left) held old new at dest (some_same new.tree old.tree same)
 copied_left {job} {past} {start} {object} {position} {left} {piece} {held} {old} {new} at dest (OfPiece _ count same) =
     let part = take count piece in
-    let it = copied job past start object position left left held old new None part (some_same new (after_append part old) same) dest in
-    record { tree = it.tree; left = kept_now job past start (phase.Copy object position left) (with_fed held (held.fed ++ part)) new (fed_held (held.fed ++ part) at) it }
+    let it = copied job past start object position left left held old new None part (some_same new _ same) dest in
+    record { tree = it.tree; left = kept_now job past start _ _ new (fed_held (held.fed ++ part) at) it }
 
 -- ---- each turn
 

@@ -106,7 +106,7 @@ prefix_beside items {start} at path out =
 content_beside : (items : List Item) {start now : Tree} → StandsAtContent (map (item_in staging) items) start now → (path : Path) → rest_below staging path ≡ None → now path ≡ start path
 content_beside items {start} at path out =
     let script = map (item_in staging) items in
-    let inside = first_passes in_staging at.items script (MakeFile at.path at.bytes) at.next (all_drop in_staging at.items script (items_in items)) in
+    let inside = first_passes in_staging at.items script _ at.next (all_drop in_staging at.items script (items_in items)) in
     ap (λ (t : Tree). t path) at.stands
     ∙ made_beside (MakeFile at.path at.held ∷ []) (made (take at.items script) start) (and_from (in_staging (MakeFile at.path at.held)) true inside refl) out
     ∙ made_beside (take at.items script) start (all_take in_staging at.items script (items_in items)) out

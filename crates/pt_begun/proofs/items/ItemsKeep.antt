@@ -75,9 +75,9 @@ both_phases false _ two = two
 makes_root : {job : Job} {past : Past} (s : Reading) (start : Tree) (held : Held) {counts : Counts} {number : ℕ} (change : Change) (last : Bool) → ItemsPart job past (phase.RootMake number) counts s.tree (root_in start)
     → KeepsItems job past (phase.RootMake number) held counts s start (does change) (cond last phase.RootRename (phase.RootMake (number + 1))) × KeepsLog job past (phase.RootMake number) held s start (does change) (cond last phase.RootRename (phase.RootMake (number + 1)))
 makes_root {job} {past} s start held {counts} {number} change true items =
-    kept job past s start (phase.RootMake number) phase.RootRename held counts (does change) [] Nothing (λ log old had. had) items (record { placed = items.places.placed; next = tt })
+    kept job past s start _ phase.RootRename held counts (does change) [] Nothing (λ log old had. had) items (record { placed = items.places.placed; next = tt })
 makes_root {job} {past} s start held {counts} {number} change false items =
-    kept job past s start (phase.RootMake number) (phase.RootMake (number + 1)) held counts (does change) [] Nothing (λ log old had. had) items (record { placed = items.places.placed; next = tt })
+    kept job past s start _ _ held counts (does change) [] Nothing (λ log old had. had) items (record { placed = items.places.placed; next = tt })
 
 -- none is placed before the pairtree is opened
 none_placed : (job : Job) (source : Forest) (root : Tree) {count : ℕ} → count ≡ 0 → [] ≡ carried_among job source root count
@@ -86,9 +86,9 @@ none_placed job source root first = sym (ap (carried_among job source root) firs
 checks_root : {job : Job} {past : Past} (s : Reading) (start : Tree) (held : Held) {counts : Counts} {number : ℕ} (change : Change) (last : Bool) → past.count ≡ 0 → ItemsPart job past (phase.RootCheck number) counts s.tree (root_in start)
     → KeepsItems job past (phase.RootCheck number) held counts s start (does change) (cond last phase.OpenRoot (phase.RootCheck (number + 1))) × KeepsLog job past (phase.RootCheck number) held s start (does change) (cond last phase.OpenRoot (phase.RootCheck (number + 1)))
 checks_root {job} {past} s start held {counts} {number} change true first items =
-    kept job past s start (phase.RootCheck number) phase.OpenRoot held counts (does change) [] Nothing (λ log old had. had) items (record { placed = none_placed job s.tree (root_in start) first; next = tt })
+    kept job past s start _ phase.OpenRoot held counts (does change) [] Nothing (λ log old had. had) items (record { placed = none_placed job s.tree (root_in start) first; next = tt })
 checks_root {job} {past} s start held {counts} {number} change false _ items =
-    kept job past s start (phase.RootCheck number) (phase.RootCheck (number + 1)) held counts (does change) [] Nothing (λ log old had. had) items (record { placed = items.places.placed; next = tt })
+    kept job past s start _ _ held counts (does change) [] Nothing (λ log old had. had) items (record { placed = items.places.placed; next = tt })
 
 pub starts_items : StartingKeepsItems
 starts_items job past s _ _ start _ here next held counts calls (IsStore was entries is) known =
@@ -154,9 +154,9 @@ scans_items job past s new _ start _ here next held _ counts calls turn answers 
 after_sidecar : (job : Job) (past : Past) (s : Reading) (start : Tree) (object : Object) (held : Held) (counts : Counts) (change : Change) (flat : Bool) → ItemsPart job past (phase.Make object part.Sidecar) counts s.tree (root_in start)
     → KeepsItems job past (phase.Make object part.Sidecar) held counts s start (does change) (cond flat (phase.Rename object) (phase.Tuples object 0)) × KeepsLog job past (phase.Make object part.Sidecar) held s start (does change) (cond flat (phase.Rename object) (phase.Tuples object 0))
 after_sidecar job past s start object held counts change true items =
-    kept job past s start (phase.Make object part.Sidecar) (phase.Rename object) held counts (does change) [] Nothing (λ log old had. had) items (record { placed = items.places.placed; next = items.places.next })
+    kept job past s start _ _ held counts (does change) [] Nothing (λ log old had. had) items (record { placed = items.places.placed; next = items.places.next })
 after_sidecar job past s start object held counts change false items =
-    kept job past s start (phase.Make object part.Sidecar) (phase.Tuples object 0) held counts (does change) [] Nothing (λ log old had. had) items (record { placed = items.places.placed; next = items.places.next })
+    kept job past s start _ _ held counts (does change) [] Nothing (λ log old had. had) items (record { placed = items.places.placed; next = items.places.next })
 
 pub makes_items : MakingKeepsItems
 makes_items job past s _ start _ _ _ _ counts _ _ (MakesSidecar was object) known =
@@ -169,9 +169,9 @@ makes_items job past s _ start _ here held _ counts calls next turn known =
 after_a_tuple : (job : Job) (past : Past) (s : Reading) (start : Tree) (object : Object) (held : Held) (counts : Counts) (number : ℕ) (change : Change) (more : Bool) → ItemsPart job past (phase.Tuples object number) counts s.tree (root_in start)
     → KeepsItems job past (phase.Tuples object number) held counts s start (does change) (cond more (phase.Tuples object (number + 1)) (phase.Rename object)) × KeepsLog job past (phase.Tuples object number) held s start (does change) (cond more (phase.Tuples object (number + 1)) (phase.Rename object))
 after_a_tuple job past s start object held counts number change true items =
-    kept job past s start (phase.Tuples object number) (phase.Tuples object (number + 1)) held counts (does change) [] Nothing (λ log old had. had) items (record { placed = items.places.placed; next = items.places.next })
+    kept job past s start _ _ held counts (does change) [] Nothing (λ log old had. had) items (record { placed = items.places.placed; next = items.places.next })
 after_a_tuple job past s start object held counts number change false items =
-    kept job past s start (phase.Tuples object number) (phase.Rename object) held counts (does change) [] Nothing (λ log old had. had) items (record { placed = items.places.placed; next = items.places.next })
+    kept job past s start _ _ held counts (does change) [] Nothing (λ log old had. had) items (record { placed = items.places.placed; next = items.places.next })
 
 pub places_items : PlacingKeepsItems
 places_items job past s _ start _ _ _ _ _ counts _ (MakesTuple was object number) known = after_a_tuple job past s start object was counts number (FindsNoneAndMakes (tuple_folder object number)) (nat_lt (number + 1) job.tuples.count) known.items

@@ -6,7 +6,7 @@ use Rattle.std.proofs.lemmas.List.{length-map}
 use Rattle.pt_object.specs.FilePaths.{File}
 use Rattle.pt_object.specs.Object.{row_of_file, rows_of}
 use Rattle.pt_object.specs.declared.rows.Row.{Row}
-use Rattle.pt_tree.specs.Forest.{Forest, dir_at, is_proper}
+use Rattle.pt_tree.specs.Forest.{Forest, is_proper}
 use Rattle.pt_tree.specs.Path.{Path}
 use Rattle.pt_tree.specs.Source.{Reading}
 use Rattle.pt_tree.specs.Tree.{Tree}
@@ -66,7 +66,7 @@ files_are {job} source object site {rows} bytes proper it there =
     ∙ same_files job bytes some
     (λ k f is.
     all_at (λ row. bytes row.path ≡ bytes_at top (at ++ row.path)) rows k there (ap (λ (l : List Row). slice_get l k) it.rows_are ∙ get_map (row_of_file job.algorithm) some k f is)
-    ∙ ap (λ o. unwrap_or o []) (file_in top at (dir_at top at) refl it.front [] k f.0 f.1 stood is))
+    ∙ ap (λ o. unwrap_or o []) (file_in top at _ refl it.front [] k f.0 f.1 stood is))
     ∙ ap files (sym (it.all ∙ append-nil it.front))
 
 -- ---- the object

@@ -52,8 +52,8 @@ item_of_site job source site = item_of job (prefix_of source) (trail_path site, 
 pub free_mark : {job : Job} {source : Forest} (root : Tree) {prefix : List ℕ} {object : Object} {site : List Frame} {count : ℕ} → IsSiteOf job source prefix object site count → IsNextFree job source root count
     → slice_get (marked job source root) count ≡ Some (item_of_site job source site, false)
 free_mark {job} {source} root {site} {count} it (item, is) =
-    let mine : slice_get (items job source) count ≡ Some (item_of_site job source site) = get_map (item_of job (prefix_of source)) (sites_of job.limits.depth source) count (trail_path site, Listed (inside_at (pairtree_of source) (trail_path site))) it.here.site in
-    let same : item ≡ item_of_site job source site = some_same item (item_of_site job source site) (sym (marked_item job source root count (item, false) is).0 ∙ mine) in
+    let mine : slice_get (items job source) count ≡ Some (item_of_site job source site) = get_map (item_of job (prefix_of source)) (sites_of job.limits.depth source) count _ it.here.site in
+    let same : item ≡ item_of_site job source site = some_same item _ (sym (marked_item job source root count (item, false) is).0 ∙ mine) in
     is ∙ ap (λ (i : Item). Some (i, false)) same
 
 pub named_so : {job : Job} {source : Forest} {prefix : List ℕ} {object : Object} {site : List Frame} {count : ℕ} → HasStarted source prefix → IsSiteOf job source prefix object site count → (item_of_site job source site).verdict ≡ Named object.id (object_at source object site)
@@ -99,7 +99,7 @@ fails_at_directory {job} source object {rows} (frame ∷ frames) {name} proper i
     let what = object_at source object (to_site object t) in
     fails_at it
     (left_directory source object frame frames name (listing_of in_it) in_it proper fits within own e apart refl refl)
-    (deep_entry job what.at (logical_path object t) (length rows) t in_it (path_in_object object t) (path_length frame frames (name, kind.Dir) is_one e) deep)
+    (deep_entry job what.at (logical_path object t) (length rows) t in_it (path_in_object object t) (path_length frame frames _ is_one e) deep)
 
 fails_at_file : {job : Job} (source : Forest) (object : Object) {rows : List Row} {empty : ℕ} (t : List Frame) {name : List ℕ} → is_proper (pairtree_of source) ≡ true → current_entry t ≡ Some (name, kind.File)
     → (nat_le job.limits.files (length rows) || nat_lt job.limits.path_bytes (length (joined (logical_path object t)))) || nat_lt job.limits.file_bytes (length (bytes_at (pairtree_of source) (names_to t))) ≡ true
@@ -143,7 +143,7 @@ fails_before {job} {source} {object} (frame ∷ frames) is_one apart deep same i
     let what = object_at source object (to_site object t) in
     let at_is : what.at ≡ names_to t = ap (path_of_source object) site ∙ ap (λ b. cond b (names_to frames) (names_to t)) apart in
     fails_deep job what
-    (ap (λ b. not b && nat_lt job.limits.depth (length what.at)) apart ∙ ap (λ (n : ℕ). nat_lt job.limits.depth n) (ap length at_is ∙ path_length frame frames (entry.0, kind.Dir) is_one entry.1) ∙ deep)
+    (ap (λ b. not b && nat_lt job.limits.depth (length what.at)) apart ∙ ap (λ (n : ℕ). nat_lt job.limits.depth n) (ap length at_is ∙ path_length frame frames _ is_one entry.1) ∙ deep)
 
 -- a file is too long where too much of it was read
 too_long : (most count more : ℕ) {long : ℕ} → nat_lt most (count + more) ≡ true → count + more ≤ long → nat_lt most long ≡ true
@@ -170,7 +170,7 @@ scans_tell (LeavesDirectory _ _ _ _ _) _ _ _ _ _ = Nothing
 scans_tell (ReadsOn _ _ _ _ _ _) _ _ _ _ _ = Nothing
 scans_tell {job} {s} {root} (IsTooLong was object bytes byte block long) _ source_part free _ answers =
     let whole = bytes_at (pairtree_of s.tree) (names_to was.trail) in
-    let within = (reads_block 8192 whole bytes was.fed (byte ∷ block) s.unread source_part.at.2.read (answers.0 s refl)).within in
+    let within = (reads_block 8192 whole bytes was.fed _ s.unread source_part.at.2.read (answers.0 s refl)).within in
     gives_up was source_part.at.0 source_part.at.1.stands free
     (fails_at_file s.tree object was.trail (pairtree_proper s.tree source_part.at.0.store source_part.proper) source_part.at.2.file
     (or_right (is_beyond job was (logical_path object was.trail)) (nat_lt job.limits.file_bytes (length whole)) (too_long job.limits.file_bytes bytes (length (byte ∷ block)) long within)) source_part.at.1.stands.fits source_part.at.1.inside source_part.at.1.scanned)

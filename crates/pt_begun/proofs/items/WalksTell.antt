@@ -12,9 +12,9 @@ use Rattle.pt_tree.specs.Tree.{Entry, Tree, kind_of_entry}
 use Rattle.pt_tree.specs.declared.kind.Kind.{Kind}
 use Rattle.pt_tree.specs.declared.kind.Kind.TheVariants as kind
 use Rattle.pt_walk.specs.Left.{Fits, inside_at}
-use Rattle.pt_walk.specs.Sites.{Listed, Past as past_visit, Deep}
+use Rattle.pt_walk.specs.Sites.{Listed}
 use Rattle.pt_walk.specs.Site.{is_short}
-use Rattle.pt_walk.specs.Trail.{current_entry, is_trail, names_to, trail_path}
+use Rattle.pt_walk.specs.Trail.{current_entry, is_trail, trail_path}
 use Rattle.pt_walk.specs.declared.cause.Cause.TheVariants as cause
 use Rattle.pt_walk.specs.declared.frame.Frame.{Frame}
 use Rattle.pt_plan.specs.Carried.{Carried, carried_among, is_taken}
@@ -47,7 +47,7 @@ abbrev pub item_judged : Job → Forest → List Frame → Item
 item_judged job source t = item_of job (prefix_of source) (trail_path t, Listed (inside_at (pairtree_of source) (trail_path t)))
 
 pub judged_next : {job : Job} {source : Forest} {t : List Frame} {count : ℕ} → IsToJudge job source t count → slice_get (items job source) count ≡ Some (item_judged job source t)
-judged_next {job} {source} {t} {count} it = get_map (item_of job (prefix_of source)) (sites_of job.limits.depth source) count (trail_path t, Listed (inside_at (pairtree_of source) (trail_path t))) it.here.site
+judged_next {job} {source} {t} {count} it = get_map (item_of job (prefix_of source)) (sites_of job.limits.depth source) count _ it.here.site
 
 -- by what the site is judged to be
 judged_verdict : (job : Job) (source : Forest) (prefix : List ℕ) (t : List Frame) {what : VerdictOn (Option ℕ)} → is_proper (pairtree_of source) ≡ true → 0 < length t → Fits (pairtree_of source) t → judged_at job prefix t ≡ what
@@ -105,11 +105,11 @@ walks_tell {job} _ _ _ (IsNew _ _ _ _) _ _ _ _ _ _ = Nothing
 walks_tell {job} {past} {s} start _ _ (IsPast was name e short last) _ part _ _ _ _ =
     at_shorty was.trail e short
     (OneItem (passed_item (is_first job.share) (root_in start) cause.Past
-    (get_map (item_of job (prefix_of s.tree)) (sites_of job.limits.depth s.tree) past.count (names_to was.trail, past_visit) (past_next job s.tree was.trail name past.count (pairtree_proper s.tree part.at.1.store part.proper) e short last part.at.2)) refl))
+    (get_map (item_of job (prefix_of s.tree)) (sites_of job.limits.depth s.tree) past.count _ (past_next job s.tree was.trail name past.count (pairtree_proper s.tree part.at.1.store part.proper) e short last part.at.2)) refl))
 walks_tell {job} {past} {s} start _ _ (IsDeep was name e short last deep) is_one part _ _ _ _ =
     at_shorty was.trail e short
     (OneItem (passed_item (is_first job.share) (root_in start) cause.Limit
-    (get_map (item_of job (prefix_of s.tree)) (sites_of job.limits.depth s.tree) past.count (names_to was.trail, Deep) (deep_next job s.tree was.trail name past.count (pairtree_proper s.tree part.at.1.store part.proper) is_one e short last deep part.at.2)) refl))
+    (get_map (item_of job (prefix_of s.tree)) (sites_of job.limits.depth s.tree) past.count _ (deep_next job s.tree was.trail name past.count (pairtree_proper s.tree part.at.1.store part.proper) is_one e short last deep part.at.2)) refl))
 walks_tell {job} {past} {s} start _ _ (PassesEntry was item e apart) _ _ _ _ _ _ =
     subst (λ (n : ℕ). Tells job s.tree (root_in start) past.count phase.Walk None n []) (sym (none_at_entry was.trail item past.count e apart)) Nothing
 walks_tell {job} {past} {s} start _ _ (LeavesSite was e _) _ _ _ _ _ _ =

@@ -59,7 +59,7 @@ block_refused bytes read bad = elim (cases_lt 1024 (length bytes)) [
 ]
 
 bad_prefix : (o : Option Node) {block : List ℕ} {why : PrefixFault} → Some kind.File ≡ option_map kind_of o → option_map (take 8192) (option_and_then as_file (option_and_then (λ node. node_at node []) o)) ≡ Some block → prefix_refusal block ≡ Some why → is_prefix o ≡ false
-bad_prefix (Some (File bytes)) {block} _ read bad = block_refused bytes (some_same (take 8192 bytes) block read) bad
+bad_prefix (Some (File bytes)) {block} _ read bad = block_refused bytes (some_same _ block read) bad
 bad_prefix _ is read bad = absurd (cc)
 
 -- ---- the copy
@@ -79,7 +79,7 @@ module _ (job : Job) (s : Reading) (prefix : List ℕ) (count : ℕ) (object : O
 
   pub never_more : (block : List ℕ) → nat_lt left (length block) ≡ true → option_map (take 8192) s.unread ≡ Some block → ⊥
   never_more block more read =
-      let reads = reads_block 8192 stored_bytes ((copying).row.length - left) held.fed block s.unread (copying).read read in
+      let reads = reads_block 8192 stored_bytes _ held.fed block s.unread (copying).read read in
       let within = reads.within in
       let over = ltb-true left (length block) more in
       let size = long in
@@ -87,7 +87,7 @@ module _ (job : Job) (s : Reading) (prefix : List ℕ) (count : ℕ) (object : O
       omega (arith, within, over, size, few)
 
   whole : option_map (take 8192) s.unread ≡ Some [] → IsWhole stored_bytes ((copying).row.length - left) held.fed
-  whole read = reads_end 8192 stored_bytes ((copying).row.length - left) held.fed s.unread (omega arith) (copying).read read
+  whole read = reads_end 8192 stored_bytes _ held.fed s.unread (omega arith) (copying).read read
 
   pub as_read : option_map (take 8192) s.unread ≡ Some [] → is_as_read job (copying).row left held.fed ≡ true
   as_read read =
@@ -106,7 +106,7 @@ starts_refuse : {job : Job} (s : Reading) (new : Option Reading) {prefix read : 
     → Starts job here prefix read calls (Err why) → SourceAt job s prefix count here held → Answers calls.asked (Some s) new → SaysOfSource why s.tree
 unfolding Answers IsListed IsRead
 starts_refuse s _ _ _ (IsNoStore _ entries is) _ answers =
-    let listed : entries ≡ listing_of s.tree = sym (some_same (listing_of s.tree) entries (answers.0 s refl)) in
+    let listed : entries ≡ listing_of s.tree = sym (some_same _ entries (answers.0 s refl)) in
     sym (store_listed s.tree) ∙ ap lists_store (sym listed) ∙ is
 starts_refuse s _ _ _ (IsNoPrefixFile _ kind some is) at _ = (at.2, no_file (find s.tree prefix_file) kind some is at.3)
 starts_refuse s _ _ _ (IsNoPrefix _ _ _ is) at answers =

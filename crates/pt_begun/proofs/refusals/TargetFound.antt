@@ -146,7 +146,7 @@ found : (job : Job) (past : Past) (start : Start) (old new : World) (run : Run) 
 unfolding Did Stays LeavesSome
 found job past start old new run _ t objects is (IsRefused prefix held calls _ turn did _) told some =
     let had = both_tell (DestPart job past run.phase run.kept.held) start.dest old.dest told is.dest in
-    follows_find job past t had.0 new.dest run.kept.held objects (turning run.kept).counts run.phase run.kept.prefix prefix held calls is.layout turn is.held had.2 (subst (λ o. Changes calls.change o new.dest) had.1 did.0.dest) some
+    follows_find job past t had.0 new.dest run.kept.held objects _ run.phase run.kept.prefix prefix held calls is.layout turn is.held had.2 (subst (λ o. Changes calls.change o new.dest) had.1 did.0.dest) some
 found _ _ _ _ _ _ _ _ _ _ (FailsAtFirst _ stays _) _ _ = absurd (stays.3)
 found _ _ _ _ _ _ _ _ _ _ (FailsLater _ _ _ _ _ _ _ leaves _ _) _ _ = absurd (leaves.1)
 

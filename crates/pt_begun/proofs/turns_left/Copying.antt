@@ -81,7 +81,7 @@ block_read {bytes} {count} {byte} {block} it read = by (nat_lt 8192 (length rest
     rest = drop count bytes
 
     is_block : take 8192 rest ≡ byte ∷ block
-    is_block = some_same (take 8192 rest) (byte ∷ block) (sym (ap (option_map (take 8192)) it.left) ∙ read)
+    is_block = some_same _ _ (sym (ap (option_map (take 8192)) it.left) ∙ read)
 
     long : length rest ≡ length bytes - count
     long = length-drop count bytes

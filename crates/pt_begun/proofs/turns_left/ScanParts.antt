@@ -171,10 +171,10 @@ enters_meets job source object rows (frame ∷ frames) {name} {items} proper is_
     let in_it = inside_at top path in
     let here : names_to trail ≡ path = path_grows frame frames (name, kind.Dir) e in
     let there = directory_there top frame frames name proper fits e in
-    let items_are : listing_of in_it ≡ items = some_same (listing_of in_it) items (sym (ap (option_map listing_of) there) ∙ ap (listing_at top) (sym here) ∙ listed) in
+    let items_are : listing_of in_it ≡ items = some_same _ items (sym (ap (option_map listing_of) there) ∙ ap (listing_at top) (sym here) ∙ listed) in
     let left = left_directory source object frame frames name items in_it proper fits within inside e apart refl items_are in
     let what = object_at source object (to_site object trail) in
-    let good = no_cause_dir job what.at (logical_path object trail) (names_to trail) rows trail in_it (path_in_object object trail) (path_length frame frames (name, kind.Dir) is_one e) shallow in
+    let good = no_cause_dir job what.at (logical_path object trail) _ rows trail in_it (path_in_object object trail) (path_length frame frames _ is_one e) shallow in
     ap (to_meet job.limits (length what.at) (length rows)) left
     ∙ ap (λ (n : ℕ). 2 + n) (meets_good job.limits (length what.at) (length rows) (logical_path object trail, Dir in_it) (left_of source object (entered items trail)) good)
 

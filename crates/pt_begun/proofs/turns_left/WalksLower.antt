@@ -60,7 +60,7 @@ listed_there top frame frames fits = by (dir_at top (names_to frames)) refl
   where
     by : (o : Option Forest) → dir_at top (names_to frames) ≡ o → listing_of (inside_at top (names_to frames)) ≡ frame.listing
     by None is = absurd (let none = sym (ap (option_map listing_of) is) ∙ fits.0 in cc)
-    by (Some inside) is = ap (λ o. listing_of (unwrap_or o none)) is ∙ some_same (listing_of inside) frame.listing (sym (ap (option_map listing_of) is) ∙ fits.0)
+    by (Some inside) is = ap (λ o. listing_of (unwrap_or o none)) is ∙ some_same _ frame.listing (sym (ap (option_map listing_of) is) ∙ fits.0)
 
 -- one entry less behind it
 advanced_less : (trail : List Frame) {item : Entry} → current_entry trail ≡ Some item → still_listed (advanced trail) + 1 ≤ still_listed trail
@@ -91,7 +91,7 @@ site_walked {job} {source} root (frame ∷ frames) {count} it =
     let top = pairtree_of source in
     let path = names_to frames in
     let item = item_of job (prefix_of source) (path, Listed (inside_at top path)) in
-    let mine : slice_get (items job source) count ≡ Some item = get_map (item_of job (prefix_of source)) (sites_of job.limits.depth source) count (path, Listed (inside_at top path)) it.here.site in
+    let mine : slice_get (items job source) count ≡ Some item = get_map (item_of job (prefix_of source)) (sites_of job.limits.depth source) count _ it.here.site in
     let next = item_next job source root count (mark_of job source root count mine) in
     let same = ap length (listed_there top frame frames it.way.fits) in
     omega (arith, next, same)
