@@ -31,16 +31,16 @@ tells_on : {old new : World} (run : Run) {after : Kept} {job : Job} {next : Phas
 unfolding Did
 tells_on {new} _ {s} (GoesOn calls _ _ did _) told = answered calls.asked s new.source (subst (λ o. Answers calls.asked o new.source) told did.0.source)
 
-goes_within : (job : Job) (start : Start) (old new : World) (run : Run) (after : Kept) (next : Phase) (s : Reading) → Begun job start old run → is_ended run.phase ≡ false → Turn job run.phase (turning run.kept) after old new (Ok next) → old.source ≡ Some s
+goes_within : {job : Job} (start : Start) {old new : World} (run : Run) {after : Kept} {next : Phase} {s : Reading} → Begun job start old run → is_ended run.phase ≡ false → Turn job run.phase (turning run.kept) after old new (Ok next) → old.source ≡ Some s
     → (last : Bool) → is_ended next ≡ last → IsWithinBound job s.tree after.held
-goes_within job start old new run after next _ begun _ turn told false more =
+goes_within {job} start {old} {new} run {after} {next} begun _ turn told false more =
     let v = tells_on run turn told in
     subst (λ (f : Forest). IsWithinBound job f after.held) v.2
     (begun_is_within_bound job start new (record { phase = next; kept = after }) v.0 (turn_keeps_begun job start old new run after next begun turn) more v.1)
-goes_within job start old _ run _ _ s begun going (GoesOn _ _ turn _ _) told true ended =
+goes_within {job} start {old} run {s} begun going (GoesOn _ _ turn _ _) told true ended =
     subst (λ (h : Held). IsWithinBound job s.tree h) (sym (last_turn turn ended).held_is)
     (begun_is_within_bound job start old run s begun going told)
 
 pub turn_is_within_bound : TurnIsWithinBound
-turn_is_within_bound job start old new run after (Ok next) s begun going turn told = goes_within job start old new run after next s begun going turn told _ refl
+turn_is_within_bound job start old new run after (Ok next) s begun going turn told = goes_within start run begun going turn told _ refl
 turn_is_within_bound job start old new run after (Err why) s begun going turn told = halted_is_within_bound job start old new run after why s begun going turn told

@@ -132,8 +132,8 @@ module _ (job : Job) (past : Past) (held : Held) (prefix : List ℕ) (counts : C
   pub is_start : IsStart job s.tree (root_in t)
   is_start = record { store = source.at.1.store; prefix = source.at.1.good; target = target dest.at.root.root }
 
-  pub log_all : (first last : List ℕ) → last ≡ (first ++ text job s.tree (root_in t) past.count) ++ line_text (last_line counts) → (told : List ℕ) × (last ≡ first ++ told) × (told ≡ log_of job s.tree (root_in t))
-  log_all first _ is = (
+  pub log_all : (first : List ℕ) {last : List ℕ} → last ≡ (first ++ text job s.tree (root_in t) past.count) ++ line_text (last_line counts) → (told : List ℕ) × (last ≡ first ++ told) × (told ≡ log_of job s.tree (root_in t))
+  log_all first is = (
     text job s.tree (root_in t) past.count ++ line_text (last_line counts),
     is ∙ append_assoc first (text job s.tree (root_in t) past.count) (line_text (last_line counts)),
     ap (λ (l : Line). text job s.tree (root_in t) past.count ++ line_text l) line_is ∙ sym (all_are).3,
@@ -200,7 +200,7 @@ module _ (job : Job) (past : Past) (start : Start) (old new : World) (run : Run)
       put = put_behind (last_line counts) (logged).0 (subst (λ (c : Calls). Puts c.line (Some (logged).0) (Some last)) at.calls_are (subst (λ o. Puts calls.line o (Some last)) (logged).1 (subst (Puts calls.line old.log) last_is did.log)))
 
       told : (told : List ℕ) × (last ≡ first ++ told) × (told ≡ log_of job s.tree (root_in t))
-      told = log_all job past held run.kept.prefix counts s t now source dest items_are first last (put ∙ ap (λ (front : List ℕ). front ++ line_text (last_line counts)) has_told)
+      told = log_all job past held run.kept.prefix counts s t now source dest items_are first (put ∙ ap (λ (front : List ℕ). front ++ line_text (last_line counts)) has_told)
 
 pub ends_well : EndsWell
 unfolding Begun Did

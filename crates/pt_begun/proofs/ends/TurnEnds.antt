@@ -94,9 +94,9 @@ answers_tree (OpensAndReads _ _) None _ answers = ap source_tree answers.1
 answers_tree (OpensAndReads _ _) (Some _) _ answers = ap source_tree answers.1
 
 -- the source that told tells the same tree
-pub same_tree : (old new : Option Reading) (v : Reading) → source_tree new ≡ source_tree old → new ≡ Some v → (s : Reading) × (old ≡ Some s) × (v.tree ≡ s.tree)
-same_tree None new v same is = absurd (let no : Some v.tree ≡ None = sym (ap source_tree is) ∙ same in cc)
-same_tree (Some s) _ v same is = (s, refl, some_same v.tree s.tree (sym (ap source_tree is) ∙ same))
+pub same_tree : (old : Option Reading) {new : Option Reading} {v : Reading} → source_tree new ≡ source_tree old → new ≡ Some v → (s : Reading) × (old ≡ Some s) × (v.tree ≡ s.tree)
+same_tree None {v} same is = absurd (let no : Some v.tree ≡ None = sym (ap source_tree is) ∙ same in cc)
+same_tree (Some s) {v} same is = (s, refl, some_same v.tree s.tree (sym (ap source_tree is) ∙ same))
 
 -- a destination of which a part of a change is left tells where it told
 part_told : {change : Change} {w : Writing} (new : Option Writing) → LeavesPart (Some w) new change → (v : Writing) × (new ≡ Some v)
@@ -148,11 +148,11 @@ module _ (job : Job) (past : Past) (start : Start) (old new : World) (run : Run)
     layout = is.layout;
     held = record { trail = record { is_one = ap is_trail trail ∙ is.held.trail.is_one; none = tt; entry = tt }; ends = tt; rows = tt; behind = tt; numbers = tt; fed = tt };
     source = λ v same.
-        let s = same_tree old.source new.source v source same in
+        let s = same_tree old.source source same in
         record { proper = ap is_proper s.2 ∙ (is.source s.0 s.1).proper; at = tt; bytes = tt; few = tt };
     dest = dest;
     items = λ v same t some.
-        let s = same_tree old.source new.source v source same in
+        let s = same_tree old.source source same in
         let it = is.items s.0 s.1 t some in
         subst (λ (f : Forest). ItemsPart job past phase.Ended after.counts f (root_in t)) (sym s.2)
         (subst (λ c. ItemsPart job past phase.Ended c s.0.tree (root_in t)) (sym counts)
@@ -160,7 +160,7 @@ module _ (job : Job) (past : Past) (start : Start) (old new : World) (run : Run)
     log = λ v same t some. log_at v same t some start.log refl;
     quiet = quiet_at start.log refl;
     left = λ v same t some now told first is_first last is_last.
-        let s = same_tree old.source new.source v source same in
+        let s = same_tree old.source source same in
         subst (λ (f : Forest). IsLeftByFault job f t now.tree first last) (sym s.2) (leaves s.0 t now first last s.1 some told is_first is_last);
   }
     where
@@ -174,7 +174,7 @@ module _ (job : Job) (past : Past) (start : Start) (old new : World) (run : Run)
       log_at : (v : Reading) → new.source ≡ Some v → (t : Tree) → start.dest ≡ Some t → (o : Option (List ℕ)) → start.log ≡ o → TellsStill o new.log (HasTold job v.tree (root_in t) past phase.Ended)
       log_at v same t some None none = tt
       log_at v same t some (Some first) is_first =
-          let s = same_tree old.source new.source v source same in
+          let s = same_tree old.source source same in
           let had = log_tells (HasTold job s.0.tree (root_in t) past run.phase) start.log old.log is_first (is.log s.0 s.1 t some) in
           let now = log had.0 had.1 in
           subst (λ o. TellsStill (Some first) o (HasTold job v.tree (root_in t) past phase.Ended)) (sym now.1) tt
@@ -190,34 +190,34 @@ module _ (job : Job) (past : Past) (start : Start) (old new : World) (run : Run)
 
 module _ (job : Job) (past : Past) (start : Start) (old new : World) (run : Run) (s : Reading) (t : Tree) (now : Writing) (first last : List ℕ) where
   -- nothing was changed
-  left_same : a_past job start old run past → old.source ≡ Some s → start.dest ≡ Some t → Some now ≡ old.dest → start.log ≡ Some first → Some last ≡ old.log → (here : Phase) → run.phase ≡ here → IsLeftByFault job s.tree t now.tree first last
-  left_same is source_is start_is dest_is first_is last_is here at = by (is_ended here) refl
+  left_same : a_past job start old run past → old.source ≡ Some s → start.dest ≡ Some t → Some now ≡ old.dest → start.log ≡ Some first → Some last ≡ old.log → {here : Phase} → run.phase ≡ here → IsLeftByFault job s.tree t now.tree first last
+  left_same is source_is start_is dest_is first_is last_is {here} at = by (is_ended here) refl
     where
       at_end : (p : Phase) → is_ended p ≡ true → LeftAt p job s.tree t now.tree first last → IsLeftByFault job s.tree t now.tree first last
       at_end phase.Ended over left = left
       at_end _ over left = absurd (cc)
 
       by : (b : Bool) → is_ended here ≡ b → IsLeftByFault job s.tree t now.tree first last
-      by false runs = same_leaves job past start old run s t first now last (tells_all job past start old run s t first is (ap is_ended at ∙ runs) source_is start_is first_is) dest_is last_is
+      by false runs = same_leaves job past start old run s t first (tells_all job past start old run s t first is (ap is_ended at ∙ runs) source_is start_is first_is) dest_is last_is
       by true over = at_end here over (subst (λ (p : Phase). LeftAt p job s.tree t now.tree first last) at (is.left s source_is t start_is now (sym dest_is) first first_is last (sym last_is)))
 
-  pub halted_left : (after : Kept) (why : Halt) → a_past job start old run past → Turn job run.phase (turning run.kept) after old new (Err why) → old.source ≡ Some s → start.dest ≡ Some t → new.dest ≡ Some now → start.log ≡ Some first → new.log ≡ Some last → IsLeftByFault job s.tree t now.tree first last
+  pub halted_left : {after : Kept} {why : Halt} → a_past job start old run past → Turn job run.phase (turning run.kept) after old new (Err why) → old.source ≡ Some s → start.dest ≡ Some t → new.dest ≡ Some now → start.log ≡ Some first → new.log ≡ Some last → IsLeftByFault job s.tree t now.tree first last
   unfolding Did Stays LeavesSome
-  halted_left _ _ is (IsRefused _ _ calls _ turn did _) source_is start_is dest_is first_is last_is =
+  halted_left is (IsRefused _ _ calls _ turn did _) source_is start_is dest_is first_is last_is =
       left_same is source_is start_is (sym dest_is ∙ refused_same turn did.0.dest) first_is
-      (sym last_is ∙ none_put calls.line (refused_quiet turn) did.0.log) run.phase refl
-  halted_left _ _ is (FailsAtFirst _ stays _) source_is start_is dest_is first_is last_is = left_same is source_is start_is (sym dest_is ∙ stays.1) first_is (sym last_is ∙ stays.2) run.phase refl
-  halted_left _ _ is (FailsLater prefix held calls answer _ _ turn leaves _ _) source_is start_is dest_is first_is last_is =
-      broken_leaves job past start old run s t first new prefix held calls answer now last
+      (sym last_is ∙ none_put calls.line (refused_quiet turn) did.0.log) refl
+  halted_left is (FailsAtFirst _ stays _) source_is start_is dest_is first_is last_is = left_same is source_is start_is (sym dest_is ∙ stays.1) first_is (sym last_is ∙ stays.2) refl
+  halted_left is (FailsLater prefix held calls answer _ _ turn leaves _ _) source_is start_is dest_is first_is last_is =
+      broken_leaves job past start old run s t first
       (tells_all job past start old run s t first is (follows_runs turn) source_is start_is first_is) turn leaves.0 source_is dest_is last_is
 
 pub stops_leave : StopsLeave
 unfolding Begun
-stops_leave job start world run s t now first last (past, is) source_is start_is dest_is first_is last_is = left_same job past start world world run s t now first last is source_is start_is (sym dest_is) first_is (sym last_is) run.phase refl
+stops_leave job start world run s t now first last (past, is) source_is start_is dest_is first_is last_is = left_same job past start world world run s t now first last is source_is start_is (sym dest_is) first_is (sym last_is) refl
 
 pub halts_leave : HaltsLeave
 unfolding Begun
-halts_leave job start old new run after why s t now first last (past, is) turn source_is start_is dest_is first_is last_is = halted_left job past start old new run s t now first last after why is turn source_is start_is dest_is first_is last_is
+halts_leave job start old new run after why s t now first last (past, is) turn source_is start_is dest_is first_is last_is = halted_left job past start old new run s t now first last is turn source_is start_is dest_is first_is last_is
 
 -- ---- the law
 
@@ -228,10 +228,10 @@ turn_ends_begun job start old new run after why (past, is) (IsRefused prefix hel
   ends job past start old new run after is halted.trail halted.counts (answers_tree calls.asked old.source new.source did.0.source)
       (same_ends job past start old new run after is (refused_same turn did.0.dest))
       (λ l some. told_log calls.line l new.log (subst (λ o. Puts calls.line o new.log) some did.0.log))
-      (λ s t now first last source_is start_is dest_is first_is last_is. halted_left job past start old new run s t now first last after why is (IsRefused prefix held calls reason turn did halted) source_is start_is dest_is first_is last_is),
+      (λ s t now first last source_is start_is dest_is first_is last_is. halted_left job past start old new run s t now first last is (IsRefused prefix held calls reason turn did halted) source_is start_is dest_is first_is last_is),
 )
 turn_ends_begun job start old new run after why (past, is) (FailsAtFirst reason stays halted) =
-    (past, ends job past start old new run after is halted.trail halted.counts stays.0 (same_ends job past start old new run after is stays.1) (λ l some. (l, stays.2 ∙ some)) (λ s t now first last source_is start_is dest_is first_is last_is. halted_left job past start old new run s t now first last after why is (FailsAtFirst reason stays halted) source_is start_is dest_is first_is last_is))
+    (past, ends job past start old new run after is halted.trail halted.counts stays.0 (same_ends job past start old new run after is stays.1) (λ l some. (l, stays.2 ∙ some)) (λ s t now first last source_is start_is dest_is first_is last_is. halted_left job past start old new run s t now first last is (FailsAtFirst reason stays halted) source_is start_is dest_is first_is last_is))
 turn_ends_begun job start old new run after why (past, is) (FailsLater prefix held calls answer rows reason turn leaves which halted) = (
   past,
   ends job past start old new run after is halted.trail halted.counts leaves.0.source
@@ -242,5 +242,5 @@ turn_ends_begun job start old new run after why (past, is) (FailsLater prefix he
       (v.0, v.1, follows_left turn is.held known (subst (λ o. LeavesPart (Some w) o calls.change) v.1 left)))
       (λ none. part_untold new.dest (subst (λ o. LeavesPart o new.dest calls.change) none leaves.0.dest)))
       (λ l some. front_told calls.line l new.log (subst (λ o. LeavesFront calls.line o new.log) some leaves.0.log))
-      (λ s t now first last source_is start_is dest_is first_is last_is. halted_left job past start old new run s t now first last after why is (FailsLater prefix held calls answer rows reason turn leaves which halted) source_is start_is dest_is first_is last_is),
+      (λ s t now first last source_is start_is dest_is first_is last_is. halted_left job past start old new run s t now first last is (FailsLater prefix held calls answer rows reason turn leaves which halted) source_is start_is dest_is first_is last_is),
 )

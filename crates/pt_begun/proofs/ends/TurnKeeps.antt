@@ -86,37 +86,37 @@ told_log (Some _) _ (Some now) _ = (now, refl)
 -- ---- the laws of the groups, together
 
 module _ (job : Job) (past : Past) where
-  follows_held : (counts : Counts) (here : Phase) (prefix : List ℕ) (held : Held) (read : List ℕ) (after : Held) (calls : Calls) (next : Phase) (old new : Option Reading) → Follows job counts here prefix held read after calls (Ok next)
+  follows_held : {counts : Counts} {here : Phase} {prefix : List ℕ} {held : Held} {read : List ℕ} {after : Held} {calls : Calls} {next : Phase} (old new : Option Reading) → Follows job counts here prefix held read after calls (Ok next)
       → Answers calls.asked old new → HeldAt job past here held → HeldAt job (past_after here next held past) next after
-  follows_held _ here prefix held read _ calls next _ _ (a_start _ _ _ _ _ _ turn) _ at = starts_hold job past prefix read here next held calls turn at
-  follows_held _ here prefix held _ after calls next old new (Walk _ _ _ _ _ _ turn) answers at = walks_hold job past old new prefix here next held after calls turn answers at
-  follows_held _ here _ held _ after calls next old new (Scan _ _ _ _ _ _ turn) answers at = scans_hold job past old new here next held after calls turn answers at
-  follows_held _ here _ held _ after calls next _ _ (Make _ _ _ _ _ _ turn) _ at = makes_hold job past here held after calls next turn at
-  follows_held counts here _ held _ after calls next _ _ (Place _ _ _ _ _ _ turn) _ at = places_hold job counts past here next held after calls turn at
+  follows_held {here} {prefix} {held} {read} {calls} {next} _ _ (a_start _ _ _ _ _ _ turn) _ at = starts_hold job past prefix read here next held calls turn at
+  follows_held {here} {prefix} {held} {after} {calls} {next} old new (Walk _ _ _ _ _ _ turn) answers at = walks_hold job past old new prefix here next held after calls turn answers at
+  follows_held {here} {held} {after} {calls} {next} old new (Scan _ _ _ _ _ _ turn) answers at = scans_hold job past old new here next held after calls turn answers at
+  follows_held {here} {held} {after} {calls} {next} _ _ (Make _ _ _ _ _ _ turn) _ at = makes_hold job past here held after calls next turn at
+  follows_held {counts} {here} {held} {after} {calls} {next} _ _ (Place _ _ _ _ _ _ turn) _ at = places_hold job counts past here next held after calls turn at
 
-  follows_source : (counts : Counts) (here : Phase) (prefix : List ℕ) (held : Held) (read : List ℕ) (after : Held) (calls : Calls) (next : Phase) (s new : Reading) → Follows job counts here prefix held read after calls (Ok next)
+  follows_source : {counts : Counts} {here : Phase} {prefix : List ℕ} {held : Held} {read : List ℕ} {after : Held} {calls : Calls} {next : Phase} {s : Reading} (new : Reading) → Follows job counts here prefix held read after calls (Ok next)
       → Answers calls.asked (Some s) (Some new) → HeldAt job past here held → SourcePart job past here prefix held s → SourcePart job (past_after here next held past) next read after new
-  follows_source _ here prefix held read _ calls next s new (a_start _ _ _ _ _ _ turn) answers at known = starts_source job past s new prefix read here next held calls turn answers at known
-  follows_source _ here prefix held _ after calls next s new (Walk _ _ _ _ _ _ turn) answers at known = walks_source job past s new prefix here next held after calls turn answers at known
-  follows_source _ here prefix held _ after calls next s new (Scan _ _ _ _ _ _ turn) answers at known = scans_source job past s new prefix here next held after calls turn answers at known
-  follows_source _ here prefix held _ after calls next s new (Make _ _ _ _ _ _ turn) answers at known = makes_source job past s new prefix here held after calls next turn answers at known
-  follows_source counts here prefix held _ after calls next s new (Place _ _ _ _ _ _ turn) answers at known = places_source job counts past s new prefix here next held after calls turn answers at known
+  follows_source {here} {prefix} {held} {read} {calls} {next} {s} new (a_start _ _ _ _ _ _ turn) answers at known = starts_source job past s new prefix read here next held calls turn answers at known
+  follows_source {here} {prefix} {held} {after} {calls} {next} {s} new (Walk _ _ _ _ _ _ turn) answers at known = walks_source job past s new prefix here next held after calls turn answers at known
+  follows_source {here} {prefix} {held} {after} {calls} {next} {s} new (Scan _ _ _ _ _ _ turn) answers at known = scans_source job past s new prefix here next held after calls turn answers at known
+  follows_source {here} {prefix} {held} {after} {calls} {next} {s} new (Make _ _ _ _ _ _ turn) answers at known = makes_source job past s new prefix here held after calls next turn answers at known
+  follows_source {counts} {here} {prefix} {held} {after} {calls} {next} {s} new (Place _ _ _ _ _ _ turn) answers at known = places_source job counts past s new prefix here next held after calls turn answers at known
 
-  follows_dest : (counts : Counts) (here : Phase) (prefix : List ℕ) (held : Held) (read : List ℕ) (after : Held) (calls : Calls) (next : Phase) (start : Tree) (w v : Writing) → IsLayout job.tuples → Follows job counts here prefix held read after calls (Ok next)
+  follows_dest : {counts : Counts} {here : Phase} {prefix : List ℕ} {held : Held} {read : List ℕ} {after : Held} {calls : Calls} {next : Phase} {start : Tree} {w v : Writing} → IsLayout job.tuples → Follows job counts here prefix held read after calls (Ok next)
       → Changes calls.change (Some w) (Some v) → HeldAt job past here held → DestPart job past here held start w → DestPart job (past_after here next held past) next after start v
-  follows_dest _ here prefix held read _ calls next start w v layout (a_start _ _ _ _ _ _ turn) change at known = starts_dest job past start w v prefix read here next held calls layout turn change at known
-  follows_dest _ here prefix held _ after calls next start w v _ (Walk _ _ _ _ _ _ turn) change at known = walks_dest job past start w v prefix here next held after calls turn change at known
-  follows_dest _ here _ held _ after calls next start w v _ (Scan _ _ _ _ _ _ turn) change at known = scans_dest job past start w v here next held after calls turn change at known
-  follows_dest _ here _ held _ after calls next start w v _ (Make _ _ _ _ _ _ turn) change at known = makes_dest job past start w v here held after calls next turn change at known
-  follows_dest counts here _ held _ after calls next start w v _ (Place _ _ _ _ _ _ turn) change at known = places_dest job counts past start w v here next held after calls turn change at known
+  follows_dest {here} {prefix} {held} {read} {calls} {next} {start} {w} {v} layout (a_start _ _ _ _ _ _ turn) change at known = starts_dest job past start w v prefix read here next held calls layout turn change at known
+  follows_dest {here} {prefix} {held} {after} {calls} {next} {start} {w} {v} _ (Walk _ _ _ _ _ _ turn) change at known = walks_dest job past start w v prefix here next held after calls turn change at known
+  follows_dest {here} {held} {after} {calls} {next} {start} {w} {v} _ (Scan _ _ _ _ _ _ turn) change at known = scans_dest job past start w v here next held after calls turn change at known
+  follows_dest {here} {held} {after} {calls} {next} {start} {w} {v} _ (Make _ _ _ _ _ _ turn) change at known = makes_dest job past start w v here held after calls next turn change at known
+  follows_dest {counts} {here} {held} {after} {calls} {next} {start} {w} {v} _ (Place _ _ _ _ _ _ turn) change at known = places_dest job counts past start w v here next held after calls turn change at known
 
-  follows_items : (counts : Counts) (here : Phase) (prefix : List ℕ) (held : Held) (read : List ℕ) (after : Held) (calls : Calls) (next : Phase) (start : Tree) (s new : Reading) (w v : Writing) → Follows job counts here prefix held read after calls (Ok next)
+  follows_items : {counts : Counts} {here : Phase} {prefix : List ℕ} {held : Held} {read : List ℕ} {after : Held} {calls : Calls} {next : Phase} {start : Tree} {s : Reading} (new : Reading) {w : Writing} (v : Writing) → Follows job counts here prefix held read after calls (Ok next)
       → Answers calls.asked (Some s) (Some new) → Changes calls.change (Some w) (Some v) → KnowsItems job past here prefix held counts s start w → KeepsItems job past here held counts s start calls next × KeepsLog job past here held s start calls next
-  follows_items counts here prefix held read _ calls next start s _ w _ (a_start _ _ _ _ _ _ turn) _ _ known = starts_items job past s prefix read start w here next held counts calls turn known
-  follows_items counts here prefix held _ after calls next start s _ w v (Walk _ _ _ _ _ _ turn) _ change known = walks_items job past s prefix start w v here next held after counts calls turn change known
-  follows_items counts here prefix held _ after calls next start s new w _ (Scan _ _ _ _ _ _ turn) answers _ known = scans_items job past s new prefix start w here next held after counts calls turn answers known
-  follows_items counts here prefix held _ after calls next start s _ w _ (Make _ _ _ _ _ _ turn) _ _ known = makes_items job past s prefix start w here held after counts calls next turn known
-  follows_items counts here prefix held _ after calls next start s _ w _ (Place _ _ _ _ _ _ turn) _ _ known = places_items job past s prefix start w here next held after counts calls turn known
+  follows_items {counts} {here} {prefix} {held} {read} {calls} {next} {start} {s} _ {w} _ (a_start _ _ _ _ _ _ turn) _ _ known = starts_items job past s prefix read start w here next held counts calls turn known
+  follows_items {counts} {here} {prefix} {held} {after} {calls} {next} {start} {s} _ {w} v (Walk _ _ _ _ _ _ turn) _ change known = walks_items job past s prefix start w v here next held after counts calls turn change known
+  follows_items {counts} {here} {prefix} {held} {after} {calls} {next} {start} {s} new {w} _ (Scan _ _ _ _ _ _ turn) answers _ known = scans_items job past s new prefix start w here next held after counts calls turn answers known
+  follows_items {counts} {here} {prefix} {held} {after} {calls} {next} {start} {s} _ {w} _ (Make _ _ _ _ _ _ turn) _ _ known = makes_items job past s prefix start w here held after counts calls next turn known
+  follows_items {counts} {here} {prefix} {held} {after} {calls} {next} {start} {s} _ {w} _ (Place _ _ _ _ _ _ turn) _ _ known = places_items job past s prefix start w here next held after counts calls turn known
 
 -- ---- all parts
 
@@ -138,7 +138,7 @@ module _ (job : Job) (past : Past) (start : Start) (old new : World) (run : Run)
   keeps_source turn did is v same =
       let told = told_source calls.asked old.source v (subst (Answers calls.asked old.source) same did.source) in
       let answers = subst (λ o. Answers calls.asked o (Some v)) told.1 (subst (Answers calls.asked old.source) same did.source) in
-      follows_source job past before.counts run.phase run.kept.prefix run.kept.held after.prefix after.held calls next told.0 v turn answers is.held (is.source told.0 told.1)
+      follows_source job past v turn answers is.held (is.source told.0 told.1)
 
   keeps_dest : Turned → Happens calls old new → IsPast job start old run past → TellsAsBefore start.dest new.dest (DestPart job later next after.held)
   keeps_dest turn did is = by start.dest refl (told_dest calls.change old.dest did.dest)
@@ -151,11 +151,11 @@ module _ (job : Job) (past : Past) (start : Start) (old new : World) (run : Run)
           let known = subst (λ o. TellsAsBefore (Some t) o (DestPart job past run.phase run.kept.held)) a (subst (λ o. TellsAsBefore o old.dest (DestPart job past run.phase run.kept.held)) some is.dest) in
           let change = subst (λ o. Changes calls.change o (Some v)) a (subst (Changes calls.change old.dest) b did.dest) in
           subst (λ o. TellsAsBefore (Some t) o (DestPart job later next after.held)) (sym b)
-          (follows_dest job past before.counts run.phase run.kept.prefix run.kept.held after.prefix after.held calls next t w v is.layout turn change is.held known)
+          (follows_dest job past is.layout turn change is.held known)
 
-  keeps_items : Turned → Happens calls old new → IsPast job start old run past → (v : Reading) → new.source ≡ Some v → (t : Tree) → start.dest ≡ Some t
+  keeps_items : Turned → Happens calls old new → IsPast job start old run past → {v : Reading} → new.source ≡ Some v → {t : Tree} → start.dest ≡ Some t
       → (s : Reading) × (v.tree ≡ s.tree) × (old.source ≡ Some s) × KeepsItems job past run.phase run.kept.held before.counts s t calls next × KeepsLog job past run.phase run.kept.held s t calls next
-  keeps_items turn did is v same t some =
+  keeps_items turn did is {v} same {t} some =
       let told = told_source calls.asked old.source v (subst (Answers calls.asked old.source) same did.source) in
       let s = told.0 in
       let answers = subst (λ o. Answers calls.asked o (Some v)) told.1 (subst (Answers calls.asked old.source) same did.source) in
@@ -168,7 +168,7 @@ module _ (job : Job) (past : Past) (start : Start) (old new : World) (run : Run)
         dest = dest.2;
         items = still_counts run.kept (is.items s told.1 t some);
       } in
-      let kept = follows_items job past before.counts run.phase run.kept.prefix run.kept.held after.prefix after.held calls next t s v dest.0 after_it.0 turn answers change known in
+      let kept = follows_items job past v after_it.0 turn answers change known in
       (s, tree_kept calls.asked s v answers, told.1, kept.0, kept.1)
     where
       told_again : (w : Writing) → old.dest ≡ Some w → SameTold old.dest new.dest → (v : Writing) × (new.dest ≡ Some v)
@@ -191,11 +191,11 @@ module _ (job : Job) (past : Past) (start : Start) (old new : World) (run : Run)
   pub turned : Turned → Happens calls old new → after.counts ≡ counted calls.line before.counts → IsPast job start old run past → IsPast job start new (record { phase = next; kept = after }) later
   turned turn did counts is = record {
     layout = is.layout;
-    held = follows_held job past before.counts run.phase run.kept.prefix run.kept.held after.prefix after.held calls next old.source new.source turn did.source is.held;
+    held = follows_held job past old.source new.source turn did.source is.held;
     source = keeps_source turn did is;
     dest = keeps_dest turn did is;
     items = λ v same t some.
-        let kept = keeps_items turn did is v same t some in
+        let kept = keeps_items turn did is same some in
         subst (λ c. ItemsPart job later next c v.tree (root_in t)) (sym counts) (subst (λ (f : Forest). ItemsPart job later next (counted calls.line before.counts) f (root_in t)) (sym kept.1) kept.3);
     log = λ v same t some. log_at v same t some start.log refl;
     quiet = quiet_at start.log refl;
@@ -217,7 +217,7 @@ module _ (job : Job) (past : Past) (start : Start) (old new : World) (run : Run)
       log_at : (v : Reading) → new.source ≡ Some v → (t : Tree) → start.dest ≡ Some t → (o : Option (List ℕ)) → start.log ≡ o → TellsStill o new.log (HasTold job v.tree (root_in t) later next)
       log_at v same t some None none = tt
       log_at v same t some (Some first) is_first =
-          let kept = keeps_items turn did is v same t some in
+          let kept = keeps_items turn did is same some in
           let s = kept.0 in
           let had = log_tells (HasTold job s.tree (root_in t) past run.phase) start.log old.log is_first (is.log s kept.2 t some) in
           let puts = subst (λ o. Puts calls.line o new.log) had.1 did.log in

@@ -68,12 +68,12 @@ module _ (job : Job) (past : Past) (s : Reading) (start : Tree) (prefix : List �
       let tree_is = some_same new.tree _ same in
       let next : IsNext script (take number script) (MakeFile path bytes) = record { rest = drop (suc number) script; is = split_at number script _ is } in
       left_untold job past s start prefix counts old new first log last held (phase.RootMake number) before put
-      (root_left job s.tree start new.tree past.count (take number script) old before.known.source.at.1 at
+      (root_left job s.tree before.known.source.at.1 at
       (stands_cut count next (tree_is ∙ ap (done (MakeFile path (take count bytes))) at.tree)))
 
-  pub starts_broken : (read : List ℕ) (here : Phase) (held : Held) (calls : Calls) (answer : Answer) → Starts job here prefix read calls answer → Before held here → LeavesPart (Some old) (Some new) calls.change → LeavesFront calls.line (Some log) (Some last) → Left
-  starts_broken _ _ held _ _ (MakesRoot _ number item is) before left put = root_broken number item held before is left put
-  starts_broken _ here held _ _ _ before left put = left_quiet job past s start prefix counts old new first log last held here before (plain_same refl left) put
+  pub starts_broken : {read : List ℕ} {here : Phase} (held : Held) {calls : Calls} {answer : Answer} → Starts job here prefix read calls answer → Before held here → LeavesPart (Some old) (Some new) calls.change → LeavesFront calls.line (Some log) (Some last) → Left
+  starts_broken held (MakesRoot _ number item is) before left put = root_broken number item held before is left put
+  starts_broken {here} held _ before left put = left_quiet job past s start prefix counts old new first log last held here before (plain_same refl left) put
 
   -- ---- a part of an object
 
@@ -86,7 +86,7 @@ module _ (job : Job) (past : Past) (s : Reading) (start : Tree) (prefix : List �
       let front = made_before job object held.rows past.bytes here in
       let tree_is = some_same new.tree _ same in
       left_untold job past s start prefix counts old new first log last held (phase.Make object here) before put
-      (carrying_left job past s start object held 0 new.tree known.dest.started known.dest.at.root known.held_at.ends.0 known.held_at.rows (omega arith) known.items.places.placed
+      (carrying_left job past s start object held 0 known.dest.started known.dest.at.root known.held_at.ends.0 known.held_at.rows (omega arith) known.items.places.placed
       (carried_next past s (root_in start) source.proper source.at.0 source.at.1 source.bytes known.items.places.next)
       (stands_cut count next (tree_is ∙ ap (done (MakeFile path (take count bytes))) known.dest.at.tree)))
 
@@ -100,7 +100,7 @@ module _ (job : Job) (past : Past) (s : Reading) (start : Tree) (prefix : List �
       let item = MakeFile (in_content row.path) [] in
       let tree_is = some_same new.tree _ same in
       left_untold job past s start prefix counts old new first log last held (phase.Make object (a_part.Content position)) before put
-      (carrying_left job past s start object held 0 new.tree known.dest.started known.dest.at.root known.held_at.ends.0 known.held_at.rows (omega arith) known.items.places.placed
+      (carrying_left job past s start object held 0 known.dest.started known.dest.at.root known.held_at.ends.0 known.held_at.rows (omega arith) known.items.places.placed
       (carried_next past s (root_in start) source.proper source.at.0 source.at.1 source.bytes known.items.places.next)
       (content_stands next (past.bytes row.path, refl) (tree_is ∙ ap (done item) known.dest.at.tree)))
 
@@ -124,18 +124,18 @@ module _ (job : Job) (past : Past) (s : Reading) (start : Tree) (prefix : List �
       let begins : BeginsWith (held.fed ++ piece) (past.bytes row.path) =
       begins_taken (reads.row.length - left + length piece) (whole.fed_is ∙ ap (take (reads.row.length - left + length piece)) (sym bytes ∙ ap (λ (r : Row). past.bytes r.path) same_row)) in
       left_untold job past s start prefix counts old new first log last held (phase.Copy object position left) before put
-      (carrying_left job past s start object held 0 new.tree known.dest.started known.dest.at.making.root at.ends.0 at.rows (omega arith) known.items.places.placed
+      (carrying_left job past s start object held 0 known.dest.started known.dest.at.making.root at.ends.0 at.rows (omega arith) known.items.places.placed
       (carried_next past s (root_in start) source.proper source.at.0 source.at.1 source.bytes known.items.places.next)
       (content_stands
       (file_next job object held.rows held.contents past.bytes position row (copy_here job past object position left held row at is) (copy_stands held position row is at.numbers)) (begins_cut count held.fed piece begins)
       (it.at.making.tree ∙ made_in_turn front (MakeFile (in_content row.path) (held.fed ++ more) ∷ []) root)))
 
-  pub makes_broken : (here : Phase) (held after : Held) (calls : Calls) (answer : Answer) → Makings job here held after calls answer → Before held here → WereAnswered calls s old → LeavesPart (Some old) (Some new) calls.change → LeavesFront calls.line (Some log) (Some last) → Left
-  makes_broken _ _ _ _ _ (MakesDeclaration was object) before _ left put = part_broken object a_part.Declaration (staging ++ object_declaration_name ∷ []) object_declaration_bytes was before (next_declaration job object was.rows past.bytes) left put
-  makes_broken _ _ _ _ _ (OpensCopy was object position row is stored all) before _ left put = opened_broken object position was row before (file_next job object was.rows was.contents past.bytes position row (is_here job past object position was row before.known.held_at is stored) (ltb-false position.directories (length row.path) all)) left put
-  makes_broken _ _ _ _ _ (CopiesOn was object position n byte block _) before answered left put = copied_broken object position n (byte ∷ block) was before answered.read left put
-  makes_broken _ _ _ _ _ (MakesVersionInventory was object) before _ left put = part_broken object a_part.VersionInventory (in_version [] ++ inventory_name ∷ []) (text_of_inventory job object was.rows) was before (next_first job object was.rows past.bytes) left put
-  makes_broken _ _ _ _ _ (MakesVersionSidecar was object) before _ left put = part_broken object a_part.VersionSidecar (in_version [] ++ sidecar_name job.algorithm ∷ []) (sidecar_text job.algorithm (text_of_inventory job object was.rows)) was before (next_second job object was.rows past.bytes) left put
-  makes_broken _ _ _ _ _ (MakesInventory was object) before _ left put = part_broken object a_part.Inventory (staging ++ inventory_name ∷ []) (text_of_inventory job object was.rows) was before (next_third job object was.rows past.bytes) left put
-  makes_broken _ _ _ _ _ (MakesSidecar was object) before _ left put = part_broken object a_part.Sidecar (staging ++ sidecar_name job.algorithm ∷ []) (sidecar_text job.algorithm (text_of_inventory job object was.rows)) was before (next_fourth job object was.rows past.bytes) left put
-  makes_broken here held _ _ _ _ before _ left put = left_quiet job past s start prefix counts old new first log last held here before (plain_same refl left) put
+  pub makes_broken : {here : Phase} {held after : Held} {calls : Calls} {answer : Answer} → Makings job here held after calls answer → Before held here → WereAnswered calls s old → LeavesPart (Some old) (Some new) calls.change → LeavesFront calls.line (Some log) (Some last) → Left
+  makes_broken (MakesDeclaration was object) before _ left put = part_broken object a_part.Declaration (staging ++ object_declaration_name ∷ []) object_declaration_bytes was before (next_declaration job object was.rows past.bytes) left put
+  makes_broken (OpensCopy was object position row is stored all) before _ left put = opened_broken object position was row before (file_next job object was.rows was.contents past.bytes position row (is_here job past object position was row before.known.held_at is stored) (ltb-false position.directories (length row.path) all)) left put
+  makes_broken (CopiesOn was object position n byte block _) before answered left put = copied_broken object position n (byte ∷ block) was before answered.read left put
+  makes_broken (MakesVersionInventory was object) before _ left put = part_broken object a_part.VersionInventory (in_version [] ++ inventory_name ∷ []) (text_of_inventory job object was.rows) was before (next_first job object was.rows past.bytes) left put
+  makes_broken (MakesVersionSidecar was object) before _ left put = part_broken object a_part.VersionSidecar (in_version [] ++ sidecar_name job.algorithm ∷ []) (sidecar_text job.algorithm (text_of_inventory job object was.rows)) was before (next_second job object was.rows past.bytes) left put
+  makes_broken (MakesInventory was object) before _ left put = part_broken object a_part.Inventory (staging ++ inventory_name ∷ []) (text_of_inventory job object was.rows) was before (next_third job object was.rows past.bytes) left put
+  makes_broken (MakesSidecar was object) before _ left put = part_broken object a_part.Sidecar (staging ++ sidecar_name job.algorithm ∷ []) (sidecar_text job.algorithm (text_of_inventory job object was.rows)) was before (next_fourth job object was.rows past.bytes) left put
+  makes_broken {here} {held} _ before _ left put = left_quiet job past s start prefix counts old new first log last held here before (plain_same refl left) put

@@ -23,7 +23,7 @@ use Rattle.pt_plan.specs.declared.phase.Phase.TheVariants as phase
 use Rattle.pt_begun.specs.Begun.{items_placed}
 use Rattle.pt_begun.specs.BegunDest.{IsMakingObject}
 use Rattle.pt_begun.specs.FaultLeft.{IsLeftByFault}
-use Rattle.pt_begun.specs.Past.{Past, done_after}
+use Rattle.pt_begun.specs.Past.{Past}
 use Rattle.pt_begun.proofs.faults.BrokenTurns.{WereAnswered, IsBefore, left_quiet, left_skipped}
 use Rattle.pt_begun.proofs.faults.LeavesBehind.{plain_same}
 use Rattle.pt_begun.proofs.faults.LeftNow.{tree_between, tree_entered}
@@ -40,55 +40,55 @@ module _ (job : Job) (past : Past) (s : Reading) (start : Tree) (prefix : List �
   -- ---- the walk
 
   -- it tells the line of an item of which nothing is carried
-  walk_told : (held later : Held) (here : Phase) (calls : Calls) (line : Line) → Walks job prefix here held later calls (Ok phase.Walk) → Before held here → calls.line ≡ Some line → past.placed ≡ carried_among job s.tree (root_in start) (items_placed here past.count)
+  walk_told : {held later : Held} {here : Phase} {calls : Calls} {line : Line} → Walks job prefix here held later calls (Ok phase.Walk) → Before held here → calls.line ≡ Some line → past.placed ≡ carried_among job s.tree (root_in start) (items_placed here past.count)
       → Changes calls.change (Some old) (Some old) → IsFree start staging → old.tree ≡ with_root start (after job s.tree (root_in start) past.count) → new.tree ≡ old.tree → LeavesFront (Some line) (Some log) (Some last) → Left
-  walk_told held _ here calls line turn before is placed found free tree same put =
+  walk_told {held} {here} turn before is placed found free tree same put =
       let known = before.known in
-      left_skipped job past s start prefix counts old new first log last held here phase.Walk calls.line line (done_after here held.trail phase.Walk past.count) before refl
+      left_skipped job past s start prefix counts old new first log last held here before refl
       (walks_tell start old old turn known.held_at.trail.is_one known.source (roots_have_no_gaps start known.dest.started).1 placed known.dest.at found)
       is free tree same put
 
   -- or none
-  walk_passed : (told : Bool) (held later : Held) (here : Phase) (calls : Calls) (line : Line) → Walks job prefix here held later calls (Ok phase.Walk) → Before held here → calls.line ≡ cond told (Some line) None → past.placed ≡ carried_among job s.tree (root_in start) (items_placed here past.count)
+  walk_passed : (told : Bool) {held later : Held} {here : Phase} {calls : Calls} (line : Line) → Walks job prefix here held later calls (Ok phase.Walk) → Before held here → calls.line ≡ cond told (Some line) None → past.placed ≡ carried_among job s.tree (root_in start) (items_placed here past.count)
       → Changes calls.change (Some old) (Some old) → IsFree start staging → old.tree ≡ with_root start (after job s.tree (root_in start) past.count) → new.tree ≡ old.tree → LeavesFront calls.line (Some log) (Some last) → (LeavesFront None (Some log) (Some last) → Left) → Left
-  walk_passed true held later here calls line turn before is placed found free tree same put _ =
-      walk_told held later here calls line turn before is placed found free tree same (subst (λ (l : Option Line). LeavesFront l (Some log) (Some last)) is put)
-  walk_passed false _ _ _ _ _ _ _ is _ _ _ _ _ put quiet = quiet (subst (λ (l : Option Line). LeavesFront l (Some log) (Some last)) is put)
+  walk_passed true line turn before is placed found free tree same put _ =
+      walk_told turn before is placed found free tree same (subst (λ (l : Option Line). LeavesFront l (Some log) (Some last)) is put)
+  walk_passed false _ _ _ is _ _ _ _ _ put quiet = quiet (subst (λ (l : Option Line). LeavesFront l (Some log) (Some last)) is put)
 
-  pub walks_broken : (here : Phase) (held later : Held) (calls : Calls) (answer : Answer) → Walks job prefix here held later calls answer → Before held here → WereAnswered calls s old → LeavesPart (Some old) (Some new) calls.change → LeavesFront calls.line (Some log) (Some last) → Left
+  pub walks_broken : {here : Phase} {held later : Held} {calls : Calls} {answer : Answer} → Walks job prefix here held later calls answer → Before held here → WereAnswered calls s old → LeavesPart (Some old) (Some new) calls.change → LeavesFront calls.line (Some log) (Some last) → Left
   unfolding Changes
-  walks_broken here held later calls _ (IsSkipped was why is) before _ left put =
-      walk_told held later here calls _ (IsSkipped was why is) before refl before.known.items.places.placed refl before.known.dest.at.root.free (tree_between s.tree past.count before.known.items.places.placed before.known.dest.at) (plain_same refl left) put
-  walks_broken here held later calls _ (IsPresent was index id kind is) before answered left put =
-      walk_told held later here calls _ (IsPresent was index id kind is) before refl before.known.items.places.placed (answered.found, refl) before.known.dest.at.root.free (tree_between s.tree past.count before.known.items.places.placed before.known.dest.at) (plain_same refl left) put
-  walks_broken here held later calls _ (IsPast was name e short outermost) before _ left put =
-      walk_passed (is_first job.share) held later here calls _ (IsPast was name e short outermost) before refl before.known.items.places.placed refl before.known.dest.at.root.free (tree_between s.tree past.count before.known.items.places.placed before.known.dest.at) (plain_same refl left) put
+  walks_broken (IsSkipped was why is) before _ left put =
+      walk_told (IsSkipped was why is) before refl before.known.items.places.placed refl before.known.dest.at.root.free (tree_between s.tree past.count before.known.items.places.placed before.known.dest.at) (plain_same refl left) put
+  walks_broken (IsPresent was index id kind is) before answered left put =
+      walk_told (IsPresent was index id kind is) before refl before.known.items.places.placed (answered.found, refl) before.known.dest.at.root.free (tree_between s.tree past.count before.known.items.places.placed before.known.dest.at) (plain_same refl left) put
+  walks_broken {here} {held} (IsPast was name e short outermost) before _ left put =
+      walk_passed (is_first job.share) _ (IsPast was name e short outermost) before refl before.known.items.places.placed refl before.known.dest.at.root.free (tree_between s.tree past.count before.known.items.places.placed before.known.dest.at) (plain_same refl left) put
       (left_quiet job past s start prefix counts old new first log last held here before (plain_same refl left))
-  walks_broken here held later calls _ (IsDeep was name e short inner deep) before _ left put =
-      walk_passed (is_first job.share) held later here calls _ (IsDeep was name e short inner deep) before refl before.known.items.places.placed refl before.known.dest.at.root.free (tree_between s.tree past.count before.known.items.places.placed before.known.dest.at) (plain_same refl left) put
+  walks_broken {here} {held} (IsDeep was name e short inner deep) before _ left put =
+      walk_passed (is_first job.share) _ (IsDeep was name e short inner deep) before refl before.known.items.places.placed refl before.known.dest.at.root.free (tree_between s.tree past.count before.known.items.places.placed before.known.dest.at) (plain_same refl left) put
       (left_quiet job past s start prefix counts old new first log last held here before (plain_same refl left))
-  walks_broken here held _ _ _ _ before _ left put = left_quiet job past s start prefix counts old new first log last held here before (plain_same refl left) put
+  walks_broken {here} {held} _ before _ left put = left_quiet job past s start prefix counts old new first log last held here before (plain_same refl left) put
 
   -- ---- the scan of an object
 
-  scan_told : (held later : Held) (here : Phase) (object : Object) (calls : Calls) (line : Line) (read : Reading) → Scans job here held later calls (Ok phase.Walk) → Before held here → calls.line ≡ Some line → Answers calls.asked (Some s) (Some read)
+  scan_told : {held later : Held} {here : Phase} {object : Object} {calls : Calls} {line : Line} (read : Reading) → Scans job here held later calls (Ok phase.Walk) → Before held here → calls.line ≡ Some line → Answers calls.asked (Some s) (Some read)
       → past.placed ≡ carried_among job s.tree (root_in start) past.count → IsMakingObject job start past.placed object [] 0 old → new.tree ≡ old.tree → LeavesFront (Some line) (Some log) (Some last) → Left
-  scan_told held _ here _ calls line read turn before is answers placed making same put =
+  scan_told {held} {here} read turn before is answers placed making same put =
       let known = before.known in
-      left_skipped job past s start prefix counts old new first log last held here phase.Walk calls.line line (done_after here held.trail phase.Walk past.count) before refl
+      left_skipped job past s start prefix counts old new first log last held here before refl
       (scans_tell turn known.held_at.trail.is_one known.source known.items.places.next read answers)
       is making.root.free (tree_entered s.tree past.count placed making) same put
 
-  pub scans_broken : (here : Phase) (held later : Held) (calls : Calls) (answer : Answer) → Scans job here held later calls answer → Before held here → WereAnswered calls s old → LeavesPart (Some old) (Some new) calls.change → LeavesFront calls.line (Some log) (Some last) → Left
+  pub scans_broken : {here : Phase} {held later : Held} {calls : Calls} {answer : Answer} → Scans job here held later calls answer → Before held here → WereAnswered calls s old → LeavesPart (Some old) (Some new) calls.change → LeavesFront calls.line (Some log) (Some last) → Left
   unfolding Answers
-  scans_broken here held later calls _ (IsTooDeep was object apart deep) before _ left put =
-      scan_told held later here object calls _ s (IsTooDeep was object apart deep) before refl refl before.known.items.places.placed before.known.dest.at (plain_same refl left) put
-  scans_broken here held later calls _ (MeetsDeep was object name e apart deep) before _ left put =
-      scan_told held later here object calls _ s (MeetsDeep was object name e apart deep) before refl refl before.known.items.places.placed before.known.dest.at (plain_same refl left) put
-  scans_broken here held later calls _ (MeetsLimit was object name e room) before _ left put =
-      scan_told held later here object calls _ s (MeetsLimit was object name e room) before refl refl before.known.items.places.placed before.known.dest.at (plain_same refl left) put
-  scans_broken here held later calls _ (MeetsOther was object name e) before _ left put =
-      scan_told held later here object calls _ s (MeetsOther was object name e) before refl refl before.known.items.places.placed before.known.dest.at (plain_same refl left) put
-  scans_broken here held later calls _ (IsTooLong was object bytes byte block long) before answered left put =
-      scan_told held later here object calls _ (after_next s) (IsTooLong was object bytes byte block long) before refl (answered.read, refl) before.known.items.places.placed before.known.dest.at (plain_same refl left) put
-  scans_broken here held _ _ _ _ before _ left put = left_quiet job past s start prefix counts old new first log last held here before (plain_same refl left) put
+  scans_broken (IsTooDeep was object apart deep) before _ left put =
+      scan_told s (IsTooDeep was object apart deep) before refl refl before.known.items.places.placed before.known.dest.at (plain_same refl left) put
+  scans_broken (MeetsDeep was object name e apart deep) before _ left put =
+      scan_told s (MeetsDeep was object name e apart deep) before refl refl before.known.items.places.placed before.known.dest.at (plain_same refl left) put
+  scans_broken (MeetsLimit was object name e room) before _ left put =
+      scan_told s (MeetsLimit was object name e room) before refl refl before.known.items.places.placed before.known.dest.at (plain_same refl left) put
+  scans_broken (MeetsOther was object name e) before _ left put =
+      scan_told s (MeetsOther was object name e) before refl refl before.known.items.places.placed before.known.dest.at (plain_same refl left) put
+  scans_broken (IsTooLong was object bytes byte block long) before answered left put =
+      scan_told (after_next s) (IsTooLong was object bytes byte block long) before refl (answered.read, refl) before.known.items.places.placed before.known.dest.at (plain_same refl left) put
+  scans_broken {here} {held} _ before _ left put = left_quiet job past s start prefix counts old new first log last held here before (plain_same refl left) put

@@ -55,16 +55,16 @@ module _ (job : Job) (past : Past) (start : Start) (old : World) (run : Run) (s 
       }
 
   -- what is left where nothing was changed
-  pub same_leaves : (now : Writing) (last : List ℕ) → (had : TellsAll) → Some now ≡ old.dest → Some last ≡ old.log → IsLeftByFault job s.tree t now.tree first last
-  same_leaves now last had dest log =
+  pub same_leaves : {now : Writing} {last : List ℕ} → (had : TellsAll) → Some now ≡ old.dest → Some last ≡ old.log → IsLeftByFault job s.tree t now.tree first last
+  same_leaves {now} {last} had dest log =
       left_quiet job past s t run.kept.prefix (turning run.kept).counts had.now now first had.log last run.kept.held run.phase had.before
       (ap (λ (w : Writing). w.tree) (some_same now had.now (dest ∙ had.dest_is))) (log ∙ had.log_told)
 
   -- and where a turn broke off
-  pub broken_leaves : (new : World) (prefix : List ℕ) (held : Held) (calls : Calls) (answer : Answer) (now : Writing) (last : List ℕ) → TellsAll → Follows job (turning run.kept).counts run.phase run.kept.prefix run.kept.held prefix held calls answer
+  pub broken_leaves : {new : World} {prefix : List ℕ} {held : Held} {calls : Calls} {answer : Answer} {now : Writing} {last : List ℕ} → TellsAll → Follows job (turning run.kept).counts run.phase run.kept.prefix run.kept.held prefix held calls answer
       → BreaksOff calls old new → old.source ≡ Some s → new.dest ≡ Some now → new.log ≡ Some last → IsLeftByFault job s.tree t now.tree first last
-  broken_leaves _ prefix held calls answer now last had turn broken source_is dest_is log_is =
-      follows_broken job past s t run.kept.prefix (turning run.kept).counts had.now now first had.log last run.phase run.kept.held prefix held calls answer turn had.before
+  broken_leaves {calls} {now} {last} had turn broken source_is dest_is log_is =
+      follows_broken job past s t run.kept.prefix (turning run.kept).counts had.now now first had.log last turn had.before
       (record { read = subst (WasRead calls.asked) source_is broken.read; found = subst (WasFound calls.line calls.change) had.dest_is broken.found })
       (subst (λ o. LeavesPart o (Some now) calls.change) had.dest_is (subst (λ o. LeavesPart old.dest o calls.change) dest_is broken.dest))
       (subst (λ o. LeavesFront calls.line o (Some last)) had.log_told (subst (λ o. LeavesFront calls.line old.log o) log_is broken.log))

@@ -103,17 +103,17 @@ module _ (job : Job) (past : Past) (start : Tree) (object : Object) (held : Held
       ∙ ap (λ (p : Path). with_folders (take n (folders_above p)) (root_now job start past.placed)) it.place)
 
   -- so what is made of it is kept
-  pub made_kept : (n : ℕ) (items : List Item) (now : Tree) → IsTree start → IsObject job object → AreRows job past.bytes held → n ≤ job.tuples.count → (w : Writing) → IsMakingObject job start past.placed object items n w
+  pub made_kept : {n : ℕ} {items : List Item} {now : Tree} → IsTree start → IsObject job object → AreRows job past.bytes held → n ≤ job.tuples.count → {w : Writing} → IsMakingObject job start past.placed object items n w
       → StandsAtPrefix script (with_root start (root_on_way job start past.placed object.place n)) now → IsKept job start now
-  made_kept n _ now tree it rows few _ making at =
+  made_kept {n} {now} tree it rows few making at =
       Making past.placed carried n now (comes it rows making.came making.free)
       (inl (subst (λ (t : Tree). StandsAtPrefix (script_of carried.id carried.files job.meta job.algorithm) t now) (on_way n tree making.root it few)
       (subst (λ (l : List Item). StandsAtPrefix l (with_root start (root_on_way job start past.placed object.place n)) now) (own_script rows) at)))
 
   -- and with a content that holds other bytes
-  pub copy_kept : (front : List Item) (path : Path) (bytes read : List ℕ) (now : Tree) → IsTree start → IsObject job object → AreRows job past.bytes held → (w : Writing) → IsMakingObject job start past.placed object (front ++ MakeFile (in_content path) read ∷ []) 0 w
+  pub copy_kept : {front : List Item} (path : Path) (bytes read : List ℕ) {now : Tree} → IsTree start → IsObject job object → AreRows job past.bytes held → {w : Writing} → IsMakingObject job start past.placed object (front ++ MakeFile (in_content path) read ∷ []) 0 w
       → IsNext script front (MakeFile (in_content path) bytes) → (other : List ℕ) → now ≡ done (MakeFile (in_content path) other) (made front (with_root start (root_on_way job start past.placed object.place 0))) → IsKept job start now
-  copy_kept front path bytes read now tree it rows w making next other is =
+  copy_kept {front} path bytes read {now} tree it rows making next other is =
       let root = with_root start (root_on_way job start past.placed object.place 0) in
       let at : StandsAtContent script root now = record {
         items = length front;
@@ -129,8 +129,8 @@ module _ (job : Job) (past : Past) (start : Tree) (object : Object) (held : Held
       (subst (λ (l : List Item). StandsAtContent l root now) (own_script rows) at)))
 
   -- before its script it is not there
-  pub not_begun : (w : Writing) → IsMakingObject job start past.placed object [] 0 w → IsKept job start w.tree
-  not_begun _ making = subst (IsKept job start) (sym (making.tree ∙ ap (with_root start) (no_folders job start past.placed object.place))) (Holding past.placed making.came)
+  pub not_begun : {w : Writing} → IsMakingObject job start past.placed object [] 0 w → IsKept job start w.tree
+  not_begun making = subst (IsKept job start) (sym (making.tree ∙ ap (with_root start) (no_folders job start past.placed object.place))) (Holding past.placed making.came)
 
 -- a front of the script
 pub front_stands : {script front : List Item} {start : Tree} {now : Tree} → IsFront script front → now ≡ made front start → StandsAtPrefix script start now
@@ -150,14 +150,14 @@ root_kept {start} {now} making at = kept.MakingRoot now (root_free start making.
 -- a part of an object is made
 part_kept : {job : Job} {past : Past} {start : Tree} {object : Object} {here : Part} {held : Held} {now : Writing} → HeldAt job past (phase.Make object here) held → DestPart job past (phase.Make object here) held start now → IsKept job start now.tree
 part_kept {job} {past} {start} {object} {here} {held} {now} at dest =
-    made_kept job past start object held 0 (made_before job object held.rows past.bytes here) now.tree dest.started at.ends.0 at.rows (omega arith) now dest.at
+    made_kept job past start object held dest.started at.ends.0 at.rows (omega arith) dest.at
     (front_stands (front_made job object held.rows past.bytes here) dest.at.tree)
 
 -- or is whole
 whole_kept : {job : Job} (past : Past) {start : Tree} {object : Object} {held : Held} {n : ℕ} {now : Writing} → IsTree start → IsObject job object → AreRows job past.bytes held → n ≤ job.tuples.count
     → IsMakingObject job start past.placed object (script_of_object job object held.rows past.bytes) n now → IsKept job start now.tree
 whole_kept {job} past {start} {object} {held} {n} {now} tree it rows few making =
-    made_kept job past start object held n (script_of_object job object held.rows past.bytes) now.tree tree it rows few now making
+    made_kept job past start object held tree it rows few making
     (front_stands {front = script_of_object job object held.rows past.bytes} {start = with_root start (root_on_way job start past.placed object.place n)} (record { rest = []; is = sym (append-nil (script_of_object job object held.rows past.bytes)) }) making.tree)
 
 -- a file is copied
@@ -167,27 +167,27 @@ copying_kept {job} {past} {start} {object} {position} {left} {held} {now} at des
     let is = dest.at.writes.is_row in
     let front = made_before job object held.rows past.bytes (a_part.Content position) in
     let root = with_root start (root_on_way job start past.placed object.place 0) in
-    copy_kept job past start object held front row.path (past.bytes row.path) held.fed now.tree dest.started at.ends.0 at.rows now dest.at.making
+    copy_kept job past start object held row.path (past.bytes row.path) held.fed dest.started at.ends.0 at.rows dest.at.making
     (file_next job object held.rows held.contents past.bytes position row (copy_here job past object position left held row at is) (copy_stands held position row is at.numbers)) held.fed
     (dest.at.making.tree ∙ made_in_turn front (MakeFile (in_content row.path) held.fed ∷ []) root)
 
-as_it_was : (job : Job) (start : Tree) (now : Writing) → now.tree ≡ start → IsKept job start now.tree
-as_it_was job start _ same = subst (IsKept job start) (sym same) kept.AsItWas
+as_it_was : (job : Job) {start : Tree} (now : Writing) → now.tree ≡ start → IsKept job start now.tree
+as_it_was job {start} _ same = subst (IsKept job start) (sym same) kept.AsItWas
 
 pub kept_now : (job : Job) (past : Past) (start : Tree) (here : Phase) (held : Held) (now : Writing) → HeldAt job past here held → DestPart job past here held start now → IsLeftBehind job start now
-kept_now job _ start phase.Begin _ now _ dest = record { kept = as_it_was job start now dest.at.tree; stood = inr dest.at.tree }
-kept_now job _ start (phase.Prefix _) _ now _ dest = record { kept = as_it_was job start now dest.at.tree; stood = inr dest.at.tree }
-kept_now job _ start phase.Staging _ now _ dest = record { kept = as_it_was job start now dest.at.tree; stood = inr dest.at.tree }
-kept_now job _ start phase.Root _ now _ dest = record { kept = as_it_was job start now dest.at.0.tree; stood = inr dest.at.0.tree }
+kept_now job _ start phase.Begin _ now _ dest = record { kept = as_it_was job now dest.at.tree; stood = inr dest.at.tree }
+kept_now job _ start (phase.Prefix _) _ now _ dest = record { kept = as_it_was job now dest.at.tree; stood = inr dest.at.tree }
+kept_now job _ start phase.Staging _ now _ dest = record { kept = as_it_was job now dest.at.tree; stood = inr dest.at.tree }
+kept_now job _ start phase.Root _ now _ dest = record { kept = as_it_was job now dest.at.0.tree; stood = inr dest.at.0.tree }
 kept_now _ _ _ (phase.RootMake number) _ _ _ dest = record {
   kept = root_kept dest.at (stands_whole number dest.at.tree);
   stood = inl (record { free = dest.at.free; root = inl dest.at.root });
 }
 kept_now _ _ _ phase.RootRename _ _ _ dest = record { kept = root_kept dest.at (stands_whole 6 dest.at.tree); stood = inl (record { free = dest.at.free; root = inl dest.at.root }) }
-kept_now job _ start (phase.RootCheck _) _ now _ dest = record { kept = as_it_was job start now dest.at.tree; stood = inr dest.at.tree }
-kept_now job past start (phase.OpenObject object) held now _ dest = record { kept = not_begun job past start object held now dest.at; stood = inl dest.at.root }
-kept_now job past start (phase.Scan object) held now _ dest = record { kept = not_begun job past start object held now dest.at; stood = inl dest.at.root }
-kept_now job past start (phase.Read object _) held now _ dest = record { kept = not_begun job past start object held now dest.at; stood = inl dest.at.root }
+kept_now job _ start (phase.RootCheck _) _ now _ dest = record { kept = as_it_was job now dest.at.tree; stood = inr dest.at.tree }
+kept_now job past start (phase.OpenObject object) held now _ dest = record { kept = not_begun job past start object held dest.at; stood = inl dest.at.root }
+kept_now job past start (phase.Scan object) held now _ dest = record { kept = not_begun job past start object held dest.at; stood = inl dest.at.root }
+kept_now job past start (phase.Read object _) held now _ dest = record { kept = not_begun job past start object held dest.at; stood = inl dest.at.root }
 kept_now _ _ _ (phase.Make _ _) _ _ at dest = record { kept = part_kept at dest; stood = inl dest.at.root }
 kept_now _ _ _ (phase.Copy _ _ _) _ _ at dest = record { kept = copying_kept at dest; stood = inl dest.at.making.root }
 kept_now job past start (phase.Tuples object number) held now at dest =

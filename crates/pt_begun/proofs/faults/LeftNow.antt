@@ -40,12 +40,12 @@ use Rattle.pt_begun.proofs.dest.ObjectParts.{front_made}
 -- ---- what is left, by what the parts say
 
 -- all as it was, before the first item
-pub as_it_was : (job : Job) (source : Forest) (start now : Tree) (count : ℕ) → count ≡ 0 → now ≡ start → MayBeLeft job source start now (text job source (root_in start) count)
-as_it_was job source start _ _ first same = inl (same, ap (text job source (root_in start)) first)
+pub as_it_was : (job : Job) (source : Forest) {start now : Tree} {count : ℕ} → count ≡ 0 → now ≡ start → MayBeLeft job source start now (text job source (root_in start) count)
+as_it_was job source {start} first same = inl (same, ap (text job source (root_in start)) first)
 
 -- a part of a new root
-pub root_left : (job : Job) (source : Forest) (start now : Tree) (count : ℕ) (items : List Item) (w : Writing) → count ≡ 0 → IsMakingRoot start items w → StandsAtPrefix (root_script job.tuples) start now → MayBeLeft job source start now (text job source (root_in start) count)
-root_left job source start now _ _ _ first making at =
+pub root_left : (job : Job) (source : Forest) {start now : Tree} {count : ℕ} {items : List Item} {w : Writing} → count ≡ 0 → IsMakingRoot start items w → StandsAtPrefix (root_script job.tuples) start now → MayBeLeft job source start now (text job source (root_in start) count)
+root_left job source {start} {now} first making at =
     inr (making.free, subst (IsLeft job source start now) (sym (ap (text job source (root_in start)) first)) (MakingRoot now (root_free start making.root) at))
 
 -- the root after some items, with this in the log
@@ -85,7 +85,7 @@ module _ (job : Job) (past : Past) (s : Reading) (start : Tree) (prefix : List �
   part_left object here known =
       let source = known.source in
       let rows = known.held_at.rows in
-      carrying_left job past s start object held 0 now.tree known.dest.started known.dest.at.root known.held_at.ends.0 rows (omega arith) known.items.places.placed
+      carrying_left job past s start object held 0 known.dest.started known.dest.at.root known.held_at.ends.0 rows (omega arith) known.items.places.placed
       (carried_next past s (root_in start) source.proper source.at.0 source.at.1 source.bytes known.items.places.next)
       (front_stands (front_made job object held.rows past.bytes here) known.dest.at.tree)
 
@@ -103,32 +103,32 @@ module _ (job : Job) (past : Past) (s : Reading) (start : Tree) (prefix : List �
       let bytes = row_bytes s.tree object held.trail past.bytes held.rows position.row at.ends.1 source.bytes reads.is_row in
       let begins : BeginsWith held.fed (past.bytes row.path) =
       begins_taken (reads.row.length - left) (reads.read.fed_is ∙ ap (take (reads.row.length - left)) (sym bytes ∙ ap (λ (r : Row). past.bytes r.path) same)) in
-      carrying_left job past s start object held 0 now.tree known.dest.started known.dest.at.making.root at.ends.0 at.rows (omega arith) known.items.places.placed
+      carrying_left job past s start object held 0 known.dest.started known.dest.at.making.root at.ends.0 at.rows (omega arith) known.items.places.placed
       (carried_next past s (root_in start) source.proper source.at.0 source.at.1 source.bytes known.items.places.next)
       (content_stands
       (file_next job object held.rows held.contents past.bytes position row (copy_here job past object position left held row at is) (copy_stands held position row is at.numbers)) begins
       (known.dest.at.making.tree ∙ made_in_turn front (MakeFile (in_content row.path) held.fed ∷ []) root))
 
   -- all of the object is made, and some folders on the way to its place
-  script_stands : (object : Object) (n : ℕ) → IsMakingObject job start past.placed object (script_of_object job object held.rows past.bytes) n now
+  script_stands : {object : Object} {n : ℕ} → IsMakingObject job start past.placed object (script_of_object job object held.rows past.bytes) n now
       → StandsAtPrefix (script_of_object job object held.rows past.bytes) (with_root start (root_on_way job start past.placed object.place n)) now.tree
-  script_stands object _ making =
+  script_stands {object} making =
       front_stands {front = script_of_object job object held.rows past.bytes} (record { rest = []; is = sym (append-nil (script_of_object job object held.rows past.bytes)) }) making.tree
 
   tuples_left : (object : Object) (number : ℕ) → Known (phase.Tuples object number) → Left
   tuples_left object number known =
       let source = known.source in
       let few = known.held_at.numbers in
-      carrying_left job past s start object held number now.tree known.dest.started known.dest.at.0.root known.held_at.ends.0 known.held_at.rows (omega (arith, few)) known.items.places.placed
+      carrying_left job past s start object held number known.dest.started known.dest.at.0.root known.held_at.ends.0 known.held_at.rows (omega (arith, few)) known.items.places.placed
       (carried_next past s (root_in start) source.proper source.at.0 source.at.1 source.bytes known.items.places.next)
-      (script_stands object number known.dest.at.0)
+      (script_stands known.dest.at.0)
 
   rename_left : (object : Object) → Known (phase.Rename object) → Left
   rename_left object known =
       let source = known.source in
-      carrying_left job past s start object held job.tuples.count now.tree known.dest.started known.dest.at.0.root known.held_at.ends.0 known.held_at.rows (omega arith) known.items.places.placed
+      carrying_left job past s start object held job.tuples.count known.dest.started known.dest.at.0.root known.held_at.ends.0 known.held_at.rows (omega arith) known.items.places.placed
       (carried_next past s (root_in start) source.proper source.at.0 source.at.1 source.bytes known.items.places.next)
-      (script_stands object job.tuples.count known.dest.at.0)
+      (script_stands known.dest.at.0)
 
   -- the object is at its place, and its line isn't told yet
   line_left : (object : Object) → Known (phase.Line object) → Left
@@ -140,14 +140,14 @@ module _ (job : Job) (past : Past) (s : Reading) (start : Tree) (prefix : List �
       (tree_between s.tree (suc past.count) known.items.places.placed known.dest.at)
 
   pub left_now : (here : Phase) → is_ended here ≡ false → Known here → Left
-  left_now phase.Begin _ known = as_it_was job s.tree start now.tree past.count known.source.at.1 known.dest.at.tree
-  left_now (phase.Prefix _) _ known = as_it_was job s.tree start now.tree past.count known.source.at.1 known.dest.at.tree
-  left_now phase.Staging _ known = as_it_was job s.tree start now.tree past.count known.source.at.1 known.dest.at.tree
-  left_now phase.Root _ known = as_it_was job s.tree start now.tree past.count known.source.at.1 known.dest.at.0.tree
+  left_now phase.Begin _ known = as_it_was job s.tree known.source.at.1 known.dest.at.tree
+  left_now (phase.Prefix _) _ known = as_it_was job s.tree known.source.at.1 known.dest.at.tree
+  left_now phase.Staging _ known = as_it_was job s.tree known.source.at.1 known.dest.at.tree
+  left_now phase.Root _ known = as_it_was job s.tree known.source.at.1 known.dest.at.0.tree
   left_now (phase.RootMake number) _ known =
-      root_left job s.tree start now.tree past.count (take number (root_script job.tuples)) now known.source.at.1 known.dest.at (stands_whole number known.dest.at.tree)
-  left_now phase.RootRename _ known = root_left job s.tree start now.tree past.count (root_script job.tuples) now known.source.at.1 known.dest.at (stands_whole 6 known.dest.at.tree)
-  left_now (phase.RootCheck _) _ known = as_it_was job s.tree start now.tree past.count known.source.at.1 known.dest.at.tree
+      root_left job s.tree known.source.at.1 known.dest.at (stands_whole number known.dest.at.tree)
+  left_now phase.RootRename _ known = root_left job s.tree known.source.at.1 known.dest.at (stands_whole 6 known.dest.at.tree)
+  left_now (phase.RootCheck _) _ known = as_it_was job s.tree known.source.at.1 known.dest.at.tree
   left_now (phase.OpenObject _) _ known = counted_left past.count known.dest.at.root.free (tree_entered s.tree past.count known.items.places.placed known.dest.at)
   left_now (phase.Scan _) _ known = counted_left past.count known.dest.at.root.free (tree_entered s.tree past.count known.items.places.placed known.dest.at)
   left_now (phase.Read _ _) _ known = counted_left past.count known.dest.at.root.free (tree_entered s.tree past.count known.items.places.placed known.dest.at)

@@ -74,21 +74,21 @@ scans_quiet : {job : Job} {here : Phase} {held new : Held} {calls : Calls} {answ
 scans_quiet (scan.StartsInSite _ _ _) = refl
 scans_quiet _ = refl
 
-makes_late : (job : Job) (here : Phase) (held new : Held) (calls : Calls) (answer : Answer) → Makings job here held new calls answer → may_tell here ≡ false
-makes_late _ _ _ _ _ _ (make.MakesStaging _ _) = refl
-makes_late _ _ _ _ _ _ _ = refl
+makes_late : {job : Job} {here : Phase} {held new : Held} {calls : Calls} {answer : Answer} → Makings job here held new calls answer → may_tell here ≡ false
+makes_late (make.MakesStaging _ _) = refl
+makes_late _ = refl
 
-places_quiet : (job : Job) (counts : Counts) (here : Phase) (held new : Held) (calls : Calls) (answer : Answer) → Places job counts here held new calls answer → may_tell here ≡ true → is_quiet calls.change ≡ true
-places_quiet _ _ _ _ _ _ _ (place.TellsDone _ _) _ = refl
-places_quiet _ _ _ _ _ _ _ (place.TellsEnd _) _ = refl
-places_quiet job counts _ held _ _ _ _ tells = absurd (cc)
+places_quiet : {job : Job} {counts : Counts} {here : Phase} {held new : Held} {calls : Calls} {answer : Answer} → Places job counts here held new calls answer → may_tell here ≡ true → is_quiet calls.change ≡ true
+places_quiet (place.TellsDone _ _) _ = refl
+places_quiet (place.TellsEnd _) _ = refl
+places_quiet _ tells = absurd (cc)
 
 follows_quiet : {job : Job} {counts : Counts} {here : Phase} {prefix : List ℕ} {held : Held} {read : List ℕ} {after : Held} {calls : Calls} {answer : Answer} → Follows job counts here prefix held read after calls answer → may_tell here ≡ true → is_quiet calls.change ≡ true
 follows_quiet (a_start h p r w c a turn) tells = let late = starts_late turn in absurd (let no : true ≡ false = sym tells ∙ late in cc)
 follows_quiet (Walk _ _ _ _ _ _ turn) _ = walks_quiet turn
 follows_quiet (Scan _ _ _ _ _ _ turn) _ = scans_quiet turn
-follows_quiet {job} {here} {held} {after} {calls} {answer} (Make h p w n c a turn) tells = let late = makes_late job here held after calls answer turn in absurd (let no : true ≡ false = sym tells ∙ late in cc)
-follows_quiet {job} {counts} {here} {held} {after} {calls} {answer} (Place _ _ _ _ _ _ turn) tells = places_quiet job counts here held after calls answer turn tells
+follows_quiet {job} {here} {held} {after} {calls} {answer} (Make h p w n c a turn) tells = let late = makes_late turn in absurd (let no : true ≡ false = sym tells ∙ late in cc)
+follows_quiet {job} {counts} {here} {held} {after} {calls} {answer} (Place _ _ _ _ _ _ turn) tells = places_quiet turn tells
 
 -- ---- the law
 
@@ -99,9 +99,9 @@ now_tells P None (Some _) _ tells = absurd (tells)
 now_tells P (Some _) None _ tells = absurd (tells)
 now_tells P (Some a) (Some x) {b} is tells = (a, subst (λ y. P a y) (some_same x b is) tells)
 
-same_tree : (old : Option Writing) (t : Tree) → Some t ≡ dest_tree old → (w : Writing) × ((old ≡ Some w) × (t ≡ w.tree))
-same_tree None t is = absurd (cc)
-same_tree (Some w) t is = (w, (refl, some_same t w.tree is))
+same_tree : (old : Option Writing) {t : Tree} → Some t ≡ dest_tree old → (w : Writing) × ((old ≡ Some w) × (t ≡ w.tree))
+same_tree None is = absurd (cc)
+same_tree (Some w) {t} is = (w, (refl, some_same t w.tree is))
 
 pub failed_log_leaves_no_staging : FailedLogLeavesNoStaging
 unfolding Begun Did Stays LeavesSome
@@ -115,6 +115,6 @@ failed_log_leaves_no_staging job start old _ run _ _ (past, is) (FailsAtFirst _ 
 failed_log_leaves_no_staging job start old _ run _ now (past, is) (FailsLater _ _ _ _ _ _ turn leaves _ _) tells dest_is =
     let quiet = follows_quiet turn tells in
     let same = quiet_leaves leaves.0.dest quiet in
-    let was = same_tree old.dest now.tree (sym (ap dest_tree dest_is) ∙ same) in
+    let was = same_tree old.dest (sym (ap dest_tree dest_is) ∙ same) in
     let had = now_tells (DestPart job past run.phase run.kept.held) start.dest old.dest was.1.0 is.dest in
     subst (λ (t : Tree). IsFree t staging) (sym was.1.1) (free_there run.phase tells had.1)

@@ -63,9 +63,9 @@ module _ (job : Job) (past : Past) (s : Reading) (start : Tree) (object : Object
       ∙ ap (λ (l : List Carried). with_root start (with_folders (take n (tuple_folders job next)) (with_objects job l (base job.tuples (root_in start))))) placed
 
   -- a front of its script, whose last file may be there in part
-  pub carrying_left : (n : ℕ) (now : Tree) → IsTree start → IsRootOfStart job start → IsObject job object → AreRows job past.bytes held → n ≤ job.tuples.count → past.placed ≡ carried_among job s.tree (root_in start) past.count
+  pub carrying_left : (n : ℕ) {now : Tree} → IsTree start → IsRootOfStart job start → IsObject job object → AreRows job past.bytes held → n ≤ job.tuples.count → past.placed ≡ carried_among job s.tree (root_in start) past.count
       → IsCarriedAs job s.tree (root_in start) past.count next → StandsAtPrefix (script_of_object job object held.rows past.bytes) (root_here n) now → MayBeLeft job s.tree start now (text job s.tree (root_in start) past.count)
-  carrying_left n now tree root it rows few placed is at =
+  carrying_left n {now} tree root it rows few placed is at =
       let within = marked_within job s.tree (root_in start) is.1 in
       inr (
         root.free,

@@ -36,10 +36,10 @@ abbrev ToldBefore : Job → Forest → Tree → Past → Phase → Type 0
 ToldBefore job source root past here = (log old : List ℕ) → HasTold job source root past here log old → old ≡ log ++ text job source root past.count
 
 -- what a turn tells keeps the counts and the log
-kept : (job : Job) (past : Past) (s : Reading) (start : Tree) (here next : Phase) (held : Held) (counts : Counts) (calls : Calls) (gained : List Carried) → Tells job s.tree (root_in start) past.count next calls.line (done_after here held.trail next past.count) gained
+kept : {job : Job} {past : Past} (s : Reading) (start : Tree) {here next : Phase} (held : Held) {counts : Counts} (calls : Calls) {gained : List Carried} → Tells job s.tree (root_in start) past.count next calls.line (done_after here held.trail next past.count) gained
     → ToldBefore job s.tree (root_in start) past here → ItemsPart job past here counts s.tree (root_in start) → PlacesItems job s.tree (root_in start) (past_after here next held past) next
     → KeepsItems job past here held counts s start calls next × KeepsLog job past here held s start calls next
-kept _ past _ _ here next held _ _ _ tells told items places = (
+kept {past} _ _ {here} {next} held _ tells told items places = (
   record { places = places; lines_are = counts_kept tells items.lines_are },
   λ log old new had puts. log_kept past (past_after here next held past) log new refl tells (told log old had) puts,
 )
@@ -75,9 +75,9 @@ both_phases false _ two = two
 makes_root : {job : Job} {past : Past} (s : Reading) (start : Tree) (held : Held) {counts : Counts} {number : ℕ} (change : Change) (last : Bool) → ItemsPart job past (phase.RootMake number) counts s.tree (root_in start)
     → KeepsItems job past (phase.RootMake number) held counts s start (does change) (cond last phase.RootRename (phase.RootMake (number + 1))) × KeepsLog job past (phase.RootMake number) held s start (does change) (cond last phase.RootRename (phase.RootMake (number + 1)))
 makes_root {job} {past} s start held {counts} {number} change true items =
-    kept job past s start _ phase.RootRename held counts (does change) [] Nothing (λ log old had. had) items (record { placed = items.places.placed; next = tt })
+    kept s start held (does change) Nothing (λ log old had. had) items (record { placed = items.places.placed; next = tt })
 makes_root {job} {past} s start held {counts} {number} change false items =
-    kept job past s start _ _ held counts (does change) [] Nothing (λ log old had. had) items (record { placed = items.places.placed; next = tt })
+    kept s start held (does change) Nothing (λ log old had. had) items (record { placed = items.places.placed; next = tt })
 
 -- none is placed before the pairtree is opened
 none_placed : (job : Job) (source : Forest) (root : Tree) {count : ℕ} → count ≡ 0 → [] ≡ carried_among job source root count
@@ -86,27 +86,27 @@ none_placed job source root first = sym (ap (carried_among job source root) firs
 checks_root : {job : Job} {past : Past} (s : Reading) (start : Tree) (held : Held) {counts : Counts} {number : ℕ} (change : Change) (last : Bool) → past.count ≡ 0 → ItemsPart job past (phase.RootCheck number) counts s.tree (root_in start)
     → KeepsItems job past (phase.RootCheck number) held counts s start (does change) (cond last phase.OpenRoot (phase.RootCheck (number + 1))) × KeepsLog job past (phase.RootCheck number) held s start (does change) (cond last phase.OpenRoot (phase.RootCheck (number + 1)))
 checks_root {job} {past} s start held {counts} {number} change true first items =
-    kept job past s start _ phase.OpenRoot held counts (does change) [] Nothing (λ log old had. had) items (record { placed = none_placed job s.tree (root_in start) first; next = tt })
+    kept s start held (does change) Nothing (λ log old had. had) items (record { placed = none_placed job s.tree (root_in start) first; next = tt })
 checks_root {job} {past} s start held {counts} {number} change false _ items =
-    kept job past s start _ _ held counts (does change) [] Nothing (λ log old had. had) items (record { placed = items.places.placed; next = tt })
+    kept s start held (does change) Nothing (λ log old had. had) items (record { placed = items.places.placed; next = tt })
 
 pub starts_items : StartingKeepsItems
 starts_items job past s _ _ start _ here next held counts calls (IsStore was entries is) known =
-    kept job past s start here next held counts calls [] Nothing (starts_told {job = job} s.tree (root_in start) past (IsStore was entries is)) known.items (record { placed = known.items.places.placed; next = tt })
+    kept s start held calls Nothing (starts_told {job = job} s.tree (root_in start) past (IsStore was entries is)) known.items (record { placed = known.items.places.placed; next = tt })
 starts_items job past s _ _ start _ here next held counts calls (HasNoStaging was) known =
-    kept job past s start here next held counts calls [] Nothing (starts_told {job = job} s.tree (root_in start) past (HasNoStaging was)) known.items (record { placed = known.items.places.placed; next = tt })
+    kept s start held calls Nothing (starts_told {job = job} s.tree (root_in start) past (HasNoStaging was)) known.items (record { placed = known.items.places.placed; next = tt })
 starts_items job past s _ _ start _ here next held counts calls (HasNoRoot was) known =
-    kept job past s start here next held counts calls [] Nothing (starts_told {job = job} s.tree (root_in start) past (HasNoRoot was)) known.items (record { placed = known.items.places.placed; next = tt })
+    kept s start held calls Nothing (starts_told {job = job} s.tree (root_in start) past (HasNoRoot was)) known.items (record { placed = known.items.places.placed; next = tt })
 starts_items job past s _ _ start _ here next held counts calls (HasRoot was) known =
-    kept job past s start here next held counts calls [] Nothing (starts_told {job = job} s.tree (root_in start) past (HasRoot was)) known.items (record { placed = known.items.places.placed; next = tt })
+    kept s start held calls Nothing (starts_told {job = job} s.tree (root_in start) past (HasRoot was)) known.items (record { placed = known.items.places.placed; next = tt })
 starts_items _ _ s _ _ start _ _ _ held _ _ (MakesRoot _ number item _) known =
     makes_root s start held (Makes item) (number == 5) known.items
 starts_items job past s _ _ start _ here next held counts calls (RenamesRoot was) known =
-    kept job past s start here next held counts calls [] Nothing (starts_told {job = job} s.tree (root_in start) past (RenamesRoot was)) known.items (record { placed = none_placed job s.tree (root_in start) known.source.at.1; next = tt })
+    kept s start held calls Nothing (starts_told {job = job} s.tree (root_in start) past (RenamesRoot was)) known.items (record { placed = none_placed job s.tree (root_in start) known.source.at.1; next = tt })
 starts_items _ _ s _ _ start _ _ _ held _ _ (IsSame _ number path bytes _) known =
     checks_root s start held (Peeks (storage_root ++ path) bytes) (number == 2) known.source.at.1 known.items
 starts_items job past s _ _ start _ here next held counts calls turn known =
-    kept job past s start here next held counts calls [] Nothing (starts_told {job = job} s.tree (root_in start) past turn) known.items (record { placed = known.items.places.placed; next = tt })
+    kept s start held calls Nothing (starts_told {job = job} s.tree (root_in start) past turn) known.items (record { placed = known.items.places.placed; next = tt })
 
 -- ---- the walk
 
@@ -114,11 +114,11 @@ pub walks_items : WalkingKeepsItems
 unfolding Changes IsKindAt
 walks_items job past s prefix start now new here next held _ counts calls (IsNew was index id is) change known =
     let tells = walks_tell start now new (IsNew was index id is) known.held_at.trail.is_one known.source (roots_have_no_gaps start known.dest.started).1 known.items.places.placed known.dest.at change in
-    kept job past s start here next held counts calls [] tells (walks_told {job = job} s.tree (root_in start) past {prefix = prefix} (IsNew was index id is)) known.items
+    kept s start held calls tells (walks_told {job = job} s.tree (root_in start) past {prefix = prefix} (IsNew was index id is)) known.items
     (record { placed = placed_kept refl tells known.items.places.placed; next = new_is_free known.source is (roots_have_no_gaps start known.dest.started).1 known.items.places.placed known.dest.at (change.0 now refl) })
 walks_items job past s prefix start now new here next held _ counts calls turn change known =
     let tells = walks_tell start now new turn known.held_at.trail.is_one known.source (roots_have_no_gaps start known.dest.started).1 known.items.places.placed known.dest.at change in
-    kept job past s start here next held counts calls [] tells (walks_told {job = job} s.tree (root_in start) past {prefix = prefix} turn) known.items
+    kept s start held calls tells (walks_told {job = job} s.tree (root_in start) past {prefix = prefix} turn) known.items
     (record { placed = placed_kept refl tells known.items.places.placed; next = tt })
 
 -- ---- the scan
@@ -126,58 +126,58 @@ walks_items job past s prefix start now new here next held _ counts calls turn c
 pub scans_items : ScanningKeepsItems
 scans_items job past s new _ start _ here next held _ counts calls (IsTooDeep was object apart deep) answers known =
     let tells = scans_tell (IsTooDeep was object apart deep) known.held_at.trail.is_one known.source known.items.places.next new answers in
-    kept job past s start here next held counts calls [] tells (scans_told {job = job} s.tree (root_in start) past (IsTooDeep was object apart deep)) known.items
+    kept s start held calls tells (scans_told {job = job} s.tree (root_in start) past (IsTooDeep was object apart deep)) known.items
     (record { placed = placed_kept refl tells known.items.places.placed; next = tt })
 scans_items job past s new _ start _ here next held _ counts calls (MeetsDeep was object name e apart deep) answers known =
     let tells = scans_tell (MeetsDeep was object name e apart deep) known.held_at.trail.is_one known.source known.items.places.next new answers in
-    kept job past s start here next held counts calls [] tells (scans_told {job = job} s.tree (root_in start) past (MeetsDeep was object name e apart deep)) known.items
+    kept s start held calls tells (scans_told {job = job} s.tree (root_in start) past (MeetsDeep was object name e apart deep)) known.items
     (record { placed = placed_kept refl tells known.items.places.placed; next = tt })
 scans_items job past s new _ start _ here next held _ counts calls (MeetsLimit was object name e room) answers known =
     let tells = scans_tell (MeetsLimit was object name e room) known.held_at.trail.is_one known.source known.items.places.next new answers in
-    kept job past s start here next held counts calls [] tells (scans_told {job = job} s.tree (root_in start) past (MeetsLimit was object name e room)) known.items
+    kept s start held calls tells (scans_told {job = job} s.tree (root_in start) past (MeetsLimit was object name e room)) known.items
     (record { placed = placed_kept refl tells known.items.places.placed; next = tt })
 scans_items job past s new _ start _ here next held _ counts calls (MeetsOther was object name e) answers known =
     let tells = scans_tell (MeetsOther was object name e) known.held_at.trail.is_one known.source known.items.places.next new answers in
-    kept job past s start here next held counts calls [] tells (scans_told {job = job} s.tree (root_in start) past (MeetsOther was object name e)) known.items
+    kept s start held calls tells (scans_told {job = job} s.tree (root_in start) past (MeetsOther was object name e)) known.items
     (record { placed = placed_kept refl tells known.items.places.placed; next = tt })
 scans_items job past s new _ start _ here next held _ counts calls (IsTooLong was object bytes byte block long) answers known =
     let tells = scans_tell (IsTooLong was object bytes byte block long) known.held_at.trail.is_one known.source known.items.places.next new answers in
-    kept job past s start here next held counts calls [] tells (scans_told {job = job} s.tree (root_in start) past (IsTooLong was object bytes byte block long)) known.items
+    kept s start held calls tells (scans_told {job = job} s.tree (root_in start) past (IsTooLong was object bytes byte block long)) known.items
     (record { placed = placed_kept refl tells known.items.places.placed; next = tt })
 scans_items job past s new _ start _ here next held _ counts calls turn answers known =
     let tells = scans_tell turn known.held_at.trail.is_one known.source known.items.places.next new answers in
-    kept job past s start here next held counts calls [] tells (scans_told {job = job} s.tree (root_in start) past turn) known.items
+    kept s start held calls tells (scans_told {job = job} s.tree (root_in start) past turn) known.items
     (record { placed = placed_kept refl tells known.items.places.placed; next = known.items.places.next })
 
 -- ---- an object is made
 
-after_sidecar : (job : Job) (past : Past) (s : Reading) (start : Tree) (object : Object) (held : Held) (counts : Counts) (change : Change) (flat : Bool) → ItemsPart job past (phase.Make object part.Sidecar) counts s.tree (root_in start)
+after_sidecar : {job : Job} {past : Past} (s : Reading) (start : Tree) {object : Object} (held : Held) {counts : Counts} (change : Change) (flat : Bool) → ItemsPart job past (phase.Make object part.Sidecar) counts s.tree (root_in start)
     → KeepsItems job past (phase.Make object part.Sidecar) held counts s start (does change) (cond flat (phase.Rename object) (phase.Tuples object 0)) × KeepsLog job past (phase.Make object part.Sidecar) held s start (does change) (cond flat (phase.Rename object) (phase.Tuples object 0))
-after_sidecar job past s start object held counts change true items =
-    kept job past s start _ _ held counts (does change) [] Nothing (λ log old had. had) items (record { placed = items.places.placed; next = items.places.next })
-after_sidecar job past s start object held counts change false items =
-    kept job past s start _ _ held counts (does change) [] Nothing (λ log old had. had) items (record { placed = items.places.placed; next = items.places.next })
+after_sidecar s start held change true items =
+    kept s start held (does change) Nothing (λ log old had. had) items (record { placed = items.places.placed; next = items.places.next })
+after_sidecar s start held change false items =
+    kept s start held (does change) Nothing (λ log old had. had) items (record { placed = items.places.placed; next = items.places.next })
 
 pub makes_items : MakingKeepsItems
 makes_items job past s _ start _ _ _ _ counts _ _ (MakesSidecar was object) known =
-    after_sidecar job past s start object was counts (Makes (sidecar_file job object was.rows staging)) (job.tuples.count == 0) known.items
+    after_sidecar s start was (Makes (sidecar_file job object was.rows staging)) (job.tuples.count == 0) known.items
 makes_items job past s _ start _ here held _ counts calls next turn known =
-    kept job past s start here next held counts calls [] Nothing (makes_told s.tree (root_in start) past turn) known.items (record { placed = known.items.places.placed; next = known.items.places.next })
+    kept s start held calls Nothing (makes_told s.tree (root_in start) past turn) known.items (record { placed = known.items.places.placed; next = known.items.places.next })
 
 -- ---- an object at its place
 
-after_a_tuple : (job : Job) (past : Past) (s : Reading) (start : Tree) (object : Object) (held : Held) (counts : Counts) (number : ℕ) (change : Change) (more : Bool) → ItemsPart job past (phase.Tuples object number) counts s.tree (root_in start)
+after_a_tuple : {job : Job} {past : Past} (s : Reading) (start : Tree) {object : Object} (held : Held) {counts : Counts} {number : ℕ} (change : Change) (more : Bool) → ItemsPart job past (phase.Tuples object number) counts s.tree (root_in start)
     → KeepsItems job past (phase.Tuples object number) held counts s start (does change) (cond more (phase.Tuples object (number + 1)) (phase.Rename object)) × KeepsLog job past (phase.Tuples object number) held s start (does change) (cond more (phase.Tuples object (number + 1)) (phase.Rename object))
-after_a_tuple job past s start object held counts number change true items =
-    kept job past s start _ _ held counts (does change) [] Nothing (λ log old had. had) items (record { placed = items.places.placed; next = items.places.next })
-after_a_tuple job past s start object held counts number change false items =
-    kept job past s start _ _ held counts (does change) [] Nothing (λ log old had. had) items (record { placed = items.places.placed; next = items.places.next })
+after_a_tuple s start held change true items =
+    kept s start held (does change) Nothing (λ log old had. had) items (record { placed = items.places.placed; next = items.places.next })
+after_a_tuple s start held change false items =
+    kept s start held (does change) Nothing (λ log old had. had) items (record { placed = items.places.placed; next = items.places.next })
 
 pub places_items : PlacingKeepsItems
-places_items job past s _ start _ _ _ _ _ counts _ (MakesTuple was object number) known = after_a_tuple job past s start object was counts number (FindsNoneAndMakes (tuple_folder object number)) (nat_lt (number + 1) job.tuples.count) known.items
-places_items job past s _ start _ _ _ _ _ counts _ (FindsTuple was object number) known = after_a_tuple job past s start object was counts number (Finds (tuple_folder object number) (Some kind.Dir)) (nat_lt (number + 1) job.tuples.count) known.items
+places_items job past s _ start _ _ _ _ _ counts _ (MakesTuple was object number) known = after_a_tuple s start was (FindsNoneAndMakes (tuple_folder object number)) (nat_lt (number + 1) job.tuples.count) known.items
+places_items job past s _ start _ _ _ _ _ counts _ (FindsTuple was object number) known = after_a_tuple s start was (Finds (tuple_folder object number) (Some kind.Dir)) (nat_lt (number + 1) job.tuples.count) known.items
 places_items job past s _ start _ here next held _ counts calls (RenamesObject was object) known =
-    kept job past s start here next held counts calls [] Nothing (places_told {job = job} {counts = counts} s.tree (root_in start) past (RenamesObject was object)) known.items
+    kept s start held calls Nothing (places_told {job = job} {counts = counts} s.tree (root_in start) past (RenamesObject was object)) known.items
     (record {
       placed =
           ap (λ (l : List Carried). l ++ object_held object was.rows past.bytes ∷ []) known.items.places.placed
@@ -186,6 +186,6 @@ places_items job past s _ start _ here next held _ counts calls (RenamesObject w
     })
 places_items job past s _ start _ here next held _ counts calls (TellsDone was object) known =
     let tells = places_tell {counts = counts} (TellsDone was object) known.held_at known.source known.items.places.next in
-    kept job past s start here next held counts calls tells.0 tells.1 (places_told {job = job} {counts = counts} s.tree (root_in start) past (TellsDone was object)) known.items (record { placed = known.items.places.placed; next = tt })
+    kept s start held calls tells.1 (places_told {job = job} {counts = counts} s.tree (root_in start) past (TellsDone was object)) known.items (record { placed = known.items.places.placed; next = tt })
 places_items job past s _ start _ here next held _ counts calls (TellsEnd was) known =
-    kept job past s start here next held counts calls [] (Last counts.done counts.present counts.skipped) (places_told {job = job} {counts = counts} s.tree (root_in start) past (TellsEnd was)) known.items (record { placed = tt; next = tt })
+    kept s start held calls (Last counts.done counts.present counts.skipped) (places_told {job = job} {counts = counts} s.tree (root_in start) past (TellsEnd was)) known.items (record { placed = tt; next = tt })

@@ -101,9 +101,9 @@ long_from _ _ [] = refl
 long_from job start (file ∷ some) = long_from job (start + length file.1) some
 
 -- it tells the numbers of the rows
-done_told : (job : Job) (past : Past) (source : Forest) (object : Object) (held : Held) → HeldAt job past (phase.Line object) held → HasScanned job (object_at source object (to_site object held.trail)) held.rows object.empty []
+done_told : {job : Job} {past : Past} (source : Forest) {object : Object} {held : Held} → HeldAt job past (phase.Line object) held → HasScanned job (object_at source object (to_site object held.trail)) held.rows object.empty []
     → line_by_outcome (trail_path (to_site object held.trail)) object.id (object_at source object (to_site object held.trail)) (place_of job.tuples object.id) (Holds (files (entries (object_at source object (to_site object held.trail)).inside))) ≡ done_line object held
-done_told job _ source object held at it =
+done_told {job} source {object} {held} at it =
     let what = object_at source object (to_site object held.trail) in
     let all : entries what.inside ≡ it.front = it.all ∙ append-nil it.front in
     let path : what.at ≡ path_of_source object held.trail = ap (path_of_source object) (site_itself object held.trail at.ends.1) in
@@ -130,7 +130,7 @@ places_tell {job} {past} {s} {root} (TellsDone was object) at part free =
     let whole = files (entries (object_at s.tree object site).inside) in
     let gained : List Carried = record { id = object.id; files = whole } ∷ [] in (
       gained,
-      subst (λ (l : Line). Tells job s.tree root past.count phase.Walk (Some l) (suc past.count) gained) (done_told job past s.tree object was at part.at.1.scanned)
+      subst (λ (l : Line). Tells job s.tree root past.count phase.Walk (Some l) (suc past.count) gained) (done_told s.tree at part.at.1.scanned)
           (OneItem
           (ends_with part.at.0 part.at.1 free)),
     )

@@ -41,12 +41,12 @@ makes_quiet : {job : Job} {here : Phase} {held after : Held} {calls : Calls} {wh
 makes_quiet (ReadsMore _ _ _ _ _ _ _) = refl
 makes_quiet (ReadsOther _ _ _ _ _ _ _) = refl
 
-places_quiet : (job : Job) (counts : Counts) (here : Phase) (held after : Held) (calls : Calls) (why : Halt) → Places job counts here held after calls (Err why) → calls.line ≡ None
-places_quiet _ _ _ _ _ _ _ (IsInTheWay _ _ _ _ _) = refl
+places_quiet : {job : Job} {counts : Counts} {here : Phase} {held after : Held} {calls : Calls} {why : Halt} → Places job counts here held after calls (Err why) → calls.line ≡ None
+places_quiet (IsInTheWay _ _ _ _ _) = refl
 
 pub refused_quiet : {job : Job} {counts : Counts} {here : Phase} {prefix : List ℕ} {held : Held} {read : List ℕ} {after : Held} {calls : Calls} {why : Halt} → Follows job counts here prefix held read after calls (Err why) → calls.line ≡ None
 refused_quiet (a_start _ _ _ _ _ _ turn) = starts_quiet turn
 refused_quiet (Walk _ _ _ _ _ _ turn) = elim turn [ ]
 refused_quiet (Scan _ _ _ _ _ _ turn) = elim turn [ ]
 refused_quiet (Make _ _ _ _ _ _ turn) = makes_quiet turn
-refused_quiet {job} {counts} {here} {held} {after} {calls} {why} (Place _ _ _ _ _ _ turn) = places_quiet job counts here held after calls why turn
+refused_quiet {job} {counts} {here} {held} {after} {calls} {why} (Place _ _ _ _ _ _ turn) = places_quiet turn

@@ -40,9 +40,9 @@ starts_first (IsNoFile was number path bytes kind is e) early = absurd (cc)
 starts_first (Differs was number path bytes block is e) early = absurd (cc)
 starts_first _ _ = refl
 
-makes_late : (job : Job) (here : Phase) (held after : Held) (calls : Calls) (why : Halt) → Makings job here held after calls (Err why) → is_early why ≡ false
-makes_late _ _ _ _ _ _ (ReadsMore _ _ _ _ _ _ _) = refl
-makes_late _ _ _ _ _ _ (ReadsOther _ _ _ _ _ _ _) = refl
+makes_late : {job : Job} {here : Phase} {held after : Held} {calls : Calls} {why : Halt} → Makings job here held after calls (Err why) → is_early why ≡ false
+makes_late (ReadsMore _ _ _ _ _ _ _) = refl
+makes_late (ReadsOther _ _ _ _ _ _ _) = refl
 
 places_late : {job : Job} {counts : Counts} {here : Phase} {held after : Held} {calls : Calls} {why : Halt} → Places job counts here held after calls (Err why) → is_early why ≡ false
 places_late (IsInTheWay _ _ _ _ _) = refl
@@ -51,7 +51,7 @@ follows_first : {job : Job} {counts : Counts} {here : Phase} {prefix : List ℕ}
 follows_first (a_start _ _ _ _ _ _ turn) early = starts_first turn early
 follows_first (Walk _ _ _ _ _ _ turn) _ = elim turn [ ]
 follows_first (Scan _ _ _ _ _ _ turn) _ = elim turn [ ]
-follows_first {job} {here} {held} {after} {calls} {why} (Make _ _ _ _ _ _ turn) early = absurd (true≢false (sym early ∙ makes_late job here held after calls why turn))
+follows_first {job} {here} {held} {after} {calls} {why} (Make _ _ _ _ _ _ turn) early = absurd (true≢false (sym early ∙ makes_late turn))
 follows_first (Place _ _ _ _ _ _ turn) early = absurd (true≢false (sym early ∙ places_late turn))
 
 -- a fault is no such halt

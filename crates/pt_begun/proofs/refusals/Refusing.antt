@@ -43,11 +43,11 @@ use Rattle.pt_begun.proofs.source.StartsKeep.{store_listed}
 
 -- ---- the prefix
 
-no_file : (o : Option Node) (here : Option Kind) → here ≢ None → is_file_kind here ≡ false → here ≡ option_map kind_of o → is_prefix o ≡ false
-no_file None _ some _ is = absurd (some is)
-no_file (Some (File bytes)) _ _ other is = absurd (true≢false (sym (ap is_file_kind is) ∙ other))
-no_file (Some (Dir inside)) _ _ _ _ = refl
-no_file (Some Other) _ _ _ _ = refl
+no_file : (o : Option Node) {here : Option Kind} → here ≢ None → is_file_kind here ≡ false → here ≡ option_map kind_of o → is_prefix o ≡ false
+no_file None some _ is = absurd (some is)
+no_file (Some (File bytes)) _ other is = absurd (true≢false (sym (ap is_file_kind is) ∙ other))
+no_file (Some (Dir inside)) _ _ _ = refl
+no_file (Some Other) _ _ _ = refl
 
 long_refused : (bytes : List ℕ) → 1024 < length bytes → is_none (prefix_refusal bytes) ≡ false
 long_refused bytes long = ap (λ b. is_none (cond b (Some fault.TooLong) (cond (is_utf8 (without_line_ends bytes)) None (Some fault.NotUtf8)))) (lt-ltb 1024 (length bytes) long)
@@ -77,8 +77,8 @@ module _ (job : Job) (s : Reading) (prefix : List ℕ) (count : ℕ) (object : O
   long : (copying).row.length ≡ length stored_bytes
   long = (stored).long ∙ ap length (sym (stored).here)
 
-  pub never_more : (block : List ℕ) → nat_lt left (length block) ≡ true → option_map (take 8192) s.unread ≡ Some block → ⊥
-  never_more block more read =
+  pub never_more : {block : List ℕ} → nat_lt left (length block) ≡ true → option_map (take 8192) s.unread ≡ Some block → ⊥
+  never_more {block} more read =
       let reads = reads_block 8192 stored_bytes _ held.fed block s.unread (copying).read read in
       let within = reads.within in
       let over = ltb-true left (length block) more in
@@ -108,7 +108,7 @@ unfolding Answers IsListed IsRead
 starts_refuse s _ _ _ (IsNoStore _ entries is) _ answers =
     let listed : entries ≡ listing_of s.tree = sym (some_same _ entries (answers.0 s refl)) in
     sym (store_listed s.tree) ∙ ap lists_store (sym listed) ∙ is
-starts_refuse s _ _ _ (IsNoPrefixFile _ kind some is) at _ = (at.2, no_file (find s.tree prefix_file) kind some is at.3)
+starts_refuse s _ _ _ (IsNoPrefixFile _ kind some is) at _ = (at.2, no_file (find s.tree prefix_file) some is at.3)
 starts_refuse s _ _ _ (IsNoPrefix _ _ _ is) at answers =
     (at.2, bad_prefix (find s.tree prefix_file) at.3 (answers.0 (after_open (prefix_file ∷ []) s) refl) is)
 starts_refuse _ _ _ _ _ at _ = (at.2.store, at.2.good)
@@ -117,7 +117,7 @@ makes_refuse : {job : Job} (s : Reading) (new : Option Reading) (prefix : List �
     → is_proper s.tree ≡ true → Makings job here held after calls (Err why) → SourceAt job s prefix count here held → Answers calls.asked (Some s) new → SaysOfSource why s.tree
 unfolding Answers IsListed IsRead
 makes_refuse {job} s _ prefix count proper (ReadsMore was object position left byte block more) at answers =
-    absurd (never_more job s prefix count object was position left proper at (byte ∷ block) more (answers.0 s refl))
+    absurd (never_more job s prefix count object was position left proper at more (answers.0 s refl))
 makes_refuse {job} s _ prefix count proper (ReadsOther was object position row left is other) at answers =
     absurd (let same = some_same row at.2.row (sym is ∙ at.2.is_row) in
     true≢false (sym (ap (λ (r : Row). is_as_read job r left was.fed) same ∙ as_read job s prefix count object was position left proper at (answers.0 s refl)) ∙ other))
@@ -145,14 +145,14 @@ failed halt.StagingLeft _ _ _ it = absurd (it)
 failed halt.Target _ _ _ it = absurd (it)
 failed halt.Changed _ _ _ it = absurd (it)
 
-refused : (job : Job) (past : Past) (start : Start) (old new : World) (run : Run) (after : Kept) (why : Halt) (s : Reading) → IsPast job start old run past → Turn job run.phase (turning run.kept) after old new (Err why) → old.source ≡ Some s → SaysOfSource why s.tree
+refused : {job : Job} {past : Past} {start : Start} {old new : World} {run : Run} {after : Kept} {why : Halt} {s : Reading} → IsPast job start old run past → Turn job run.phase (turning run.kept) after old new (Err why) → old.source ≡ Some s → SaysOfSource why s.tree
 unfolding Did Stays LeavesSome
-refused _ past _ _ new _ _ _ s is (IsRefused _ _ calls _ turn did _) told =
+refused {past} {new} {s} is (IsRefused _ _ calls _ turn did _) told =
     let part = is.source s told in
     follows_refuse s new.source past.count part.proper turn part.at (subst (λ o. Answers calls.asked o new.source) told did.0.source)
-refused _ _ _ old new _ _ why s _ (FailsAtFirst _ stays _) _ = failed why old.failures new.failures s.tree stays.3
-refused _ _ _ old new _ _ why s _ (FailsLater _ _ _ _ _ _ _ leaves _ _) _ = failed why old.failures new.failures s.tree leaves.1
+refused {old} {new} {why} {s} _ (FailsAtFirst _ stays _) _ = failed why old.failures new.failures s.tree stays.3
+refused {old} {new} {why} {s} _ (FailsLater _ _ _ _ _ _ _ leaves _ _) _ = failed why old.failures new.failures s.tree leaves.1
 
 pub refuses_rightly : RefusesRightly
 unfolding Begun
-refuses_rightly job start old new run after why s (past, is) turn told = refused job past start old new run after why s is turn told
+refuses_rightly job start old new run after why s (past, is) turn told = refused is turn told

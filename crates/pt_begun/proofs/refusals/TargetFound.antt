@@ -52,8 +52,8 @@ no_folder (Some Folder) is other = absurd (true≢false (ap is_dir_kind is ∙ o
 no_folder _ _ _ = refl
 
 -- no file
-no_file : (o : Option Entry) (here : Option Kind) (bytes : List ℕ) → option_map kind_of_entry o ≡ here → is_file_kind here ≡ false → o ≢ Some (Bytes bytes)
-no_file _ _ _ is other same = true≢false (ap (λ (e : Option Entry). is_file_kind (option_map kind_of_entry e)) (sym same) ∙ ap is_file_kind is ∙ other)
+no_file : (o : Option Entry) {here : Option Kind} (bytes : List ℕ) → option_map kind_of_entry o ≡ here → is_file_kind here ≡ false → o ≢ Some (Bytes bytes)
+no_file _ _ is other same = true≢false (ap (λ (e : Option Entry). is_file_kind (option_map kind_of_entry e)) (sym same) ∙ ap is_file_kind is ∙ other)
 
 -- other bytes
 other_bytes : {o : Option Entry} {bytes : List ℕ} {block : List ℕ} → option_map (take 8192) (bytes_of o) ≡ Some block → bytes_eq block bytes ≡ false → length bytes < 8192 → o ≢ Some (Bytes bytes)
@@ -86,9 +86,9 @@ not_made None false bad = absurd (true≢false bad)
 not_made (Some _) _ bad = bad
 
 -- what is in the way to a place stood in the root
-barred : (job : Job) (past : Past) (start : Tree) (object : Object) (held : Held) (number : ℕ) (old : Writing) (here : Kind) → HeldAt job past (phase.Tuples object number) held → DestPart job past (phase.Tuples object number) held start old
+barred : {job : Job} {past : Past} {start : Tree} {object : Object} {held : Held} {number : ℕ} {old : Writing} {here : Kind} → HeldAt job past (phase.Tuples object number) held → DestPart job past (phase.Tuples object number) held start old
     → option_map kind_of_entry (old.tree (tuple_folder object number)) ≡ Some here → is_dir_kind (Some here) ≡ false → is_way_free job (root_in start) (object_held object held.rows past.bytes) ≡ false
-barred job past start object held number old here at dest found other =
+barred {job} {past} {start} {object} {held} {number} {old} at dest found other =
     let few = at.numbers in
     let long = place_long job object at.ends.0 in
     let next : number + 1 ≡ suc number = omega arith in
@@ -110,34 +110,34 @@ module _ (job : Job) (past : Past) (t : Tree) (old : Writing) (new : Option Writ
   abbrev IsFound : Type 0
   IsFound = IsFree t staging × IsBadTarget job (root_in t) objects
 
-  starts_find : (prefix read : List ℕ) (here : Phase) (calls : Calls) → IsLayout job.tuples → Starts job here prefix read calls (Err halt.Target) → DestPart job past here held t old → Changes calls.change (Some old) new → IsFound
+  starts_find : {prefix read : List ℕ} {here : Phase} {calls : Calls} → IsLayout job.tuples → Starts job here prefix read calls (Err halt.Target) → DestPart job past here held t old → Changes calls.change (Some old) new → IsFound
   unfolding Changes IsKindAt IsPeeked
-  starts_find _ _ _ _ _ (IsNoRoot _ _ other) dest change =
+  starts_find _ (IsNoRoot _ _ other) dest change =
       (dest.at.1, IsNoFolder (ap (λ (tree : Tree). is_folder_or_free (tree storage_root)) (sym dest.at.0.tree) ∙ no_folder (old.tree storage_root) (change.0 old refl) other))
-  starts_find _ _ _ _ _ (IsNoFile _ number path bytes kind is other) dest change = (
+  starts_find _ (IsNoFile _ number path bytes kind is other) dest change = (
     dest.at.free,
     HasOtherFile number (path, bytes) dest.at.top is
-        (λ same. no_file (old.tree (storage_root ++ path)) kind bytes (change.0 old refl) other (ap (λ (tree : Tree). tree (storage_root ++ path)) dest.at.tree ∙ same)),
+        (λ same. no_file (old.tree (storage_root ++ path)) bytes (change.0 old refl) other (ap (λ (tree : Tree). tree (storage_root ++ path)) dest.at.tree ∙ same)),
   )
-  starts_find _ _ _ _ layout (Differs _ number path bytes _ is other) dest change = (
+  starts_find layout (Differs _ number path bytes _ is other) dest change = (
     dest.at.free,
     HasOtherFile number (path, bytes) dest.at.top is
         (λ same. other_bytes (change.1 old refl) other (file_short job.tuples number path bytes layout is) (ap (λ (tree : Tree). tree (storage_root ++ path)) dest.at.tree ∙ same)),
   )
 
-  places_find : (counts : Counts) (here : Phase) (after : Held) (calls : Calls) → Places job counts here held after calls (Err halt.Target) → HeldAt job past here held → DestPart job past here held t old → Changes calls.change (Some old) new
+  places_find : {counts : Counts} {here : Phase} {after : Held} {calls : Calls} → Places job counts here held after calls (Err halt.Target) → HeldAt job past here held → DestPart job past here held t old → Changes calls.change (Some old) new
       → ((object : Object) (number : ℕ) → here ≡ phase.Tuples object number → objects (object_held object held.rows past.bytes)) → IsFound
   unfolding Changes IsKindAt
-  places_find _ _ _ _ (IsInTheWay _ object number kind other) at dest change some =
-      (dest.at.0.root.free, IsBarred (object_held object held.rows past.bytes) (some object number refl) (barred job past t object held number old kind at dest (change.0 old refl) other))
+  places_find (IsInTheWay _ object number kind other) at dest change some =
+      (dest.at.0.root.free, IsBarred (object_held object held.rows past.bytes) (some object number refl) (barred at dest (change.0 old refl) other))
 
-  follows_find : (counts : Counts) (here : Phase) (prefix read : List ℕ) (after : Held) (calls : Calls) → IsLayout job.tuples → Follows job counts here prefix held read after calls (Err halt.Target) → HeldAt job past here held → DestPart job past here held t old → Changes calls.change (Some old) new
+  follows_find : {counts : Counts} {here : Phase} {prefix read : List ℕ} {after : Held} {calls : Calls} → IsLayout job.tuples → Follows job counts here prefix held read after calls (Err halt.Target) → HeldAt job past here held → DestPart job past here held t old → Changes calls.change (Some old) new
       → ((object : Object) (number : ℕ) → here ≡ phase.Tuples object number → objects (object_held object held.rows past.bytes)) → IsFound
-  follows_find _ here prefix read _ calls layout (a_start _ _ _ _ _ _ turn) _ dest change _ = starts_find prefix read here calls layout turn dest change
-  follows_find _ _ _ _ _ _ _ (Walk _ _ _ _ _ _ turn) _ _ _ _ = elim turn [ ]
-  follows_find _ _ _ _ _ _ _ (Scan _ _ _ _ _ _ turn) _ _ _ _ = elim turn [ ]
-  follows_find _ _ _ _ _ _ _ (Make _ _ _ _ _ _ turn) _ _ _ _ = elim turn [ ]
-  follows_find counts here _ _ after calls _ (Place _ _ _ _ _ _ turn) at dest change some = places_find counts here after calls turn at dest change some
+  follows_find layout (a_start _ _ _ _ _ _ turn) _ dest change _ = starts_find layout turn dest change
+  follows_find _ (Walk _ _ _ _ _ _ turn) _ _ _ _ = elim turn [ ]
+  follows_find _ (Scan _ _ _ _ _ _ turn) _ _ _ _ = elim turn [ ]
+  follows_find _ (Make _ _ _ _ _ _ turn) _ _ _ _ = elim turn [ ]
+  follows_find _ (Place _ _ _ _ _ _ turn) at dest change some = places_find turn at dest change some
 
 -- ---- the laws
 
@@ -146,7 +146,7 @@ found : (job : Job) (past : Past) (start : Start) (old new : World) (run : Run) 
 unfolding Did Stays LeavesSome
 found job past start old new run _ t objects is (IsRefused prefix held calls _ turn did _) told some =
     let had = both_tell (DestPart job past run.phase run.kept.held) start.dest old.dest told is.dest in
-    follows_find job past t had.0 new.dest run.kept.held objects _ run.phase run.kept.prefix prefix held calls is.layout turn is.held had.2 (subst (λ o. Changes calls.change o new.dest) had.1 did.0.dest) some
+    follows_find job past t had.0 new.dest run.kept.held objects is.layout turn is.held had.2 (subst (λ o. Changes calls.change o new.dest) had.1 did.0.dest) some
 found _ _ _ _ _ _ _ _ _ _ (FailsAtFirst _ stays _) _ _ = absurd (stays.3)
 found _ _ _ _ _ _ _ _ _ _ (FailsLater _ _ _ _ _ _ _ leaves _ _) _ _ = absurd (leaves.1)
 

@@ -16,7 +16,7 @@ use Rattle.pt_walk.specs.Left.{bytes_at}
 use Rattle.pt_plan.specs.Job.{Job}
 use Rattle.pt_plan.specs.Run.{Held, with_fed}
 use Rattle.pt_plan.specs.Store.{pairtree_of}
-use Rattle.pt_plan.specs.TurnMake.{CopiesOn, EndsCopy, MakesDeclaration, MakesFolder, MakesInventory, MakesSidecar, MakesStaging, MakesVersion, MakesVersionInventory, MakesVersionSidecar, OpensCopy, PassesRow, behind, behind_stored, content_at, is_stored, path_of_source, with_folder}
+use Rattle.pt_plan.specs.TurnMake.{CopiesOn, EndsCopy, MakesDeclaration, MakesFolder, MakesInventory, MakesSidecar, MakesStaging, MakesVersion, MakesVersionInventory, MakesVersionSidecar, OpensCopy, PassesRow, behind, behind_stored, content_at, is_stored, path_of_source}
 use Rattle.pt_plan.specs.TurnScan.{to_site}
 use Rattle.pt_plan.specs.Work.{reads}
 use Rattle.pt_plan.specs.World.{Answers}
@@ -26,7 +26,7 @@ use Rattle.pt_plan.specs.declared.phase.Phase.TheVariants as phase
 use Rattle.pt_plan.specs.declared.phase.Position.{Position}
 use Rattle.pt_begun.specs.BegunSource.{SourcePart}
 use Rattle.pt_begun.specs.Past.{Past}
-use Rattle.pt_begun.specs.PartsMade.{IsAtRow, made_before, script_of_object}
+use Rattle.pt_begun.specs.PartsMade.{IsAtRow}
 use Rattle.pt_begun.proofs.dest.ContentParts.{IsHere, file_made, file_next, folder_made, folder_next, made_at, made_first}
 use Rattle.pt_begun.proofs.held.DistinctRows.{is_known, stored_where_new}
 use Rattle.pt_begun.proofs.dest.MakesDest.{copy_here, copy_stands, is_here}
@@ -41,14 +41,14 @@ use Rattle.pt_begun.proofs.turns_left.Copying.{block_read, copy_next}
 -- ---- the items of the script
 
 -- one item is left at least
-some_left : (script front : List Item) (item : Item) → IsNext script front item → 0 < length script - length front
-some_left script front item next =
+some_left : {script front : List Item} {item : Item} → IsNext script front item → 0 < length script - length front
+some_left {script} {front} {item} next =
     let long : length script ≡ length front + length (item ∷ next.rest) = ap length next.is ∙ length-append front (item ∷ next.rest) in
     omega (arith, long)
 
 -- and with it one less
-one_less : (script front after : List Item) (item : Item) → IsNext script front item → after ≡ front ++ item ∷ [] → length script - length after + 1 ≤ length script - length front
-one_less script front after item next is =
+one_less : {script front after : List Item} {item : Item} → IsNext script front item → after ≡ front ++ item ∷ [] → length script - length after + 1 ≤ length script - length front
+one_less {script} {front} {after} {item} next is =
     let long : length script ≡ length front + length (item ∷ next.rest) = ap length next.is ∙ length-append front (item ∷ next.rest) in
     let more : length after ≡ length front + 1 = ap length is ∙ length-append front (item ∷ []) in
     omega (arith, long, more)
@@ -105,16 +105,16 @@ pub makes_lower : MakingLowers
 unfolding Answers IsRead
 makes_lower job past s new root prefix here held after calls next (MakesStaging was object) answers at part_is =
     let b = bytes_there s.tree object (to_site object was.trail) in
-    let less = one_less (script_of_object job object was.rows b) (made_before job object was.rows b part.Staging) (made_before job object was.rows b part.Declaration) _ (next_staging job object was.rows b) refl in
+    let less = one_less (next_staging job object was.rows b) refl in
     omega (arith, less)
 makes_lower job past s new root prefix here held after calls next (MakesDeclaration was object) answers at part_is =
     let b = bytes_there s.tree object (to_site object was.trail) in
-    let less = one_less (script_of_object job object was.rows b) (made_before job object was.rows b part.Declaration) (made_before job object was.rows b part.Version) _ (next_declaration job object was.rows b) refl in
+    let less = one_less (next_declaration job object was.rows b) refl in
     omega (arith, less)
 makes_lower job past s new root prefix here held after calls next (MakesVersion was object) answers at part_is =
     let b = bytes_there s.tree object (to_site object was.trail) in
     let first : Position = record { row = 0; stored = 0; directories = 0 } in
-    let less = one_less (script_of_object job object was.rows b) (made_before job object was.rows b part.Version) (made_before job object was.rows b (content_at was.rows first)) _ (next_version job object was.rows b)
+    let less = one_less (next_version job object was.rows b)
     (made_at job object was.rows b first refl ∙ made_first job object was.rows b) in
     let few = no_more_to_copy was.rows first in
     omega (arith, less, few)
@@ -128,13 +128,13 @@ makes_lower job past s new root prefix here held after calls next (MakesFolder w
     let b = bytes_there s.tree object (to_site object was.trail) in
     let it = is_here job past object position was row at is stored in
     let within = ltb-true position.directories (length row.path) more in
-    let less = one_less (script_of_object job object was.rows b) (made_before job object was.rows b (part.Content position)) (made_before job object was.rows b (part.Content (with_folder position))) _
+    let less = one_less
     (folder_next job object was.rows was.contents b position row it within) (folder_made job object was.rows was.contents b position row it within) in
     omega (arith, less)
 makes_lower job past s new root prefix here held after calls next (OpensCopy was object position row is stored all) answers at part_is =
     let b = bytes_there s.tree object (to_site object was.trail) in
     let it = is_here job past object position was row at is stored in
-    let some = some_left (script_of_object job object was.rows b) (made_before job object was.rows b (part.Content position)) _ (file_next job object was.rows was.contents b position row it (ltb-false position.directories (length row.path) all)) in
+    let some = some_left (file_next job object was.rows was.contents b position row it (ltb-false position.directories (length row.path) all)) in
     let one = copied_next it in
     omega (arith, some, one)
 makes_lower job past s new root prefix here held after calls next (CopiesOn was object position left byte block fits) answers at part_is =
@@ -145,23 +145,23 @@ makes_lower job past s new root prefix here held after calls next (EndsCopy was 
     let it = copy_here job past object position left was row at is in
     let stand = copy_stands was position row is at.numbers in
     let later = behind_stored was.contents position row.path in
-    let less = one_less (script_of_object job object was.rows b) (made_before job object was.rows b (part.Content position)) (made_before job object was.rows b (content_at was.rows later)) _
+    let less = one_less
     (file_next job object was.rows was.contents b position row it stand)
     (made_at job object was.rows b later (stored_more was.rows was.contents position row it.are it.order it.is it.stored it.at) ∙ file_made job object was.rows was.contents b position row it stand) in
     let few = no_more_to_copy was.rows later in
     omega (arith, less, few)
 makes_lower job past s new root prefix here held after calls next (MakesVersionInventory was object) answers at part_is =
     let b = bytes_there s.tree object (to_site object was.trail) in
-    let less = one_less (script_of_object job object was.rows b) (made_before job object was.rows b part.VersionInventory) (made_before job object was.rows b part.VersionSidecar) _ (next_first job object was.rows b) (after_first job object was.rows b) in
+    let less = one_less (next_first job object was.rows b) (after_first job object was.rows b) in
     omega (arith, less)
 makes_lower job past s new root prefix here held after calls next (MakesVersionSidecar was object) answers at part_is =
     let b = bytes_there s.tree object (to_site object was.trail) in
-    let less = one_less (script_of_object job object was.rows b) (made_before job object was.rows b part.VersionSidecar) (made_before job object was.rows b part.Inventory) _ (next_second job object was.rows b) (after_second job object was.rows b) in
+    let less = one_less (next_second job object was.rows b) (after_second job object was.rows b) in
     omega (arith, less)
 makes_lower job past s new root prefix here held after calls next (MakesInventory was object) answers at part_is =
     let b = bytes_there s.tree object (to_site object was.trail) in
-    let less = one_less (script_of_object job object was.rows b) (made_before job object was.rows b part.Inventory) (made_before job object was.rows b part.Sidecar) _ (next_third job object was.rows b) (after_third job object was.rows b) in
+    let less = one_less (next_third job object was.rows b) (after_third job object was.rows b) in
     omega (arith, less)
 makes_lower job past s _ root _ _ _ _ _ _ (MakesSidecar was object) _ _ _ =
     let b = bytes_there s.tree object (to_site object was.trail) in
-    after_sidecar job s.tree root past.count object was (job.tuples.count == 0) (some_left (script_of_object job object was.rows b) (made_before job object was.rows b part.Sidecar) _ (next_fourth job object was.rows b))
+    after_sidecar job s.tree root past.count object was (job.tuples.count == 0) (some_left (next_fourth job object was.rows b))
