@@ -18,18 +18,18 @@ use Rattle.pt_begun.proofs.ends.TurnKeeps.{turn_keeps_begun}
 use Rattle.pt_begun.proofs.bounds.WithinBound.{begun_is_within_bound}
 
 -- a source that told tells after it answered, and the same tree
-answered : (asked : Asked) (s : Reading) (new : Option Reading) → Answers asked (Some s) new → (v : Reading) × (new ≡ Some v) × (v.tree ≡ s.tree)
+answered : (asked : Asked) (s : Reading) {new : Option Reading} → Answers asked (Some s) new → (v : Reading) × (new ≡ Some v) × (v.tree ≡ s.tree)
 unfolding Answers
-answered AsksNothing s _ answers = (s, answers, refl)
-answered (Lists _ _) s _ answers = (s, answers.2, refl)
-answered (Opens path) s _ answers = (after_open path s, answers, refl)
-answered (Reads _) s _ answers = (after_next s, answers.1, refl)
-answered (OpensAndReads path _) s _ answers = (after_next (after_open path s), answers.1, refl)
+answered AsksNothing s answers = (s, answers, refl)
+answered (Lists _ _) s answers = (s, answers.2, refl)
+answered (Opens path) s answers = (after_open path s, answers, refl)
+answered (Reads _) s answers = (after_next s, answers.1, refl)
+answered (OpensAndReads path _) s answers = (after_next (after_open path s), answers.1, refl)
 
 -- a source that told tells after a turn that goes on, and the same tree
 tells_on : {old new : World} (run : Run) {after : Kept} {job : Job} {next : Phase} {s : Reading} → Turn job run.phase (turning run.kept) after old new (Ok next) → old.source ≡ Some s → (v : Reading) × (new.source ≡ Some v) × (v.tree ≡ s.tree)
 unfolding Did
-tells_on {new} _ {s} (GoesOn calls _ _ did _) told = answered calls.asked s new.source (subst (λ o. Answers calls.asked o new.source) told did.0.source)
+tells_on {new} _ {s} (GoesOn calls _ _ did _) told = answered calls.asked s (subst (λ o. Answers calls.asked o new.source) told did.0.source)
 
 goes_within : {job : Job} (start : Start) {old new : World} (run : Run) {after : Kept} {next : Phase} {s : Reading} → Begun job start old run → is_ended run.phase ≡ false → Turn job run.phase (turning run.kept) after old new (Ok next) → old.source ≡ Some s
     → (last : Bool) → is_ended next ≡ last → IsWithinBound job s.tree after.held
@@ -42,5 +42,5 @@ goes_within {job} start {old} run {s} begun going (GoesOn _ _ turn _ _) told tru
     (begun_is_within_bound job start old run s begun going told)
 
 pub turn_is_within_bound : TurnIsWithinBound
-turn_is_within_bound job start old new run after (Ok next) s begun going turn told = goes_within start run begun going turn told _ refl
+turn_is_within_bound _ start _ _ run _ (Ok _) _ begun going turn told = goes_within start run begun going turn told _ refl
 turn_is_within_bound job start old new run after (Err why) s begun going turn told = halted_is_within_bound job start old new run after why s begun going turn told

@@ -207,7 +207,7 @@ module _ (job : Job) (past : Past) (start : Start) (old new : World) (run : Run)
       left_same is source_is start_is (sym dest_is ∙ refused_same turn did.0.dest) first_is
       (sym last_is ∙ none_put calls.line (refused_quiet turn) did.0.log) refl
   halted_left is (FailsAtFirst _ stays _) source_is start_is dest_is first_is last_is = left_same is source_is start_is (sym dest_is ∙ stays.1) first_is (sym last_is ∙ stays.2) refl
-  halted_left is (FailsLater prefix held calls answer _ _ turn leaves _ _) source_is start_is dest_is first_is last_is =
+  halted_left is (FailsLater _ _ _ _ _ _ turn leaves _ _) source_is start_is dest_is first_is last_is =
       broken_leaves job past start old run s t first
       (tells_all job past start old run s t first is (follows_runs turn) source_is start_is first_is) turn leaves.0 source_is dest_is last_is
 
@@ -217,22 +217,22 @@ stops_leave job start world run s t now first last (past, is) source_is start_is
 
 pub halts_leave : HaltsLeave
 unfolding Begun
-halts_leave job start old new run after why s t now first last (past, is) turn source_is start_is dest_is first_is last_is = halted_left job past start old new run s t now first last is turn source_is start_is dest_is first_is last_is
+halts_leave job start old new run _ _ s t now first last (past, is) turn source_is start_is dest_is first_is last_is = halted_left job past start old new run s t now first last is turn source_is start_is dest_is first_is last_is
 
 -- ---- the law
 
 pub turn_ends_begun : TurnEndsBegun
 unfolding Begun Did Stays LeavesSome
-turn_ends_begun job start old new run after why (past, is) (IsRefused prefix held calls reason turn did halted) = (
+turn_ends_begun job start old new run after _ (past, is) (IsRefused prefix held calls reason turn did halted) = (
   past,
   ends job past start old new run after is halted.trail halted.counts (answers_tree calls.asked old.source new.source did.0.source)
       (same_ends job past start old new run after is (refused_same turn did.0.dest))
       (λ l some. told_log calls.line l new.log (subst (λ o. Puts calls.line o new.log) some did.0.log))
       (λ s t now first last source_is start_is dest_is first_is last_is. halted_left job past start old new run s t now first last is (IsRefused prefix held calls reason turn did halted) source_is start_is dest_is first_is last_is),
 )
-turn_ends_begun job start old new run after why (past, is) (FailsAtFirst reason stays halted) =
+turn_ends_begun job start old new run after _ (past, is) (FailsAtFirst reason stays halted) =
     (past, ends job past start old new run after is halted.trail halted.counts stays.0 (same_ends job past start old new run after is stays.1) (λ l some. (l, stays.2 ∙ some)) (λ s t now first last source_is start_is dest_is first_is last_is. halted_left job past start old new run s t now first last is (FailsAtFirst reason stays halted) source_is start_is dest_is first_is last_is))
-turn_ends_begun job start old new run after why (past, is) (FailsLater prefix held calls answer rows reason turn leaves which halted) = (
+turn_ends_begun job start old new run after _ (past, is) (FailsLater prefix held calls answer rows reason turn leaves which halted) = (
   past,
   ends job past start old new run after is halted.trail halted.counts leaves.0.source
       (dest_ends job past start old new run after is

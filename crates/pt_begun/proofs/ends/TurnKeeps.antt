@@ -94,13 +94,13 @@ module _ (job : Job) (past : Past) where
   follows_held {here} {held} {after} {calls} {next} _ _ (Make _ _ _ _ _ _ turn) _ at = makes_hold job past here held after calls next turn at
   follows_held {counts} {here} {held} {after} {calls} {next} _ _ (Place _ _ _ _ _ _ turn) _ at = places_hold job counts past here next held after calls turn at
 
-  follows_source : {counts : Counts} {here : Phase} {prefix : List ℕ} {held : Held} {read : List ℕ} {after : Held} {calls : Calls} {next : Phase} {s : Reading} (new : Reading) → Follows job counts here prefix held read after calls (Ok next)
+  follows_source : {counts : Counts} {here : Phase} {prefix : List ℕ} {held : Held} {read : List ℕ} {after : Held} {calls : Calls} {next : Phase} {s : Reading} {new : Reading} → Follows job counts here prefix held read after calls (Ok next)
       → Answers calls.asked (Some s) (Some new) → HeldAt job past here held → SourcePart job past here prefix held s → SourcePart job (past_after here next held past) next read after new
-  follows_source {here} {prefix} {held} {read} {calls} {next} {s} new (a_start _ _ _ _ _ _ turn) answers at known = starts_source job past s new prefix read here next held calls turn answers at known
-  follows_source {here} {prefix} {held} {after} {calls} {next} {s} new (Walk _ _ _ _ _ _ turn) answers at known = walks_source job past s new prefix here next held after calls turn answers at known
-  follows_source {here} {prefix} {held} {after} {calls} {next} {s} new (Scan _ _ _ _ _ _ turn) answers at known = scans_source job past s new prefix here next held after calls turn answers at known
-  follows_source {here} {prefix} {held} {after} {calls} {next} {s} new (Make _ _ _ _ _ _ turn) answers at known = makes_source job past s new prefix here held after calls next turn answers at known
-  follows_source {counts} {here} {prefix} {held} {after} {calls} {next} {s} new (Place _ _ _ _ _ _ turn) answers at known = places_source job counts past s new prefix here next held after calls turn answers at known
+  follows_source {here} {prefix} {held} {read} {calls} {next} {s} {new} (a_start _ _ _ _ _ _ turn) answers at known = starts_source job past s new prefix read here next held calls turn answers at known
+  follows_source {here} {prefix} {held} {after} {calls} {next} {s} {new} (Walk _ _ _ _ _ _ turn) answers at known = walks_source job past s new prefix here next held after calls turn answers at known
+  follows_source {here} {prefix} {held} {after} {calls} {next} {s} {new} (Scan _ _ _ _ _ _ turn) answers at known = scans_source job past s new prefix here next held after calls turn answers at known
+  follows_source {here} {prefix} {held} {after} {calls} {next} {s} {new} (Make _ _ _ _ _ _ turn) answers at known = makes_source job past s new prefix here held after calls next turn answers at known
+  follows_source {counts} {here} {prefix} {held} {after} {calls} {next} {s} {new} (Place _ _ _ _ _ _ turn) answers at known = places_source job counts past s new prefix here next held after calls turn answers at known
 
   follows_dest : {counts : Counts} {here : Phase} {prefix : List ℕ} {held : Held} {read : List ℕ} {after : Held} {calls : Calls} {next : Phase} {start : Tree} {w v : Writing} → IsLayout job.tuples → Follows job counts here prefix held read after calls (Ok next)
       → Changes calls.change (Some w) (Some v) → HeldAt job past here held → DestPart job past here held start w → DestPart job (past_after here next held past) next after start v
@@ -138,7 +138,7 @@ module _ (job : Job) (past : Past) (start : Start) (old new : World) (run : Run)
   keeps_source turn did is v same =
       let told = told_source calls.asked old.source v (subst (Answers calls.asked old.source) same did.source) in
       let answers = subst (λ o. Answers calls.asked o (Some v)) told.1 (subst (Answers calls.asked old.source) same did.source) in
-      follows_source job past v turn answers is.held (is.source told.0 told.1)
+      follows_source job past turn answers is.held (is.source told.0 told.1)
 
   keeps_dest : Turned → Happens calls old new → IsPast job start old run past → TellsAsBefore start.dest new.dest (DestPart job later next after.held)
   keeps_dest turn did is = by start.dest refl (told_dest calls.change old.dest did.dest)

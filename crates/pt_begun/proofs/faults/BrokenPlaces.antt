@@ -38,8 +38,8 @@ module _ (job : Job) (past : Past) (s : Reading) (start : Tree) (prefix : List �
   Left = IsLeftByFault job s.tree start new.tree first last
 
   -- of the end line a front was put
-  end_told : (held : Held) → Before held phase.End → new.tree ≡ old.tree → LeavesFront (Some (last_line counts)) (Some log) (Some last) → Left
-  end_told held before same (n, put) =
+  end_told : {held : Held} → Before held phase.End → new.tree ≡ old.tree → LeavesFront (Some (last_line counts)) (Some log) (Some last) → Left
+  end_told before same (n, put) =
       let known = before.known in
       let root = root_in start in
       let so_far = text job s.tree root past.count in
@@ -61,22 +61,22 @@ module _ (job : Job) (past : Past) (s : Reading) (start : Tree) (prefix : List �
       }
 
   -- of an object's line
-  done_told : (object : Object) (held : Held) → Before held (phase.Line object) → new.tree ≡ old.tree → LeavesFront (Some (done_line object held)) (Some log) (Some last) → Left
-  done_told object held before same put =
+  done_told : {object : Object} {held : Held} → Before held (phase.Line object) → new.tree ≡ old.tree → LeavesFront (Some (done_line object held)) (Some log) (Some last) → Left
+  done_told {object} {held} before same put =
       let known = before.known in
       let tells = places_tell {counts = counts} (TellsDone held object) known.held_at known.source known.items.places.next in
-      left_told job past s start prefix counts old new first log last held (phase.Line object) before
+      left_told job past s start prefix counts old new first log last before
       (ends_item tells.1 refl refl)
       known.dest.at.root.free (same ∙ tree_between s.tree (suc past.count) known.items.places.placed known.dest.at) put
 
   places_broken : {here : Phase} {held later : Held} {calls : Calls} {answer : Answer} → Places job counts here held later calls answer → Before held here → LeavesPart (Some old) (Some new) calls.change → LeavesFront calls.line (Some log) (Some last) → Left
-  places_broken (TellsDone was object) before left put = done_told object was before (plain_same refl left) put
-  places_broken (TellsEnd was) before left put = end_told was before (plain_same refl left) put
-  places_broken {here} {held} _ before left put = left_quiet job past s start prefix counts old new first log last held here before (plain_same refl left) put
+  places_broken (TellsDone _ _) before left put = done_told before (plain_same refl left) put
+  places_broken (TellsEnd _) before left put = end_told before (plain_same refl left) put
+  places_broken {here} {held} _ before left put = left_quiet job past s start prefix counts old new first log last before (plain_same refl left) put
 
   pub follows_broken : {here : Phase} {held : Held} {read : List ℕ} {later : Held} {calls : Calls} {answer : Answer} → Follows job counts here prefix held read later calls answer → Before held here → WereAnswered calls s old
       → LeavesPart (Some old) (Some new) calls.change → LeavesFront calls.line (Some log) (Some last) → Left
-  follows_broken {held} (a_start _ _ _ _ _ _ turn) before _ left put = starts_broken job past s start prefix counts old new first log last held turn before left put
+  follows_broken {held} (a_start _ _ _ _ _ _ turn) before _ left put = starts_broken job past s start prefix counts old new first log last turn before left put
   follows_broken (Walk _ _ _ _ _ _ turn) before answered left put = walks_broken job past s start prefix counts old new first log last turn before answered left put
   follows_broken (Scan _ _ _ _ _ _ turn) before answered left put = scans_broken job past s start prefix counts old new first log last turn before answered left put
   follows_broken (Make _ _ _ _ _ _ turn) before answered left put = makes_broken job past s start prefix counts old new first log last turn before answered left put

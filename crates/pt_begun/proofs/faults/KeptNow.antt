@@ -94,9 +94,9 @@ module _ (job : Job) (past : Past) (start : Tree) (object : Object) (held : Held
   own_script rows = (own_files object.id held.rows past.bytes job.meta job.algorithm (in_order_apart (row_paths held.rows) rows.order) rows.digests).1
 
   -- the root with some folders on the way
-  pub on_way : (n : ℕ) → IsTree start → IsRootOfStart job start → IsObject job object → n ≤ job.tuples.count
+  pub on_way : {n : ℕ} → IsTree start → IsRootOfStart job start → IsObject job object → n ≤ job.tuples.count
       → with_root start (root_on_way job start past.placed object.place n) ≡ with_root start (with_folders (take n (tuple_folders job carried)) (with_objects job past.placed (base job.tuples (root_in start))))
-  on_way n tree root it few =
+  on_way {n} tree root it few =
       let long = place_long job object it in
       ap (with_root start)
       (part_way job start past.placed object.place n (omega (arith, few, long)) (ap is_some (top_folder job start past.placed tree root))
@@ -107,13 +107,13 @@ module _ (job : Job) (past : Past) (start : Tree) (object : Object) (held : Held
       → StandsAtPrefix script (with_root start (root_on_way job start past.placed object.place n)) now → IsKept job start now
   made_kept {n} {now} tree it rows few making at =
       Making past.placed carried n now (comes it rows making.came making.free)
-      (inl (subst (λ (t : Tree). StandsAtPrefix (script_of carried.id carried.files job.meta job.algorithm) t now) (on_way n tree making.root it few)
+      (inl (subst (λ (t : Tree). StandsAtPrefix (script_of carried.id carried.files job.meta job.algorithm) t now) (on_way tree making.root it few)
       (subst (λ (l : List Item). StandsAtPrefix l (with_root start (root_on_way job start past.placed object.place n)) now) (own_script rows) at)))
 
   -- and with a content that holds other bytes
-  pub copy_kept : {front : List Item} (path : Path) (bytes read : List ℕ) {now : Tree} → IsTree start → IsObject job object → AreRows job past.bytes held → {w : Writing} → IsMakingObject job start past.placed object (front ++ MakeFile (in_content path) read ∷ []) 0 w
-      → IsNext script front (MakeFile (in_content path) bytes) → (other : List ℕ) → now ≡ done (MakeFile (in_content path) other) (made front (with_root start (root_on_way job start past.placed object.place 0))) → IsKept job start now
-  copy_kept {front} path bytes read {now} tree it rows making next other is =
+  pub copy_kept : {front : List Item} {path : Path} {bytes : List ℕ} (read : List ℕ) {now : Tree} → IsTree start → IsObject job object → AreRows job past.bytes held → {w : Writing} → IsMakingObject job start past.placed object (front ++ MakeFile (in_content path) read ∷ []) 0 w
+      → IsNext script front (MakeFile (in_content path) bytes) → {other : List ℕ} → now ≡ done (MakeFile (in_content path) other) (made front (with_root start (root_on_way job start past.placed object.place 0))) → IsKept job start now
+  copy_kept {front} {path} {bytes} read {now} tree it rows making next {other} is =
       let root = with_root start (root_on_way job start past.placed object.place 0) in
       let at : StandsAtContent script root now = record {
         items = length front;
@@ -125,7 +125,7 @@ module _ (job : Job) (past : Past) (start : Tree) (object : Object) (held : Held
         stands = is ∙ ap (λ (l : List Item). done (MakeFile (in_content path) other) (made l root)) (sym (ap (take (length front)) next.is ∙ taken_front front (MakeFile (in_content path) bytes ∷ next.rest)));
       } in
       Making past.placed carried 0 now (comes it rows making.came making.free)
-      (inr (subst (λ (t : Tree). StandsAtContent (script_of carried.id carried.files job.meta job.algorithm) t now) (on_way 0 tree making.root it (omega arith))
+      (inr (subst (λ (t : Tree). StandsAtContent (script_of carried.id carried.files job.meta job.algorithm) t now) (on_way {n = 0} tree making.root it (omega arith))
       (subst (λ (l : List Item). StandsAtContent l root now) (own_script rows) at)))
 
   -- before its script it is not there
@@ -167,27 +167,27 @@ copying_kept {job} {past} {start} {object} {position} {left} {held} {now} at des
     let is = dest.at.writes.is_row in
     let front = made_before job object held.rows past.bytes (a_part.Content position) in
     let root = with_root start (root_on_way job start past.placed object.place 0) in
-    copy_kept job past start object held row.path (past.bytes row.path) held.fed dest.started at.ends.0 at.rows dest.at.making
-    (file_next job object held.rows held.contents past.bytes position row (copy_here job past object position left held row at is) (copy_stands held position row is at.numbers)) held.fed
+    copy_kept job past start object held held.fed dest.started at.ends.0 at.rows dest.at.making
+    (file_next job object held.rows held.contents past.bytes position row (copy_here job past object position left held row at is) (copy_stands held position row is at.numbers))
     (dest.at.making.tree ∙ made_in_turn front (MakeFile (in_content row.path) held.fed ∷ []) root)
 
 as_it_was : (job : Job) {start : Tree} (now : Writing) → now.tree ≡ start → IsKept job start now.tree
 as_it_was job {start} _ same = subst (IsKept job start) (sym same) kept.AsItWas
 
 pub kept_now : (job : Job) (past : Past) (start : Tree) (here : Phase) (held : Held) (now : Writing) → HeldAt job past here held → DestPart job past here held start now → IsLeftBehind job start now
-kept_now job _ start phase.Begin _ now _ dest = record { kept = as_it_was job now dest.at.tree; stood = inr dest.at.tree }
-kept_now job _ start (phase.Prefix _) _ now _ dest = record { kept = as_it_was job now dest.at.tree; stood = inr dest.at.tree }
-kept_now job _ start phase.Staging _ now _ dest = record { kept = as_it_was job now dest.at.tree; stood = inr dest.at.tree }
-kept_now job _ start phase.Root _ now _ dest = record { kept = as_it_was job now dest.at.0.tree; stood = inr dest.at.0.tree }
+kept_now job _ _ phase.Begin _ now _ dest = record { kept = as_it_was job now dest.at.tree; stood = inr dest.at.tree }
+kept_now job _ _ (phase.Prefix _) _ now _ dest = record { kept = as_it_was job now dest.at.tree; stood = inr dest.at.tree }
+kept_now job _ _ phase.Staging _ now _ dest = record { kept = as_it_was job now dest.at.tree; stood = inr dest.at.tree }
+kept_now job _ _ phase.Root _ now _ dest = record { kept = as_it_was job now dest.at.0.tree; stood = inr dest.at.0.tree }
 kept_now _ _ _ (phase.RootMake number) _ _ _ dest = record {
   kept = root_kept dest.at (stands_whole number dest.at.tree);
   stood = inl (record { free = dest.at.free; root = inl dest.at.root });
 }
 kept_now _ _ _ phase.RootRename _ _ _ dest = record { kept = root_kept dest.at (stands_whole 6 dest.at.tree); stood = inl (record { free = dest.at.free; root = inl dest.at.root }) }
-kept_now job _ start (phase.RootCheck _) _ now _ dest = record { kept = as_it_was job now dest.at.tree; stood = inr dest.at.tree }
-kept_now job past start (phase.OpenObject object) held now _ dest = record { kept = not_begun job past start object held dest.at; stood = inl dest.at.root }
-kept_now job past start (phase.Scan object) held now _ dest = record { kept = not_begun job past start object held dest.at; stood = inl dest.at.root }
-kept_now job past start (phase.Read object _) held now _ dest = record { kept = not_begun job past start object held dest.at; stood = inl dest.at.root }
+kept_now job _ _ (phase.RootCheck _) _ now _ dest = record { kept = as_it_was job now dest.at.tree; stood = inr dest.at.tree }
+kept_now job past start (phase.OpenObject object) held _ _ dest = record { kept = not_begun job past start object held dest.at; stood = inl dest.at.root }
+kept_now job past start (phase.Scan object) held _ _ dest = record { kept = not_begun job past start object held dest.at; stood = inl dest.at.root }
+kept_now job past start (phase.Read object _) held _ _ dest = record { kept = not_begun job past start object held dest.at; stood = inl dest.at.root }
 kept_now _ _ _ (phase.Make _ _) _ _ at dest = record { kept = part_kept at dest; stood = inl dest.at.root }
 kept_now _ _ _ (phase.Copy _ _ _) _ _ at dest = record { kept = copying_kept at dest; stood = inl dest.at.making.root }
 kept_now job past start (phase.Tuples object number) held now at dest =

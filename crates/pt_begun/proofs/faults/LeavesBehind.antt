@@ -1,11 +1,9 @@
 -- What a turn that breaks off leaves in the destination may be kept.
-use Rattle.std.proofs.Common.{inl, inr, ◌≡◌, ℕ, suc, Bool, true, false, List, [], ◌∷◌, ◌++◌, refl, ap, sym, ◌∙◌, subst, arith, drop, length, take}
+use Rattle.std.proofs.Common.{inl, inr, ◌≡◌, ℕ, suc, Bool, true, false, List, [], ◌++◌, refl, ap, sym, ◌∙◌, subst, arith, drop, length, take}
 use Rattle.std.specs.Prelude.{◌⊎◌, None, Some, slice_get}
 use Rattle.std.proofs.lemmas.Bool.{ltb-false}
-use Rattle.pt_object.specs.Files.{object_declaration_bytes, sidecar_text}
-use Rattle.pt_object.specs.Object.{inventory_name, object_declaration_name, sidecar_name}
 use Rattle.pt_object.specs.Script.{Item, MakeFile, MakeFolder, done}
-use Rattle.pt_object.specs.Scripts.{root_script, staging}
+use Rattle.pt_object.specs.Scripts.{root_script}
 use Rattle.pt_object.specs.declared.rows.Row.{Row}
 use Rattle.pt_tree.specs.Dest.{Writing}
 use Rattle.pt_tree.specs.Path.{Path}
@@ -15,7 +13,7 @@ use Rattle.pt_plan.specs.Fixity.{IsKept}
 use Rattle.pt_plan.specs.Job.{Job}
 use Rattle.pt_plan.specs.Run.{Counts, Held, with_fed}
 use Rattle.pt_plan.specs.Turn.{Follows, Start as a_start, Walk, Scan, Make, Place}
-use Rattle.pt_plan.specs.TurnMake.{Makings, MakesStaging, MakesDeclaration, MakesVersion, PassesRow, MakesFolder, OpensCopy, CopiesOn, ReadsMore, EndsCopy, ReadsOther, MakesVersionInventory, MakesVersionSidecar, MakesInventory, MakesSidecar, in_content, in_version, text_of_inventory}
+use Rattle.pt_plan.specs.TurnMake.{Makings, MakesStaging, MakesDeclaration, MakesVersion, PassesRow, MakesFolder, OpensCopy, CopiesOn, ReadsMore, EndsCopy, ReadsOther, MakesVersionInventory, MakesVersionSidecar, MakesInventory, MakesSidecar, in_content}
 use Rattle.pt_plan.specs.TurnPlace.{Places, MakesTuple}
 use Rattle.pt_plan.specs.TurnScan.{Scans, StartsInSite}
 use Rattle.pt_plan.specs.TurnStart.{Starts, MakesRoot}
@@ -95,10 +93,10 @@ root_left {job} {start} {number} (MakeFile path bytes) {old} {new} _ dest is (Of
 
 -- ---- a part of an object
 
-part_left : {job : Job} {past : Past} {start : Tree} {object : Object} {here : Part} (path : Path) (bytes : List ℕ) {held : Held} {old new : Writing} → HeldAt job past (phase.Make object here) held → DestPart job past (phase.Make object here) held start old
+part_left : {job : Job} {past : Past} {start : Tree} {object : Object} {here : Part} {path : Path} {bytes : List ℕ} {held : Held} {old new : Writing} → HeldAt job past (phase.Make object here) held → DestPart job past (phase.Make object here) held start old
     → IsNext (script_of_object job object held.rows past.bytes) (made_before job object held.rows past.bytes here) (MakeFile path bytes) → LeavesPart (Some old) (Some new) (Makes (MakeFile path bytes)) → IsLeftTree job start new
-part_left {job} {past} {start} {object} {here} _ _ {held} {old} {new} at dest _ (Untouched _ same) = same_left job past start (phase.Make object here) held old new at dest (some_same new.tree old.tree same)
-part_left {job} {past} {start} {object} {here} path bytes {held} {old} {new} at dest next (OfFile p b count same) =
+part_left {job} {past} {start} {object} {here} {held} {old} {new} at dest _ (Untouched _ same) = same_left job past start (phase.Make object here) held old new at dest (some_same new.tree old.tree same)
+part_left {job} {past} {start} {object} {here} {path} {bytes} {held} {old} {new} at dest next (OfFile p b count same) =
     let front = made_before job object held.rows past.bytes here in
     let tree_is = some_same new.tree _ same in
     let may = item_may job start past.placed object held.rows past.bytes front _ old dest.started at.rows.order next dest.at in
@@ -122,7 +120,7 @@ opened_left {job} {past} {start} {object} {position} {held} row {old} {new} at d
     record {
       tree = subst IsTree (sym tree_is) (tree_put old.tree _ (Bytes []) dest.tree may);
       left = record {
-        kept = copy_kept job past start object held row.path (past.bytes row.path) [] dest.started at.ends.0 at.rows (with_item job start past.placed object front item old new tree_is dest.at) next [] (tree_is ∙ ap (done item) dest.at.tree);
+        kept = copy_kept job past start object held [] dest.started at.ends.0 at.rows (with_item job start past.placed object front item old new tree_is dest.at) next (tree_is ∙ ap (done item) dest.at.tree);
         stood = inl dest.at.root;
       };
     }
@@ -149,7 +147,7 @@ copied_left {job} {past} {start} {object} {position} {left} {piece} {held} {old}
 
 starts_left : {job : Job} {past : Past} {start : Tree} {prefix read : List ℕ} {here : Phase} {held : Held} {calls : Calls} {answer : Answer} {old new : Writing} → Starts job here prefix read calls answer → HeldAt job past here held → DestPart job past here held start old
     → LeavesPart (Some old) (Some new) calls.change → IsLeftTree job start new
-starts_left {job} {past} {start} {held} {old} {new} (MakesRoot _ number item is) at dest left = root_left item at dest is left
+starts_left {job} {past} {start} {held} {old} {new} (MakesRoot _ _ item is) at dest left = root_left item at dest is left
 starts_left {job} {past} {start} {here} {held} {old} {new} _ at dest left = same_left job past start here held old new at dest (plain_same refl left)
 
 walks_left : {job : Job} {past : Past} {start : Tree} {prefix : List ℕ} {here : Phase} {held after : Held} {calls : Calls} {answer : Answer} {old new : Writing} → Walks job prefix here held after calls answer → HeldAt job past here held → DestPart job past here held start old → LeavesPart (Some old) (Some new) calls.change → IsLeftTree job start new
@@ -167,17 +165,17 @@ places_left {job} {past} {start} {here} {held} {old} {new} _ at dest left = same
 makes_left : {job : Job} {past : Past} {start : Tree} {here : Phase} {held after : Held} {calls : Calls} {answer : Answer} {old new : Writing} → Makings job here held after calls answer → HeldAt job past here held → DestPart job past here held start old
     → LeavesPart (Some old) (Some new) calls.change → IsLeftTree job start new
 makes_left {job} {past} {start} {here} {held} {old} {new} (MakesStaging _ _) at dest broken = same_left job past start here held old new at dest (plain_same refl broken)
-makes_left {job} {past} {start} {old} {new} (MakesDeclaration was object) at dest left = part_left (staging ++ object_declaration_name ∷ []) object_declaration_bytes at dest (next_declaration job object was.rows past.bytes) left
+makes_left {job} {past} {start} {old} {new} (MakesDeclaration was object) at dest left = part_left at dest (next_declaration job object was.rows past.bytes) left
 makes_left {job} {past} {start} {here} {held} {old} {new} (MakesVersion _ _) at dest broken = same_left job past start here held old new at dest (plain_same refl broken)
 makes_left {job} {past} {start} {here} {held} {old} {new} (PassesRow _ _ _ _ _ _) at dest broken = same_left job past start here held old new at dest (plain_same refl broken)
 makes_left {job} {past} {start} {here} {held} {old} {new} (MakesFolder _ _ _ _ _ _ _) at dest broken = same_left job past start here held old new at dest (plain_same refl broken)
 makes_left {job} {past} (OpensCopy was object position row is stored all) at dest broken = opened_left row at dest (file_next job object was.rows was.contents past.bytes position row (is_here job past object position was row at is stored) (ltb-false position.directories (length row.path) all)) broken
 makes_left (CopiesOn _ _ _ _ _ _ _) at dest broken = copied_left at dest broken
 makes_left {job} {past} {start} {here} {held} {old} {new} (EndsCopy _ _ _ _ _ _ _) at dest broken = same_left job past start here held old new at dest (plain_same refl broken)
-makes_left {job} {past} {start} {old} {new} (MakesVersionInventory was object) at dest left = part_left (in_version [] ++ inventory_name ∷ []) (text_of_inventory job object was.rows) at dest (next_first job object was.rows past.bytes) left
-makes_left {job} {past} {start} {old} {new} (MakesVersionSidecar was object) at dest left = part_left (in_version [] ++ sidecar_name job.algorithm ∷ []) (sidecar_text job.algorithm (text_of_inventory job object was.rows)) at dest (next_second job object was.rows past.bytes) left
-makes_left {job} {past} {start} {old} {new} (MakesInventory was object) at dest left = part_left (staging ++ inventory_name ∷ []) (text_of_inventory job object was.rows) at dest (next_third job object was.rows past.bytes) left
-makes_left {job} {past} {start} {old} {new} (MakesSidecar was object) at dest left = part_left (staging ++ sidecar_name job.algorithm ∷ []) (sidecar_text job.algorithm (text_of_inventory job object was.rows)) at dest (next_fourth job object was.rows past.bytes) left
+makes_left {job} {past} {start} {old} {new} (MakesVersionInventory was object) at dest left = part_left at dest (next_first job object was.rows past.bytes) left
+makes_left {job} {past} {start} {old} {new} (MakesVersionSidecar was object) at dest left = part_left at dest (next_second job object was.rows past.bytes) left
+makes_left {job} {past} {start} {old} {new} (MakesInventory was object) at dest left = part_left at dest (next_third job object was.rows past.bytes) left
+makes_left {job} {past} {start} {old} {new} (MakesSidecar was object) at dest left = part_left at dest (next_fourth job object was.rows past.bytes) left
 makes_left {job} {past} {start} {here} {held} {old} {new} (ReadsMore _ _ _ _ _ _ _) at dest broken = same_left job past start here held old new at dest (plain_same refl broken)
 makes_left {job} {past} {start} {here} {held} {old} {new} (ReadsOther _ _ _ _ _ _ _) at dest broken = same_left job past start here held old new at dest (plain_same refl broken)
 

@@ -44,8 +44,8 @@ pub as_it_was : (job : Job) (source : Forest) {start now : Tree} {count : ℕ} �
 as_it_was job source {start} first same = inl (same, ap (text job source (root_in start)) first)
 
 -- a part of a new root
-pub root_left : (job : Job) (source : Forest) {start now : Tree} {count : ℕ} {items : List Item} {w : Writing} → count ≡ 0 → IsMakingRoot start items w → StandsAtPrefix (root_script job.tuples) start now → MayBeLeft job source start now (text job source (root_in start) count)
-root_left job source {start} {now} first making at =
+pub root_left : {job : Job} (source : Forest) {start now : Tree} {count : ℕ} {items : List Item} {w : Writing} → count ≡ 0 → IsMakingRoot start items w → StandsAtPrefix (root_script job.tuples) start now → MayBeLeft job source start now (text job source (root_in start) count)
+root_left {job} source {start} {now} first making at =
     inr (making.free, subst (IsLeft job source start now) (sym (ap (text job source (root_in start)) first)) (MakingRoot now (root_free start making.root) at))
 
 -- the root after some items, with this in the log
@@ -81,17 +81,17 @@ module _ (job : Job) (past : Past) (s : Reading) (start : Tree) (prefix : List �
   abbrev Left : Type 0
   Left = MayBeLeft job s.tree start now.tree (text job s.tree (root_in start) past.count)
 
-  part_left : (object : Object) (here : Part) → Known (phase.Make object here) → Left
-  part_left object here known =
+  part_left : {object : Object} {here : Part} → Known (phase.Make object here) → Left
+  part_left {object} {here} known =
       let source = known.source in
       let rows = known.held_at.rows in
-      carrying_left job past s start object held 0 known.dest.started known.dest.at.root known.held_at.ends.0 rows (omega arith) known.items.places.placed
+      carrying_left job past s start object held {n = 0} known.dest.started known.dest.at.root known.held_at.ends.0 rows (omega arith) known.items.places.placed
       (carried_next past s (root_in start) source.proper source.at.0 source.at.1 source.bytes known.items.places.next)
       (front_stands (front_made job object held.rows past.bytes here) known.dest.at.tree)
 
   -- a content is copied
-  copy_left : (object : Object) (position : Position) (left : ℕ) → Known (phase.Copy object position left) → Left
-  copy_left object position left known =
+  copy_left : {object : Object} {position : Position} {left : ℕ} → Known (phase.Copy object position left) → Left
+  copy_left {object} {position} {left} known =
       let source = known.source in
       let at = known.held_at in
       let row = known.dest.at.writes.row in
@@ -103,7 +103,7 @@ module _ (job : Job) (past : Past) (s : Reading) (start : Tree) (prefix : List �
       let bytes = row_bytes s.tree object held.trail past.bytes held.rows position.row at.ends.1 source.bytes reads.is_row in
       let begins : BeginsWith held.fed (past.bytes row.path) =
       begins_taken (reads.row.length - left) (reads.read.fed_is ∙ ap (take (reads.row.length - left)) (sym bytes ∙ ap (λ (r : Row). past.bytes r.path) same)) in
-      carrying_left job past s start object held 0 known.dest.started known.dest.at.making.root at.ends.0 at.rows (omega arith) known.items.places.placed
+      carrying_left job past s start object held {n = 0} known.dest.started known.dest.at.making.root at.ends.0 at.rows (omega arith) known.items.places.placed
       (carried_next past s (root_in start) source.proper source.at.0 source.at.1 source.bytes known.items.places.next)
       (content_stands
       (file_next job object held.rows held.contents past.bytes position row (copy_here job past object position left held row at is) (copy_stands held position row is at.numbers)) begins
@@ -115,24 +115,24 @@ module _ (job : Job) (past : Past) (s : Reading) (start : Tree) (prefix : List �
   script_stands {object} making =
       front_stands {front = script_of_object job object held.rows past.bytes} (record { rest = []; is = sym (append-nil (script_of_object job object held.rows past.bytes)) }) making.tree
 
-  tuples_left : (object : Object) (number : ℕ) → Known (phase.Tuples object number) → Left
-  tuples_left object number known =
+  tuples_left : {object : Object} {number : ℕ} → Known (phase.Tuples object number) → Left
+  tuples_left {object} known =
       let source = known.source in
       let few = known.held_at.numbers in
-      carrying_left job past s start object held number known.dest.started known.dest.at.0.root known.held_at.ends.0 known.held_at.rows (omega (arith, few)) known.items.places.placed
+      carrying_left job past s start object held known.dest.started known.dest.at.0.root known.held_at.ends.0 known.held_at.rows (omega (arith, few)) known.items.places.placed
       (carried_next past s (root_in start) source.proper source.at.0 source.at.1 source.bytes known.items.places.next)
       (script_stands known.dest.at.0)
 
-  rename_left : (object : Object) → Known (phase.Rename object) → Left
-  rename_left object known =
+  rename_left : {object : Object} → Known (phase.Rename object) → Left
+  rename_left {object} known =
       let source = known.source in
-      carrying_left job past s start object held job.tuples.count known.dest.started known.dest.at.0.root known.held_at.ends.0 known.held_at.rows (omega arith) known.items.places.placed
+      carrying_left job past s start object held known.dest.started known.dest.at.0.root known.held_at.ends.0 known.held_at.rows (omega arith) known.items.places.placed
       (carried_next past s (root_in start) source.proper source.at.0 source.at.1 source.bytes known.items.places.next)
       (script_stands known.dest.at.0)
 
   -- the object is at its place, and its line isn't told yet
-  line_left : (object : Object) → Known (phase.Line object) → Left
-  line_left _ known =
+  line_left : {object : Object} → Known (phase.Line object) → Left
+  line_left known =
       let source = known.source in
       let is = carried_next past s (root_in start) source.proper source.at.0 source.at.1 source.bytes known.items.places.next in
       between_left known.dest.at.root.free (marked_within job s.tree (root_in start) is.1)
@@ -145,16 +145,16 @@ module _ (job : Job) (past : Past) (s : Reading) (start : Tree) (prefix : List �
   left_now phase.Staging _ known = as_it_was job s.tree known.source.at.1 known.dest.at.tree
   left_now phase.Root _ known = as_it_was job s.tree known.source.at.1 known.dest.at.0.tree
   left_now (phase.RootMake number) _ known =
-      root_left job s.tree known.source.at.1 known.dest.at (stands_whole number known.dest.at.tree)
-  left_now phase.RootRename _ known = root_left job s.tree known.source.at.1 known.dest.at (stands_whole 6 known.dest.at.tree)
+      root_left s.tree known.source.at.1 known.dest.at (stands_whole number known.dest.at.tree)
+  left_now phase.RootRename _ known = root_left s.tree known.source.at.1 known.dest.at (stands_whole 6 known.dest.at.tree)
   left_now (phase.RootCheck _) _ known = as_it_was job s.tree known.source.at.1 known.dest.at.tree
   left_now (phase.OpenObject _) _ known = counted_left past.count known.dest.at.root.free (tree_entered s.tree past.count known.items.places.placed known.dest.at)
   left_now (phase.Scan _) _ known = counted_left past.count known.dest.at.root.free (tree_entered s.tree past.count known.items.places.placed known.dest.at)
   left_now (phase.Read _ _) _ known = counted_left past.count known.dest.at.root.free (tree_entered s.tree past.count known.items.places.placed known.dest.at)
-  left_now (phase.Make object here) _ known = part_left object here known
-  left_now (phase.Copy object position left) _ known = copy_left object position left known
-  left_now (phase.Tuples object number) _ known = tuples_left object number known
-  left_now (phase.Rename object) _ known = rename_left object known
-  left_now (phase.Line object) _ known = line_left object known
+  left_now (phase.Make _ _) _ known = part_left known
+  left_now (phase.Copy _ _ _) _ known = copy_left known
+  left_now (phase.Tuples _ _) _ known = tuples_left known
+  left_now (phase.Rename _) _ known = rename_left known
+  left_now (phase.Line _) _ known = line_left known
   left_now phase.Ended runs known = absurd (cc)
   left_now _ _ known = counted_left past.count known.dest.at.root.free (tree_between s.tree past.count known.items.places.placed known.dest.at)

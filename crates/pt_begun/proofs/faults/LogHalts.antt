@@ -112,7 +112,7 @@ failed_log_leaves_no_staging job start old _ run _ _ (past, is) (IsRefused _ _ _
 failed_log_leaves_no_staging job start old _ run _ _ (past, is) (FailsAtFirst _ stays _) tells dest_is =
     let had = now_tells (DestPart job past run.phase run.kept.held) start.dest old.dest (sym stays.1 ∙ dest_is) is.dest in
     free_there run.phase tells had.1
-failed_log_leaves_no_staging job start old _ run _ now (past, is) (FailsLater _ _ _ _ _ _ turn leaves _ _) tells dest_is =
+failed_log_leaves_no_staging job start old _ run _ _ (past, is) (FailsLater _ _ _ _ _ _ turn leaves _ _) tells dest_is =
     let quiet = follows_quiet turn tells in
     let same = quiet_leaves leaves.0.dest quiet in
     let was = same_tree old.dest (sym (ap dest_tree dest_is) ∙ same) in

@@ -56,21 +56,21 @@ module _ (job : Job) (past : Past) (s : Reading) (start : Tree) (object : Object
   abbrev root_here : ℕ → Tree
   root_here n = with_root start (root_on_way job start past.placed object.place n)
 
-  way_is : (n : ℕ) → IsTree start → IsRootOfStart job start → IsObject job object → n ≤ job.tuples.count → past.placed ≡ carried_among job s.tree (root_in start) past.count
+  way_is : {n : ℕ} → IsTree start → IsRootOfStart job start → IsObject job object → n ≤ job.tuples.count → past.placed ≡ carried_among job s.tree (root_in start) past.count
       → root_here n ≡ with_root start (on_the_way_to job s.tree (root_in start) past.count next n)
-  way_is n tree root it few placed =
-      on_way job past start object held n tree root it few
+  way_is {n} tree root it few placed =
+      on_way job past start object held tree root it few
       ∙ ap (λ (l : List Carried). with_root start (with_folders (take n (tuple_folders job next)) (with_objects job l (base job.tuples (root_in start))))) placed
 
   -- a front of its script, whose last file may be there in part
-  pub carrying_left : (n : ℕ) {now : Tree} → IsTree start → IsRootOfStart job start → IsObject job object → AreRows job past.bytes held → n ≤ job.tuples.count → past.placed ≡ carried_among job s.tree (root_in start) past.count
+  pub carrying_left : {n : ℕ} {now : Tree} → IsTree start → IsRootOfStart job start → IsObject job object → AreRows job past.bytes held → n ≤ job.tuples.count → past.placed ≡ carried_among job s.tree (root_in start) past.count
       → IsCarriedAs job s.tree (root_in start) past.count next → StandsAtPrefix (script_of_object job object held.rows past.bytes) (root_here n) now → MayBeLeft job s.tree start now (text job s.tree (root_in start) past.count)
-  carrying_left n {now} tree root it rows few placed is at =
+  carrying_left {n} {now} tree root it rows few placed is at =
       let within = marked_within job s.tree (root_in start) is.1 in
       inr (
         root.free,
         Carrying past.count n next now (text job s.tree (root_in start) past.count) is (told_so_far job s.tree (root_in start) past.count (omega (arith, within)))
-            (subst (λ (t : Tree). StandsAtPrefix (script_of next.id next.files job.meta job.algorithm) t now) (way_is n tree root it few placed)
+            (subst (λ (t : Tree). StandsAtPrefix (script_of next.id next.files job.meta job.algorithm) t now) (way_is tree root it few placed)
             (subst (λ (l : List Item). StandsAtPrefix l (root_here n) now) (own_script job past start object held rows) at)),
       )
 

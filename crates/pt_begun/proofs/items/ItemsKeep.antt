@@ -91,32 +91,32 @@ checks_root {job} {past} s start held {counts} {number} change false _ items =
     kept s start held (does change) Nothing (λ log old had. had) items (record { placed = items.places.placed; next = tt })
 
 pub starts_items : StartingKeepsItems
-starts_items job past s _ _ start _ here next held counts calls (IsStore was entries is) known =
+starts_items job past s _ _ start _ _ next held _ calls (IsStore was entries is) known =
     kept s start held calls Nothing (starts_told {job = job} s.tree (root_in start) past (IsStore was entries is)) known.items (record { placed = known.items.places.placed; next = tt })
-starts_items job past s _ _ start _ here next held counts calls (HasNoStaging was) known =
+starts_items job past s _ _ start _ _ next held _ calls (HasNoStaging was) known =
     kept s start held calls Nothing (starts_told {job = job} s.tree (root_in start) past (HasNoStaging was)) known.items (record { placed = known.items.places.placed; next = tt })
-starts_items job past s _ _ start _ here next held counts calls (HasNoRoot was) known =
+starts_items job past s _ _ start _ _ next held _ calls (HasNoRoot was) known =
     kept s start held calls Nothing (starts_told {job = job} s.tree (root_in start) past (HasNoRoot was)) known.items (record { placed = known.items.places.placed; next = tt })
-starts_items job past s _ _ start _ here next held counts calls (HasRoot was) known =
+starts_items job past s _ _ start _ _ next held _ calls (HasRoot was) known =
     kept s start held calls Nothing (starts_told {job = job} s.tree (root_in start) past (HasRoot was)) known.items (record { placed = known.items.places.placed; next = tt })
 starts_items _ _ s _ _ start _ _ _ held _ _ (MakesRoot _ number item _) known =
     makes_root s start held (Makes item) (number == 5) known.items
-starts_items job past s _ _ start _ here next held counts calls (RenamesRoot was) known =
+starts_items job past s _ _ start _ _ next held _ calls (RenamesRoot was) known =
     kept s start held calls Nothing (starts_told {job = job} s.tree (root_in start) past (RenamesRoot was)) known.items (record { placed = none_placed job s.tree (root_in start) known.source.at.1; next = tt })
 starts_items _ _ s _ _ start _ _ _ held _ _ (IsSame _ number path bytes _) known =
     checks_root s start held (Peeks (storage_root ++ path) bytes) (number == 2) known.source.at.1 known.items
-starts_items job past s _ _ start _ here next held counts calls turn known =
+starts_items job past s _ _ start _ _ next held _ calls turn known =
     kept s start held calls Nothing (starts_told {job = job} s.tree (root_in start) past turn) known.items (record { placed = known.items.places.placed; next = tt })
 
 -- ---- the walk
 
 pub walks_items : WalkingKeepsItems
 unfolding Changes IsKindAt
-walks_items job past s prefix start now new here next held _ counts calls (IsNew was index id is) change known =
+walks_items job past s prefix start now new _ next held _ _ calls (IsNew was index id is) change known =
     let tells = walks_tell start now new (IsNew was index id is) known.held_at.trail.is_one known.source (roots_have_no_gaps start known.dest.started).1 known.items.places.placed known.dest.at change in
     kept s start held calls tells (walks_told {job = job} s.tree (root_in start) past {prefix = prefix} (IsNew was index id is)) known.items
     (record { placed = placed_kept refl tells known.items.places.placed; next = new_is_free known.source is (roots_have_no_gaps start known.dest.started).1 known.items.places.placed known.dest.at (change.0 now refl) })
-walks_items job past s prefix start now new here next held _ counts calls turn change known =
+walks_items job past s prefix start now new _ next held _ _ calls turn change known =
     let tells = walks_tell start now new turn known.held_at.trail.is_one known.source (roots_have_no_gaps start known.dest.started).1 known.items.places.placed known.dest.at change in
     kept s start held calls tells (walks_told {job = job} s.tree (root_in start) past {prefix = prefix} turn) known.items
     (record { placed = placed_kept refl tells known.items.places.placed; next = tt })
@@ -124,27 +124,27 @@ walks_items job past s prefix start now new here next held _ counts calls turn c
 -- ---- the scan
 
 pub scans_items : ScanningKeepsItems
-scans_items job past s new _ start _ here next held _ counts calls (IsTooDeep was object apart deep) answers known =
+scans_items job past s new _ start _ _ next held _ _ calls (IsTooDeep was object apart deep) answers known =
     let tells = scans_tell (IsTooDeep was object apart deep) known.held_at.trail.is_one known.source known.items.places.next new answers in
     kept s start held calls tells (scans_told {job = job} s.tree (root_in start) past (IsTooDeep was object apart deep)) known.items
     (record { placed = placed_kept refl tells known.items.places.placed; next = tt })
-scans_items job past s new _ start _ here next held _ counts calls (MeetsDeep was object name e apart deep) answers known =
+scans_items job past s new _ start _ _ next held _ _ calls (MeetsDeep was object name e apart deep) answers known =
     let tells = scans_tell (MeetsDeep was object name e apart deep) known.held_at.trail.is_one known.source known.items.places.next new answers in
     kept s start held calls tells (scans_told {job = job} s.tree (root_in start) past (MeetsDeep was object name e apart deep)) known.items
     (record { placed = placed_kept refl tells known.items.places.placed; next = tt })
-scans_items job past s new _ start _ here next held _ counts calls (MeetsLimit was object name e room) answers known =
+scans_items job past s new _ start _ _ next held _ _ calls (MeetsLimit was object name e room) answers known =
     let tells = scans_tell (MeetsLimit was object name e room) known.held_at.trail.is_one known.source known.items.places.next new answers in
     kept s start held calls tells (scans_told {job = job} s.tree (root_in start) past (MeetsLimit was object name e room)) known.items
     (record { placed = placed_kept refl tells known.items.places.placed; next = tt })
-scans_items job past s new _ start _ here next held _ counts calls (MeetsOther was object name e) answers known =
+scans_items job past s new _ start _ _ next held _ _ calls (MeetsOther was object name e) answers known =
     let tells = scans_tell (MeetsOther was object name e) known.held_at.trail.is_one known.source known.items.places.next new answers in
     kept s start held calls tells (scans_told {job = job} s.tree (root_in start) past (MeetsOther was object name e)) known.items
     (record { placed = placed_kept refl tells known.items.places.placed; next = tt })
-scans_items job past s new _ start _ here next held _ counts calls (IsTooLong was object bytes byte block long) answers known =
+scans_items job past s new _ start _ _ next held _ _ calls (IsTooLong was object bytes byte block long) answers known =
     let tells = scans_tell (IsTooLong was object bytes byte block long) known.held_at.trail.is_one known.source known.items.places.next new answers in
     kept s start held calls tells (scans_told {job = job} s.tree (root_in start) past (IsTooLong was object bytes byte block long)) known.items
     (record { placed = placed_kept refl tells known.items.places.placed; next = tt })
-scans_items job past s new _ start _ here next held _ counts calls turn answers known =
+scans_items job past s new _ start _ _ next held _ _ calls turn answers known =
     let tells = scans_tell turn known.held_at.trail.is_one known.source known.items.places.next new answers in
     kept s start held calls tells (scans_told {job = job} s.tree (root_in start) past turn) known.items
     (record { placed = placed_kept refl tells known.items.places.placed; next = known.items.places.next })
@@ -159,9 +159,9 @@ after_sidecar s start held change false items =
     kept s start held (does change) Nothing (λ log old had. had) items (record { placed = items.places.placed; next = items.places.next })
 
 pub makes_items : MakingKeepsItems
-makes_items job past s _ start _ _ _ _ counts _ _ (MakesSidecar was object) known =
+makes_items job _ s _ start _ _ _ _ _ _ _ (MakesSidecar was object) known =
     after_sidecar s start was (Makes (sidecar_file job object was.rows staging)) (job.tuples.count == 0) known.items
-makes_items job past s _ start _ here held _ counts calls next turn known =
+makes_items _ past s _ start _ _ held _ _ calls next turn known =
     kept s start held calls Nothing (makes_told s.tree (root_in start) past turn) known.items (record { placed = known.items.places.placed; next = known.items.places.next })
 
 -- ---- an object at its place
@@ -174,9 +174,9 @@ after_a_tuple s start held change false items =
     kept s start held (does change) Nothing (λ log old had. had) items (record { placed = items.places.placed; next = items.places.next })
 
 pub places_items : PlacingKeepsItems
-places_items job past s _ start _ _ _ _ _ counts _ (MakesTuple was object number) known = after_a_tuple s start was (FindsNoneAndMakes (tuple_folder object number)) (nat_lt (number + 1) job.tuples.count) known.items
-places_items job past s _ start _ _ _ _ _ counts _ (FindsTuple was object number) known = after_a_tuple s start was (Finds (tuple_folder object number) (Some kind.Dir)) (nat_lt (number + 1) job.tuples.count) known.items
-places_items job past s _ start _ here next held _ counts calls (RenamesObject was object) known =
+places_items job _ s _ start _ _ _ _ _ _ _ (MakesTuple was object number) known = after_a_tuple s start was (FindsNoneAndMakes (tuple_folder object number)) (nat_lt (number + 1) job.tuples.count) known.items
+places_items job _ s _ start _ _ _ _ _ _ _ (FindsTuple was object number) known = after_a_tuple s start was (Finds (tuple_folder object number) (Some kind.Dir)) (nat_lt (number + 1) job.tuples.count) known.items
+places_items job past s _ start _ _ next held _ counts calls (RenamesObject was object) known =
     kept s start held calls Nothing (places_told {job = job} {counts = counts} s.tree (root_in start) past (RenamesObject was object)) known.items
     (record {
       placed =
@@ -184,8 +184,8 @@ places_items job past s _ start _ here next held _ counts calls (RenamesObject w
           ∙ sym (held_is_carried past s (root_in start) known.source.proper known.source.at.0 known.source.at.1 known.source.bytes known.items.places.next);
       next = known.items.places.next;
     })
-places_items job past s _ start _ here next held _ counts calls (TellsDone was object) known =
+places_items job past s _ start _ _ next held _ counts calls (TellsDone was object) known =
     let tells = places_tell {counts = counts} (TellsDone was object) known.held_at known.source known.items.places.next in
     kept s start held calls tells.1 (places_told {job = job} {counts = counts} s.tree (root_in start) past (TellsDone was object)) known.items (record { placed = known.items.places.placed; next = tt })
-places_items job past s _ start _ here next held _ counts calls (TellsEnd was) known =
+places_items job past s _ start _ _ next held _ counts calls (TellsEnd was) known =
     kept s start held calls (Last counts.done counts.present counts.skipped) (places_told {job = job} {counts = counts} s.tree (root_in start) past (TellsEnd was)) known.items (record { placed = tt; next = tt })

@@ -110,8 +110,8 @@ fails_at_file source object (frame ∷ frames) {name} proper e bad fits own it =
     fails_at it
     (left_file source object frame frames name proper fits own e) (ap (λ b. cond b (Some cause.Limit) None) bad)
 
-one_less : (n : ℕ) → 0 < n → n ≡ suc (n - 1)
-one_less n some = omega (arith, some)
+one_less : {n : ℕ} → 0 < n → n ≡ suc (n - 1)
+one_less some = omega (arith, some)
 
 left_other : (source : Forest) (object : Object) (frame : Frame) (frames : List Frame) {name : List ℕ} → is_proper (pairtree_of source) ≡ true → Fits (pairtree_of source) (frame ∷ frames) → 0 < own_listings object (frame ∷ frames)
     → entry_at frame ≡ Some (name, kind.Other) → left_of source object (frame ∷ frames) ≡ (logical_path object (frame ∷ frames), Other) ∷ left_of source object (advanced (frame ∷ frames))
@@ -119,7 +119,7 @@ left_other source object frame frames {name} proper fits some e =
     let top = pairtree_of source in
     let t = frame ∷ frames in
     let k = own_listings object t - 1 in
-    let own : own_listings object t ≡ suc k = one_less (own_listings object t) some in
+    let own : own_listings object t ≡ suc k = one_less some in
     ap (λ (n : ℕ). entries_left object.gathered top n t) own
     ∙ step.meets object.gathered top k frame frames name proper fits e
     ∙ ap (λ (p : Path). (p, Other) ∷ entries_left object.gathered top (suc k) (advanced t)) (logical_is object frame frames k (name, kind.Other) e own)

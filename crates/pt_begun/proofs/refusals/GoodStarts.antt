@@ -81,8 +81,8 @@ of_each test f (x ∷ ms) zero {m} is all =
 of_each test f (x ∷ ms) (suc k) is all = of_each test f ms k is (and_parts (list_all test (f x)) (list_all test (flat_map f ms)) (sym (list_all-append test (f x) (flat_map f ms)) ∙ all)).1
 
 module _ (job : Job) (source : Forest) (root : Tree) where
-  way_of : (object : Carried) → IsCarriedOf job source root object → list_all (is_way_free job root) (all_carried job source root) ≡ true → is_way_free job root object ≡ true
-  way_of object (k, (m, is, gives)) all =
+  way_of : {object : Carried} → IsCarriedOf job source root object → list_all (is_way_free job root) (all_carried job source root) ≡ true → is_way_free job root object ≡ true
+  way_of {object} (k, (m, is, gives)) all =
       (and_parts (is_way_free job root object) true
       (sym (ap (list_all (is_way_free job root)) gives) ∙ of_each (is_way_free job root) (λ (m : Marked). carried_by job m.1 m.0.verdict) (marked job source root) k is all)).0
 
@@ -97,7 +97,7 @@ module _ (job : Job) (source : Forest) (root : Tree) where
   never_bad (inl folder) (inr _) (IsNoFolder else_there) = true≢false (sym (ap is_folder_or_free folder) ∙ else_there)
   never_bad (inr free) (inr _) (IsNoFolder else_there) = true≢false (sym (ap is_folder_or_free (free [])) ∙ else_there)
   never_bad _ (inr usable) (HasOtherFile number _ _ is other) = other (all_at (λ (f : File). root f.0 ≡ Some (Bytes f.1)) (root_files_of job.tuples) number usable.files is)
-  never_bad _ (inr usable) (IsBarred object carried barred) = true≢false (sym (way_of object carried usable.ways) ∙ barred)
+  never_bad _ (inr usable) (IsBarred _ carried barred) = true≢false (sym (way_of carried usable.ways) ∙ barred)
 
 -- what stands at the top of a root that holds files is a folder
 top_of : {job : Job} {source : Forest} {t : Tree} → IsTree t → IsFree (root_in t) [] ⊎ IsUsable job source (root_in t) → root_in t [] ≡ Some Folder ⊎ IsFree (root_in t) []

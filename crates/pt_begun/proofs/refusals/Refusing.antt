@@ -108,7 +108,7 @@ unfolding Answers IsListed IsRead
 starts_refuse s _ _ _ (IsNoStore _ entries is) _ answers =
     let listed : entries ≡ listing_of s.tree = sym (some_same _ entries (answers.0 s refl)) in
     sym (store_listed s.tree) ∙ ap lists_store (sym listed) ∙ is
-starts_refuse s _ _ _ (IsNoPrefixFile _ kind some is) at _ = (at.2, no_file (find s.tree prefix_file) some is at.3)
+starts_refuse s _ _ _ (IsNoPrefixFile _ _ some is) at _ = (at.2, no_file (find s.tree prefix_file) some is at.3)
 starts_refuse s _ _ _ (IsNoPrefix _ _ _ is) at answers =
     (at.2, bad_prefix (find s.tree prefix_file) at.3 (answers.0 (after_open (prefix_file ∷ []) s) refl) is)
 starts_refuse _ _ _ _ _ at _ = (at.2.store, at.2.good)
@@ -116,7 +116,7 @@ starts_refuse _ _ _ _ _ at _ = (at.2.store, at.2.good)
 makes_refuse : {job : Job} (s : Reading) (new : Option Reading) (prefix : List ℕ) (count : ℕ) {here : Phase} {held after : Held} {calls : Calls} {why : Halt}
     → is_proper s.tree ≡ true → Makings job here held after calls (Err why) → SourceAt job s prefix count here held → Answers calls.asked (Some s) new → SaysOfSource why s.tree
 unfolding Answers IsListed IsRead
-makes_refuse {job} s _ prefix count proper (ReadsMore was object position left byte block more) at answers =
+makes_refuse {job} s _ prefix count proper (ReadsMore was object position left _ _ more) at answers =
     absurd (never_more job s prefix count object was position left proper at more (answers.0 s refl))
 makes_refuse {job} s _ prefix count proper (ReadsOther was object position row left is other) at answers =
     absurd (let same = some_same row at.2.row (sym is ∙ at.2.is_row) in
@@ -155,4 +155,4 @@ refused {old} {new} {why} {s} _ (FailsLater _ _ _ _ _ _ _ leaves _ _) _ = failed
 
 pub refuses_rightly : RefusesRightly
 unfolding Begun
-refuses_rightly job start old new run after why s (past, is) turn told = refused is turn told
+refuses_rightly _ _ _ _ _ _ _ _ (_, is) turn told = refused is turn told

@@ -52,8 +52,8 @@ no_folder (Some Folder) is other = absurd (true≢false (ap is_dir_kind is ∙ o
 no_folder _ _ _ = refl
 
 -- no file
-no_file : (o : Option Entry) {here : Option Kind} (bytes : List ℕ) → option_map kind_of_entry o ≡ here → is_file_kind here ≡ false → o ≢ Some (Bytes bytes)
-no_file _ _ is other same = true≢false (ap (λ (e : Option Entry). is_file_kind (option_map kind_of_entry e)) (sym same) ∙ ap is_file_kind is ∙ other)
+no_file : {o : Option Entry} {here : Option Kind} (bytes : List ℕ) → option_map kind_of_entry o ≡ here → is_file_kind here ≡ false → o ≢ Some (Bytes bytes)
+no_file _ is other same = true≢false (ap (λ (e : Option Entry). is_file_kind (option_map kind_of_entry e)) (sym same) ∙ ap is_file_kind is ∙ other)
 
 -- other bytes
 other_bytes : {o : Option Entry} {bytes : List ℕ} {block : List ℕ} → option_map (take 8192) (bytes_of o) ≡ Some block → bytes_eq block bytes ≡ false → length bytes < 8192 → o ≢ Some (Bytes bytes)
@@ -114,10 +114,10 @@ module _ (job : Job) (past : Past) (t : Tree) (old : Writing) (new : Option Writ
   unfolding Changes IsKindAt IsPeeked
   starts_find _ (IsNoRoot _ _ other) dest change =
       (dest.at.1, IsNoFolder (ap (λ (tree : Tree). is_folder_or_free (tree storage_root)) (sym dest.at.0.tree) ∙ no_folder (old.tree storage_root) (change.0 old refl) other))
-  starts_find _ (IsNoFile _ number path bytes kind is other) dest change = (
+  starts_find _ (IsNoFile _ number path bytes _ is other) dest change = (
     dest.at.free,
     HasOtherFile number (path, bytes) dest.at.top is
-        (λ same. no_file (old.tree (storage_root ++ path)) bytes (change.0 old refl) other (ap (λ (tree : Tree). tree (storage_root ++ path)) dest.at.tree ∙ same)),
+        (λ same. no_file bytes (change.0 old refl) other (ap (λ (tree : Tree). tree (storage_root ++ path)) dest.at.tree ∙ same)),
   )
   starts_find layout (Differs _ number path bytes _ is other) dest change = (
     dest.at.free,
@@ -128,7 +128,7 @@ module _ (job : Job) (past : Past) (t : Tree) (old : Writing) (new : Option Writ
   places_find : {counts : Counts} {here : Phase} {after : Held} {calls : Calls} → Places job counts here held after calls (Err halt.Target) → HeldAt job past here held → DestPart job past here held t old → Changes calls.change (Some old) new
       → ((object : Object) (number : ℕ) → here ≡ phase.Tuples object number → objects (object_held object held.rows past.bytes)) → IsFound
   unfolding Changes IsKindAt
-  places_find (IsInTheWay _ object number kind other) at dest change some =
+  places_find (IsInTheWay _ object number _ other) at dest change some =
       (dest.at.0.root.free, IsBarred (object_held object held.rows past.bytes) (some object number refl) (barred at dest (change.0 old refl) other))
 
   follows_find : {counts : Counts} {here : Phase} {prefix read : List ℕ} {after : Held} {calls : Calls} → IsLayout job.tuples → Follows job counts here prefix held read after calls (Err halt.Target) → HeldAt job past here held → DestPart job past here held t old → Changes calls.change (Some old) new
@@ -144,7 +144,7 @@ module _ (job : Job) (past : Past) (t : Tree) (old : Writing) (new : Option Writ
 found : (job : Job) (past : Past) (start : Start) (old new : World) (run : Run) (after : Kept) (t : Tree) (objects : Carried → Type 0) → IsPast job start old run past → Turn job run.phase (turning run.kept) after old new (Err halt.Target) → start.dest ≡ Some t
     → ((object : Object) (number : ℕ) → run.phase ≡ phase.Tuples object number → objects (object_held object run.kept.held.rows past.bytes)) → IsFree t staging × IsBadTarget job (root_in t) objects
 unfolding Did Stays LeavesSome
-found job past start old new run _ t objects is (IsRefused prefix held calls _ turn did _) told some =
+found job past start old new run _ t objects is (IsRefused _ _ calls _ turn did _) told some =
     let had = both_tell (DestPart job past run.phase run.kept.held) start.dest old.dest told is.dest in
     follows_find job past t had.0 new.dest run.kept.held objects is.layout turn is.held had.2 (subst (λ o. Changes calls.change o new.dest) had.1 did.0.dest) some
 found _ _ _ _ _ _ _ _ _ _ (FailsAtFirst _ stays _) _ _ = absurd (stays.3)
