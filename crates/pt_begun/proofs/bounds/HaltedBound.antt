@@ -14,11 +14,11 @@ use Rattle.pt_plan.specs.Answer.{Answer}
 use Rattle.pt_plan.specs.Bound.{bound}
 use Rattle.pt_plan.specs.Job.{Job}
 use Rattle.pt_plan.specs.Run.{Counts, Held, Kept}
-use Rattle.pt_plan.specs.Turn.{FailsAtFirst, FailsLater, Follows, IsHalted, IsRefused, Make, Place, Scan, Start as a_start, Walk}
-use Rattle.pt_plan.specs.TurnMake.{MakesStaging, Makings}
-use Rattle.pt_plan.specs.TurnPlace.{Places, TellsDone}
-use Rattle.pt_plan.specs.TurnScan.{EndsFile, IsTooDeep, IsTooLong, MeetsDeep, MeetsLimit, MeetsOther, Scans, logical_path, with_file}
-use Rattle.pt_plan.specs.TurnWalk.{OpensRoot, Walks}
+use Rattle.pt_plan.specs.Turn.{FailsAtFirst, FailsLater, Follows, IsHalted, IsRefused, Make, Place, Scan, Walk}
+use Rattle.pt_plan.specs.TurnMake.{MakesStaging}
+use Rattle.pt_plan.specs.TurnPlace.{TellsDone}
+use Rattle.pt_plan.specs.TurnScan.{EndsFile, IsTooDeep, IsTooLong, MeetsDeep, MeetsLimit, MeetsOther, logical_path, with_file}
+use Rattle.pt_plan.specs.TurnWalk.{OpensRoot}
 use Rattle.pt_plan.specs.World.{Answers, Calls, Reads, asks}
 use Rattle.pt_plan.specs.declared.object.Object.{Object}
 use Rattle.pt_plan.specs.declared.phase.Phase.{Phase}
@@ -69,37 +69,20 @@ few_with_file {job} {past} {prefix} {held} {object} {bytes} {s} new at known ans
     let fewer = no_fewer held.contents (digest_of job.algorithm held.fed) (logical_path object held.trail) in
     omega (arith, few, same, fewer)
 
-walks_few : {job : Job} (source : Forest) {prefix : List ℕ} {here : Phase} {held new : Held} {calls : Calls} {answer : Answer} → Walks job prefix here held new calls answer → IsWithinBound job source held → AreFew job source held new.rows
-walks_few _ (OpensRoot _ _) few = few
-walks_few _ _ few = few
-
-scans_few : {job : Job} {past : Past} {prefix : List ℕ} {here : Phase} {held new : Held} {calls : Calls} {answer : Answer} {s : Reading} (now : Option Reading) → Scans job here held new calls answer → HeldAt job past here held → SourcePart job past here prefix held s
-    → Answers calls.asked (Some s) now → IsWithinBound job s.tree held → AreFew job s.tree held new.rows
-scans_few {job} {s} _ (IsTooDeep was _ _ _) _ _ _ few = few_none job s.tree was few
-scans_few {job} {s} _ (MeetsDeep was _ _ _ _ _) _ _ _ few = few_none job s.tree was few
-scans_few {job} {s} _ (MeetsLimit was _ _ _ _) _ _ _ few = few_none job s.tree was few
-scans_few {job} {s} _ (MeetsOther was _ _ _) _ _ _ few = few_none job s.tree was few
-scans_few {job} {s} _ (IsTooLong was _ _ _ _ _) _ _ _ few = few_none job s.tree was few
-scans_few now (EndsFile _ _ _) at known answers _ = few_with_file now at known answers
-scans_few _ _ _ _ _ few = few
-
-makes_few : {job : Job} (source : Forest) {here : Phase} {held new : Held} {calls : Calls} {answer : Answer} → Makings job here held new calls answer → IsWithinBound job source held → AreFew job source held new.rows
-makes_few _ (MakesStaging _ _) few = few
-makes_few _ _ few = few
-
-places_few : {job : Job} (source : Forest) {counts : Counts} {here : Phase} {held new : Held} {calls : Calls} {answer : Answer} → Places job counts here held new calls answer → IsWithinBound job source held → AreFew job source held new.rows
-places_few {job} source (TellsDone was _) few = few_none job source was few
-places_few _ _ few = few
-
 -- ---- a turn that halts
 
 follows_few : {job : Job} {past : Past} {counts : Counts} {here : Phase} {prefix : List ℕ} {held : Held} {read : List ℕ} {new : Held} {calls : Calls} {answer : Answer} {s : Reading} (now : Option Reading) → Follows job counts here prefix held read new calls answer
     → HeldAt job past here held → SourcePart job past here prefix held s → Answers calls.asked (Some s) now → IsWithinBound job s.tree held → AreFew job s.tree held new.rows
-follows_few _ (a_start _ _ _ _ _ _ _) _ _ _ few = few
-follows_few {s} _ (Walk _ _ _ _ _ _ turn) _ _ _ few = walks_few s.tree turn few
-follows_few now (Scan _ _ _ _ _ _ turn) at known answers few = scans_few now turn at known answers few
-follows_few {s} _ (Make _ _ _ _ _ _ turn) _ _ _ few = makes_few s.tree turn few
-follows_few {s} _ (Place _ _ _ _ _ _ turn) _ _ _ few = places_few s.tree turn few
+follows_few {s} _ (Walk _ _ _ _ _ _ (OpensRoot _ _)) _ _ _ few = few
+follows_few {job} {s} _ (Scan _ _ _ _ _ _ (IsTooDeep was _ _ _)) _ _ _ few = few_none job s.tree was few
+follows_few {job} {s} _ (Scan _ _ _ _ _ _ (MeetsDeep was _ _ _ _ _)) _ _ _ few = few_none job s.tree was few
+follows_few {job} {s} _ (Scan _ _ _ _ _ _ (MeetsLimit was _ _ _ _)) _ _ _ few = few_none job s.tree was few
+follows_few {job} {s} _ (Scan _ _ _ _ _ _ (MeetsOther was _ _ _)) _ _ _ few = few_none job s.tree was few
+follows_few {job} {s} _ (Scan _ _ _ _ _ _ (IsTooLong was _ _ _ _ _)) _ _ _ few = few_none job s.tree was few
+follows_few now (Scan _ _ _ _ _ _ (EndsFile _ _ _)) at known answers _ = few_with_file now at known answers
+follows_few _ (Make _ _ _ _ _ _ (MakesStaging _ _)) _ _ _ few = few
+follows_few {job} {s} _ (Place _ _ _ _ _ _ (TellsDone was _)) _ _ _ few = few_none job s.tree was few
+follows_few _ _ _ _ _ few = few
 
 halted_few : (job : Job) (source : Forest) {rows : List Row} {before after : Kept} → IsHalted rows before after → AreFew job source before.held rows → IsWithinBound job source after.held
 halted_few job source halted few =

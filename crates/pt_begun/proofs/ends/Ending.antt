@@ -2,7 +2,7 @@
 use Rattle.std.proofs.Common.{inl, inr, ◌≡◌, ◌≤◌, ◌==◌, ◌+◌, ℕ, zero, suc, Bool, true, false, List, [], ◌∷◌, ◌++◌, refl, ap, sym, ◌∙◌, subst, append_assoc, arith, cond, drop, length}
 use Rattle.std.specs.List.{list_all}
 use Rattle.std.specs.Prelude.{◌&&◌, ◌⊎◌, Option, Some, Ok, nat_lt}
-use Rattle.std.proofs.lemmas.Bool.{false≢true, true≢false}
+use Rattle.std.proofs.lemmas.Bool.{true≢false}
 use Rattle.std.proofs.lemmas.List.{length-map}
 use Rattle.pt_object.specs.Holding.{IsFree}
 use Rattle.pt_object.specs.Root.{base}
@@ -22,11 +22,11 @@ use Rattle.pt_plan.specs.Roots.{root_in, storage_root, with_root}
 use Rattle.pt_plan.specs.Run.{Counts, Held, Kept, Run, turning}
 use Rattle.pt_plan.specs.Store.{prefix_of, sites_of}
 use Rattle.pt_plan.specs.Turn.{Did, Happens, Follows, GoesOn, Start as a_start, Walk, Scan, Make, Place, counted}
-use Rattle.pt_plan.specs.TurnMake.{Makings, MakesSidecar}
-use Rattle.pt_plan.specs.TurnPlace.{Places, MakesTuple, FindsTuple, TellsEnd, last_line}
-use Rattle.pt_plan.specs.TurnScan.{Scans, StartsInSite}
-use Rattle.pt_plan.specs.TurnStart.{Starts, MakesRoot, IsSame}
-use Rattle.pt_plan.specs.TurnWalk.{Walks, OpensRoot}
+use Rattle.pt_plan.specs.TurnMake.{MakesSidecar}
+use Rattle.pt_plan.specs.TurnPlace.{MakesTuple, FindsTuple, TellsEnd, last_line}
+use Rattle.pt_plan.specs.TurnScan.{StartsInSite}
+use Rattle.pt_plan.specs.TurnStart.{MakesRoot, IsSame}
+use Rattle.pt_plan.specs.TurnWalk.{OpensRoot}
 use Rattle.pt_plan.specs.World.{Calls, Changes, ChangesNothing, Puts, World, tells}
 use Rattle.pt_plan.specs.declared.phase.Phase.{Phase}
 use Rattle.pt_plan.specs.declared.phase.Phase.TheVariants as phase
@@ -51,35 +51,16 @@ pub record IsLastTurn (counts : Counts) (here : Phase) (held after : Held) (call
   pub calls_are : calls ≡ tells (last_line counts)
   pub held_is : after ≡ held
 
-starts_go : {job : Job} {prefix read : List ℕ} {here next : Phase} {calls : Calls} → Starts job here prefix read calls (Ok next) → is_ended next ≡ false
-starts_go (MakesRoot _ number _ _) = either_not (number == 5) phase.RootRename (phase.RootMake (number + 1)) refl refl
-starts_go (IsSame _ number _ _ _) = either_not (number == 2) phase.OpenRoot (phase.RootCheck (number + 1)) refl refl
-starts_go _ = refl
-
-walks_go : {job : Job} {prefix : List ℕ} {here next : Phase} {held after : Held} {calls : Calls} → Walks job prefix here held after calls (Ok next) → is_ended next ≡ false
-walks_go (OpensRoot _ _) = refl
-walks_go _ = refl
-
-scans_go : {job : Job} {here next : Phase} {held after : Held} {calls : Calls} → Scans job here held after calls (Ok next) → is_ended next ≡ false
-scans_go (StartsInSite _ _ _) = refl
-scans_go _ = refl
-
-makes_go : {job : Job} {here : Phase} {held after : Held} {calls : Calls} {next : Phase} → Makings job here held after calls (Ok next) → is_ended next ≡ false
-makes_go {job} (MakesSidecar _ object) = either_not (job.tuples.count == 0) (phase.Rename object) (phase.Tuples object 0) refl refl
-makes_go _ = refl
-
-places_last : {job : Job} {counts : Counts} {here next : Phase} {held after : Held} {calls : Calls} → Places job counts here held after calls (Ok next) → is_ended next ≡ true → IsLastTurn counts here held after calls
-places_last {job} (MakesTuple _ object number) ended = absurd (let no = either_not (nat_lt (number + 1) job.tuples.count) (phase.Tuples object (number + 1)) (phase.Rename object) refl refl in true≢false (sym ended ∙ no))
-places_last {job} (FindsTuple _ object number) ended = absurd (let no = either_not (nat_lt (number + 1) job.tuples.count) (phase.Tuples object (number + 1)) (phase.Rename object) refl refl in true≢false (sym ended ∙ no))
-places_last (TellsEnd _) _ = record { phase_is = refl; calls_are = refl; held_is = refl }
-places_last _ ended = absurd (false≢true ended)
-
 pub last_turn : {job : Job} {counts : Counts} {here : Phase} {prefix : List ℕ} {held : Held} {read : List ℕ} {after : Held} {calls : Calls} {next : Phase} → Follows job counts here prefix held read after calls (Ok next) → is_ended next ≡ true → IsLastTurn counts here held after calls
-last_turn (a_start _ _ _ _ _ _ turn) ended = absurd (true≢false (sym ended ∙ starts_go turn))
-last_turn (Walk _ _ _ _ _ _ turn) ended = absurd (true≢false (sym ended ∙ walks_go turn))
-last_turn (Scan _ _ _ _ _ _ turn) ended = absurd (true≢false (sym ended ∙ scans_go turn))
-last_turn (Make _ _ _ _ _ _ turn) ended = absurd (true≢false (sym ended ∙ makes_go turn))
-last_turn (Place _ _ _ _ _ _ turn) ended = places_last turn ended
+last_turn (a_start _ _ _ _ _ _ (MakesRoot _ number _ _)) ended = absurd (true≢false (sym ended ∙ either_not (number == 5) phase.RootRename (phase.RootMake (number + 1)) refl refl))
+last_turn (a_start _ _ _ _ _ _ (IsSame _ number _ _ _)) ended = absurd (true≢false (sym ended ∙ either_not (number == 2) phase.OpenRoot (phase.RootCheck (number + 1)) refl refl))
+last_turn (Walk _ _ _ _ _ _ (OpensRoot _ _)) ended = absurd (cc)
+last_turn (Scan _ _ _ _ _ _ (StartsInSite _ _ _)) ended = absurd (cc)
+last_turn {job} (Make _ _ _ _ _ _ (MakesSidecar _ object)) ended = absurd (true≢false (sym ended ∙ either_not (job.tuples.count == 0) (phase.Rename object) (phase.Tuples object 0) refl refl))
+last_turn {job} (Place _ _ _ _ _ _ (MakesTuple _ object number)) ended = absurd (true≢false (sym ended ∙ either_not (nat_lt (number + 1) job.tuples.count) (phase.Tuples object (number + 1)) (phase.Rename object) refl refl))
+last_turn {job} (Place _ _ _ _ _ _ (FindsTuple _ object number)) ended = absurd (true≢false (sym ended ∙ either_not (nat_lt (number + 1) job.tuples.count) (phase.Tuples object (number + 1)) (phase.Rename object) refl refl))
+last_turn (Place _ _ _ _ _ _ (TellsEnd _)) _ = record { phase_is = refl; calls_are = refl; held_is = refl }
+last_turn _ ended = absurd (cc)
 
 -- ---- all items are done
 

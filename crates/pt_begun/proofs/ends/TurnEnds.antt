@@ -1,22 +1,19 @@
 -- A turn that halts the run leaves it ended.
 use Rattle.std.proofs.Common.{◌≡◌, ℕ, Bool, true, false, List, refl, ap, sym, ◌∙◌, subst}
-use Rattle.std.specs.Prelude.{Option, None, Some, Ok, Err}
+use Rattle.std.specs.Prelude.{Option, None, Some, Err}
 use Rattle.pt_tree.specs.Dest.{Writing}
 use Rattle.pt_tree.specs.Forest.{Forest, is_proper}
 use Rattle.pt_tree.specs.Source.{Reading}
 use Rattle.pt_tree.specs.Tree.{Tree}
 use Rattle.pt_walk.specs.Trail.{is_trail}
-use Rattle.pt_plan.specs.Answer.{Answer}
 use Rattle.pt_plan.specs.Job.{Job}
 use Rattle.pt_plan.specs.Lines.{Line}
 use Rattle.pt_plan.specs.Roots.{root_in}
 use Rattle.pt_plan.specs.Run.{Counts, Held, Kept, Run, turning}
 use Rattle.pt_plan.specs.Turn.{Did, FailsAtFirst, FailsLater, Follows, IsRefused, LeavesSome, Start as a_start, Stays, Turn, Walk, Scan, Make, Place}
-use Rattle.pt_plan.specs.TurnMake.{Makings, ReadsMore, ReadsOther}
-use Rattle.pt_plan.specs.TurnPlace.{Places, IsInTheWay}
-use Rattle.pt_plan.specs.TurnScan.{Scans, StartsInSite}
-use Rattle.pt_plan.specs.TurnStart.{Starts, IsNoStore, IsNoPrefixFile, IsNoPrefix, HasStaging, IsNoRoot, IsNoFile, Differs}
-use Rattle.pt_plan.specs.TurnWalk.{Walks, OpensRoot}
+use Rattle.pt_plan.specs.TurnMake.{ReadsMore, ReadsOther}
+use Rattle.pt_plan.specs.TurnPlace.{IsInTheWay}
+use Rattle.pt_plan.specs.TurnStart.{HasStaging, IsNoRoot, IsNoFile, Differs}
 use Rattle.pt_plan.specs.World.{Answers, Asked, AsksNothing, Calls, Change, Changes, LeavesFront, LeavesPart, Lists, NewFile, OfFile, OfPiece, Opens, OpensAndReads, Puts, Reads, Untouched, World, source_tree}
 use Rattle.pt_plan.specs.declared.halt.Halt.{Halt}
 use Rattle.pt_plan.specs.declared.phase.Phase.{Phase}
@@ -37,48 +34,18 @@ use Rattle.pt_begun.proofs.ends.TurnKeeps.{told_log}
 
 -- ---- what the answers that halt a run change
 
-abbrev is_halt : Answer → Bool
-is_halt (Ok next) = false
-is_halt (Err why) = true
-
-starts_same : {job : Job} {prefix read : List ℕ} {here : Phase} {calls : Calls} {answer : Answer} {old new : Option Writing} → Starts job here prefix read calls answer → is_halt answer ≡ true → Changes calls.change old new → new ≡ old
-unfolding Changes
-starts_same (IsNoStore _ _ _) _ change = change
-starts_same (IsNoPrefixFile _ _ _ _) _ change = change
-starts_same (IsNoPrefix _ _ _ _) _ change = change
-starts_same (HasStaging _ _) _ change = change.1
-starts_same (IsNoRoot _ _ _) _ change = change.1
-starts_same (IsNoFile _ _ _ _ _ _ _) _ change = change.1
-starts_same (Differs _ _ _ _ _ _ _) _ change = change.2
-starts_same _ halts change = absurd (cc)
-
-walks_same : {job : Job} {prefix : List ℕ} {here : Phase} {held after : Held} {calls : Calls} {answer : Answer} {old new : Option Writing} → Walks job prefix here held after calls answer → is_halt answer ≡ true → Changes calls.change old new → new ≡ old
-unfolding Changes
-walks_same (OpensRoot _ _) halts change = absurd (cc)
-walks_same _ halts change = absurd (cc)
-
-scans_same : {job : Job} {here : Phase} {held after : Held} {calls : Calls} {answer : Answer} {old new : Option Writing} → Scans job here held after calls answer → is_halt answer ≡ true → Changes calls.change old new → new ≡ old
-unfolding Changes
-scans_same (StartsInSite _ _ _) halts change = absurd (cc)
-scans_same _ halts change = absurd (cc)
-
-makes_same : {job : Job} {here : Phase} {held after : Held} {calls : Calls} {answer : Answer} {old new : Option Writing} → Makings job here held after calls answer → is_halt answer ≡ true → Changes calls.change old new → new ≡ old
-unfolding Changes
-makes_same (ReadsMore _ _ _ _ _ _ _) _ change = change
-makes_same (ReadsOther _ _ _ _ _ _ _) _ change = change
-makes_same _ halts change = absurd (cc)
-
-places_same : {job : Job} {counts : Counts} {here : Phase} {held after : Held} {calls : Calls} {answer : Answer} {old new : Option Writing} → Places job counts here held after calls answer → is_halt answer ≡ true → Changes calls.change old new → new ≡ old
-unfolding Changes
-places_same (IsInTheWay _ _ _ _ _) _ change = change.1
-places_same _ halts change = absurd (cc)
-
 pub refused_same : {job : Job} {counts : Counts} {here : Phase} {prefix : List ℕ} {held : Held} {read : List ℕ} {after : Held} {calls : Calls} {why : Halt} {old new : Option Writing} → Follows job counts here prefix held read after calls (Err why) → Changes calls.change old new → new ≡ old
-refused_same (a_start _ _ _ _ _ _ turn) change = starts_same turn refl change
-refused_same (Walk _ _ _ _ _ _ turn) change = walks_same turn refl change
-refused_same (Scan _ _ _ _ _ _ turn) change = scans_same turn refl change
-refused_same (Make _ _ _ _ _ _ turn) change = makes_same turn refl change
-refused_same (Place _ _ _ _ _ _ turn) change = places_same turn refl change
+unfolding Changes
+refused_same (a_start _ _ _ _ _ _ (HasStaging _ _)) change = change.1
+refused_same (a_start _ _ _ _ _ _ (IsNoRoot _ _ _)) change = change.1
+refused_same (a_start _ _ _ _ _ _ (IsNoFile _ _ _ _ _ _ _)) change = change.1
+refused_same (a_start _ _ _ _ _ _ (Differs _ _ _ _ _ _ _)) change = change.2
+refused_same (a_start _ _ _ _ _ _ _) change = change
+refused_same (Walk _ _ _ _ _ _ turn) _ = elim turn [ ]
+refused_same (Scan _ _ _ _ _ _ turn) _ = elim turn [ ]
+refused_same (Make _ _ _ _ _ _ (ReadsMore _ _ _ _ _ _ _)) change = change
+refused_same (Make _ _ _ _ _ _ (ReadsOther _ _ _ _ _ _ _)) change = change
+refused_same (Place _ _ _ _ _ _ (IsInTheWay _ _ _ _ _)) change = change.1
 
 -- ---- which devices tell
 

@@ -62,33 +62,18 @@ quiet_leaves : {old new : Option Writing} {change : Change} → LeavesPart old n
 quiet_leaves (Untouched _ same) _ = same
 quiet_leaves _ quiet = absurd (cc)
 
-starts_late : {job : Job} {here : Phase} {prefix read : List ℕ} {calls : Calls} {answer : Answer} → Starts job here prefix read calls answer → may_tell here ≡ false
-starts_late (start.IsStore _ _ _) = refl
-starts_late _ = refl
-
-walks_quiet : {job : Job} {prefix : List ℕ} {here : Phase} {held new : Held} {calls : Calls} {answer : Answer} → Walks job prefix here held new calls answer → is_quiet calls.change ≡ true
-walks_quiet (walk.OpensRoot _ _) = refl
-walks_quiet _ = refl
-
-scans_quiet : {job : Job} {here : Phase} {held new : Held} {calls : Calls} {answer : Answer} → Scans job here held new calls answer → is_quiet calls.change ≡ true
-scans_quiet (scan.StartsInSite _ _ _) = refl
-scans_quiet _ = refl
-
-makes_late : {job : Job} {here : Phase} {held new : Held} {calls : Calls} {answer : Answer} → Makings job here held new calls answer → may_tell here ≡ false
-makes_late (make.MakesStaging _ _) = refl
-makes_late _ = refl
-
-places_quiet : {job : Job} {counts : Counts} {here : Phase} {held new : Held} {calls : Calls} {answer : Answer} → Places job counts here held new calls answer → may_tell here ≡ true → is_quiet calls.change ≡ true
-places_quiet (place.TellsDone _ _) _ = refl
-places_quiet (place.TellsEnd _) _ = refl
-places_quiet _ tells = absurd (cc)
-
 follows_quiet : {job : Job} {counts : Counts} {here : Phase} {prefix : List ℕ} {held : Held} {read : List ℕ} {after : Held} {calls : Calls} {answer : Answer} → Follows job counts here prefix held read after calls answer → may_tell here ≡ true → is_quiet calls.change ≡ true
-follows_quiet (a_start h p r w c a turn) tells = let late = starts_late turn in absurd (let no : true ≡ false = sym tells ∙ late in cc)
-follows_quiet (Walk _ _ _ _ _ _ turn) _ = walks_quiet turn
-follows_quiet (Scan _ _ _ _ _ _ turn) _ = scans_quiet turn
-follows_quiet {job} {here} {held} {after} {calls} {answer} (Make h p w n c a turn) tells = let late = makes_late turn in absurd (let no : true ≡ false = sym tells ∙ late in cc)
-follows_quiet {job} {counts} {here} {held} {after} {calls} {answer} (Place _ _ _ _ _ _ turn) tells = places_quiet turn tells
+follows_quiet (a_start _ _ _ _ _ _ (start.IsStore _ _ _)) tells = absurd (cc)
+follows_quiet (a_start _ _ _ _ _ _ _) tells = absurd (cc)
+follows_quiet (Walk _ _ _ _ _ _ (walk.OpensRoot _ _)) _ = refl
+follows_quiet (Scan _ _ _ _ _ _ (scan.StartsInSite _ _ _)) _ = refl
+follows_quiet (Make _ _ _ _ _ _ (make.MakesStaging _ _)) tells = absurd (cc)
+follows_quiet (Make _ _ _ _ _ _ _) tells = absurd (cc)
+follows_quiet (Place _ _ _ _ _ _ (place.MakesTuple _ _ _)) tells = absurd (cc)
+follows_quiet (Place _ _ _ _ _ _ (place.FindsTuple _ _ _)) tells = absurd (cc)
+follows_quiet (Place _ _ _ _ _ _ (place.IsInTheWay _ _ _ _ _)) tells = absurd (cc)
+follows_quiet (Place _ _ _ _ _ _ (place.RenamesObject _ _)) tells = absurd (cc)
+follows_quiet _ _ = refl
 
 -- ---- the law
 

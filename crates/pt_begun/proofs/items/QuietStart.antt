@@ -5,11 +5,11 @@ use Rattle.std.proofs.lemmas.Bool.{true≢false}
 use Rattle.pt_plan.specs.Job.{Job}
 use Rattle.pt_plan.specs.Run.{Counts, Held}
 use Rattle.pt_plan.specs.Turn.{Follows, Start as a_start, Walk, Scan, Make, Place}
-use Rattle.pt_plan.specs.TurnMake.{Makings, MakesSidecar}
-use Rattle.pt_plan.specs.TurnPlace.{Places, MakesTuple, FindsTuple}
-use Rattle.pt_plan.specs.TurnScan.{Scans, StartsInSite}
-use Rattle.pt_plan.specs.TurnStart.{Starts, IsStore}
-use Rattle.pt_plan.specs.TurnWalk.{Walks, OpensRoot}
+use Rattle.pt_plan.specs.TurnMake.{MakesSidecar}
+use Rattle.pt_plan.specs.TurnPlace.{MakesTuple, FindsTuple}
+use Rattle.pt_plan.specs.TurnScan.{StartsInSite}
+use Rattle.pt_plan.specs.TurnStart.{IsStore}
+use Rattle.pt_plan.specs.TurnWalk.{OpensRoot}
 use Rattle.pt_plan.specs.World.{Calls}
 use Rattle.pt_plan.specs.declared.phase.Phase.{Phase}
 use Rattle.pt_plan.specs.declared.phase.Phase.TheVariants as phase
@@ -61,30 +61,12 @@ either_later : (this : Bool) (p q : Phase) → is_start p ≡ false → is_start
 either_later true _ _ one _ = one
 either_later false _ _ _ two = two
 
-starts_quietly : {job : Job} {prefix read : List ℕ} {here next : Phase} {calls : Calls} → Starts job here prefix read calls (Ok next) → StartsQuietly here calls
-starts_quietly (IsStore _ _ _) = record { start = refl; line = refl }
-starts_quietly _ = record { start = refl; line = refl }
-
-walks_later : {job : Job} {prefix : List ℕ} {here next : Phase} {held after : Held} {calls : Calls} → Walks job prefix here held after calls (Ok next) → is_start next ≡ false
-walks_later (OpensRoot _ _) = refl
-walks_later _ = refl
-
-scans_later : {job : Job} {here next : Phase} {held after : Held} {calls : Calls} → Scans job here held after calls (Ok next) → is_start next ≡ false
-scans_later (StartsInSite _ _ _) = refl
-scans_later _ = refl
-
-makes_later : {job : Job} {here : Phase} {held after : Held} {calls : Calls} {next : Phase} → Makings job here held after calls (Ok next) → is_start next ≡ false
-makes_later {job} (MakesSidecar _ object) = either_later (job.tuples.count == 0) (phase.Rename object) (phase.Tuples object 0) refl refl
-makes_later _ = refl
-
-places_later : {job : Job} {counts : Counts} {here next : Phase} {held after : Held} {calls : Calls} → Places job counts here held after calls (Ok next) → is_start next ≡ false
-places_later {job} (MakesTuple _ object number) = either_later (nat_lt (number + 1) job.tuples.count) (phase.Tuples object (number + 1)) (phase.Rename object) refl refl
-places_later {job} (FindsTuple _ object number) = either_later (nat_lt (number + 1) job.tuples.count) (phase.Tuples object (number + 1)) (phase.Rename object) refl refl
-places_later _ = refl
-
 pub follows_quietly : {job : Job} {counts : Counts} {here : Phase} {prefix : List ℕ} {held : Held} {read : List ℕ} {after : Held} {calls : Calls} {next : Phase} → Follows job counts here prefix held read after calls (Ok next) → is_start next ≡ true → StartsQuietly here calls
-follows_quietly (a_start _ _ _ _ _ _ turn) _ = starts_quietly turn
-follows_quietly (Walk _ _ _ _ _ _ turn) start = absurd (true≢false (sym start ∙ walks_later turn))
-follows_quietly (Scan _ _ _ _ _ _ turn) start = absurd (true≢false (sym start ∙ scans_later turn))
-follows_quietly (Make _ _ _ _ _ _ turn) start = absurd (true≢false (sym start ∙ makes_later turn))
-follows_quietly (Place _ _ _ _ _ _ turn) start = absurd (true≢false (sym start ∙ places_later turn))
+follows_quietly (a_start _ _ _ _ _ _ (IsStore _ _ _)) _ = record { start = refl; line = refl }
+follows_quietly (a_start _ _ _ _ _ _ _) _ = record { start = refl; line = refl }
+follows_quietly (Walk _ _ _ _ _ _ (OpensRoot _ _)) start = absurd (cc)
+follows_quietly (Scan _ _ _ _ _ _ (StartsInSite _ _ _)) start = absurd (cc)
+follows_quietly {job} (Make _ _ _ _ _ _ (MakesSidecar _ object)) start = absurd (true≢false (sym start ∙ either_later (job.tuples.count == 0) (phase.Rename object) (phase.Tuples object 0) refl refl))
+follows_quietly {job} (Place _ _ _ _ _ _ (MakesTuple _ object number)) start = absurd (true≢false (sym start ∙ either_later (nat_lt (number + 1) job.tuples.count) (phase.Tuples object (number + 1)) (phase.Rename object) refl refl))
+follows_quietly {job} (Place _ _ _ _ _ _ (FindsTuple _ object number)) start = absurd (true≢false (sym start ∙ either_later (nat_lt (number + 1) job.tuples.count) (phase.Tuples object (number + 1)) (phase.Rename object) refl refl))
+follows_quietly _ start = absurd (cc)

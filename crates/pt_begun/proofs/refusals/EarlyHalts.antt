@@ -7,9 +7,9 @@ use Rattle.pt_tree.specs.Tree.{Tree}
 use Rattle.pt_plan.specs.Job.{Job}
 use Rattle.pt_plan.specs.Run.{Counts, Held, turning}
 use Rattle.pt_plan.specs.Turn.{Did, FailsAtFirst, FailsLater, Follows, HasFailed, IsRefused, LeavesSome, Start as a_start, Stays, Walk, Scan, Make, Place}
-use Rattle.pt_plan.specs.TurnMake.{Makings, ReadsMore, ReadsOther}
-use Rattle.pt_plan.specs.TurnPlace.{Places, IsInTheWay}
-use Rattle.pt_plan.specs.TurnStart.{Starts, IsNoRoot, IsNoFile, Differs}
+use Rattle.pt_plan.specs.TurnMake.{ReadsMore, ReadsOther}
+use Rattle.pt_plan.specs.TurnPlace.{IsInTheWay}
+use Rattle.pt_plan.specs.TurnStart.{IsNoRoot, IsNoFile, Differs}
 use Rattle.pt_plan.specs.World.{Calls, Failures}
 use Rattle.pt_plan.specs.declared.halt.Halt.{Halt}
 use Rattle.pt_plan.specs.declared.halt.Halt.TheVariants as halt
@@ -34,25 +34,16 @@ is_first (phase.Prefix here) = true
 is_first phase.Staging = true
 is_first _ = false
 
-starts_first : {job : Job} {prefix read : List ℕ} {here : Phase} {calls : Calls} {why : Halt} → Starts job here prefix read calls (Err why) → is_early why ≡ true → is_first here ≡ true
-starts_first (IsNoRoot was kind e) early = absurd (cc)
-starts_first (IsNoFile was number path bytes kind is e) early = absurd (cc)
-starts_first (Differs was number path bytes block is e) early = absurd (cc)
-starts_first _ _ = refl
-
-makes_late : {job : Job} {here : Phase} {held after : Held} {calls : Calls} {why : Halt} → Makings job here held after calls (Err why) → is_early why ≡ false
-makes_late (ReadsMore _ _ _ _ _ _ _) = refl
-makes_late (ReadsOther _ _ _ _ _ _ _) = refl
-
-places_late : {job : Job} {counts : Counts} {here : Phase} {held after : Held} {calls : Calls} {why : Halt} → Places job counts here held after calls (Err why) → is_early why ≡ false
-places_late (IsInTheWay _ _ _ _ _) = refl
-
 follows_first : {job : Job} {counts : Counts} {here : Phase} {prefix : List ℕ} {held : Held} {read : List ℕ} {after : Held} {calls : Calls} {why : Halt} → Follows job counts here prefix held read after calls (Err why) → is_early why ≡ true → is_first here ≡ true
-follows_first (a_start _ _ _ _ _ _ turn) early = starts_first turn early
+follows_first (a_start _ _ _ _ _ _ (IsNoRoot _ _ _)) early = absurd (cc)
+follows_first (a_start _ _ _ _ _ _ (IsNoFile _ _ _ _ _ _ _)) early = absurd (cc)
+follows_first (a_start _ _ _ _ _ _ (Differs _ _ _ _ _ _ _)) early = absurd (cc)
+follows_first (a_start _ _ _ _ _ _ _) _ = refl
 follows_first (Walk _ _ _ _ _ _ turn) _ = elim turn [ ]
 follows_first (Scan _ _ _ _ _ _ turn) _ = elim turn [ ]
-follows_first {job} {here} {held} {after} {calls} {why} (Make _ _ _ _ _ _ turn) early = absurd (true≢false (sym early ∙ makes_late turn))
-follows_first (Place _ _ _ _ _ _ turn) early = absurd (true≢false (sym early ∙ places_late turn))
+follows_first (Make _ _ _ _ _ _ (ReadsMore _ _ _ _ _ _ _)) early = absurd (cc)
+follows_first (Make _ _ _ _ _ _ (ReadsOther _ _ _ _ _ _ _)) early = absurd (cc)
+follows_first (Place _ _ _ _ _ _ (IsInTheWay _ _ _ _ _)) early = absurd (cc)
 
 -- a fault is no such halt
 failed_late : (why : Halt) (old new : Failures) → HasFailed why old new → is_early why ≡ false
