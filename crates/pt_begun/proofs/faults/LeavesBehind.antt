@@ -13,11 +13,11 @@ use Rattle.pt_plan.specs.Fixity.{IsKept}
 use Rattle.pt_plan.specs.Job.{Job}
 use Rattle.pt_plan.specs.Run.{Counts, Held, with_fed}
 use Rattle.pt_plan.specs.Turn.{Follows, Start as a_start, Walk, Scan, Make, Place}
-use Rattle.pt_plan.specs.TurnMake.{Makings, MakesStaging, MakesDeclaration, MakesVersion, PassesRow, MakesFolder, OpensCopy, CopiesOn, ReadsMore, EndsCopy, ReadsOther, MakesVersionInventory, MakesVersionSidecar, MakesInventory, MakesSidecar, in_content}
-use Rattle.pt_plan.specs.TurnPlace.{Places, MakesTuple}
-use Rattle.pt_plan.specs.TurnScan.{Scans, StartsInSite}
-use Rattle.pt_plan.specs.TurnStart.{Starts, MakesRoot}
-use Rattle.pt_plan.specs.TurnWalk.{Walks, OpensRoot}
+use Rattle.pt_plan.specs.TurnMake.{MakesDeclaration, OpensCopy, CopiesOn, MakesVersionInventory, MakesVersionSidecar, MakesInventory, MakesSidecar, in_content}
+use Rattle.pt_plan.specs.TurnPlace.{MakesTuple}
+use Rattle.pt_plan.specs.TurnScan.{StartsInSite}
+use Rattle.pt_plan.specs.TurnStart.{MakesRoot}
+use Rattle.pt_plan.specs.TurnWalk.{OpensRoot}
 use Rattle.pt_plan.specs.World.{Adds, Calls, Change, ChangesNothing, Creates, Finds, FindsNoneAndMakes, Finishes, LeavesPart, Makes, NewFile, OfFile, OfPiece, Peeks, Renames, Untouched}
 use Rattle.pt_plan.specs.declared.object.Object.{Object}
 use Rattle.pt_plan.specs.declared.phase.Part.{Part}
@@ -145,44 +145,17 @@ copied_left {job} {past} {start} {object} {position} {left} {piece} {held} {old}
 
 -- ---- each turn
 
-starts_left : {job : Job} {past : Past} {start : Tree} {prefix read : List ℕ} {here : Phase} {held : Held} {calls : Calls} {answer : Answer} {old new : Writing} → Starts job here prefix read calls answer → HeldAt job past here held → DestPart job past here held start old
-    → LeavesPart (Some old) (Some new) calls.change → IsLeftTree job start new
-starts_left {job} {past} {start} {held} {old} {new} (MakesRoot _ _ item is) at dest left = root_left item at dest is left
-starts_left {job} {past} {start} {here} {held} {old} {new} _ at dest left = same_left job past start here held old new at dest (plain_same refl left)
-
-walks_left : {job : Job} {past : Past} {start : Tree} {prefix : List ℕ} {here : Phase} {held after : Held} {calls : Calls} {answer : Answer} {old new : Writing} → Walks job prefix here held after calls answer → HeldAt job past here held → DestPart job past here held start old → LeavesPart (Some old) (Some new) calls.change → IsLeftTree job start new
-walks_left {job} {past} {start} {here} {held} {old} {new} (OpensRoot _ _) at dest left = same_left job past start here held old new at dest (plain_same refl left)
-walks_left {job} {past} {start} {here} {held} {old} {new} _ at dest left = same_left job past start here held old new at dest (plain_same refl left)
-
-scans_left : {job : Job} {past : Past} {start : Tree} {here : Phase} {held after : Held} {calls : Calls} {answer : Answer} {old new : Writing} → Scans job here held after calls answer → HeldAt job past here held → DestPart job past here held start old → LeavesPart (Some old) (Some new) calls.change → IsLeftTree job start new
-scans_left {job} {past} {start} {here} {held} {old} {new} (StartsInSite _ _ _) at dest left = same_left job past start here held old new at dest (plain_same refl left)
-scans_left {job} {past} {start} {here} {held} {old} {new} _ at dest left = same_left job past start here held old new at dest (plain_same refl left)
-
-places_left : {job : Job} {counts : Counts} {past : Past} {start : Tree} {here : Phase} {held after : Held} {calls : Calls} {answer : Answer} {old new : Writing} → Places job counts here held after calls answer → HeldAt job past here held → DestPart job past here held start old → LeavesPart (Some old) (Some new) calls.change → IsLeftTree job start new
-places_left {job} {past} {start} {here} {held} {old} {new} (MakesTuple _ _ _) at dest left = same_left job past start here held old new at dest (plain_same refl left)
-places_left {job} {past} {start} {here} {held} {old} {new} _ at dest left = same_left job past start here held old new at dest (plain_same refl left)
-
-makes_left : {job : Job} {past : Past} {start : Tree} {here : Phase} {held after : Held} {calls : Calls} {answer : Answer} {old new : Writing} → Makings job here held after calls answer → HeldAt job past here held → DestPart job past here held start old
-    → LeavesPart (Some old) (Some new) calls.change → IsLeftTree job start new
-makes_left {job} {past} {start} {here} {held} {old} {new} (MakesStaging _ _) at dest broken = same_left job past start here held old new at dest (plain_same refl broken)
-makes_left {job} {past} {start} {old} {new} (MakesDeclaration was object) at dest left = part_left at dest (next_declaration job object was.rows past.bytes) left
-makes_left {job} {past} {start} {here} {held} {old} {new} (MakesVersion _ _) at dest broken = same_left job past start here held old new at dest (plain_same refl broken)
-makes_left {job} {past} {start} {here} {held} {old} {new} (PassesRow _ _ _ _ _ _) at dest broken = same_left job past start here held old new at dest (plain_same refl broken)
-makes_left {job} {past} {start} {here} {held} {old} {new} (MakesFolder _ _ _ _ _ _ _) at dest broken = same_left job past start here held old new at dest (plain_same refl broken)
-makes_left {job} {past} (OpensCopy was object position row is stored all) at dest broken = opened_left row at dest (file_next job object was.rows was.contents past.bytes position row (is_here job past object position was row at is stored) (ltb-false position.directories (length row.path) all)) broken
-makes_left (CopiesOn _ _ _ _ _ _ _) at dest broken = copied_left at dest broken
-makes_left {job} {past} {start} {here} {held} {old} {new} (EndsCopy _ _ _ _ _ _ _) at dest broken = same_left job past start here held old new at dest (plain_same refl broken)
-makes_left {job} {past} {start} {old} {new} (MakesVersionInventory was object) at dest left = part_left at dest (next_first job object was.rows past.bytes) left
-makes_left {job} {past} {start} {old} {new} (MakesVersionSidecar was object) at dest left = part_left at dest (next_second job object was.rows past.bytes) left
-makes_left {job} {past} {start} {old} {new} (MakesInventory was object) at dest left = part_left at dest (next_third job object was.rows past.bytes) left
-makes_left {job} {past} {start} {old} {new} (MakesSidecar was object) at dest left = part_left at dest (next_fourth job object was.rows past.bytes) left
-makes_left {job} {past} {start} {here} {held} {old} {new} (ReadsMore _ _ _ _ _ _ _) at dest broken = same_left job past start here held old new at dest (plain_same refl broken)
-makes_left {job} {past} {start} {here} {held} {old} {new} (ReadsOther _ _ _ _ _ _ _) at dest broken = same_left job past start here held old new at dest (plain_same refl broken)
-
 pub follows_left : {job : Job} {past : Past} {start : Tree} {counts : Counts} {here : Phase} {prefix : List ℕ} {held : Held} {read : List ℕ} {after : Held} {calls : Calls} {answer : Answer} {old new : Writing} → Follows job counts here prefix held read after calls answer
     → HeldAt job past here held → DestPart job past here held start old → LeavesPart (Some old) (Some new) calls.change → IsLeftTree job start new
-follows_left (a_start _ _ _ _ _ _ turn) at dest left = starts_left turn at dest left
-follows_left (Walk _ _ _ _ _ _ turn) at dest left = walks_left turn at dest left
-follows_left (Scan _ _ _ _ _ _ turn) at dest left = scans_left turn at dest left
-follows_left (Make _ _ _ _ _ _ turn) at dest left = makes_left turn at dest left
-follows_left (Place _ _ _ _ _ _ turn) at dest left = places_left turn at dest left
+follows_left (a_start _ _ _ _ _ _ (MakesRoot _ _ item is)) at dest left = root_left item at dest is left
+follows_left {job} {past} {start} {old} {new} (Make _ _ _ _ _ _ (MakesDeclaration was object)) at dest left = part_left at dest (next_declaration job object was.rows past.bytes) left
+follows_left {job} {past} (Make _ _ _ _ _ _ (OpensCopy was object position row is stored all)) at dest broken = opened_left row at dest (file_next job object was.rows was.contents past.bytes position row (is_here job past object position was row at is stored) (ltb-false position.directories (length row.path) all)) broken
+follows_left (Make _ _ _ _ _ _ (CopiesOn _ _ _ _ _ _ _)) at dest broken = copied_left at dest broken
+follows_left {job} {past} {start} {old} {new} (Make _ _ _ _ _ _ (MakesVersionInventory was object)) at dest left = part_left at dest (next_first job object was.rows past.bytes) left
+follows_left {job} {past} {start} {old} {new} (Make _ _ _ _ _ _ (MakesVersionSidecar was object)) at dest left = part_left at dest (next_second job object was.rows past.bytes) left
+follows_left {job} {past} {start} {old} {new} (Make _ _ _ _ _ _ (MakesInventory was object)) at dest left = part_left at dest (next_third job object was.rows past.bytes) left
+follows_left {job} {past} {start} {old} {new} (Make _ _ _ _ _ _ (MakesSidecar was object)) at dest left = part_left at dest (next_fourth job object was.rows past.bytes) left
+follows_left {job} {past} {start} {here} {held} {old} {new} (Walk _ _ _ _ _ _ (OpensRoot _ _)) at dest left = same_left job past start here held old new at dest (plain_same refl left)
+follows_left {job} {past} {start} {here} {held} {old} {new} (Scan _ _ _ _ _ _ (StartsInSite _ _ _)) at dest left = same_left job past start here held old new at dest (plain_same refl left)
+follows_left {job} {past} {start} {here} {held} {old} {new} (Place _ _ _ _ _ _ (MakesTuple _ _ _)) at dest left = same_left job past start here held old new at dest (plain_same refl left)
+follows_left {job} {past} {start} {here} {held} {old} {new} _ at dest left = same_left job past start here held old new at dest (plain_same refl left)

@@ -15,9 +15,9 @@ use Rattle.pt_plan.specs.Job.{Job}
 use Rattle.pt_plan.specs.Roots.{root_in}
 use Rattle.pt_plan.specs.Run.{Counts, Held, Kept, Run}
 use Rattle.pt_plan.specs.Turn.{FailsAtFirst, FailsLater, Follows, HasFailed, IsRefused, LeavesSome, Make, Place, Scan, Start as a_start, Stays, Turn, Walk}
-use Rattle.pt_plan.specs.TurnMake.{Makings, ReadsMore, ReadsOther}
-use Rattle.pt_plan.specs.TurnPlace.{IsInTheWay, Places}
-use Rattle.pt_plan.specs.TurnStart.{IsNoStore, Starts}
+use Rattle.pt_plan.specs.TurnMake.{ReadsMore, ReadsOther}
+use Rattle.pt_plan.specs.TurnPlace.{IsInTheWay}
+use Rattle.pt_plan.specs.TurnStart.{IsNoStore}
 use Rattle.pt_plan.specs.World.{Calls, World}
 use Rattle.pt_plan.specs.declared.halt.Halt.{Halt}
 use Rattle.pt_plan.specs.declared.halt.Halt.TheVariants as halt
@@ -45,23 +45,14 @@ is_refusal halt.Target = true
 is_refusal halt.Changed = true
 is_refusal _ = false
 
-starts_for : {job : Job} {here : Phase} {prefix read : List ℕ} {calls : Calls} {why : Halt} → Starts job here prefix read calls (Err why) → is_refusal why ≡ true
-starts_for (IsNoStore _ _ _) = refl
-starts_for _ = refl
-
-makes_for : {job : Job} {here : Phase} {held new : Held} {calls : Calls} {why : Halt} → Makings job here held new calls (Err why) → is_refusal why ≡ true
-makes_for (ReadsMore _ _ _ _ _ _ _) = refl
-makes_for (ReadsOther _ _ _ _ _ _ _) = refl
-
-places_for : {job : Job} {counts : Counts} {here : Phase} {held new : Held} {calls : Calls} {why : Halt} → Places job counts here held new calls (Err why) → is_refusal why ≡ true
-places_for (IsInTheWay _ _ _ _ _) = refl
-
 follows_for : {job : Job} {counts : Counts} {here : Phase} {prefix : List ℕ} {held : Held} {read : List ℕ} {new : Held} {calls : Calls} {why : Halt} → Follows job counts here prefix held read new calls (Err why) → is_refusal why ≡ true
-follows_for (a_start _ _ _ _ _ _ turn) = starts_for turn
+follows_for (a_start _ _ _ _ _ _ (IsNoStore _ _ _)) = refl
+follows_for (a_start _ _ _ _ _ _ _) = refl
 follows_for (Walk _ _ _ _ _ _ turn) = elim turn [ ]
 follows_for (Scan _ _ _ _ _ _ turn) = elim turn [ ]
-follows_for (Make _ _ _ _ _ _ turn) = makes_for turn
-follows_for (Place _ _ _ _ _ _ turn) = places_for turn
+follows_for (Make _ _ _ _ _ _ (ReadsMore _ _ _ _ _ _ _)) = refl
+follows_for (Make _ _ _ _ _ _ (ReadsOther _ _ _ _ _ _ _)) = refl
+follows_for (Place _ _ _ _ _ _ (IsInTheWay _ _ _ _ _)) = refl
 
 -- or a device that failed
 halts_for : {job : Job} {here : Phase} {before after : Kept} {old new : World} {why : Halt} → Turn job here before after old new (Err why) → (is_refusal why ≡ true) ⊎ HasFailed why old.failures new.failures

@@ -21,9 +21,9 @@ use Rattle.pt_plan.specs.Job.{Job}
 use Rattle.pt_plan.specs.Run.{Counts, Held, Kept, Run, turning}
 use Rattle.pt_plan.specs.Store.{is_prefix, pairtree_of, prefix_file}
 use Rattle.pt_plan.specs.Turn.{Did, Follows, Turn, IsRefused, FailsAtFirst, FailsLater, HasFailed, LeavesSome, Stays, Start as a_start, Walk, Scan, Make, Place}
-use Rattle.pt_plan.specs.TurnMake.{Makings, ReadsMore, ReadsOther, is_as_read, path_of_source}
-use Rattle.pt_plan.specs.TurnPlace.{Places, IsInTheWay}
-use Rattle.pt_plan.specs.TurnStart.{Starts, IsNoStore, IsNoPrefixFile, IsNoPrefix, is_file_kind, lists_store}
+use Rattle.pt_plan.specs.TurnMake.{ReadsMore, ReadsOther, is_as_read, path_of_source}
+use Rattle.pt_plan.specs.TurnPlace.{IsInTheWay}
+use Rattle.pt_plan.specs.TurnStart.{IsNoStore, IsNoPrefixFile, IsNoPrefix, is_file_kind, lists_store}
 use Rattle.pt_plan.specs.World.{Answers, Calls, Failures, World}
 use Rattle.pt_plan.specs.declared.halt.Halt.{Halt}
 use Rattle.pt_plan.specs.declared.halt.Halt.TheVariants as halt
@@ -102,36 +102,24 @@ module _ (job : Job) (s : Reading) (prefix : List ℕ) (count : ℕ) (object : O
 
 -- ---- the turns
 
-starts_refuse : {job : Job} (s : Reading) (new : Option Reading) {prefix read : List ℕ} (count : ℕ) {here : Phase} (held : Held) {calls : Calls} {why : Halt}
-    → Starts job here prefix read calls (Err why) → SourceAt job s prefix count here held → Answers calls.asked (Some s) new → SaysOfSource why s.tree
-unfolding Answers IsListed IsRead
-starts_refuse s _ _ _ (IsNoStore _ entries is) _ answers =
-    let listed : entries ≡ listing_of s.tree = sym (some_same _ entries (answers.0 s refl)) in
-    sym (store_listed s.tree) ∙ ap lists_store (sym listed) ∙ is
-starts_refuse s _ _ _ (IsNoPrefixFile _ _ some is) at _ = (at.2, no_file (find s.tree prefix_file) some is at.3)
-starts_refuse s _ _ _ (IsNoPrefix _ _ _ is) at answers =
-    (at.2, bad_prefix (find s.tree prefix_file) at.3 (answers.0 (after_open (prefix_file ∷ []) s) refl) is)
-starts_refuse _ _ _ _ _ at _ = (at.2.store, at.2.good)
-
-makes_refuse : {job : Job} (s : Reading) (new : Option Reading) (prefix : List ℕ) (count : ℕ) {here : Phase} {held after : Held} {calls : Calls} {why : Halt}
-    → is_proper s.tree ≡ true → Makings job here held after calls (Err why) → SourceAt job s prefix count here held → Answers calls.asked (Some s) new → SaysOfSource why s.tree
-unfolding Answers IsListed IsRead
-makes_refuse {job} s _ prefix count proper (ReadsMore was object position left _ _ more) at answers =
-    absurd (never_more job s prefix count object was position left proper at more (answers.0 s refl))
-makes_refuse {job} s _ prefix count proper (ReadsOther was object position row left is other) at answers =
-    absurd (let same = some_same row at.2.row (sym is ∙ at.2.is_row) in
-    true≢false (sym (ap (λ (r : Row). is_as_read job r left was.fed) same ∙ as_read job s prefix count object was position left proper at (answers.0 s refl)) ∙ other))
-
-places_refuse : {job : Job} (s : Reading) {counts : Counts} (prefix : List ℕ) (count : ℕ) {here : Phase} {held after : Held} {calls : Calls} {why : Halt} → Places job counts here held after calls (Err why) → SourceAt job s prefix count here held → SaysOfSource why s.tree
-places_refuse _ _ _ (IsInTheWay _ _ _ _ _) at = (at.0.store, at.0.good)
-
 follows_refuse : {job : Job} (s : Reading) (new : Option Reading) {counts : Counts} (count : ℕ) {here : Phase} {prefix : List ℕ} {held : Held} {read : List ℕ} {after : Held} {calls : Calls} {why : Halt}
     → is_proper s.tree ≡ true → Follows job counts here prefix held read after calls (Err why) → SourceAt job s prefix count here held → Answers calls.asked (Some s) new → SaysOfSource why s.tree
-follows_refuse s new count {held} _ (a_start _ _ _ _ _ _ turn) at answers = starts_refuse s new count held turn at answers
+unfolding Answers IsListed IsRead
+follows_refuse s _ _ _ (a_start _ _ _ _ _ _ (IsNoStore _ entries is)) _ answers =
+    let listed : entries ≡ listing_of s.tree = sym (some_same _ entries (answers.0 s refl)) in
+    sym (store_listed s.tree) ∙ ap lists_store (sym listed) ∙ is
+follows_refuse s _ _ _ (a_start _ _ _ _ _ _ (IsNoPrefixFile _ _ some is)) at _ = (at.2, no_file (find s.tree prefix_file) some is at.3)
+follows_refuse s _ _ _ (a_start _ _ _ _ _ _ (IsNoPrefix _ _ _ is)) at answers =
+    (at.2, bad_prefix (find s.tree prefix_file) at.3 (answers.0 (after_open (prefix_file ∷ []) s) refl) is)
+follows_refuse _ _ _ _ (a_start _ _ _ _ _ _ _) at _ = (at.2.store, at.2.good)
 follows_refuse _ _ _ _ (Walk _ _ _ _ _ _ turn) _ _ = elim turn [ ]
 follows_refuse _ _ _ _ (Scan _ _ _ _ _ _ turn) _ _ = elim turn [ ]
-follows_refuse s new count {prefix} proper (Make _ _ _ _ _ _ turn) at answers = makes_refuse s new prefix count proper turn at answers
-follows_refuse s _ count {prefix} _ (Place _ _ _ _ _ _ turn) at _ = places_refuse s prefix count turn at
+follows_refuse {job} s _ count {prefix} proper (Make _ _ _ _ _ _ (ReadsMore was object position left _ _ more)) at answers =
+    absurd (never_more job s prefix count object was position left proper at more (answers.0 s refl))
+follows_refuse {job} s _ count {prefix} proper (Make _ _ _ _ _ _ (ReadsOther was object position row left is other)) at answers =
+    absurd (let same = some_same row at.2.row (sym is ∙ at.2.is_row) in
+    true≢false (sym (ap (λ (r : Row). is_as_read job r left was.fed) same ∙ as_read job s prefix count object was position left proper at (answers.0 s refl)) ∙ other))
+follows_refuse _ _ _ _ (Place _ _ _ _ _ _ (IsInTheWay _ _ _ _ _)) at _ = (at.0.store, at.0.good)
 
 -- a fault says nothing of the source
 failed : (why : Halt) (old new : Failures) (source : Forest) → HasFailed why old new → SaysOfSource why source

@@ -23,8 +23,8 @@ use Rattle.pt_plan.specs.Job.{Job}
 use Rattle.pt_plan.specs.Roots.{root_in, storage_root}
 use Rattle.pt_plan.specs.Run.{Counts, Held, Kept, Run, turning}
 use Rattle.pt_plan.specs.Turn.{Did, FailsAtFirst, FailsLater, Follows, IsRefused, LeavesSome, Start as a_start, Stays, Turn, Walk, Scan, Make, Place}
-use Rattle.pt_plan.specs.TurnPlace.{Places, IsInTheWay, tuple_folder}
-use Rattle.pt_plan.specs.TurnStart.{Starts, Differs, IsNoFile, IsNoRoot, is_dir_kind, is_file_kind}
+use Rattle.pt_plan.specs.TurnPlace.{IsInTheWay, tuple_folder}
+use Rattle.pt_plan.specs.TurnStart.{Differs, IsNoFile, IsNoRoot, is_dir_kind, is_file_kind}
 use Rattle.pt_plan.specs.World.{Calls, Changes, World}
 use Rattle.pt_plan.specs.declared.halt.Halt.TheVariants as halt
 use Rattle.pt_plan.specs.declared.object.Object.{Object}
@@ -110,34 +110,26 @@ module _ (job : Job) (past : Past) (t : Tree) (old : Writing) (new : Option Writ
   abbrev IsFound : Type 0
   IsFound = IsFree t staging × IsBadTarget job (root_in t) objects
 
-  starts_find : {prefix read : List ℕ} {here : Phase} {calls : Calls} → IsLayout job.tuples → Starts job here prefix read calls (Err halt.Target) → DestPart job past here held t old → Changes calls.change (Some old) new → IsFound
+  follows_find : {counts : Counts} {here : Phase} {prefix read : List ℕ} {after : Held} {calls : Calls} → IsLayout job.tuples → Follows job counts here prefix held read after calls (Err halt.Target) → HeldAt job past here held → DestPart job past here held t old → Changes calls.change (Some old) new
+      → ((object : Object) (number : ℕ) → here ≡ phase.Tuples object number → objects (object_held object held.rows past.bytes)) → IsFound
   unfolding Changes IsKindAt IsPeeked
-  starts_find _ (IsNoRoot _ _ other) dest change =
+  follows_find _ (a_start _ _ _ _ _ _ (IsNoRoot _ _ other)) _ dest change _ =
       (dest.at.1, IsNoFolder (ap (λ (tree : Tree). is_folder_or_free (tree storage_root)) (sym dest.at.0.tree) ∙ no_folder (old.tree storage_root) (change.0 old refl) other))
-  starts_find _ (IsNoFile _ number path bytes _ is other) dest change = (
+  follows_find _ (a_start _ _ _ _ _ _ (IsNoFile _ number path bytes _ is other)) _ dest change _ = (
     dest.at.free,
     HasOtherFile number (path, bytes) dest.at.top is
         (λ same. no_file bytes (change.0 old refl) other (ap (λ (tree : Tree). tree (storage_root ++ path)) dest.at.tree ∙ same)),
   )
-  starts_find layout (Differs _ number path bytes _ is other) dest change = (
+  follows_find layout (a_start _ _ _ _ _ _ (Differs _ number path bytes _ is other)) _ dest change _ = (
     dest.at.free,
     HasOtherFile number (path, bytes) dest.at.top is
         (λ same. other_bytes (change.1 old refl) other (file_short job.tuples number path bytes layout is) (ap (λ (tree : Tree). tree (storage_root ++ path)) dest.at.tree ∙ same)),
   )
-
-  places_find : {counts : Counts} {here : Phase} {after : Held} {calls : Calls} → Places job counts here held after calls (Err halt.Target) → HeldAt job past here held → DestPart job past here held t old → Changes calls.change (Some old) new
-      → ((object : Object) (number : ℕ) → here ≡ phase.Tuples object number → objects (object_held object held.rows past.bytes)) → IsFound
-  unfolding Changes IsKindAt
-  places_find (IsInTheWay _ object number _ other) at dest change some =
-      (dest.at.0.root.free, IsBarred (object_held object held.rows past.bytes) (some object number refl) (barred at dest (change.0 old refl) other))
-
-  follows_find : {counts : Counts} {here : Phase} {prefix read : List ℕ} {after : Held} {calls : Calls} → IsLayout job.tuples → Follows job counts here prefix held read after calls (Err halt.Target) → HeldAt job past here held → DestPart job past here held t old → Changes calls.change (Some old) new
-      → ((object : Object) (number : ℕ) → here ≡ phase.Tuples object number → objects (object_held object held.rows past.bytes)) → IsFound
-  follows_find layout (a_start _ _ _ _ _ _ turn) _ dest change _ = starts_find layout turn dest change
   follows_find _ (Walk _ _ _ _ _ _ turn) _ _ _ _ = elim turn [ ]
   follows_find _ (Scan _ _ _ _ _ _ turn) _ _ _ _ = elim turn [ ]
   follows_find _ (Make _ _ _ _ _ _ turn) _ _ _ _ = elim turn [ ]
-  follows_find _ (Place _ _ _ _ _ _ turn) at dest change some = places_find turn at dest change some
+  follows_find _ (Place _ _ _ _ _ _ (IsInTheWay _ object number _ other)) at dest change some =
+      (dest.at.0.root.free, IsBarred (object_held object held.rows past.bytes) (some object number refl) (barred at dest (change.0 old refl) other))
 
 -- ---- the laws
 
