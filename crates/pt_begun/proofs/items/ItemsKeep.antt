@@ -13,17 +13,17 @@ use Rattle.pt_plan.specs.Job.{Job}
 use Rattle.pt_plan.specs.Lines.{text}
 use Rattle.pt_plan.specs.Roots.{root_in, storage_root}
 use Rattle.pt_plan.specs.Run.{Counts, Held}
-use Rattle.pt_plan.specs.TurnMake.{Makings, MakesStaging, MakesSidecar, sidecar_file}
-use Rattle.pt_plan.specs.TurnPlace.{Places, MakesTuple, FindsTuple, RenamesObject, TellsDone, TellsEnd, tuple_folder}
+use Rattle.pt_plan.specs.TurnMake.{MakesSidecar, sidecar_file}
+use Rattle.pt_plan.specs.TurnPlace.{MakesTuple, FindsTuple, RenamesObject, TellsDone, TellsEnd, tuple_folder}
 use Rattle.pt_plan.specs.TurnScan.{Scans, StartsInSite, IsTooDeep, MeetsDeep, MeetsLimit, MeetsOther, IsTooLong}
-use Rattle.pt_plan.specs.TurnStart.{Starts, IsStore, HasNoStaging, HasNoRoot, HasRoot, MakesRoot, RenamesRoot, IsSame}
-use Rattle.pt_plan.specs.TurnWalk.{Walks, OpensRoot, IsNew}
+use Rattle.pt_plan.specs.TurnStart.{MakesRoot, RenamesRoot, IsSame}
+use Rattle.pt_plan.specs.TurnWalk.{IsNew}
 use Rattle.pt_plan.specs.World.{Calls, Change, Changes, Finds, FindsNoneAndMakes, Makes, Peeks, does}
 use Rattle.pt_plan.specs.declared.object.Object.{Object}
 use Rattle.pt_plan.specs.declared.phase.Part.TheVariants as part
 use Rattle.pt_plan.specs.declared.phase.Phase.{Phase}
 use Rattle.pt_plan.specs.declared.phase.Phase.TheVariants as phase
-use Rattle.pt_begun.specs.Begun.{HasTold, ItemsPart, PlacesItems}
+use Rattle.pt_begun.specs.Begun.{HasTold, IsFreeAt, ItemsPart, PlacesItems}
 use Rattle.pt_begun.specs.ItemLaws.{KeepsItems, KeepsLog, MakingKeepsItems, PlacingKeepsItems, ScanningKeepsItems, StartingKeepsItems, WalkingKeepsItems}
 use Rattle.pt_begun.specs.Past.{Past, done_after, object_held, past_after}
 use Rattle.pt_begun.proofs.items.ItemLines.{Last, Nothing, Tells, counts_kept, log_kept, placed_kept}
@@ -44,33 +44,7 @@ kept {past} _ _ {here} {next} held _ tells told items places = (
   λ log old new had puts. log_kept past (past_after here next held past) log new refl tells (told log old had) puts,
 )
 
--- ---- the turns begin where the run hasn't ended
-
-starts_told : {job : Job} (source : Forest) (root : Tree) (past : Past) {prefix read : List ℕ} {here next : Phase} {calls : Calls} → Starts job here prefix read calls (Ok next) → ToldBefore job source root past here
-starts_told _ _ _ (IsStore _ _ _) = λ log old had. had
-starts_told _ _ _ _ = λ log old had. had
-
-walks_told : {job : Job} (source : Forest) (root : Tree) (past : Past) {prefix : List ℕ} {here next : Phase} {held after : Held} {calls : Calls} → Walks job prefix here held after calls (Ok next) → ToldBefore job source root past here
-walks_told _ _ _ (OpensRoot _ _) = λ log old had. had
-walks_told _ _ _ _ = λ log old had. had
-
-scans_told : {job : Job} (source : Forest) (root : Tree) (past : Past) {here next : Phase} {held after : Held} {calls : Calls} → Scans job here held after calls (Ok next) → ToldBefore job source root past here
-scans_told _ _ _ (StartsInSite _ _ _) = λ log old had. had
-scans_told _ _ _ _ = λ log old had. had
-
-makes_told : {job : Job} (source : Forest) (root : Tree) (past : Past) {here : Phase} {held after : Held} {calls : Calls} {next : Phase} → Makings job here held after calls (Ok next) → ToldBefore job source root past here
-makes_told _ _ _ (MakesStaging _ _) = λ log old had. had
-makes_told _ _ _ _ = λ log old had. had
-
-places_told : {job : Job} {counts : Counts} (source : Forest) (root : Tree) (past : Past) {here next : Phase} {held after : Held} {calls : Calls} → Places job counts here held after calls (Ok next) → ToldBefore job source root past here
-places_told _ _ _ (MakesTuple _ _ _) = λ log old had. had
-places_told _ _ _ _ = λ log old had. had
-
 -- ---- the start
-
-both_phases : {job : Job} {source : Forest} {root : Tree} {past : Past} {p q : Phase} (this : Bool) → PlacesItems job source root past p → PlacesItems job source root past q → PlacesItems job source root past (cond this p q)
-both_phases true one _ = one
-both_phases false _ two = two
 
 makes_root : {job : Job} {past : Past} (s : Reading) (start : Tree) (held : Held) {counts : Counts} {number : ℕ} (change : Change) (last : Bool) → ItemsPart job past (phase.RootMake number) counts s.tree (root_in start)
     → KeepsItems job past (phase.RootMake number) held counts s start (does change) (cond last phase.RootRename (phase.RootMake (number + 1))) × KeepsLog job past (phase.RootMake number) held s start (does change) (cond last phase.RootRename (phase.RootMake (number + 1)))
@@ -91,22 +65,14 @@ checks_root {job} {past} s start held {counts} {number} change false _ items =
     kept s start held (does change) Nothing (λ log old had. had) items (record { placed = items.places.placed; next = tt })
 
 pub starts_items : StartingKeepsItems
-starts_items job past s _ _ start _ _ next held _ calls (IsStore was entries is) known =
-    kept s start held calls Nothing (starts_told {job = job} s.tree (root_in start) past (IsStore was entries is)) known.items (record { placed = known.items.places.placed; next = tt })
-starts_items job past s _ _ start _ _ next held _ calls (HasNoStaging was) known =
-    kept s start held calls Nothing (starts_told {job = job} s.tree (root_in start) past (HasNoStaging was)) known.items (record { placed = known.items.places.placed; next = tt })
-starts_items job past s _ _ start _ _ next held _ calls (HasNoRoot was) known =
-    kept s start held calls Nothing (starts_told {job = job} s.tree (root_in start) past (HasNoRoot was)) known.items (record { placed = known.items.places.placed; next = tt })
-starts_items job past s _ _ start _ _ next held _ calls (HasRoot was) known =
-    kept s start held calls Nothing (starts_told {job = job} s.tree (root_in start) past (HasRoot was)) known.items (record { placed = known.items.places.placed; next = tt })
 starts_items _ _ s _ _ start _ _ _ held _ _ (MakesRoot _ number item _) known =
     makes_root s start held (Makes item) (number == 5) known.items
 starts_items job past s _ _ start _ _ next held _ calls (RenamesRoot was) known =
-    kept s start held calls Nothing (starts_told {job = job} s.tree (root_in start) past (RenamesRoot was)) known.items (record { placed = none_placed job s.tree (root_in start) known.source.at.1; next = tt })
+    kept s start held calls Nothing (λ log old had. had) known.items (record { placed = none_placed job s.tree (root_in start) known.source.at.1; next = tt })
 starts_items _ _ s _ _ start _ _ _ held _ _ (IsSame _ number path bytes _) known =
     checks_root s start held (Peeks (storage_root ++ path) bytes) (number == 2) known.source.at.1 known.items
 starts_items job past s _ _ start _ _ next held _ calls turn known =
-    kept s start held calls Nothing (starts_told {job = job} s.tree (root_in start) past turn) known.items (record { placed = known.items.places.placed; next = tt })
+    kept s start held calls Nothing (λ log old had. had) known.items (record { placed = known.items.places.placed; next = tt })
 
 -- ---- the walk
 
@@ -114,40 +80,32 @@ pub walks_items : WalkingKeepsItems
 unfolding Changes IsKindAt
 walks_items job past s prefix start now new _ next held _ _ calls (IsNew was index id is) change known =
     let tells = walks_tell start now new (IsNew was index id is) known.held_at.trail.is_one known.source (roots_have_no_gaps start known.dest.started).1 known.items.places.placed known.dest.at change in
-    kept s start held calls tells (walks_told {job = job} s.tree (root_in start) past {prefix = prefix} (IsNew was index id is)) known.items
+    kept s start held calls tells (λ log old had. had) known.items
     (record { placed = placed_kept refl tells known.items.places.placed; next = new_is_free known.source is (roots_have_no_gaps start known.dest.started).1 known.items.places.placed known.dest.at (change.0 now refl) })
 walks_items job past s prefix start now new _ next held _ _ calls turn change known =
     let tells = walks_tell start now new turn known.held_at.trail.is_one known.source (roots_have_no_gaps start known.dest.started).1 known.items.places.placed known.dest.at change in
-    kept s start held calls tells (walks_told {job = job} s.tree (root_in start) past {prefix = prefix} turn) known.items
+    kept s start held calls tells (λ log old had. had) known.items
     (record { placed = placed_kept refl tells known.items.places.placed; next = tt })
 
 -- ---- the scan
 
+-- the place is free while the object is scanned, and nothing is said of it where it is given up
+scans_free : {job : Job} (source : Forest) (root : Tree) (count : ℕ) {here next : Phase} {held after : Held} {calls : Calls} → Scans job here held after calls (Ok next) → IsFreeAt here job source root count → IsFreeAt next job source root count
+scans_free _ _ _ (IsTooDeep _ _ _ _) _ = tt
+scans_free _ _ _ (MeetsDeep _ _ _ _ _ _) _ = tt
+scans_free _ _ _ (MeetsLimit _ _ _ _ _) _ = tt
+scans_free _ _ _ (MeetsOther _ _ _ _) _ = tt
+scans_free _ _ _ (IsTooLong _ _ _ _ _ _) _ = tt
+scans_free _ _ _ _ free = free
+
 pub scans_items : ScanningKeepsItems
-scans_items job past s new _ start _ _ next held _ _ calls (IsTooDeep was object apart deep) answers known =
-    let tells = scans_tell (IsTooDeep was object apart deep) known.held_at.trail.is_one known.source known.items.places.next new answers in
-    kept s start held calls tells (scans_told {job = job} s.tree (root_in start) past (IsTooDeep was object apart deep)) known.items
-    (record { placed = placed_kept refl tells known.items.places.placed; next = tt })
-scans_items job past s new _ start _ _ next held _ _ calls (MeetsDeep was object name e apart deep) answers known =
-    let tells = scans_tell (MeetsDeep was object name e apart deep) known.held_at.trail.is_one known.source known.items.places.next new answers in
-    kept s start held calls tells (scans_told {job = job} s.tree (root_in start) past (MeetsDeep was object name e apart deep)) known.items
-    (record { placed = placed_kept refl tells known.items.places.placed; next = tt })
-scans_items job past s new _ start _ _ next held _ _ calls (MeetsLimit was object name e room) answers known =
-    let tells = scans_tell (MeetsLimit was object name e room) known.held_at.trail.is_one known.source known.items.places.next new answers in
-    kept s start held calls tells (scans_told {job = job} s.tree (root_in start) past (MeetsLimit was object name e room)) known.items
-    (record { placed = placed_kept refl tells known.items.places.placed; next = tt })
-scans_items job past s new _ start _ _ next held _ _ calls (MeetsOther was object name e) answers known =
-    let tells = scans_tell (MeetsOther was object name e) known.held_at.trail.is_one known.source known.items.places.next new answers in
-    kept s start held calls tells (scans_told {job = job} s.tree (root_in start) past (MeetsOther was object name e)) known.items
-    (record { placed = placed_kept refl tells known.items.places.placed; next = tt })
-scans_items job past s new _ start _ _ next held _ _ calls (IsTooLong was object bytes byte block long) answers known =
-    let tells = scans_tell (IsTooLong was object bytes byte block long) known.held_at.trail.is_one known.source known.items.places.next new answers in
-    kept s start held calls tells (scans_told {job = job} s.tree (root_in start) past (IsTooLong was object bytes byte block long)) known.items
-    (record { placed = placed_kept refl tells known.items.places.placed; next = tt })
-scans_items job past s new _ start _ _ next held _ _ calls turn answers known =
+scans_items job past s new _ start _ _ _ held _ _ calls (StartsInSite was object gathered) answers known =
+    let tells = scans_tell (StartsInSite was object gathered) known.held_at.trail.is_one known.source known.items.places.next new answers in
+    kept s start held calls tells (λ log old had. had) known.items (record { placed = placed_kept refl tells known.items.places.placed; next = known.items.places.next })
+scans_items job past s new _ start _ _ _ held _ _ calls turn answers known =
     let tells = scans_tell turn known.held_at.trail.is_one known.source known.items.places.next new answers in
-    kept s start held calls tells (scans_told {job = job} s.tree (root_in start) past turn) known.items
-    (record { placed = placed_kept refl tells known.items.places.placed; next = known.items.places.next })
+    kept s start held calls tells (λ log old had. had) known.items
+    (record { placed = placed_kept refl tells known.items.places.placed; next = scans_free {job = job} s.tree (root_in start) past.count turn known.items.places.next })
 
 -- ---- an object is made
 
@@ -162,7 +120,7 @@ pub makes_items : MakingKeepsItems
 makes_items job _ s _ start _ _ _ _ _ _ _ (MakesSidecar was object) known =
     after_sidecar s start was (Makes (sidecar_file job object was.rows staging)) (job.tuples.count == 0) known.items
 makes_items _ past s _ start _ _ held _ _ calls next turn known =
-    kept s start held calls Nothing (makes_told s.tree (root_in start) past turn) known.items (record { placed = known.items.places.placed; next = known.items.places.next })
+    kept s start held calls Nothing (λ log old had. had) known.items (record { placed = known.items.places.placed; next = known.items.places.next })
 
 -- ---- an object at its place
 
@@ -177,7 +135,7 @@ pub places_items : PlacingKeepsItems
 places_items job _ s _ start _ _ _ _ _ _ _ (MakesTuple was object number) known = after_a_tuple s start was (FindsNoneAndMakes (tuple_folder object number)) (nat_lt (number + 1) job.tuples.count) known.items
 places_items job _ s _ start _ _ _ _ _ _ _ (FindsTuple was object number) known = after_a_tuple s start was (Finds (tuple_folder object number) (Some kind.Dir)) (nat_lt (number + 1) job.tuples.count) known.items
 places_items job past s _ start _ _ next held _ counts calls (RenamesObject was object) known =
-    kept s start held calls Nothing (places_told {job = job} {counts = counts} s.tree (root_in start) past (RenamesObject was object)) known.items
+    kept s start held calls Nothing (λ log old had. had) known.items
     (record {
       placed =
           ap (λ (l : List Carried). l ++ object_held object was.rows past.bytes ∷ []) known.items.places.placed
@@ -186,6 +144,6 @@ places_items job past s _ start _ _ next held _ counts calls (RenamesObject was 
     })
 places_items job past s _ start _ _ next held _ counts calls (TellsDone was object) known =
     let tells = places_tell {counts = counts} (TellsDone was object) known.held_at known.source known.items.places.next in
-    kept s start held calls tells.1 (places_told {job = job} {counts = counts} s.tree (root_in start) past (TellsDone was object)) known.items (record { placed = known.items.places.placed; next = tt })
+    kept s start held calls tells.1 (λ log old had. had) known.items (record { placed = known.items.places.placed; next = tt })
 places_items job past s _ start _ _ next held _ counts calls (TellsEnd was) known =
-    kept s start held calls (Last counts.done counts.present counts.skipped) (places_told {job = job} {counts = counts} s.tree (root_in start) past (TellsEnd was)) known.items (record { placed = tt; next = tt })
+    kept s start held calls (Last counts.done counts.present counts.skipped) (λ log old had. had) known.items (record { placed = tt; next = tt })

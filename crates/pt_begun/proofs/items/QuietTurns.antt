@@ -5,9 +5,9 @@ use Rattle.pt_plan.specs.Answer.{Answer}
 use Rattle.pt_plan.specs.Job.{Job}
 use Rattle.pt_plan.specs.Run.{Counts, Held}
 use Rattle.pt_plan.specs.Turn.{Follows, Start as a_start, Walk, Scan, Make, Place}
-use Rattle.pt_plan.specs.TurnMake.{Makings, ReadsMore, ReadsOther}
-use Rattle.pt_plan.specs.TurnPlace.{Places, IsInTheWay}
-use Rattle.pt_plan.specs.TurnStart.{Starts, IsNoStore}
+use Rattle.pt_plan.specs.TurnMake.{ReadsMore, ReadsOther}
+use Rattle.pt_plan.specs.TurnPlace.{IsInTheWay}
+use Rattle.pt_plan.specs.TurnStart.{IsNoStore}
 use Rattle.pt_plan.specs.World.{Calls}
 use Rattle.pt_plan.specs.declared.halt.Halt.{Halt}
 use Rattle.pt_plan.specs.declared.phase.Phase.{Phase}
@@ -33,20 +33,11 @@ follows_runs {job} {counts} {here} {prefix} {held} {read} {after} {calls} {answe
 
 -- ---- what it tells
 
-starts_quiet : {job : Job} {prefix read : List ℕ} {here : Phase} {calls : Calls} {why : Halt} → Starts job here prefix read calls (Err why) → calls.line ≡ None
-starts_quiet (IsNoStore _ _ _) = refl
-starts_quiet _ = refl
-
-makes_quiet : {job : Job} {here : Phase} {held after : Held} {calls : Calls} {why : Halt} → Makings job here held after calls (Err why) → calls.line ≡ None
-makes_quiet (ReadsMore _ _ _ _ _ _ _) = refl
-makes_quiet (ReadsOther _ _ _ _ _ _ _) = refl
-
-places_quiet : {job : Job} {counts : Counts} {here : Phase} {held after : Held} {calls : Calls} {why : Halt} → Places job counts here held after calls (Err why) → calls.line ≡ None
-places_quiet (IsInTheWay _ _ _ _ _) = refl
-
 pub refused_quiet : {job : Job} {counts : Counts} {here : Phase} {prefix : List ℕ} {held : Held} {read : List ℕ} {after : Held} {calls : Calls} {why : Halt} → Follows job counts here prefix held read after calls (Err why) → calls.line ≡ None
-refused_quiet (a_start _ _ _ _ _ _ turn) = starts_quiet turn
+refused_quiet (a_start _ _ _ _ _ _ (IsNoStore _ _ _)) = refl
+refused_quiet (a_start _ _ _ _ _ _ _) = refl
 refused_quiet (Walk _ _ _ _ _ _ turn) = elim turn [ ]
 refused_quiet (Scan _ _ _ _ _ _ turn) = elim turn [ ]
-refused_quiet (Make _ _ _ _ _ _ turn) = makes_quiet turn
-refused_quiet {job} {counts} {here} {held} {after} {calls} {why} (Place _ _ _ _ _ _ turn) = places_quiet turn
+refused_quiet (Make _ _ _ _ _ _ (ReadsMore _ _ _ _ _ _ _)) = refl
+refused_quiet (Make _ _ _ _ _ _ (ReadsOther _ _ _ _ _ _ _)) = refl
+refused_quiet (Place _ _ _ _ _ _ (IsInTheWay _ _ _ _ _)) = refl

@@ -26,7 +26,7 @@ use Rattle.pt_plan.specs.Roots.{root_in}
 use Rattle.pt_plan.specs.Run.{Held}
 use Rattle.pt_plan.specs.Store.{pairtree_of, prefix_of, sites_of}
 use Rattle.pt_plan.specs.TurnMake.{path_of_source}
-use Rattle.pt_plan.specs.TurnWalk.{Walks, LeadsOn, IsSkipped, IsPresent, IsNew, IsPast, IsDeep, PassesEntry, LeavesSite, EndsWalk, at_object, in_root, judged_at, new_object, path_of_object}
+use Rattle.pt_plan.specs.TurnWalk.{Walks, LeadsOn, IsSkipped, IsPresent, IsPast, IsDeep, PassesEntry, LeavesSite, at_object, in_root, judged_at, new_object, path_of_object}
 use Rattle.pt_plan.specs.World.{Calls, Changes}
 use Rattle.pt_plan.specs.declared.phase.Phase.{Phase}
 use Rattle.pt_plan.specs.declared.phase.Phase.TheVariants as phase
@@ -101,7 +101,6 @@ walks_tell {job} {past} {s} {prefix} start w _ (IsPresent was index id _ is) _ p
     let taken = taken_as_found s.tree past was.trail rooted item named placed dest (change.0 w refl) in
     subst (λ (p : Path). Tells job s.tree (root_in start) past.count phase.Walk (Some (Present p id (place_of job.tuples id))) (suc past.count) []) (path_at job id index was.trail)
     (OneItem (present_item item named taken))
-walks_tell {job} _ _ _ (IsNew _ _ _ _) _ _ _ _ _ _ = Nothing
 walks_tell {job} {past} {s} start _ _ (IsPast was name e short last) _ part _ _ _ _ =
     at_shorty was.trail e short
     (OneItem (passed_item (is_first job.share) (root_in start) cause.Past
@@ -114,7 +113,6 @@ walks_tell {job} {past} {s} start _ _ (PassesEntry was item e apart) _ _ _ _ _ _
     subst (λ (n : ℕ). Tells job s.tree (root_in start) past.count phase.Walk None n []) (sym (none_at_entry was.trail item past.count e apart)) Nothing
 walks_tell {job} {past} {s} start _ _ (LeavesSite was e _) _ _ _ _ _ _ =
     subst (λ (n : ℕ). Tells job s.tree (root_in start) past.count phase.Walk None n []) (sym (none_at_end was.trail past.count e)) Nothing
-walks_tell _ _ _ (EndsWalk _ _ _) _ _ _ _ _ _ = Nothing
 walks_tell _ _ _ _ _ _ _ _ _ _ = Nothing
 
 -- the place of a new object isn't taken

@@ -9,7 +9,7 @@ use Rattle.pt_tree.specs.declared.kind.Kind.{Kind}
 use Rattle.pt_plan.specs.Job.{Job}
 use Rattle.pt_plan.specs.Run.{Counts, Held, Kept, Run, turning}
 use Rattle.pt_plan.specs.Turn.{Did, Follows, Turn, IsRefused, FailsAtFirst, FailsLater, LeavesSome, Stays, Start as a_start, Walk, Scan, Make, Place}
-use Rattle.pt_plan.specs.TurnStart.{Starts, HasStaging}
+use Rattle.pt_plan.specs.TurnStart.{HasStaging}
 use Rattle.pt_plan.specs.World.{Calls, Changes, World}
 use Rattle.pt_plan.specs.declared.halt.Halt.TheVariants as halt
 use Rattle.pt_plan.specs.declared.phase.Phase.{Phase}
@@ -23,19 +23,15 @@ some_kind : (o : Option Entry) {here : Kind} → option_map kind_of_entry o ≡ 
 some_kind None is = absurd (cc)
 some_kind (Some _) _ = refl
 
-starts_find : {job : Job} {past : Past} {t : Tree} {w : Writing} (new : Option Writing) {prefix read : List ℕ} {here : Phase} {held : Held} {calls : Calls}
-    → Starts job here prefix read calls (Err halt.StagingLeft) → DestPart job past here held t w → Changes calls.change (Some w) new → is_some (t staging) ≡ true
-unfolding Changes IsKindAt
-starts_find {w} _ (HasStaging _ _) dest change =
-    ap (λ (tree : Tree). is_some (tree staging)) (sym dest.at.tree) ∙ some_kind (w.tree staging) (change.0 w refl)
-
 follows_find : {job : Job} {past : Past} {t : Tree} {w : Writing} (new : Option Writing) {counts : Counts} {here : Phase} {prefix : List ℕ} {held : Held} {read : List ℕ} {after : Held} {calls : Calls}
     → Follows job counts here prefix held read after calls (Err halt.StagingLeft) → DestPart job past here held t w → Changes calls.change (Some w) new → is_some (t staging) ≡ true
-follows_find {job} {past} {t} {w} new {here} {prefix} {held} {read} {calls} (a_start _ _ _ w' _ _ turn) dest change = starts_find new turn dest change
-follows_find _ (Walk _ _ w' _ _ _ turn) _ _ = elim turn [ ]
-follows_find _ (Scan _ _ w' _ _ _ turn) _ _ = elim turn [ ]
-follows_find _ (Make _ _ w' _ _ _ turn) _ _ = elim turn [ ]
-follows_find _ (Place _ _ w' _ _ _ turn) _ _ = elim turn [ ]
+unfolding Changes IsKindAt
+follows_find {w} _ (a_start _ _ _ _ _ _ (HasStaging _ _)) dest change =
+    ap (λ (tree : Tree). is_some (tree staging)) (sym dest.at.tree) ∙ some_kind (w.tree staging) (change.0 w refl)
+follows_find _ (Walk _ _ _ _ _ _ turn) _ _ = elim turn [ ]
+follows_find _ (Scan _ _ _ _ _ _ turn) _ _ = elim turn [ ]
+follows_find _ (Make _ _ _ _ _ _ turn) _ _ = elim turn [ ]
+follows_find _ (Place _ _ _ _ _ _ turn) _ _ = elim turn [ ]
 
 found : {job : Job} {past : Past} {start : Start} {old new : World} {run : Run} {after : Kept} {t : Tree} → IsPast job start old run past → Turn job run.phase (turning run.kept) after old new (Err halt.StagingLeft) → start.dest ≡ Some t → is_some (t staging) ≡ true
 unfolding Did Stays LeavesSome
