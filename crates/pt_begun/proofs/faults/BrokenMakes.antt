@@ -58,53 +58,53 @@ module _ (job : Job) (past : Past) (s : Reading) (start : Tree) (prefix : List �
   -- ---- a new root
 
   root_broken : {number : ℕ} (item : Item) {held : Held} → Before held (phase.RootMake number) → slice_get (root_script job.tuples) number ≡ Some item → LeavesPart (Some old) (Some new) (Makes item) → Quiet → Left
-  root_broken (MakeFolder _) before _ left put = left_quiet job past s start prefix counts old new first log last before (plain_same refl left) put
-  root_broken (MakeFile _ _) before _ (Untouched _ same) put = left_quiet job past s start prefix counts old new first log last before (some_same new.tree old.tree same) put
+  root_broken (MakeFolder _) before _ left put = left_quiet new before (plain_same refl left) put
+  root_broken (MakeFile _ _) before _ (Untouched _ same) put = left_quiet new before (some_same new.tree old.tree same) put
   root_broken {number} (MakeFile path bytes) before is (OfFile _ _ count same) put =
       let script = root_script job.tuples in
       let at = before.known.dest.at in
       let tree_is = some_same new.tree _ same in
       let next : IsNext script (take number script) (MakeFile path bytes) = record { rest = drop (suc number) script; is = split_at number script _ is } in
-      left_untold job past s start prefix counts old new first log last before put
+      left_untold new before put
       (root_left s.tree before.known.source.at.1 at
       (stands_cut count next (tree_is ∙ ap (done (MakeFile path (take count bytes))) at.tree)))
 
   pub starts_broken : {read : List ℕ} {here : Phase} {held : Held} {calls : Calls} {answer : Answer} → Starts job here prefix read calls answer → Before held here → LeavesPart (Some old) (Some new) calls.change → LeavesFront calls.line (Some log) (Some last) → Left
   starts_broken (MakesRoot _ _ item is) before left put = root_broken item before is left put
-  starts_broken {here} _ before left put = left_quiet job past s start prefix counts old new first log last before (plain_same refl left) put
+  starts_broken {here} _ before left put = left_quiet new before (plain_same refl left) put
 
   -- ---- a part of an object
 
   part_broken : {object : Object} {here : Part} {path : Path} {bytes : List ℕ} {held : Held} → Before held (phase.Make object here) → IsNext (script_of_object job object held.rows past.bytes) (made_before job object held.rows past.bytes here) (MakeFile path bytes)
       → LeavesPart (Some old) (Some new) (Makes (MakeFile path bytes)) → Quiet → Left
-  part_broken {object} {here} {held} before _ (Untouched _ same) put = left_quiet job past s start prefix counts old new first log last {held = held} {here = phase.Make object here} before (some_same new.tree old.tree same) put
+  part_broken {object} {here} {held} before _ (Untouched _ same) put = left_quiet new before (some_same new.tree old.tree same) put
   part_broken {object} {here} {path} {bytes} {held} before next (OfFile p b count same) put =
       let known = before.known in
       let source = known.source in
       let front = made_before job object held.rows past.bytes here in
       let tree_is = some_same new.tree _ same in
-      left_untold job past s start prefix counts old new first log last {held = held} {here = phase.Make object here} before put
+      left_untold new before put
       (carrying_left job past s start object held {n = 0} known.dest.started known.dest.at.root known.held_at.ends.0 known.held_at.rows (omega arith) known.items.places.placed
       (carried_next past s (root_in start) source.proper source.at.0 source.at.1 source.bytes known.items.places.next)
       (stands_cut count next (tree_is ∙ ap (done (MakeFile path (take count bytes))) known.dest.at.tree)))
 
   opened_broken : {object : Object} {position : Position} {held : Held} (row : Row) → Before held (phase.Make object (a_part.Content position))
       → IsNext (script_of_object job object held.rows past.bytes) (made_before job object held.rows past.bytes (a_part.Content position)) (MakeFile (in_content row.path) (past.bytes row.path)) → LeavesPart (Some old) (Some new) (Creates (in_content row.path)) → Quiet → Left
-  opened_broken {object} {position} {held} _ before _ (Untouched _ same) put = left_quiet job past s start prefix counts old new first log last {held = held} {here = phase.Make object (a_part.Content position)} before (some_same new.tree old.tree same) put
+  opened_broken {object} {position} {held} _ before _ (Untouched _ same) put = left_quiet new before (some_same new.tree old.tree same) put
   opened_broken {object} {position} {held} row before next (NewFile p same) put =
       let known = before.known in
       let source = known.source in
       let front = made_before job object held.rows past.bytes (a_part.Content position) in
       let item = MakeFile (in_content row.path) [] in
       let tree_is = some_same new.tree _ same in
-      left_untold job past s start prefix counts old new first log last {held = held} {here = phase.Make object (a_part.Content position)} before put
+      left_untold new before put
       (carrying_left job past s start object held {n = 0} known.dest.started known.dest.at.root known.held_at.ends.0 known.held_at.rows (omega arith) known.items.places.placed
       (carried_next past s (root_in start) source.proper source.at.0 source.at.1 source.bytes known.items.places.next)
       (content_stands next (past.bytes row.path, refl) (tree_is ∙ ap (done item) known.dest.at.tree)))
 
   copied_broken : {object : Object} {position : Position} {left : ℕ} {piece : List ℕ} {held : Held} → Before held (phase.Copy object position left) → IsRead (Some s) piece → LeavesPart (Some old) (Some new) (Adds piece) → Quiet → Left
   unfolding IsRead
-  copied_broken {object} {position} {left} {held} before _ (Untouched _ same) put = left_quiet job past s start prefix counts old new first log last {held = held} {here = phase.Copy object position left} before (some_same new.tree old.tree same) put
+  copied_broken {object} {position} {left} {held} before _ (Untouched _ same) put = left_quiet new before (some_same new.tree old.tree same) put
   copied_broken {object} {position} {left} {piece} {held} before read (OfPiece p count same) put =
       let known = before.known in
       let source = known.source in
@@ -121,7 +121,7 @@ module _ (job : Job) (past : Past) (s : Reading) (start : Tree) (prefix : List �
       let bytes = row_bytes s.tree object held.trail past.bytes held.rows position.row at.ends.1 source.bytes reads.is_row in
       let begins : BeginsWith (held.fed ++ piece) (past.bytes row.path) =
       begins_taken (reads.row.length - left + length piece) (whole.fed_is ∙ ap (take (reads.row.length - left + length piece)) (sym bytes ∙ ap (λ (r : Row). past.bytes r.path) same_row)) in
-      left_untold job past s start prefix counts old new first log last {held = held} {here = phase.Copy object position left} before put
+      left_untold new before put
       (carrying_left job past s start object held {n = 0} known.dest.started known.dest.at.making.root at.ends.0 at.rows (omega arith) known.items.places.placed
       (carried_next past s (root_in start) source.proper source.at.0 source.at.1 source.bytes known.items.places.next)
       (content_stands
@@ -136,4 +136,4 @@ module _ (job : Job) (past : Past) (s : Reading) (start : Tree) (prefix : List �
   makes_broken (MakesVersionSidecar was object) before _ left put = part_broken before (next_second job object was.rows past.bytes) left put
   makes_broken (MakesInventory was object) before _ left put = part_broken before (next_third job object was.rows past.bytes) left put
   makes_broken (MakesSidecar was object) before _ left put = part_broken before (next_fourth job object was.rows past.bytes) left put
-  makes_broken {here} {held} _ before _ left put = left_quiet job past s start prefix counts old new first log last before (plain_same refl left) put
+  makes_broken {here} {held} _ before _ left put = left_quiet new before (plain_same refl left) put

@@ -65,14 +65,14 @@ module _ (job : Job) (past : Past) (s : Reading) (start : Tree) (prefix : List �
   done_told {object} {held} before same put =
       let known = before.known in
       let tells = places_tell {counts = counts} (TellsDone held object) known.held_at known.source known.items.places.next in
-      left_told job past s start prefix counts old new first log last before
+      left_told new before
       (ends_item tells.1 refl refl)
       known.dest.at.root.free (same ∙ tree_between s.tree (suc past.count) known.items.places.placed known.dest.at) put
 
   places_broken : {here : Phase} {held later : Held} {calls : Calls} {answer : Answer} → Places job counts here held later calls answer → Before held here → LeavesPart (Some old) (Some new) calls.change → LeavesFront calls.line (Some log) (Some last) → Left
   places_broken (TellsDone _ _) before left put = done_told before (plain_same refl left) put
   places_broken (TellsEnd _) before left put = end_told before (plain_same refl left) put
-  places_broken {here} {held} _ before left put = left_quiet job past s start prefix counts old new first log last before (plain_same refl left) put
+  places_broken {here} {held} _ before left put = left_quiet new before (plain_same refl left) put
 
   pub follows_broken : {here : Phase} {held : Held} {read : List ℕ} {later : Held} {calls : Calls} {answer : Answer} → Follows job counts here prefix held read later calls answer → Before held here → WereAnswered calls s old
       → LeavesPart (Some old) (Some new) calls.change → LeavesFront calls.line (Some log) (Some last) → Left

@@ -44,26 +44,20 @@ ends_item _ is runs = absurd (cc)
 
 -- ---- by what is left
 
-module _ (job : Job) (past : Past) (s : Reading) (start : Tree) (prefix : List ℕ) (counts : Counts) (old new : Writing) (first log last : List ℕ) where
-  abbrev Before : Held → Phase → Type 0
-  Before held here = IsBefore job past s start prefix held counts old first log here
-
-  abbrev Left : Type 0
-  Left = IsLeftByFault job s.tree start new.tree first last
-
+module _ {job : Job} {past : Past} {s : Reading} {start : Tree} {prefix : List ℕ} {counts : Counts} {old : Writing} (new : Writing) {first log last : List ℕ} where
   -- nothing more was told
-  pub left_untold : {held : Held} {here : Phase} → Before held here → Some last ≡ Some log → MayBeLeft job s.tree start new.tree (text job s.tree (root_in start) past.count) → Left
+  pub left_untold : {held : Held} {here : Phase} → IsBefore job past s start prefix held counts old first log here → Some last ≡ Some log → MayBeLeft job s.tree start new.tree (text job s.tree (root_in start) past.count) → IsLeftByFault job s.tree start new.tree first last
   left_untold before same left = record { told = text job s.tree (root_in start) past.count; log = some_same last log same ∙ before.log_is; left = left }
 
   -- nothing was changed
-  pub left_quiet : {held : Held} {here : Phase} → Before held here → new.tree ≡ old.tree → Some last ≡ Some log → Left
+  pub left_quiet : {held : Held} {here : Phase} → IsBefore job past s start prefix held counts old first log here → new.tree ≡ old.tree → Some last ≡ Some log → IsLeftByFault job s.tree start new.tree first last
   left_quiet {held} {here} before same quiet =
       left_untold before quiet
       (subst (λ (t : Tree). MayBeLeft job s.tree start t (text job s.tree (root_in start) past.count)) (sym same) (left_now job past s start prefix held counts old here before.runs before.known))
 
   -- of the line of the next item a front was put
-  pub left_told : {held : Held} {here : Phase} {line : Line} {more : List Carried} → Before held here → EndsItem job s.tree (root_in start) past.count (Some line) more → IsFree start staging
-      → new.tree ≡ with_root start (after job s.tree (root_in start) (suc past.count)) → LeavesFront (Some line) (Some log) (Some last) → Left
+  pub left_told : {held : Held} {here : Phase} {line : Line} {more : List Carried} → IsBefore job past s start prefix held counts old first log here → EndsItem job s.tree (root_in start) past.count (Some line) more → IsFree start staging
+      → new.tree ≡ with_root start (after job s.tree (root_in start) (suc past.count)) → LeavesFront (Some line) (Some log) (Some last) → IsLeftByFault job s.tree start new.tree first last
   left_told {line} before ends free is (n, put) =
       let root = root_in start in
       let so_far = text job s.tree root past.count in
@@ -78,8 +72,8 @@ module _ (job : Job) (past : Past) (s : Reading) (start : Tree) (prefix : List �
       }
 
   -- of an item of which nothing is carried
-  pub left_skipped : {held : Held} {here : Phase} {next : Phase} {told : Option Line} {line : Line} {n : ℕ} → Before held here → is_ended next ≡ false → Tells job s.tree (root_in start) past.count next told n [] → told ≡ Some line → IsFree start staging
-      → old.tree ≡ with_root start (after job s.tree (root_in start) past.count) → new.tree ≡ old.tree → LeavesFront (Some line) (Some log) (Some last) → Left
+  pub left_skipped : {held : Held} {here : Phase} {next : Phase} {told : Option Line} {line : Line} {n : ℕ} → IsBefore job past s start prefix held counts old first log here → is_ended next ≡ false → Tells job s.tree (root_in start) past.count next told n [] → told ≡ Some line → IsFree start staging
+      → old.tree ≡ with_root start (after job s.tree (root_in start) past.count) → new.tree ≡ old.tree → LeavesFront (Some line) (Some log) (Some last) → IsLeftByFault job s.tree start new.tree first last
   left_skipped before runs tells is free tree same put =
       let ends = ends_item tells is runs in
       left_told before ends free (same ∙ tree ∙ ap (with_root start) (sym (after_stays job s.tree (root_in start) past.count ends.m ends.is ends.gained))) put

@@ -44,7 +44,7 @@ module _ (job : Job) (past : Past) (s : Reading) (start : Tree) (prefix : List �
       → Changes calls.change (Some old) (Some old) → IsFree start staging → old.tree ≡ with_root start (after job s.tree (root_in start) past.count) → new.tree ≡ old.tree → LeavesFront (Some line) (Some log) (Some last) → Left
   walk_told {held} {here} turn before is placed found free tree same put =
       let known = before.known in
-      left_skipped job past s start prefix counts old new first log last before refl
+      left_skipped new before refl
       (walks_tell start old old turn known.held_at.trail.is_one known.source (roots_have_no_gaps start known.dest.started).1 placed known.dest.at found)
       is free tree same put
 
@@ -63,11 +63,11 @@ module _ (job : Job) (past : Past) (s : Reading) (start : Tree) (prefix : List �
       walk_told (IsPresent was index id kind is) before refl before.known.items.places.placed (answered.found, refl) before.known.dest.at.root.free (tree_between s.tree past.count before.known.items.places.placed before.known.dest.at) (plain_same refl left) put
   walks_broken {here} {held} (IsPast was name e short outermost) before _ left put =
       walk_passed (is_first job.share) _ (IsPast was name e short outermost) before refl before.known.items.places.placed refl before.known.dest.at.root.free (tree_between s.tree past.count before.known.items.places.placed before.known.dest.at) (plain_same refl left) put
-      (left_quiet job past s start prefix counts old new first log last before (plain_same refl left))
+      (left_quiet new before (plain_same refl left))
   walks_broken {here} {held} (IsDeep was name e short inner deep) before _ left put =
       walk_passed (is_first job.share) _ (IsDeep was name e short inner deep) before refl before.known.items.places.placed refl before.known.dest.at.root.free (tree_between s.tree past.count before.known.items.places.placed before.known.dest.at) (plain_same refl left) put
-      (left_quiet job past s start prefix counts old new first log last before (plain_same refl left))
-  walks_broken {here} {held} _ before _ left put = left_quiet job past s start prefix counts old new first log last before (plain_same refl left) put
+      (left_quiet new before (plain_same refl left))
+  walks_broken {here} {held} _ before _ left put = left_quiet new before (plain_same refl left) put
 
   -- ---- the scan of an object
 
@@ -75,7 +75,7 @@ module _ (job : Job) (past : Past) (s : Reading) (start : Tree) (prefix : List �
       → past.placed ≡ carried_among job s.tree (root_in start) past.count → IsMakingObject job start past.placed object [] 0 old → new.tree ≡ old.tree → LeavesFront (Some line) (Some log) (Some last) → Left
   scan_told {held} {here} read turn before is answers placed making same put =
       let known = before.known in
-      left_skipped job past s start prefix counts old new first log last before refl
+      left_skipped new before refl
       (scans_tell turn known.held_at.trail.is_one known.source known.items.places.next read answers)
       is making.root.free (tree_entered s.tree past.count placed making) same put
 
@@ -91,4 +91,4 @@ module _ (job : Job) (past : Past) (s : Reading) (start : Tree) (prefix : List �
       scan_told s (MeetsOther was object name e) before refl refl before.known.items.places.placed before.known.dest.at (plain_same refl left) put
   scans_broken (IsTooLong was object bytes byte block long) before answered left put =
       scan_told (after_next s) (IsTooLong was object bytes byte block long) before refl (answered.read, refl) before.known.items.places.placed before.known.dest.at (plain_same refl left) put
-  scans_broken {here} {held} _ before _ left put = left_quiet job past s start prefix counts old new first log last before (plain_same refl left) put
+  scans_broken {here} {held} _ before _ left put = left_quiet new before (plain_same refl left) put

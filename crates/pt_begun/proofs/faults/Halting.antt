@@ -57,7 +57,7 @@ module _ (job : Job) (past : Past) (start : Start) (old : World) (run : Run) (s 
   -- what is left where nothing was changed
   pub same_leaves : {now : Writing} {last : List ℕ} → (had : TellsAll) → Some now ≡ old.dest → Some last ≡ old.log → IsLeftByFault job s.tree t now.tree first last
   same_leaves {now} {last} had dest log =
-      left_quiet job past s t run.kept.prefix (turning run.kept).counts had.now now first had.log last had.before
+      left_quiet now had.before
       (ap (λ (w : Writing). w.tree) (some_same now had.now (dest ∙ had.dest_is))) (log ∙ had.log_told)
 
   -- and where a turn broke off
