@@ -131,24 +131,33 @@ module _ (job : Job) (past : Past) (start : Start) (old new : World) (run : Run)
   abbrev later : Past
   later = past_after run.phase next run.kept.held past
 
+  abbrev DestHere : Tree → Writing → Type 0
+  DestHere = DestPart job past run.phase run.kept.held
+
   abbrev Turned : Type 0
   Turned = Follows job before.counts run.phase run.kept.prefix run.kept.held after.prefix after.held calls (Ok next)
 
+  -- the source told before, and answered
+  answered : {v : Reading} → Happens calls old new → new.source ≡ Some v → (s : Reading) × (old.source ≡ Some s) × Answers calls.asked (Some s) (Some v)
+  answered {v} did same =
+      let answers = subst (Answers calls.asked old.source) same did.source in
+      let told = told_source calls.asked old.source v answers in
+      (told.0, told.1, subst (λ o. Answers calls.asked o (Some v)) told.1 answers)
+
   keeps_source : Turned → Happens calls old new → IsPast job start old run past → ForSome new.source (SourcePart job later next after.prefix after.held)
   keeps_source turn did is v same =
-      let told = told_source calls.asked old.source v (subst (Answers calls.asked old.source) same did.source) in
-      let answers = subst (λ o. Answers calls.asked o (Some v)) told.1 (subst (Answers calls.asked old.source) same did.source) in
-      follows_source job past turn answers is.held (is.source told.0 told.1)
+      let told = answered did same in
+      follows_source job past turn told.2 is.held (is.source told.0 told.1)
 
   keeps_dest : Turned → Happens calls old new → IsPast job start old run past → TellsAsBefore start.dest new.dest (DestPart job later next after.held)
   keeps_dest turn did is = by start.dest refl (told_dest calls.change old.dest did.dest)
     where
       by : (o : Option Tree) → start.dest ≡ o → SameTold old.dest new.dest → TellsAsBefore o new.dest (DestPart job later next after.held)
       by None none (Neither a b) = subst (λ o. TellsAsBefore None o (DestPart job later next after.held)) (sym b) tt
-      by None none (Both w v a b) = absurd (subst (λ o. TellsAsBefore None o (DestPart job past run.phase run.kept.held)) a (subst (λ o. TellsAsBefore o old.dest (DestPart job past run.phase run.kept.held)) none is.dest))
-      by (Some t) some (Neither a b) = absurd (subst (λ o. TellsAsBefore (Some t) o (DestPart job past run.phase run.kept.held)) a (subst (λ o. TellsAsBefore o old.dest (DestPart job past run.phase run.kept.held)) some is.dest))
+      by None none (Both w v a b) = absurd (subst (λ o. TellsAsBefore None o (DestHere)) a (subst (λ o. TellsAsBefore o old.dest (DestHere)) none is.dest))
+      by (Some t) some (Neither a b) = absurd (subst (λ o. TellsAsBefore (Some t) o (DestHere)) a (subst (λ o. TellsAsBefore o old.dest (DestHere)) some is.dest))
       by (Some t) some (Both w v a b) =
-          let known = subst (λ o. TellsAsBefore (Some t) o (DestPart job past run.phase run.kept.held)) a (subst (λ o. TellsAsBefore o old.dest (DestPart job past run.phase run.kept.held)) some is.dest) in
+          let known = subst (λ o. TellsAsBefore (Some t) o (DestHere)) a (subst (λ o. TellsAsBefore o old.dest (DestHere)) some is.dest) in
           let change = subst (λ o. Changes calls.change o (Some v)) a (subst (Changes calls.change old.dest) b did.dest) in
           subst (λ o. TellsAsBefore (Some t) o (DestPart job later next after.held)) (sym b)
           (follows_dest job past is.layout turn change is.held known)
@@ -156,10 +165,9 @@ module _ (job : Job) (past : Past) (start : Start) (old new : World) (run : Run)
   keeps_items : Turned → Happens calls old new → IsPast job start old run past → {v : Reading} → new.source ≡ Some v → {t : Tree} → start.dest ≡ Some t
       → (s : Reading) × (v.tree ≡ s.tree) × (old.source ≡ Some s) × KeepsItems job past run.phase run.kept.held before.counts s t calls next × KeepsLog job past run.phase run.kept.held s t calls next
   keeps_items turn did is {v} same {t} some =
-      let told = told_source calls.asked old.source v (subst (Answers calls.asked old.source) same did.source) in
+      let told = answered did same in
       let s = told.0 in
-      let answers = subst (λ o. Answers calls.asked o (Some v)) told.1 (subst (Answers calls.asked old.source) same did.source) in
-      let dest = both_tell (DestPart job past run.phase run.kept.held) start.dest old.dest some is.dest in
+      let dest = both_tell (DestHere) start.dest old.dest some is.dest in
       let after_it = told_again dest.0 dest.1 (told_dest calls.change old.dest did.dest) in
       let change = subst (λ o. Changes calls.change o (Some after_it.0)) dest.1 (subst (Changes calls.change old.dest) after_it.1 did.dest) in
       let known : KnowsItems job past run.phase run.kept.prefix run.kept.held before.counts s t dest.0 = record {
@@ -168,8 +176,8 @@ module _ (job : Job) (past : Past) (start : Start) (old new : World) (run : Run)
         dest = dest.2;
         items = still_counts run.kept (is.items s told.1 t some);
       } in
-      let kept = follows_items job past v after_it.0 turn answers change known in
-      (s, tree_kept calls.asked s v answers, told.1, kept.0, kept.1)
+      let kept = follows_items job past v after_it.0 turn told.2 change known in
+      (s, tree_kept calls.asked s v told.2, told.1, kept.0, kept.1)
     where
       told_again : (w : Writing) → old.dest ≡ Some w → SameTold old.dest new.dest → (v : Writing) × (new.dest ≡ Some v)
       told_again w is_some (Neither a b) = absurd (let no : None ≡ Some w = sym a ∙ is_some in cc)
@@ -181,9 +189,9 @@ module _ (job : Job) (past : Past) (start : Start) (old new : World) (run : Run)
   keeps_left turn did counts is v same t some now dest first is_first last is_last =
       left_unless next
       (λ at_end.
-      let told = told_source calls.asked old.source v (subst (Answers calls.asked old.source) same did.source) in
+      let told = answered did same in
       let s = told.0 in
-      let kept = tree_kept calls.asked s v (subst (λ o. Answers calls.asked o (Some v)) told.1 (subst (Answers calls.asked old.source) same did.source)) in
+      let kept = tree_kept calls.asked s v told.2 in
       let turn_is = subst (λ (p : Phase). Follows job before.counts run.phase run.kept.prefix run.kept.held after.prefix after.held calls (Ok p)) at_end turn in
       let all = ended job past start old new run after s t now first last calls is turn_is did counts told.1 some dest is_first is_last in
       subst (λ (f : Forest). IsLeftByFault job f t now.tree first last) (sym kept) (end_left all.0.1 all.0.2))
