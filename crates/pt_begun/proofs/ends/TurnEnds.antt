@@ -88,26 +88,33 @@ front_told (Some _) _ (Some now) _ = (now, refl)
 -- ---- the run has ended
 
 module _ (job : Job) (past : Past) (start : Start) (old new : World) (run : Run) (after : Kept) where
+  -- what holds of the destination before the turn, and after it
+  abbrev DestHere : Tree → Writing → Type 0
+  DestHere = DestPart job past run.phase run.kept.held
+
+  abbrev DestEnded : Tree → Writing → Type 0
+  DestEnded = DestPart job past phase.Ended after.held
+
   abbrev Ended : Type 0
-  Ended = TellsAsBefore start.dest new.dest (DestPart job past phase.Ended after.held)
+  Ended = TellsAsBefore start.dest new.dest DestEnded
 
   -- where all three tell, this is left
   abbrev pub Leaves : Type 0
   Leaves = (s : Reading) (t : Tree) (now : Writing) (first last : List ℕ) → old.source ≡ Some s → start.dest ≡ Some t → new.dest ≡ Some now → start.log ≡ Some first → new.log ≡ Some last → IsLeftByFault job s.tree t now.tree first last
 
   -- whatever of the destination is left
-  dest_ends : a_past job start old run past → ((w : Writing) (t : Tree) → start.dest ≡ Some t → old.dest ≡ Some w → DestPart job past run.phase run.kept.held t w → (v : Writing) × (new.dest ≡ Some v) × IsLeftTree job t v) → (old.dest ≡ None → new.dest ≡ None) → Ended
+  dest_ends : a_past job start old run past → ((w : Writing) (t : Tree) → start.dest ≡ Some t → old.dest ≡ Some w → DestHere t w → (v : Writing) × (new.dest ≡ Some v) × IsLeftTree job t v) → (old.dest ≡ None → new.dest ≡ None) → Ended
   dest_ends is some none = by start.dest old.dest refl refl is.dest
     where
-      by : (o : Option Tree) (w : Option Writing) → start.dest ≡ o → old.dest ≡ w → TellsAsBefore start.dest old.dest (DestPart job past run.phase run.kept.held) → Ended
-      by None None a b tells = subst (λ o. TellsAsBefore o new.dest (DestPart job past phase.Ended after.held)) (sym a) (subst (λ o. TellsAsBefore None o (DestPart job past phase.Ended after.held)) (sym (none b)) tt)
-      by None (Some w) a b tells = absurd (subst (λ o. TellsAsBefore None o (DestPart job past run.phase run.kept.held)) b (subst (λ o. TellsAsBefore o old.dest (DestPart job past run.phase run.kept.held)) a tells))
-      by (Some t) None a b tells = absurd (subst (λ o. TellsAsBefore (Some t) o (DestPart job past run.phase run.kept.held)) b (subst (λ o. TellsAsBefore o old.dest (DestPart job past run.phase run.kept.held)) a tells))
+      by : (o : Option Tree) (w : Option Writing) → start.dest ≡ o → old.dest ≡ w → TellsAsBefore start.dest old.dest DestHere → Ended
+      by None None a b tells = subst (λ o. TellsAsBefore o new.dest DestEnded) (sym a) (subst (λ o. TellsAsBefore None o DestEnded) (sym (none b)) tt)
+      by None (Some w) a b tells = absurd (subst (λ o. TellsAsBefore None o DestHere) b (subst (λ o. TellsAsBefore o old.dest DestHere) a tells))
+      by (Some t) None a b tells = absurd (subst (λ o. TellsAsBefore (Some t) o DestHere) b (subst (λ o. TellsAsBefore o old.dest DestHere) a tells))
       by (Some t) (Some w) a b tells =
-          let known = subst (λ o. TellsAsBefore (Some t) o (DestPart job past run.phase run.kept.held)) b (subst (λ o. TellsAsBefore o old.dest (DestPart job past run.phase run.kept.held)) a tells) in
+          let known = subst (λ o. TellsAsBefore (Some t) o DestHere) b (subst (λ o. TellsAsBefore o old.dest DestHere) a tells) in
           let it = some w t a b known in
-          subst (λ o. TellsAsBefore o new.dest (DestPart job past phase.Ended after.held)) (sym a)
-          (subst (λ o. TellsAsBefore (Some t) o (DestPart job past phase.Ended after.held)) (sym it.1) (record { started = known.started; tree = it.2.tree; at = it.2.left }))
+          subst (λ o. TellsAsBefore o new.dest DestEnded) (sym a)
+          (subst (λ o. TellsAsBefore (Some t) o DestEnded) (sym it.1) (record { started = known.started; tree = it.2.tree; at = it.2.left }))
 
   ends : a_past job start old run past → after.held.trail ≡ run.kept.held.trail → after.counts ≡ (turning run.kept).counts → source_tree new.source ≡ source_tree old.source → Ended → ((l : List ℕ) → old.log ≡ Some l → (now : List ℕ) × (new.log ≡ Some now)) → Leaves
       → a_past job start new (record { phase = phase.Ended; kept = after }) past

@@ -154,10 +154,10 @@ module _ (job : Job) (past : Past) (start : Start) (old new : World) (run : Run)
     where
       by : (o : Option Tree) → start.dest ≡ o → SameTold old.dest new.dest → TellsAsBefore o new.dest (DestPart job later next after.held)
       by None none (Neither a b) = subst (λ o. TellsAsBefore None o (DestPart job later next after.held)) (sym b) tt
-      by None none (Both w v a b) = absurd (subst (λ o. TellsAsBefore None o (DestHere)) a (subst (λ o. TellsAsBefore o old.dest (DestHere)) none is.dest))
-      by (Some t) some (Neither a b) = absurd (subst (λ o. TellsAsBefore (Some t) o (DestHere)) a (subst (λ o. TellsAsBefore o old.dest (DestHere)) some is.dest))
+      by None none (Both w v a b) = absurd (subst (λ o. TellsAsBefore None o DestHere) a (subst (λ o. TellsAsBefore o old.dest DestHere) none is.dest))
+      by (Some t) some (Neither a b) = absurd (subst (λ o. TellsAsBefore (Some t) o DestHere) a (subst (λ o. TellsAsBefore o old.dest DestHere) some is.dest))
       by (Some t) some (Both w v a b) =
-          let known = subst (λ o. TellsAsBefore (Some t) o (DestHere)) a (subst (λ o. TellsAsBefore o old.dest (DestHere)) some is.dest) in
+          let known = subst (λ o. TellsAsBefore (Some t) o DestHere) a (subst (λ o. TellsAsBefore o old.dest DestHere) some is.dest) in
           let change = subst (λ o. Changes calls.change o (Some v)) a (subst (Changes calls.change old.dest) b did.dest) in
           subst (λ o. TellsAsBefore (Some t) o (DestPart job later next after.held)) (sym b)
           (follows_dest job past is.layout turn change is.held known)
@@ -167,7 +167,7 @@ module _ (job : Job) (past : Past) (start : Start) (old new : World) (run : Run)
   keeps_items turn did is {v} same {t} some =
       let told = answered did same in
       let s = told.0 in
-      let dest = both_tell (DestHere) start.dest old.dest some is.dest in
+      let dest = both_tell DestHere start.dest old.dest some is.dest in
       let after_it = told_again dest.0 dest.1 (told_dest calls.change old.dest did.dest) in
       let change = subst (λ o. Changes calls.change o (Some after_it.0)) dest.1 (subst (Changes calls.change old.dest) after_it.1 did.dest) in
       let known : KnowsItems job past run.phase run.kept.prefix run.kept.held before.counts s t dest.0 = record {
