@@ -145,7 +145,7 @@ module _ (job : Job) (past : Past) (start : Start) (old new : World) (run : Run)
       (told.0, told.1, subst (λ o. Answers calls.asked o (Some v)) told.1 answers)
 
   keeps_source : Turned → Happens calls old new → IsPast job start old run past → ForSome new.source (SourcePart job later next after.prefix after.held)
-  keeps_source turn did is v same =
+  keeps_source turn did is _ same =
       let told = answered did same in
       follows_source job past turn told.2 is.held (is.source told.0 told.1)
 

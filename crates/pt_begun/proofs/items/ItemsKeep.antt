@@ -67,22 +67,22 @@ checks_root {job} {past} s start held {counts} {number} change false _ items =
 pub starts_items : StartingKeepsItems
 starts_items _ _ s _ _ start _ _ _ held _ _ (MakesRoot _ number item _) known =
     makes_root s start held (Makes item) (number == 5) known.items
-starts_items job past s _ _ start _ _ next held _ calls (RenamesRoot was) known =
+starts_items job _ s _ _ start _ _ next held _ calls (RenamesRoot _) known =
     kept s start held calls Nothing (λ log old had. had) known.items (record { placed = none_placed job s.tree (root_in start) known.source.at.1; next = tt })
 starts_items _ _ s _ _ start _ _ _ held _ _ (IsSame _ number path bytes _) known =
     checks_root s start held (Peeks (storage_root ++ path) bytes) (number == 2) known.source.at.1 known.items
-starts_items job past s _ _ start _ _ next held _ calls turn known =
+starts_items _ _ s _ _ start _ _ next held _ calls _ known =
     kept s start held calls Nothing (λ log old had. had) known.items (record { placed = known.items.places.placed; next = tt })
 
 -- ---- the walk
 
 pub walks_items : WalkingKeepsItems
 unfolding Changes IsKindAt
-walks_items job past s prefix start now new _ next held _ _ calls (IsNew was index id is) change known =
+walks_items _ _ s _ start now new _ next held _ _ calls (IsNew was index id is) change known =
     let tells = walks_tell start now new (IsNew was index id is) known.held_at.trail.is_one known.source (roots_have_no_gaps start known.dest.started).1 known.items.places.placed known.dest.at change in
     kept s start held calls tells (λ log old had. had) known.items
     (record { placed = placed_kept refl tells known.items.places.placed; next = new_is_free known.source is (roots_have_no_gaps start known.dest.started).1 known.items.places.placed known.dest.at (change.0 now refl) })
-walks_items job past s prefix start now new _ next held _ _ calls turn change known =
+walks_items _ _ s _ start now new _ next held _ _ calls turn change known =
     let tells = walks_tell start now new turn known.held_at.trail.is_one known.source (roots_have_no_gaps start known.dest.started).1 known.items.places.placed known.dest.at change in
     kept s start held calls tells (λ log old had. had) known.items
     (record { placed = placed_kept refl tells known.items.places.placed; next = tt })
@@ -99,13 +99,13 @@ scans_free _ _ _ (IsTooLong _ _ _ _ _ _) _ = tt
 scans_free _ _ _ _ free = free
 
 pub scans_items : ScanningKeepsItems
-scans_items job past s new _ start _ _ _ held _ _ calls (StartsInSite was object gathered) answers known =
+scans_items _ _ s new _ start _ _ _ held _ _ calls (StartsInSite was object gathered) answers known =
     let tells = scans_tell (StartsInSite was object gathered) known.held_at.trail.is_one known.source known.items.places.next new answers in
     kept s start held calls tells (λ log old had. had) known.items (record { placed = placed_kept refl tells known.items.places.placed; next = known.items.places.next })
 scans_items job past s new _ start _ _ _ held _ _ calls turn answers known =
     let tells = scans_tell turn known.held_at.trail.is_one known.source known.items.places.next new answers in
     kept s start held calls tells (λ log old had. had) known.items
-    (record { placed = placed_kept refl tells known.items.places.placed; next = scans_free {job = job} s.tree (root_in start) past.count turn known.items.places.next })
+    (record { placed = placed_kept refl tells known.items.places.placed; next = scans_free s.tree (root_in start) past.count turn known.items.places.next })
 
 -- ---- an object is made
 
@@ -119,7 +119,7 @@ after_sidecar s start held change false items =
 pub makes_items : MakingKeepsItems
 makes_items job _ s _ start _ _ _ _ _ _ _ (MakesSidecar was object) known =
     after_sidecar s start was (Makes (sidecar_file job object was.rows staging)) (job.tuples.count == 0) known.items
-makes_items _ past s _ start _ _ held _ _ calls next turn known =
+makes_items _ _ s _ start _ _ held _ _ calls next _ known =
     kept s start held calls Nothing (λ log old had. had) known.items (record { placed = known.items.places.placed; next = known.items.places.next })
 
 -- ---- an object at its place
@@ -134,7 +134,7 @@ after_a_tuple s start held change false items =
 pub places_items : PlacingKeepsItems
 places_items job _ s _ start _ _ _ _ _ _ _ (MakesTuple was object number) known = after_a_tuple s start was (FindsNoneAndMakes (tuple_folder object number)) (nat_lt (number + 1) job.tuples.count) known.items
 places_items job _ s _ start _ _ _ _ _ _ _ (FindsTuple was object number) known = after_a_tuple s start was (Finds (tuple_folder object number) (Some kind.Dir)) (nat_lt (number + 1) job.tuples.count) known.items
-places_items job past s _ start _ _ next held _ counts calls (RenamesObject was object) known =
+places_items _ past s _ start _ _ next held _ _ calls (RenamesObject was object) known =
     kept s start held calls Nothing (λ log old had. had) known.items
     (record {
       placed =
@@ -142,8 +142,8 @@ places_items job past s _ start _ _ next held _ counts calls (RenamesObject was 
           ∙ sym (held_is_carried past s (root_in start) known.source.proper known.source.at.0 known.source.at.1 known.source.bytes known.items.places.next);
       next = known.items.places.next;
     })
-places_items job past s _ start _ _ next held _ counts calls (TellsDone was object) known =
+places_items _ _ s _ start _ _ next held _ counts calls (TellsDone was object) known =
     let tells = places_tell {counts = counts} (TellsDone was object) known.held_at known.source known.items.places.next in
     kept s start held calls tells.1 (λ log old had. had) known.items (record { placed = known.items.places.placed; next = tt })
-places_items job past s _ start _ _ next held _ counts calls (TellsEnd was) known =
+places_items _ _ s _ start _ _ next held _ counts calls (TellsEnd _) known =
     kept s start held calls (Last counts.done counts.present counts.skipped) (λ log old had. had) known.items (record { placed = tt; next = tt })
