@@ -1,5 +1,5 @@
 -- What stood in the destination at the start stands in whatever a run leaves.
-use Rattle.std.proofs.Common.{inl, inr, ◌≡◌, ◌⊎◌, ℕ, Bool, true, false, List, [], ◌∷◌, refl, ap, sym, ◌∙◌, subst, cond, map, take}
+use Rattle.std.proofs.Common.{inl, inr, ◌≡◌, ◌⊎◌, Bool, true, false, List, [], ◌∷◌, refl, ap, sym, ◌∙◌, subst, cond, map, take}
 use Rattle.std.specs.List.{list_all, list_any}
 use Rattle.std.specs.Option.{option_or}
 use Rattle.std.specs.Prelude.{Option, None, Some, is_some}
@@ -9,7 +9,7 @@ use Rattle.pt_object.specs.Holding.{IsFree, placed_at}
 use Rattle.pt_object.specs.Inventory.{inventory_text}
 use Rattle.pt_object.specs.Object.{bytes_in, rows_of, stored_files}
 use Rattle.pt_object.specs.Root.{base, base_where}
-use Rattle.pt_object.specs.Script.{Item, MakeFile, MakeFolder, StandsAtPrefix, cut_last, done, item_entry, item_in, item_path, made}
+use Rattle.pt_object.specs.Script.{Item, MakeFile, StandsAtPrefix, cut_last, done, item_entry, item_in, item_path, made}
 use Rattle.pt_object.specs.Scripts.{object_items, root_items, staging}
 use Rattle.pt_tree.specs.Dest.{Writing}
 use Rattle.pt_tree.specs.Path.{Path, rest_below, same_path}
@@ -17,6 +17,7 @@ use Rattle.pt_tree.specs.Tree.{Entry, IsTree, Tree}
 use Rattle.pt_plan.proofs.CarriedFiles.{all_take}
 use Rattle.pt_plan.proofs.Levels.{whole_of}
 use Rattle.pt_plan.proofs.MovedIn.{roots_have_no_gaps}
+use Rattle.pt_plan.proofs.StagingKeeps.{cut_in, in_staging, items_in}
 use Rattle.pt_plan.specs.Carried.{Carried, entry_of_objects, folder_where, is_on_the_way, with_objects}
 use Rattle.pt_plan.specs.Fixity.{AsItWas, Holding, IsKept, Making, MakingRoot, StandsAtContent}
 use Rattle.pt_plan.specs.Job.{Job}
@@ -70,9 +71,6 @@ folders_still job {start} objects folders tree =
 
 -- ---- in `staging`
 
-abbrev in_staging : Item → Bool
-in_staging item = is_some (rest_below staging (item_path item))
-
 -- what is made there leaves what stands beside
 made_beside : (items : List Item) (t : Tree) {path : Path} → list_all in_staging items ≡ true → rest_below staging path ≡ None → made items t path ≡ t path
 made_beside [] _ _ _ = refl
@@ -83,19 +81,6 @@ made_beside (item ∷ items) t {path} all out =
     by : (b : Bool) → same_path path (item_path item) ≡ b → in_staging item ≡ true → cond b (Some (item_entry item)) (t path) ≡ t path
     by false is inside = refl
     by true is inside = absurd (true≢false (sym inside ∙ ap (λ (p : Path). is_some (rest_below staging p)) (sym (is_same path (item_path item) is)) ∙ ap is_some out))
-
-items_in : (items : List Item) → list_all in_staging (map (item_in staging) items) ≡ true
-items_in [] = refl
-items_in (MakeFolder _ ∷ items) = items_in items
-items_in (MakeFile _ _ ∷ items) = items_in items
-
-cut_in : (count : ℕ) (items : List Item) → list_all in_staging items ≡ true → list_all in_staging (cut_last count items) ≡ true
-cut_in _ [] _ = refl
-cut_in _ (MakeFolder path ∷ []) all = all
-cut_in _ (MakeFile path bytes ∷ []) all = all
-cut_in count (item ∷ next ∷ items) all =
-    let parts = and_parts (in_staging item) (list_all in_staging (next ∷ items)) all in
-    and_from (in_staging item) (list_all in_staging (cut_last count (next ∷ items))) parts.0 (cut_in count (next ∷ items) parts.1)
 
 prefix_beside : (items : List Item) {start now : Tree} → StandsAtPrefix (map (item_in staging) items) start now → (path : Path) → rest_below staging path ≡ None → now path ≡ start path
 prefix_beside items {start} at path out =
