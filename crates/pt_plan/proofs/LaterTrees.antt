@@ -28,13 +28,13 @@ outside : (path p : Path) → rest_below staging path ≡ None → is_some (rest
 outside path p beside within =
     false_from_ne_true (same_path path p) (λ same. false≢true (sym (ap is_some beside) ∙ ap (λ (q : Path). is_some (rest_below staging q)) (is_same path p same) ∙ within))
 
-made_beside : (script : List Item) (t : Tree) → list_all in_staging script ≡ true → (path : Path) → rest_below staging path ≡ None → made script t path ≡ t path
+pub made_beside : (script : List Item) (t : Tree) → list_all in_staging script ≡ true → (path : Path) → rest_below staging path ≡ None → made script t path ≡ t path
 made_beside [] t h path beside = refl
 made_beside (item ∷ script) t h path beside =
     let parts = and_parts (in_staging item) (list_all in_staging script) h in
     made_beside script (done item t) parts.1 path beside ∙ ap (λ b. cond b (Some (item_entry item)) (t path)) (outside path (item_path item) beside parts.0)
 
-prefix_beside : (items : List Item) (start now : Tree) → StandsAtPrefix (map (item_in staging) items) start now → (path : Path) → rest_below staging path ≡ None → now path ≡ start path
+pub prefix_beside : (items : List Item) (start now : Tree) → StandsAtPrefix (map (item_in staging) items) start now → (path : Path) → rest_below staging path ≡ None → now path ≡ start path
 prefix_beside items start now at path beside =
     ap (λ (t : Tree). t path) at.stands
     ∙ made_beside (cut_last at.bytes (take at.items (map (item_in staging) items))) start

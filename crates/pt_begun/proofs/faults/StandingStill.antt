@@ -1,15 +1,14 @@
 -- What stood in the destination at the start stands in whatever a run leaves.
-use Rattle.std.proofs.Common.{inl, inr, ◌≡◌, ◌⊎◌, Bool, true, false, List, [], ◌∷◌, refl, ap, sym, ◌∙◌, subst, cond, map, take}
-use Rattle.std.specs.List.{list_all, list_any}
+use Rattle.std.proofs.Common.{inl, inr, ◌≡◌, ◌⊎◌, true, List, [], ◌∷◌, refl, ap, sym, ◌∙◌, subst, map, take}
+use Rattle.std.specs.List.{list_any}
 use Rattle.std.specs.Option.{option_or}
 use Rattle.std.specs.Prelude.{Option, None, Some, is_some}
-use Rattle.std.proofs.lemmas.Bool.{and_from, and_parts, true≢false}
-use Rattle.pt_object.proofs.Ways.{is_same}
+use Rattle.std.proofs.lemmas.Bool.{and_from, true≢false}
 use Rattle.pt_object.specs.Holding.{IsFree, placed_at}
 use Rattle.pt_object.specs.Inventory.{inventory_text}
 use Rattle.pt_object.specs.Object.{bytes_in, rows_of, stored_files}
 use Rattle.pt_object.specs.Root.{base, base_where}
-use Rattle.pt_object.specs.Script.{Item, MakeFile, StandsAtPrefix, cut_last, done, item_entry, item_in, item_path, made}
+use Rattle.pt_object.specs.Script.{Item, MakeFile, item_in, made}
 use Rattle.pt_object.specs.Scripts.{object_items, root_items, staging}
 use Rattle.pt_tree.specs.Dest.{Writing}
 use Rattle.pt_tree.specs.Path.{Path, rest_below, same_path}
@@ -17,7 +16,8 @@ use Rattle.pt_tree.specs.Tree.{Entry, IsTree, Tree}
 use Rattle.pt_plan.proofs.CarriedFiles.{all_take}
 use Rattle.pt_plan.proofs.Levels.{whole_of}
 use Rattle.pt_plan.proofs.MovedIn.{roots_have_no_gaps}
-use Rattle.pt_plan.proofs.StagingKeeps.{cut_in, in_staging, items_in}
+use Rattle.pt_plan.proofs.LaterTrees.{made_beside, prefix_beside}
+use Rattle.pt_plan.proofs.StagingKeeps.{in_staging, items_in}
 use Rattle.pt_plan.specs.Carried.{Carried, entry_of_objects, folder_where, is_on_the_way, with_objects}
 use Rattle.pt_plan.specs.Fixity.{AsItWas, Holding, IsKept, Making, MakingRoot, StandsAtContent}
 use Rattle.pt_plan.specs.Job.{Job}
@@ -71,30 +71,13 @@ folders_still job {start} objects folders tree =
 
 -- ---- in `staging`
 
--- what is made there leaves what stands beside
-made_beside : (items : List Item) (t : Tree) {path : Path} → list_all in_staging items ≡ true → rest_below staging path ≡ None → made items t path ≡ t path
-made_beside [] _ _ _ = refl
-made_beside (item ∷ items) t {path} all out =
-    let parts = and_parts (in_staging item) (list_all in_staging items) all in
-    made_beside items (done item t) parts.1 out ∙ by (same_path path (item_path item)) refl parts.0
-  where
-    by : (b : Bool) → same_path path (item_path item) ≡ b → in_staging item ≡ true → cond b (Some (item_entry item)) (t path) ≡ t path
-    by false is inside = refl
-    by true is inside = absurd (true≢false (sym inside ∙ ap (λ (p : Path). is_some (rest_below staging p)) (sym (is_same path (item_path item) is)) ∙ ap is_some out))
-
-prefix_beside : (items : List Item) {start now : Tree} → StandsAtPrefix (map (item_in staging) items) start now → (path : Path) → rest_below staging path ≡ None → now path ≡ start path
-prefix_beside items {start} at path out =
-    let front = take at.items (map (item_in staging) items) in
-    ap (λ (t : Tree). t path) at.stands
-    ∙ made_beside (cut_last at.bytes front) start (cut_in at.bytes front (all_take in_staging at.items (map (item_in staging) items) (items_in items))) out
-
 content_beside : (items : List Item) {start now : Tree} → StandsAtContent (map (item_in staging) items) start now → (path : Path) → rest_below staging path ≡ None → now path ≡ start path
 content_beside items {start} at path out =
     let script = map (item_in staging) items in
     let inside = first_passes in_staging at.items script _ at.next (all_drop in_staging at.items script (items_in items)) in
     ap (λ (t : Tree). t path) at.stands
-    ∙ made_beside (MakeFile at.path at.held ∷ []) (made (take at.items script) start) (and_from (in_staging (MakeFile at.path at.held)) true inside refl) out
-    ∙ made_beside (take at.items script) start (all_take in_staging at.items script (items_in items)) out
+    ∙ made_beside (MakeFile at.path at.held ∷ []) (made (take at.items script) start) (and_from (in_staging (MakeFile at.path at.held)) true inside refl) path out
+    ∙ made_beside (take at.items script) start (all_take in_staging at.items script (items_in items)) path out
 
 -- with something made there, where nothing stood
 made_still : {start mid : Tree} {now : Tree} → IsFree start staging → StandsStill start mid → ((path : Path) → rest_below staging path ≡ None → now path ≡ mid path) → StandsStill start now
@@ -112,7 +95,7 @@ made_still {start} {now} free still beside = record { stays = λ path entry is. 
 
 kept_still : {job : Job} {start now : Tree} → IsTree start → IsFree start staging → IsKept job start now → StandsStill start now
 kept_still {start} _ _ AsItWas = all_still start
-kept_still {job} {start} _ free (MakingRoot _ _ at) = made_still free (all_still start) (prefix_beside (root_items job.tuples) at)
+kept_still {job} {start} _ free (MakingRoot _ _ at) = made_still free (all_still start) (prefix_beside (root_items job.tuples) _ _ at)
 kept_still {job} tree _ (Holding objects _) = objects_still job objects tree
 kept_still {job} {start} tree free (Making objects next tuples _ _ at) =
     let folders = take tuples (tuple_folders job next) in
@@ -121,7 +104,7 @@ kept_still {job} {start} tree free (Making objects next tuples _ _ at) =
     let items = object_items job.algorithm (inventory_text next.id rows job.meta job.algorithm) (stored_files rows (bytes_in next.files)) in
     made_still free (folders_still job objects folders tree)
     (elim at [
-      | inl prefix ↦ prefix_beside items prefix
+      | inl prefix ↦ prefix_beside items _ _ prefix
       | inr content ↦ content_beside items content
     ])
 
