@@ -1,3 +1,4 @@
+pub mod Described
 pub mod Folders
 pub mod Grown
 pub mod Kept

@@ -8,6 +8,7 @@ use Rattle.pt_tree.specs.Source.{Reading}
 use Rattle.pt_tree.specs.Tree.{IsTree}
 use Rattle.pt_tree.specs.Path.{Path}
 use Rattle.pt_audit.specs.Bytes.{CameNext, IsNotNext, TellsEnd, TellsRest}
+use Rattle.pt_audit.specs.Described.{DifferInMeta}
 use Rattle.pt_audit.specs.Entries.{Noted, kind_noted}
 use Rattle.pt_audit.specs.Root.{is_reading, same_kind}
 use Rattle.pt_audit.specs.declared.comparing.Open.{Open}
@@ -76,9 +77,10 @@ FindsByPiece state.Sidecar before after path piece old new = after ≡ before
 abbrev pub IsEndOf : Finding → Finding → Path → (Bool → Type 0) → Type 0
 IsEndOf before after path Tells = ((after ≡ before) × Tells true) ⊎ ((after ≡ differs_in path) × Tells false)
 
--- of the version's inventory that is the same, the text that stands is held from then on
-abbrev pub IsEndOfVersion : Finding → Finding → Path → List ℕ → Option Reading → Type 0
-IsEndOfVersion before after path held old = ((after ≡ before) × TellsRest held old true)
+-- of the version's inventory that is the one that was made, but for what it says of its version, the text that stands is held from then on
+abbrev pub IsEndOfVersion : Finding → Finding → Path → List ℕ → List ℕ → Option Reading → Type 0
+IsEndOfVersion before after path made held old =
+    ((after ≡ before) × TellsRest held old true × DifferInMeta held made)
     ⊎ (after ≡ differs_in path)
 
 -- what is found with the end of the file at hand, by how it is compared; these inventories are held before and after
@@ -87,7 +89,7 @@ FindsByEnd state.Nothing before after path inventory sidecar held old = after �
 FindsByEnd state.Content before after path inventory sidecar held old =
     IsEndOf before after path (TellsEnd old)
 FindsByEnd (state.Version text) before after path inventory sidecar held old =
-    IsEndOfVersion before after path held old
+    IsEndOfVersion before after path text.items held old
 FindsByEnd state.Inventory before after path inventory sidecar held old =
     IsEndOf before after path (TellsRest inventory old)
 FindsByEnd state.Sidecar before after path inventory sidecar held old =

@@ -5,6 +5,7 @@ ghost use Rattle.std.specs.Prelude.{not, length, true, ◌==◌, ◌&&◌, ◌�
 ghost use Rattle.std.specs.Option.{ForSome};
 ghost use Rattle.pt_tree.specs.Failures.{IsCounted};
 ghost use Rattle.pt_audit.specs.Comparing.{FindsByEnd, FindsByMove, FindsByPiece, found_at, found_by, is_reading_if, why_not as why_not_for};
+ghost use Rattle.pt_audit.specs.Described.{DifferInMeta};
 ghost use Rattle.pt_audit.specs.Difference.{is_same};
 ghost use Rattle.pt_audit.specs.Bytes.{TellsRest};
 ghost use Rattle.std.specs.String.{string_bytes};
@@ -16,7 +17,7 @@ ghost use Rattle.pt_audit.specs.Root.{AllStand, KeepsRoot, Reads, Stands, kind_a
 
 use crate::bytes::{are_the_rest, come_next, has_ended, rest_of};
 use crate::entries::{Entries, note};
-use crate::inventories::with_meta_of;
+use crate::inventories::is_made;
 use crate::paths::{Part, below, is_named, joined, part_of};
 use crate::root::standing;
 use crate::{Difference, Finding, Root, Why};
@@ -347,6 +348,8 @@ impl<R: Root> Comparing<R> {
         ensures opened { self.new.opened ≡ self.old.opened }
         ensures held { IfOk result (λ same. same ≡ true
             → TellsRest (string_bytes self.new.inventory) (R.told self.old.root) true) }
+        ensures made { IfOk result (λ same. same ≡ true
+            → DifferInMeta (string_bytes self.new.inventory) made.now) }
     {
         let Some(stands) = rest_of(self.alloc, &mut self.root, &mut self.block)? else {
             return Ok(false);
@@ -354,11 +357,7 @@ impl<R: Root> Comparing<R> {
         let (Ok(stands), Ok(made)) = (String::from_utf8(stands), str::from_utf8(made)) else {
             return Ok(false);
         };
-        let wanted = with_meta_of(self.alloc, stands.as_str(), made)?;
-        let same = match wanted {
-            Some(wanted) => wanted.as_str() == stands.as_str(),
-            None => false,
-        };
+        let same = is_made(self.alloc, stands.as_str(), made)?;
         if same {
             self.sidecar = sidecar(self.alloc, stands.as_str(), self.algorithm)?;
             self.inventory = stands;

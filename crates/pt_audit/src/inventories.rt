@@ -1,51 +1,130 @@
-//! The inventory that a run makes, with what the one that stands says of its version.
+#![tactic(auto, using(crate::proofs::LineTexts::texts))]
+//! The inventory that stands, held against the one that a run makes: all but what it says of its version.
+ghost use Rattle.std.specs.Prelude.{◌≡◌, true, IfOk, IfSome};
+ghost use Rattle.std.specs.String.{string_bytes};
+ghost use Rattle.serde_json.specs.Data.{string};
+ghost use Rattle.serde_json.specs.View.{view};
+ghost use Rattle.serde_json.specs.Written.{compact_text};
+ghost use Rattle.pt_audit.specs.Described.{DifferInMeta, IsDescribed, cut_of, user_text, whole};
+ghost use Rattle.pt_object.specs.Inventory.{user_tree};
+
+use crate::lines::put_text;
 use pt_object::{Meta, MetaFault};
 use pt_tree::MemoryFault;
 use serde_json::{Map, Value};
-use std::alloc::{AllocError, Global};
+use std::alloc::Global;
 
-/// The inventory that a run makes, with the moment, the user and the message of the one that stands (OCFL 1.1,
-/// "Versions"). None where that one gives none that a run could give.
-pub(crate) fn with_meta_of(
-    alloc: Global,
-    stands: &str,
-    made: &str,
-) -> Result<Option<String>, MemoryFault> {
-    let Some(stands) = parsed(alloc, stands)? else {
-        return Ok(None);
-    };
-    let Some(made) = parsed(alloc, made)? else {
-        return Ok(None);
-    };
-    let Some(meta) = meta_in(alloc, &stands)? else {
-        return Ok(None);
-    };
-    let Some(value) = with_meta(alloc, &made, &meta)? else {
-        return Ok(None);
-    };
-    Ok(Some(value.to_string(alloc)?))
-}
+// What stands between the parts of an inventory.
+const CREATED: &str = "\"versions\":{\"v1\":{\"created\":";
 
-// The JSON of a text, if it is one.
-fn parsed(alloc: Global, text: &str) -> Result<Option<Value>, MemoryFault> {
-    match Value::from_str(alloc, text) {
-        Ok(value) => Ok(Some(value)),
-        Err(error) if error.is_memory() => Err(MemoryFault::Memory),
-        Err(_) => Ok(None),
+const MESSAGE: &str = ",\"message\":";
+
+const STATE: &str = ",\"state\":";
+
+const USER: &str = ",\"user\":";
+
+const END: &str = "}}}";
+
+/// Whether an inventory that stands is the one that a run makes, but for the moment, the user and the message of its
+/// version (OCFL 1.1, "Versions"), which have to be what a run could give, as it writes them. `Memory` where a growth was
+/// refused.
+pub(crate) fn is_made(alloc: Global, stands: &str, made: &str) -> Result<bool, MemoryFault>
+    ensures { IfOk result (λ same. same ≡ true → DifferInMeta stands.now made.now) }
+{
+    let (Some(stands), Some(made)) = (parts_of(stands), parts_of(made)) else {
+        return Ok(false);
+    };
+    if stands.before != made.before || stands.state != made.state {
+        return Ok(false);
+    }
+    match meta_in(alloc, &stands)? {
+        Some(meta) => is_written(alloc, &stands, &meta),
+        None => Ok(false),
     }
 }
 
+// The parts of an inventory's text. In its strings each quote has a backslash before it, so what stands between the parts is
+// found in none of them.
+#[derive(Drop)]
+struct Parts<'a> {
+    before: &'a str,
+    created: &'a str,
+    message: &'a str,
+    state: &'a str,
+    user: &'a str,
+}
+
+// The parts of a text, if it has them.
+fn parts_of(text: &str) -> Option<Parts<'_>>
+    ensures { IfSome result (λ parts. text.now ≡ whole (cut_of parts)) }
+{
+    let (before, rest) = text.split_once(CREATED)?;
+    let (created, rest) = rest.split_once(MESSAGE)?;
+    let (message, rest) = rest.split_once(STATE)?;
+    let (state, user) = rest.rsplit_once(USER)?;
+    Some(Parts {
+        before,
+        created,
+        message,
+        state,
+        user,
+    })
+}
+
 // What an inventory says of its version, if it is what a run could say.
-fn meta_in(alloc: Global, inventory: &Value) -> Result<Option<Meta>, MemoryFault> {
-    let Some(parts) = parts_in(inventory) else {
+fn meta_in(alloc: Global, parts: &Parts<'_>) -> Result<Option<Meta>, MemoryFault> {
+    let Some(user) = parts.user.strip_suffix(END) else {
         return Ok(None);
     };
+    let created = parsed(alloc, parts.created)?;
+    let message = parsed(alloc, parts.message)?;
+    let user = parsed(alloc, user)?;
+    match texts_of(&created, &message, &user) {
+        Some(texts) => meta_of(alloc, &texts),
+        None => Ok(None),
+    }
+}
+
+// The JSON of a text; null where it is none.
+fn parsed(alloc: Global, text: &str) -> Result<Value, MemoryFault> {
+    match Value::from_str(alloc, text) {
+        Ok(value) => Ok(value),
+        Err(error) if error.is_memory() => Err(MemoryFault::Memory),
+        Err(_) => Ok(Value::Null),
+    }
+}
+
+// The texts that describe a version.
+#[derive(Drop)]
+struct Texts<'a> {
+    created: &'a str,
+    name: &'a str,
+    address: Option<&'a str>,
+    message: &'a str,
+}
+
+// The texts of a moment, a message and a user, if all are there.
+fn texts_of<'a>(created: &'a Value, message: &'a Value, user: &'a Value) -> Option<Texts<'a>> {
+    let address = match user.get("address") {
+        Some(address) => Some(address.as_str()?),
+        None => None,
+    };
+    Some(Texts {
+        created: created.as_str()?,
+        name: user.get("name")?.as_str()?,
+        address,
+        message: message.as_str()?,
+    })
+}
+
+// The description with these texts, if a run could give it.
+fn meta_of(alloc: Global, texts: &Texts<'_>) -> Result<Option<Meta>, MemoryFault> {
     match Meta::of(
         alloc,
-        parts.created,
-        parts.name,
-        parts.address,
-        parts.message,
+        texts.created,
+        texts.name,
+        texts.address,
+        texts.message,
     ) {
         Ok(meta) => Ok(Some(meta)),
         Err(MetaFault::Memory) => Err(MemoryFault::Memory),
@@ -53,86 +132,46 @@ fn meta_in(alloc: Global, inventory: &Value) -> Result<Option<Meta>, MemoryFault
     }
 }
 
-// The texts that describe a version.
-#[derive(Drop)]
-struct Parts<'a> {
-    created: &'a str,
-    name: &'a str,
-    address: Option<&'a str>,
-    message: &'a str,
+// Whether the parts say of their version just this, as a run writes it.
+fn is_written(alloc: Global, parts: &Parts<'_>, meta: &Meta) -> Result<bool, MemoryFault>
+    ensures { IfOk result (λ same. same ≡ true → IsDescribed meta.now (cut_of parts.now)) }
+{
+    let created = quoted(alloc, meta.created())?;
+    let message = quoted(alloc, meta.message())?;
+    let user = user_of(alloc, meta)?;
+    Ok(
+        created.as_str() == parts.created
+            && message.as_str() == parts.message
+            && user.as_str() == parts.user,
+    )
 }
 
-// The texts that describe the version of an inventory.
-fn parts_in(inventory: &Value) -> Option<Parts<'_>> {
-    let version = version_in(inventory)?;
-    let user = version.get("user")?;
-    let address = match user.get("address") {
-        Some(address) => Some(address.as_str()?),
-        None => None,
-    };
-    Some(Parts {
-        created: version.get("created")?.as_str()?,
-        name: user.get("name")?.as_str()?,
-        address,
-        message: version.get("message")?.as_str()?,
-    })
+// A text as JSON.
+fn quoted(alloc: Global, text: &str) -> Result<String, MemoryFault>
+    ensures { IfOk result (λ json. string_bytes json ≡ compact_text (string text.now)) }
+{
+    let value = Value::from(String::from_str(alloc, text)?);
+    Ok(value.to_string(alloc)?)
 }
 
-// The inventory that a run makes, with this for what it says of its version; None where it is none.
-fn with_meta(alloc: Global, made: &Value, meta: &Meta) -> Result<Option<Value>, AllocError> {
-    let Some(old) = version_in(made) else {
-        return Ok(None);
-    };
-    let mut version = Map::new(alloc);
-    put_text(&mut version, alloc, "created", meta.created())?;
-    put_text(&mut version, alloc, "message", meta.message())?;
-    put_copy(&mut version, alloc, old, "state")?;
-    serde_json::put(&mut version, alloc, "user", user_of(alloc, meta)?)?;
-    let mut versions = Map::new(alloc);
-    serde_json::put(&mut versions, alloc, "v1", Value::from(version))?;
-    let mut members = Map::new(alloc);
-    for key in ["digestAlgorithm", "head", "id", "manifest", "type"] {
-        put_copy(&mut members, alloc, made, key)?;
-    }
-    serde_json::put(&mut members, alloc, "versions", Value::from(versions))?;
-    Ok(Some(Value::from(members)))
+// Who made a version, without an address the name alone, and what ends the inventory.
+fn user_of(alloc: Global, meta: &Meta) -> Result<String, MemoryFault>
+    ensures { IfOk result (λ json. string_bytes json ≡ user_text meta.now) }
+{
+    let user = user_value(alloc, meta)?;
+    let mut text = user.to_string(alloc)?;
+    text.push_str(END)?;
+    Ok(text)
 }
 
-// The version of an inventory.
-fn version_in(inventory: &Value) -> Option<&Value> {
-    inventory.get("versions")?.get("v1")
-}
-
-// Who made a version: without an address the name alone.
-fn user_of(alloc: Global, meta: &Meta) -> Result<Value, AllocError> {
+// Who made a version, as JSON.
+fn user_value(alloc: Global, meta: &Meta) -> Result<Value, MemoryFault>
+    ensures { IfOk result (λ value. view value ≡ user_tree meta.now.address meta.now.name) }
+{
     let mut user = Map::new(alloc);
     if let Some(address) = meta.address() {
         put_text(&mut user, alloc, "address", address)?;
     }
     put_text(&mut user, alloc, "name", meta.name())?;
     Ok(Value::from(user))
-}
-
-// Puts a text at a key.
-fn put_text(
-    members: &mut Map<String, Value>,
-    alloc: Global,
-    key: &str,
-    text: &str,
-) -> Result<(), AllocError> {
-    let text = String::from_str(alloc, text)?;
-    serde_json::put(members, alloc, key, Value::from(text))
-}
-
-// Puts a copy of what another has at a key, if it has that.
-fn put_copy(
-    members: &mut Map<String, Value>,
-    alloc: Global,
-    from: &Value,
-    key: &str,
-) -> Result<(), AllocError> {
-    match from.get(key) {
-        Some(value) => serde_json::put(members, alloc, key, value.clone()?),
-        None => Ok(()),
-    }
 }

@@ -106,8 +106,8 @@ fn text(alloc: Global, value: &Value) -> Result<String, MemoryFault>
     Ok(text)
 }
 
-// Puts a text at a key.
-fn put_text(
+/// Puts a text at a key.
+pub(crate) fn put_text(
     members: &mut Map<String, Value>,
     alloc: Global,
     key: &str,
