@@ -2,7 +2,6 @@
 use Rattle.std.proofs.Common.{◌≡◌, ℕ, List, refl, sym, ap, subst, ◌∙◌, inl, inr}
 use Rattle.std.specs.Prelude.{Option, None, Some, Result, Ok, Err, IfOk, OnOk, OnErr, MatchResult}
 use Rattle.std.specs.Option.{option_map, ForSome}
-use Rattle.std.specs.declared.fs.Metadata.{Metadata}
 use Rattle.std.specs.declared.io.Error.{Error}
 use Rattle.pt_tree.specs.declared.kind.Kind.{Kind}
 use Rattle.pt_tree.specs.declared.faults.TreeFault.{TreeFault}
@@ -12,7 +11,7 @@ use Rattle.pt_tree.specs.Dest.{Writing, IsKindAt, MayMake, MayMove, after_mkdir}
 use Rattle.pt_folder.specs.declared.writing.Writing.{Writing as Open}
 use Rattle.pt_folder.specs.Calls.{AsksOnce, IsAnswer, LeadsToKind, MakesOnce}
 use Rattle.pt_folder.specs.DestLaws.{Becomes, DirLaw, Kept, KindLaw, MakesDir}
-use Rattle.pt_folder.proofs.Types.{right_kind_here}
+use Rattle.pt_folder.proofs.Shown.{right_kind_here}
 use Rattle.pt_folder.specs.DestHeld.{told_of, IsPlaced}
 
 -- what is told of a tree
@@ -46,12 +45,12 @@ kind_is w (Some t) p k h = λ s is. let same : told_at w t ≡ s = cc in subst (
 
 module _ {S F : Type 0} (kept : S → List ℕ → Kept F) (folder : List ℕ) where
   -- a look at an entry
-  pub kind_keeps : {T : Type 0} (looks : S → List ℕ → Result Metadata Error → S → Type 0) → KindLaw kept looks → (leads : Result Metadata Error → Result T TreeFault → Type 0) (old new : S) (p : Path) (result : Result T TreeFault)
+  pub kind_keeps : {T : Type 0} (looks : S → List ℕ → Result Kind Error → S → Type 0) → KindLaw kept looks → (leads : Result Kind Error → Result T TreeFault → Type 0) (old new : S) (p : Path) (result : Result T TreeFault)
       → AsksOnce looks leads folder p old new result → kept new folder ≡ kept old folder
   kind_keeps looks law leads old new p result (inl none) = ap (λ s. kept s folder) none.0
   kind_keeps looks law leads old new p result (inr asked) = (law old new folder p asked.reply asked.named asked.made).same
 
-  pub kind_tells : (looks : S → List ℕ → Result Metadata Error → S → Type 0) → KindLaw kept looks → (old new : S) (p : Path) (result : Result (Option Kind) TreeFault) (w : Option (Open F))
+  pub kind_tells : (looks : S → List ℕ → Result Kind Error → S → Type 0) → KindLaw kept looks → (old new : S) (p : Path) (result : Result (Option Kind) TreeFault) (w : Option (Open F))
       → AsksOnce looks LeadsToKind folder p old new result → IfOk result (λ k. IsKindAt (told_of (kept old folder) w) p k)
   kind_tells looks law old new p (Err e) w asked = tt
   kind_tells looks law old new p (Ok k) w (inl none) = absurd none.1

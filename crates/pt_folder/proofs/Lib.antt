@@ -15,7 +15,7 @@ mod SourceTold
 mod Texts
 mod Trees
 mod Turns
-mod Types
+mod Shown
 mod Unsynced
 mod Untold
 mod WriteTold

@@ -2,7 +2,6 @@
 use Rattle.std.proofs.Common.{◌≡◌, List, ℕ, ap, inl, inr}
 use Rattle.std.specs.Prelude.{Option, IsSome, IfOk, Result, Ok, Err}
 use Rattle.std.specs.Option.{option_map, ForSome}
-use Rattle.std.specs.declared.fs.Metadata.{Metadata}
 use Rattle.std.specs.declared.io.Error.{Error}
 use Rattle.pt_tree.specs.Forest.{Dir, Forest, dir_at, kind_of, node_at}
 use Rattle.pt_tree.specs.Path.{Path, parent}
@@ -10,9 +9,9 @@ use Rattle.pt_tree.specs.declared.faults.TreeFault.{TreeFault}
 use Rattle.pt_tree.specs.declared.kind.Kind.{Kind}
 use Rattle.pt_folder.specs.Calls.{AsksOnce, LeadsToKind}
 use Rattle.pt_folder.specs.SourceLaws.{LookLaw}
-use Rattle.pt_folder.proofs.Types.{right_kind_here}
+use Rattle.pt_folder.proofs.Shown.{right_kind_here}
 
-module _ {S : Type 0} (kept : S → List ℕ → Option Forest) (looks : S → List ℕ → Result Metadata Error → S → Type 0) (law : LookLaw kept looks) (folder : List ℕ) (old new : S) (p : Path) where
+module _ {S : Type 0} (kept : S → List ℕ → Option Forest) (looks : S → List ℕ → Result Kind Error → S → Type 0) (law : LookLaw kept looks) (folder : List ℕ) (old new : S) (p : Path) where
   pub look_same : (result : Result (Option Kind) TreeFault) → ForSome (kept old folder) (λ f. IsSome (dir_at f (parent p))) → AsksOnce looks LeadsToKind folder p old new result → kept new folder ≡ kept old folder
   look_same result above (inl none) = ap (λ s. kept s folder) none.0
   look_same result above (inr asked) = (law old new folder p asked.reply asked.named above asked.made).same

@@ -4,7 +4,6 @@ use Rattle.std.proofs.lemmas.List.{take-append-drop, drop_more}
 use Rattle.std.specs.List.{FoldsTo}
 use Rattle.std.specs.Prelude.{Option, Some, None, IfSome, Result, Ok, Err}
 use Rattle.std.specs.Result.{IsErrAnd}
-use Rattle.std.specs.declared.fs.Metadata.{Metadata}
 use Rattle.std.specs.declared.io.Error.{Error}
 use Rattle.pt_tree.specs.declared.kind.Kind.{Kind}
 use Rattle.pt_tree.specs.Listing.{Item, can_follow}
@@ -16,13 +15,15 @@ use Rattle.pt_folder.specs.declared.failure.Failure.{Failure}
 use Rattle.pt_folder.specs.Listing.{FailsToLook, LeadsToOwnKind, LooksAt}
 
 -- a look that gave a kind
-pub looked_one : {S : Type 0} (looks : S → List ℕ → Result Metadata Error → S → Type 0) (front : List ℕ) (old new : S) (name text : List ℕ) (kind : Kind) → text ≡ front ++ name
-    → ((reply : Result Metadata Error) × looks old text reply new × LeadsToOwnKind reply (Ok kind)) → LooksAt looks front old (name, kind) new
-looked_one looks front old new name text kind is (Ok m, asked, leads) = (m, subst (λ t. looks old t (Ok m) new) is asked, leads)
+pub looked_one : {S : Type 0} (looks : S → List ℕ → Result Kind Error → S → Type 0) (front : List ℕ) (old new : S) (name text : List ℕ) (kind : Kind) → text ≡ front ++ name
+    → ((reply : Result Kind Error) × looks old text reply new × LeadsToOwnKind reply (Ok kind)) → LooksAt looks front old (name, kind) new
+looked_one looks front old new name text kind is (Ok m, asked, leads) =
+    let own : m ≡ kind = cc in
+    subst (λ k. looks old (front ++ name) (Ok k) new) own (subst (λ t. looks old t (Ok m) new) is asked)
 looked_one looks front old new name text kind is (Err e, asked, leads) = absurd leads
 
 -- a look that failed is kept as one at an entry
-pub kept_entry : {S T : Type 0} (looks : S → List ℕ → Result Metadata Error → S → Type 0) (front name text : List ℕ) (r : Result T TreeFault) (fault : TreeFault) (last : Option Failure)
+pub kept_entry : {S T : Type 0} (looks : S → List ℕ → Result Kind Error → S → Type 0) (front name text : List ℕ) (r : Result T TreeFault) (fault : TreeFault) (last : Option Failure)
     → IsErrAnd r (λ y. y ≡ fault) → text ≡ front ++ name → OnDevice {T = Kind} (Err fault) (IfSome last (IsOfCall text (FailsLook looks text))) → OnDevice r (IfSome last (IsOfEntry looks front))
 kept_entry looks front name text (Ok x) fault last bad is kept = tt
 kept_entry looks front name text (Err Memory) fault last same is kept = tt
@@ -54,17 +55,17 @@ item_here names yielded name so_far (within, is) =
     same [] = refl
     same (x ∷ xs) = ap (λ (l : List (List ℕ)). x ∷ l) (same xs)
 
-module _ {S : Type 0} (looks : S → List ℕ → Result Metadata Error → S → Type 0) (front : List ℕ) (names : List (List ℕ)) (old mid new : S) (listing : List Item)
+module _ {S : Type 0} (looks : S → List ℕ → Result Kind Error → S → Type 0) (front : List ℕ) (names : List (List ℕ)) (old mid new : S) (listing : List Item)
     (yielded rest : List (List ℕ)) (name : List ℕ) (same : map (λ (item : Item). item.0) listing ≡ yielded) (here : names ≡ yielded ++ name ∷ rest)
     (looked : FoldsTo (LooksAt looks front) old listing mid) where
   next_is : names ≡ map (λ (item : Item). item.0) listing ++ name ∷ rest
   next_is = here ∙ ap (λ (l : List (List ℕ)). l ++ name ∷ rest) (sym same)
 
   -- looking at the next entry fails
-  pub looks_fail : (text : List ℕ) (fault : TreeFault) → text ≡ front ++ name → ((reply : Result Metadata Error) × looks mid text reply new × LeadsToOwnKind reply (Err fault))
+  pub looks_fail : (text : List ℕ) (fault : TreeFault) → text ≡ front ++ name → ((reply : Result Kind Error) × looks mid text reply new × LeadsToOwnKind reply (Err fault))
       → IsDueTo fault (FailsToLook looks front names old new)
   looks_fail text Memory is asked = tt
-  looks_fail text Device is (Ok m, asked, leads) = absurd leads
+  looks_fail text Device is (Ok m, asked, leads) = absurd (cc)
   looks_fail text Device is (Err e, asked, leads) = record {
     listing = listing;
     name = name;

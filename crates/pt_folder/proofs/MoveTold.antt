@@ -3,7 +3,6 @@ use Rattle.std.proofs.Common.{◌≡◌, ℕ, List, refl, sym, ap, subst, ◌∙
 use Rattle.std.specs.Prelude.{Option, None, Some, Result, Ok, Err, OnOk, OnErr, Bool, true, false, cond, is_some, MatchResult}
 use Rattle.std.specs.Option.{option_map, ForSome}
 use Rattle.std.specs.declared.io.Error.{Error}
-use Rattle.std.specs.declared.fs.OpenOptions.{OpenOptions}
 use Rattle.pt_tree.specs.declared.faults.TreeFault.{TreeFault}
 use Rattle.pt_tree.specs.Path.{Path, rest_below}
 use Rattle.pt_tree.specs.Tree.{Tree, moved, CanMove}
@@ -48,7 +47,7 @@ HasMoved old new from to (Ok x) = (new.tree ≡ option_map (λ t. moved t from t
 HasMoved old new from to (Err e) = new ≡ old
 
 module _ {S F : Type 0} (kept : S → List ℕ → Kept F) (folder : List ℕ) (old new : S) (from to : Path) where
-  pub rename_gives : (synced : Bool) (renames : S → List ℕ → List ℕ → Result (Unit {0}) Error → S → Type 0) (opens : S → OpenOptions → List ℕ → Result F Error → S → Type 0) (syncs : F → Result (Unit {0}) Error → F → Type 0) → MoveLaw kept renames
+  pub rename_gives : (synced : Bool) (renames : S → List ℕ → List ℕ → Result (Unit {0}) Error → S → Type 0) (opens : S → List ℕ → Result F Error → S → Type 0) (syncs : F → Result (Unit {0}) Error → F → Type 0) → MoveLaw kept renames
       → (result : Result (Unit {0}) TreeFault) → ForSome (seen synced kept old folder).tree (λ t. CanMove t from to) → MovesOnce renames opens syncs synced folder from to old new result
       → HasMoved (seen synced kept old folder) (seen synced kept new folder) from to result
   rename_gives true renames opens syncs law (Ok x) can asked = (refl, λ f q at apart. at)

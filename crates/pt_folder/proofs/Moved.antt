@@ -2,7 +2,6 @@
 use Rattle.std.proofs.Common.{◌≡◌, ℕ, List, sym, subst, inr}
 use Rattle.std.specs.Prelude.{Option, Some, None, IfSome, Result, Ok, Err}
 use Rattle.std.specs.Result.{IsErrAnd}
-use Rattle.std.specs.declared.fs.OpenOptions.{OpenOptions}
 use Rattle.std.specs.declared.io.Error.{Error}
 use Rattle.pt_tree.specs.Path.{Path}
 use Rattle.pt_tree.specs.declared.faults.TreeFault.{TreeFault}
@@ -13,7 +12,7 @@ use Rattle.pt_folder.specs.Moving.{FailsToSync, IsOfMove, holder_text}
 use Rattle.pt_folder.specs.declared.failure.Failure.{Failure}
 
 -- a directory that could not be put onto the disk is kept as a part of the move
-pub kept_sync : {S F : Type 0} (renames : S → List ℕ → List ℕ → Result (Unit {0}) Error → S → Type 0) (opens : S → OpenOptions → List ℕ → Result F Error → S → Type 0)
+pub kept_sync : {S F : Type 0} (renames : S → List ℕ → List ℕ → Result (Unit {0}) Error → S → Type 0) (opens : S → List ℕ → Result F Error → S → Type 0)
     (syncs : F → Result (Unit {0}) Error → F → Type 0) (folder : List ℕ) (from to : Path) (old mid new : S) (text : List ℕ) (r : Result (Unit {0}) TreeFault) (fault : TreeFault) (last : Option Failure)
     → IsErrAnd r (λ y. y ≡ fault) → text ≡ holder_text (entry_text folder to)
     → OnDevice {T = Unit {0}} (Err fault) (IfSome last (IsOfCall text (FailsToSync opens syncs text mid new)))

@@ -3,8 +3,6 @@ use Rattle.std.proofs.Common.{◌≡◌, ℕ, List, [], ◌∷◌, ◌++◌, tru
 use Rattle.std.specs.Prelude.{Option, Some, IsSome, Result, Ok, Err, OnErr}
 use Rattle.std.specs.Option.{option_map, ForSome}
 use Rattle.std.specs.List.{All}
-use Rattle.std.specs.Fs.{file_type}
-use Rattle.std.specs.declared.fs.Metadata.{Metadata}
 use Rattle.std.specs.declared.io.Error.{Error}
 use Rattle.std.proofs.lemmas.List.Elements.{All-append}
 use Rattle.pt_tree.specs.declared.faults.TreeFault.{TreeFault}
@@ -18,7 +16,6 @@ use Rattle.pt_folder.specs.Laws.{IsPath}
 use Rattle.pt_folder.specs.Listing.{LeadsToOwnKind, dir_front}
 use Rattle.pt_folder.specs.Seeing.{IsItem, SeesAt}
 use Rattle.pt_folder.specs.SourceLaws.{LookLaw, Looked}
-use Rattle.pt_folder.proofs.Types.{right_kind}
 use Rattle.pt_folder.proofs.Texts.{joined-push}
 
 -- the directory that an entry is in
@@ -43,8 +40,8 @@ All-one {X} P x is = first
     first zero d within = is
     first (suc k) d within = absurd (omega arith)
 
-module _ {S : Type 0} (kept : S → List ℕ → Option Forest) (looks : S → List ℕ → Result Metadata Error → S → Type 0) (law : LookLaw kept looks) (front : List ℕ) (old mid new : S) where
-  looked_at : (name text : List ℕ) (reply : Result Metadata Error) → is_name name ≡ true → text ≡ front ++ name → looks mid text reply new
+module _ {S : Type 0} (kept : S → List ℕ → Option Forest) (looks : S → List ℕ → Result Kind Error → S → Type 0) (law : LookLaw kept looks) (front : List ℕ) (old mid new : S) where
+  looked_at : (name text : List ℕ) (reply : Result Kind Error) → is_name name ≡ true → text ≡ front ++ name → looks mid text reply new
       → (folder : List ℕ) (p : Path) → IsPath p → front ≡ dir_front folder p → ForSome (kept mid folder) (λ f. IsSome (dir_at f p)) → Looked (kept mid folder) (kept new folder) (p ++ name ∷ []) reply
   looked_at name text reply named is asked folder p path begins can =
       law mid new folder (p ++ name ∷ []) reply (All-append (λ n. is_name n ≡ true) p (name ∷ []) path (All-one (λ n. is_name n ≡ true) name named))
@@ -52,21 +49,22 @@ module _ {S : Type 0} (kept : S → List ℕ → Option Forest) (looks : S → L
       (subst (λ t. looks mid t reply new) (is ∙ ap (λ (l : List ℕ). l ++ name) begins ∙ front_name folder p name) asked)
 
   pub sees_more : (listing after : List Item) (name text : List ℕ) (kind : Kind) → SeesAt kept front old mid listing → is_name name ≡ true → text ≡ front ++ name
-      → ((reply : Result Metadata Error) × looks mid text reply new × LeadsToOwnKind reply (Ok kind)) → after ≡ listing ++ (name, kind) ∷ [] → SeesAt kept front old new after
+      → ((reply : Result Kind Error) × looks mid text reply new × LeadsToOwnKind reply (Ok kind)) → after ≡ listing ++ (name, kind) ∷ [] → SeesAt kept front old new after
   sees_more listing after name text kind seen named is (Err e, asked, leads) more = absurd leads
   sees_more listing after name text kind seen named is (Ok m, asked, leads) more = λ folder p path begins can.
       let before = seen folder p path begins can in
+      let own : Some m ≡ Some kind = cc in
       let look = looked_at name text (Ok m) named is asked folder p path begins (λ f known. can f (sym before.same ∙ known)) in
       record {
         same = look.same ∙ before.same;
         seen = λ f known.
-            let here : option_map kind_of (node_at (Dir f) (p ++ name ∷ [])) ≡ Some kind = right_kind (option_map kind_of (node_at (Dir f) (p ++ name ∷ []))) (file_type m) kind (look.shown f (before.same ∙ known)) leads in
+            let here : option_map kind_of (node_at (Dir f) (p ++ name ∷ [])) ≡ Some kind = look.shown f (before.same ∙ known) ∙ own in
             subst (All (IsItem f p)) (sym more) (All-append (IsItem f p) listing ((name, kind) ∷ []) (before.seen f known) (All-one (IsItem f p) (name, kind) here));
       }
 
   -- what is kept stays, whatever the look gave
   pub sees_fail : (listing : List Item) (name text : List ℕ) (r : Result Kind TreeFault) → SeesAt kept front old mid listing → is_name name ≡ true → text ≡ front ++ name
-      → ((reply : Result Metadata Error) × looks mid text reply new × LeadsToOwnKind reply r) → SeesAt kept front old new []
+      → ((reply : Result Kind Error) × looks mid text reply new × LeadsToOwnKind reply r) → SeesAt kept front old new []
   sees_fail listing name text r seen named is (reply, asked, leads) = λ folder p path begins can. let before = seen folder p path begins can in record {
     same = (looked_at name text reply named is asked folder p path begins (λ f known. can f (sym before.same ∙ known))).same ∙ before.same;
     seen = λ f known. λ k d within. absurd (omega arith);

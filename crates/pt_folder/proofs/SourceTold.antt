@@ -8,7 +8,6 @@ use Rattle.pt_tree.specs.Forest.{Forest, file_at, dir_at}
 use Rattle.pt_tree.specs.Path.{Path, parent}
 use Rattle.pt_tree.specs.Tree.{Entry, bytes_of, tree_of}
 use Rattle.pt_tree.proofs.AtPaths.{bytes_at, stands_in}
-use Rattle.std.specs.declared.fs.Metadata.{Metadata}
 use Rattle.pt_folder.specs.Folder.{entry_text}
 use Rattle.pt_tree.specs.Source.{CanList, CanOpen, CanRead, IsListed, IsRead, after_open}
 use Rattle.pt_tree.specs.Source.{Reading as Told}
@@ -19,6 +18,7 @@ use Rattle.pt_folder.specs.Opening.{OpensOnce}
 use Rattle.pt_folder.specs.SourceHeld.{told_of}
 use Rattle.pt_folder.specs.SourceLaws.{LookLaw, OpenLaw, Opened}
 use Rattle.pt_folder.specs.Reading.{IsNext, OpensAt, Stands, StandsOpen, unread_open}
+use Rattle.pt_tree.specs.declared.kind.Kind.{Kind}
 
 abbrev pub told_at : Option (List ℕ) → Forest → Told
 told_at unread f = record { tree = f; unread = unread }
@@ -54,7 +54,7 @@ above f (n ∷ p) h = let d = stands_in f n p (stands (tree_of f (n ∷ p)) (sub
     stands None h = absurd (cc)
     stands (Some e) h = refl
 
-module _ {S F : Type 0} (kept : S → List ℕ → Option Forest) (bytes left : F → Option (List ℕ)) (looks : S → List ℕ → Result Metadata Error → S → Type 0) (look_law : LookLaw kept looks)
+module _ {S F : Type 0} (kept : S → List ℕ → Option Forest) (bytes left : F → Option (List ℕ)) (looks : S → List ℕ → Result Kind Error → S → Type 0) (look_law : LookLaw kept looks)
     (opens : S → List ℕ → Result F Error → S → Type 0) (law : OpenLaw kept bytes left opens)
     (folder : List ℕ) (old new : S) (p : Path) (w v : Option (Reading F)) where
   -- a file is open at its start, or nothing is changed

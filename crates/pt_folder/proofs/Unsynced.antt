@@ -1,14 +1,14 @@
 -- What a destination tells of a system keeps to the system's laws, whether its files are put onto the disk or not.
 use Rattle.std.proofs.Common.{ℕ, List, true, false}
 use Rattle.std.specs.Prelude.{Bool, Option, Result}
-use Rattle.std.specs.declared.fs.Metadata.{Metadata}
 use Rattle.std.specs.declared.io.Error.{Error}
 use Rattle.pt_folder.specs.DestHeld.{seen}
 use Rattle.pt_folder.specs.DestLaws.{DirLaw, FileLaw, Kept, KindLaw, PeekLaw, WriteLaw}
 use Rattle.pt_folder.specs.Untold.{untold_dir, untold_file, untold_kind, untold_peek, untold_write}
+use Rattle.pt_tree.specs.declared.kind.Kind.{Kind}
 
 module _ {S F : Type 0} (kept : S → List ℕ → Kept F) where
-  pub kind_unless : (synced : Bool) (looks : S → List ℕ → Result Metadata Error → S → Type 0) → KindLaw kept looks → KindLaw (seen synced kept) looks
+  pub kind_unless : (synced : Bool) (looks : S → List ℕ → Result Kind Error → S → Type 0) → KindLaw kept looks → KindLaw (seen synced kept) looks
   kind_unless true looks law = λ old new folder p reply named by. untold_kind p reply
   kind_unless false looks law = law
 

@@ -1,15 +1,14 @@
 -- What folders ask of the system, and what becomes of the answers.
 use Rattle.std.specs.Prelude.{◌≡◌, ◌≢◌, ◌⊎◌, ◌<◌, ◌≤◌, ⊤, ℕ, true, List, length, Option, None, Some, Result, Ok, Err}
-use Rattle.std.specs.Fs.{file_type, new_options, with_read, with_append, with_create_new}
+use Rattle.std.specs.Fs.{new_options, with_read, with_append, with_create_new}
 use Rattle.std.specs.IoError.{error_kind}
-use Rattle.std.specs.declared.fs.Metadata.{Metadata}
 use Rattle.std.specs.declared.fs.OpenOptions.{OpenOptions}
 use Rattle.std.specs.declared.io.Error.{Error}
 use Rattle.pt_tree.specs.declared.faults.TreeFault.{TreeFault}
 use Rattle.pt_tree.specs.declared.faults.TreeFault.TheVariants.{Device, Memory}
 use Rattle.pt_tree.specs.declared.kind.Kind.{Kind}
 use Rattle.pt_tree.specs.Path.{Path}
-use Rattle.pt_folder.specs.Folder.{entry_text, IsAbsent, IsKind, fault_of_kind}
+use Rattle.pt_folder.specs.Folder.{entry_text, IsAbsent, fault_of_kind}
 use Rattle.pt_folder.specs.Laws.{IsPath}
 
 -- how a file is opened for reading
@@ -57,10 +56,8 @@ AsksOnce call leads folder p old new result = ((new ≡ old) × IsRefused folder
     ⊎ IsAsked call leads folder p old new result
 
 -- what is at a path, by the system's reply: its kind, nothing, or a fault
-abbrev pub LeadsToKind : Result Metadata Error → Result (Option Kind) TreeFault → Type 0
-LeadsToKind (Ok metadata) (Ok None) = ⊥
-LeadsToKind (Ok metadata) (Ok (Some kind)) = IsKind (file_type metadata) kind
-LeadsToKind (Ok metadata) (Err fault) = ⊥
+abbrev pub LeadsToKind : Result Kind Error → Result (Option Kind) TreeFault → Type 0
+LeadsToKind (Ok kind) result = result ≡ Ok (Some kind)
 LeadsToKind (Err e) (Ok None) = IsAbsent (error_kind e)
 LeadsToKind (Err e) (Ok (Some kind)) = ⊥
 LeadsToKind (Err e) (Err fault) = (¬ (IsAbsent (error_kind e))) × (fault ≡ fault_of e)
@@ -94,6 +91,6 @@ MakesOnce longest call leads folder p old new result =
     ⊎ IsAskedToMake longest call leads folder p old new result
 
 -- something is at a path, by the system's reply, or that failed
-abbrev pub IsThere : Result Metadata Error → Result (Unit {0}) TreeFault → Type 0
-IsThere (Ok metadata) result = result ≡ Ok tt
+abbrev pub IsThere : Result Kind Error → Result (Unit {0}) TreeFault → Type 0
+IsThere (Ok kind) result = result ≡ Ok tt
 IsThere (Err e) result = result ≡ Err (fault_of e)

@@ -1,12 +1,12 @@
 -- What a system keeps to that keeps the tree of a folder that one run writes, as POSIX says of its calls.
 use Rattle.std.specs.Prelude.{◌≡◌, ℕ, take, List, [], Option, None, Some, IsSome, IfOk, Result, Ok, Err}
 use Rattle.std.specs.Option.{option_map, ForSome}
-use Rattle.std.specs.declared.fs.Metadata.{Metadata}
 use Rattle.std.specs.declared.io.Error.{Error}
 use Rattle.pt_tree.specs.Path.{Path, rest_below}
 use Rattle.pt_tree.specs.Tree.{Tree, Bytes, Folder, kind_of_entry, put, added, moved, bytes_of, IsTree, CanMake, CanMove}
 use Rattle.pt_folder.specs.Folder.{entry_text}
 use Rattle.pt_folder.specs.Laws.{IsPath, LooksRight}
+use Rattle.pt_tree.specs.declared.kind.Kind.{Kind}
 
 -- A folder as a system keeps it: its tree, if it tells one, and where in it an open file stands.
 pub record Kept (F : Type 0) : Type 0 where
@@ -14,7 +14,7 @@ pub record Kept (F : Type 0) : Type 0 where
   pub place : F → Option Path
 
 -- a look changes nothing and shows what stands there
-pub record Looked {F : Type 0} (old new : Kept F) (p : Path) (reply : Result Metadata Error) : Type 0 where
+pub record Looked {F : Type 0} (old new : Kept F) (p : Path) (reply : Result Kind Error) : Type 0 where
   pub same : new ≡ old
   pub shown : ForSome old.tree (λ t. LooksRight (option_map kind_of_entry (t p)) reply)
 
@@ -63,9 +63,9 @@ pub record Opened {F R : Type 0} (left : R → Option (List ℕ)) (old new : Kep
 
 -- the laws, one for each call; the conditions are those under which a destination is called
 abbrev pub KindLaw : {S F : Type 0} → (S → List ℕ → Kept F)
-    → (S → List ℕ → Result Metadata Error → S → Type 0) → Type 0
+    → (S → List ℕ → Result Kind Error → S → Type 0) → Type 0
 KindLaw {S} {F} kept looks =
-    (old new : S) (folder : List ℕ) (p : Path) (reply : Result Metadata Error) → IsPath p
+    (old new : S) (folder : List ℕ) (p : Path) (reply : Result Kind Error) → IsPath p
     → looks old (entry_text folder p) reply new → Looked (kept old folder) (kept new folder) p reply
 
 abbrev pub DirLaw : {S F : Type 0} → (S → List ℕ → Kept F)

@@ -1,7 +1,6 @@
 -- The failure that a folder keeps.
 use Rattle.std.specs.Prelude.{◌≡◌, ◌⊎◌, ℕ, ◌<◌, ◌≤◌, ◌++◌, ⊤, false, [], List, length, Option, IfSome, Result, Ok, Err, string_bytes}
 use Rattle.std.specs.declared.io.Error.{Error}
-use Rattle.std.specs.declared.fs.Metadata.{Metadata}
 use Rattle.pt_tree.specs.declared.faults.TreeFault.{TreeFault}
 use Rattle.pt_tree.specs.declared.faults.TreeFault.TheVariants.{Device, Memory}
 use Rattle.pt_tree.specs.Name.{is_name}
@@ -12,6 +11,7 @@ use Rattle.pt_folder.specs.declared.failure.Cause.TheVariants as cause
 use Rattle.pt_folder.specs.Folder.{entry_text}
 use Rattle.pt_folder.specs.Listing.{dir_front}
 use Rattle.pt_folder.specs.Runs.{FailsToRead}
+use Rattle.pt_tree.specs.declared.kind.Kind.{Kind}
 
 -- it was at this path, for this cause
 abbrev pub IsAt : List ℕ → Cause → Failure → Type 0
@@ -58,7 +58,7 @@ FailsToPeek {S} {F} opens reads text old new e = opens old text (Err e) new
     × FailsToRead reads 8192 file e after)
 
 -- looking at something answered with this error
-abbrev pub FailsLook : {S : Type 0} → (S → List ℕ → Result Metadata Error → S → Type 0) → List ℕ
+abbrev pub FailsLook : {S : Type 0} → (S → List ℕ → Result Kind Error → S → Type 0) → List ℕ
     → Error → Type 0
 FailsLook {S} looks text e = (old : S) × (new : S) × looks old text (Err e) new
 
@@ -81,14 +81,14 @@ abbrev pub IsOfNames : List ℕ → Failure → Type 0
 IsOfNames text f = (string_bytes f.path ≡ text) × IsNamesCause f.cause
 
 -- of an entry in a directory: looking at it failed; or its name comes twice
-abbrev pub IsOfEntry : {S : Type 0} → (S → List ℕ → Result Metadata Error → S → Type 0) → List ℕ
+abbrev pub IsOfEntry : {S : Type 0} → (S → List ℕ → Result Kind Error → S → Type 0) → List ℕ
     → Failure → Type 0
 IsOfEntry looks front f =
     ((name : List ℕ) × IsOfCall (front ++ name) (FailsLook looks (front ++ name)) f)
     ⊎ IsAt front cause.Twice f
 
 -- what is kept, where memory allowed it, of a listing
-abbrev pub KeepsListing : {S : Type 0} → (S → List ℕ → Result Metadata Error → S → Type 0) → List ℕ
+abbrev pub KeepsListing : {S : Type 0} → (S → List ℕ → Result Kind Error → S → Type 0) → List ℕ
     → Path → Option Failure → Type 0
 KeepsListing looks folder p last =
     IfSome last (λ f. (IsUnasked folder f ⊎ IsOfNames (entry_text folder p) f)

@@ -1,12 +1,11 @@
 -- What a folder as a destination tells, and what its calls ask of the system and leave.
 use Rattle.std.specs.Prelude.{◌≡◌, ℕ, List, Option, Result, Err, IfSome}
-use Rattle.std.specs.declared.fs.Metadata.{Metadata}
 use Rattle.std.specs.declared.io.Error.{Error}
 use Rattle.pt_tree.specs.Dest.{Writing}
 use Rattle.pt_tree.specs.Failures.{IsCounted}
 use Rattle.pt_tree.specs.Path.{Path}
 use Rattle.pt_tree.specs.declared.faults.TreeFault.{TreeFault}
-use Rattle.pt_folder.specs.Calls.{AsksOnce, IsAnswer, MakesOnce, for_making, for_reading}
+use Rattle.pt_folder.specs.Calls.{AsksOnce, IsAnswer, MakesOnce}
 use Rattle.pt_folder.specs.DestHeld.{told_of, unless_synced}
 use Rattle.pt_folder.specs.Failure.{FailsToPeek, KeepsCall, KeepsMaking}
 use Rattle.pt_folder.specs.Folder.{entry_text}
@@ -18,6 +17,7 @@ use Rattle.pt_folder.specs.declared.dest.HostDest.{HostDest}
 use Rattle.pt_folder.specs.declared.system.Handle.{Ghosts as OfHandle}
 use Rattle.pt_folder.specs.declared.system.Input.{Ghosts as OfInput}
 use Rattle.pt_folder.specs.declared.system.System.{Ghosts as OfSystem}
+use Rattle.pt_tree.specs.declared.kind.Kind.{Kind}
 
 module _ {S F D : Type 0} {sys : OfSystem S F D} {handle : OfHandle F} {file : OfInput F}
     {dir : OfInput D} where
@@ -36,7 +36,7 @@ module _ {S F D : Type 0} {sys : OfSystem S F D} {handle : OfHandle F} {file : O
     pub failures : IsCounted old.failures new.failures result
 
   -- the system is asked once to look at an entry, and its answer leads to this
-  abbrev pub Looks : {T : Type 0} → (Result Metadata Error → Result T TreeFault → Type 0)
+  abbrev pub Looks : {T : Type 0} → (Result Kind Error → Result T TreeFault → Type 0)
       → (old new : HostDest S F D sys handle file dir) → Path → Result T TreeFault → Type 0
   Looks leads old new p result = AsksOnce sys.looks leads old.folder.path.now p old.system new.system result
 
@@ -50,14 +50,14 @@ module _ {S F D : Type 0} {sys : OfSystem S F D} {handle : OfHandle F} {file : O
   abbrev pub Peeks : (old new : HostDest S F D sys handle file dir) → Path → List ℕ
       → Result (Unit {0}) TreeFault → Type 0
   Peeks old new p block result =
-      AsksOnce (λ s. sys.opens s for_reading) (PeeksAt file.left file.reads block)
+      AsksOnce sys.opens (PeeksAt file.left file.reads block)
       old.folder.path.now p old.system new.system result
 
   -- what is kept, where memory allowed it, of first bytes that aren't had
   abbrev pub KeepsPeek : (old new : HostDest S F D sys handle file dir) → Path → Type 0
   KeepsPeek old new p =
       KeepsCall old.folder.path.now p
-      (FailsToPeek (λ s. sys.opens s for_reading) file.reads
+      (FailsToPeek sys.opens file.reads
       (entry_text old.folder.path.now p) old.system new.system)
       new.last
 
@@ -77,14 +77,14 @@ module _ {S F D : Type 0} {sys : OfSystem S F D} {handle : OfHandle F} {file : O
   abbrev pub MakesFile : (old new : HostDest S F D sys handle file dir) → Path
       → Result (Unit {0}) TreeFault → Type 0
   MakesFile old new p result =
-      MakesOnce old.longest (λ s. sys.opens s for_making) (MakesAt p old.writing new.writing)
+      MakesOnce old.longest sys.makes_file (MakesAt p old.writing new.writing)
       old.folder.path.now p old.system new.system result
 
   -- what is kept, where memory allowed it, of a file that isn't made
   abbrev pub KeepsFile : (old new : HostDest S F D sys handle file dir) → Path → Type 0
   KeepsFile old new p =
       KeepsMaking old.longest old.folder.path.now p
-      (λ e. sys.opens old.system for_making (entry_text old.folder.path.now p) (Err e) new.system) new.last
+      (λ e. sys.makes_file old.system (entry_text old.folder.path.now p) (Err e) new.system) new.last
 
   -- the writes that the open file is asked for, and so they were answered; where none is open, that is a failure
   abbrev pub Writes : (old new : HostDest S F D sys handle file dir) → List ℕ

@@ -9,7 +9,7 @@ use Rattle.pt_folder.specs.declared.source.HostSource.{HostSource}
 use Rattle.pt_folder.specs.declared.system.Handle.{Ghosts as OfHandle}
 use Rattle.pt_folder.specs.declared.system.Input.{Ghosts as OfInput}
 use Rattle.pt_folder.specs.declared.system.System.{Ghosts as OfSystem}
-use Rattle.pt_folder.specs.Calls.{IsDueTo, for_reading}
+use Rattle.pt_folder.specs.Calls.{IsDueTo}
 use Rattle.pt_folder.specs.Devices.{was_called}
 use Rattle.pt_folder.specs.Failure.{KeepsListing}
 use Rattle.pt_folder.specs.Folder.{entry_text}
@@ -45,14 +45,14 @@ module _ {S F D : Type 0} {sys : OfSystem S F D} {handle : OfHandle F} {file : O
   abbrev pub Opens : (old new : HostSource S F D sys handle file dir) → Path
       → Result (Unit {0}) TreeFault → Type 0
   Opens old new p result =
-      OpensOnce sys.looks (λ s. sys.opens s for_reading) old.folder.path.now p
+      OpensOnce sys.looks sys.opens old.folder.path.now p
       old.reading new.reading old.system new.system result
 
   -- what is kept, where memory allowed it, of a failed opening
   abbrev pub KeepsOpen : (old new : HostSource S F D sys handle file dir) → Path → Type 0
   KeepsOpen old new p =
       KeepsOpening sys.looks
-      (λ s. sys.opens s for_reading) old.folder.path.now p old.system new.system new.last
+      sys.opens old.folder.path.now p old.system new.system new.last
 
   -- the open file is read on, into this block, and so it was answered; where none is open, that is a failure
   abbrev pub Reads : (old new : HostSource S F D sys handle file dir) → List ℕ

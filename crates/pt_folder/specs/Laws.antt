@@ -1,17 +1,14 @@
 -- What the laws of a system speak of.
 use Rattle.std.specs.Prelude.{◌≡◌, ◌<◌, ℕ, true, List, length, take, drop, Option, None, Some, Result, Ok, Err}
-use Rattle.std.specs.Fs.{file_type}
 use Rattle.std.specs.IoError.{error_kind}
 use Rattle.std.specs.Option.{option_map}
 use Rattle.std.specs.List.{All}
 use Rattle.std.specs.Io.KnownBytes.{Consumes, IsAtEnd}
-use Rattle.std.specs.declared.fs.FileType.{FileType}
-use Rattle.std.specs.declared.fs.Metadata.{Metadata}
 use Rattle.std.specs.declared.io.Error.{Error}
 use Rattle.pt_tree.specs.declared.kind.Kind.{Kind}
 use Rattle.pt_tree.specs.Name.{is_name}
 use Rattle.pt_tree.specs.Path.{Path}
-use Rattle.pt_folder.specs.Folder.{IsAbsent, IsKind}
+use Rattle.pt_folder.specs.Folder.{IsAbsent}
 
 -- names that entries may have
 abbrev pub IsPath : Path → Type 0
@@ -25,12 +22,7 @@ Gives old new n buffer = Consumes old new (take n buffer) × (n ≡ 0 → 0 < le
 abbrev pub GoesRight : Option (List ℕ) → Option (List ℕ) → ℕ → Type 0
 GoesRight bytes left place = left ≡ option_map (drop place) bytes
 
--- what a look may show where an entry of this kind stands, or none does
-abbrev pub Shows : Option Kind → FileType → Type 0
-Shows None t = ⊥
-Shows (Some kind) t = IsKind t kind
-
--- what a look may answer there; that nothing is there it says only where nothing stands
-abbrev pub LooksRight : Option Kind → Result Metadata Error → Type 0
-LooksRight here (Ok m) = Shows here (file_type m)
+-- what a look may answer where an entry of this kind stands, or none does; that nothing is there it says only where nothing stands
+abbrev pub LooksRight : Option Kind → Result Kind Error → Type 0
+LooksRight here (Ok kind) = here ≡ Some kind
 LooksRight here (Err e) = IsAbsent (error_kind e) → here ≡ None

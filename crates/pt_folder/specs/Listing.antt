@@ -1,18 +1,16 @@
 -- How a directory is listed.
 use Rattle.std.specs.Prelude.{◌≡◌, ◌⊎◌, ◌-◌, ◌^◌, ℕ, false, length, List, [], ◌∷◌, ◌++◌, map, Option, IfSome, IsPermutation, Result, Ok, Err}
-use Rattle.std.specs.Fs.{file_type}
 use Rattle.std.specs.List.{FoldsTo}
 use Rattle.std.specs.List.Sorted.{IsSorted}
 use Rattle.std.specs.Cmp.Lexicographic.{slice_cmp}
 use Rattle.std.specs.Ordering.{nat_cmp}
-use Rattle.std.specs.declared.fs.Metadata.{Metadata}
 use Rattle.std.specs.declared.io.Error.{Error}
 use Rattle.pt_tree.specs.declared.faults.TreeFault.{TreeFault}
 use Rattle.pt_tree.specs.declared.faults.TreeFault.TheVariants.{Device}
 use Rattle.pt_tree.specs.declared.kind.Kind.{Kind}
 use Rattle.pt_tree.specs.Listing.{Item, can_follow}
 use Rattle.pt_tree.specs.Path.{Path}
-use Rattle.pt_folder.specs.Folder.{entry_text, IsKind}
+use Rattle.pt_folder.specs.Folder.{entry_text}
 use Rattle.pt_folder.specs.Calls.{fault_of}
 use Rattle.pt_folder.specs.Names.{AddsNames, GivesNames, RefusesBytes}
 use Rattle.pt_folder.specs.Runs.{GivesPiece, Reads}
@@ -27,17 +25,15 @@ dir_front folder [] = entry_text folder []
 dir_front folder (x ∷ p) = entry_text folder (x ∷ p) ++ 47 ∷ []
 
 -- the kind of an entry that stands, by the system's reply
-abbrev pub LeadsToOwnKind : Result Metadata Error → Result Kind TreeFault → Type 0
-LeadsToOwnKind (Ok metadata) (Ok kind) = IsKind (file_type metadata) kind
-LeadsToOwnKind (Ok metadata) (Err fault) = ⊥
+abbrev pub LeadsToOwnKind : Result Kind Error → Result Kind TreeFault → Type 0
+LeadsToOwnKind (Ok kind) result = result ≡ Ok kind
 LeadsToOwnKind (Err e) (Ok kind) = ⊥
 LeadsToOwnKind (Err e) (Err fault) = fault ≡ fault_of e
 
 -- an entry is looked at once, links not followed, and this is its kind
-abbrev pub LooksAt : {S : Type 0} → (S → List ℕ → Result Metadata Error → S → Type 0) → List ℕ → S
+abbrev pub LooksAt : {S : Type 0} → (S → List ℕ → Result Kind Error → S → Type 0) → List ℕ → S
     → Item → S → Type 0
-LooksAt looks front old item new = (metadata : Metadata)
-    × looks old (front ++ item.0) (Ok metadata) new × IsKind (file_type metadata) item.1
+LooksAt looks front old item new = looks old (front ++ item.0) (Ok item.1) new
 
 -- a read gave a piece, whose names stand behind those before
 abbrev pub ReadsNames : {D : Type 0} → (D → List ℕ → Result ℕ Error → D → Type 0)
@@ -71,7 +67,7 @@ pub record FailsToGet {D : Type 0} (reads : D → List ℕ → Result ℕ Error 
   pub failed : IsGivenUp reads most names (length pieces) last new
 
 -- entries were looked at one after another; then looking at the next failed, or its name doesn't come after the last
-pub record FailsToLook {S : Type 0} (looks : S → List ℕ → Result Metadata Error → S → Type 0)
+pub record FailsToLook {S : Type 0} (looks : S → List ℕ → Result Kind Error → S → Type 0)
     (front : List ℕ) (names : List (List ℕ)) (old new : S) : Type 0 where
   pub listing : List Item
   pub name : List ℕ
@@ -85,7 +81,7 @@ pub record FailsToLook {S : Type 0} (looks : S → List ℕ → Result Metadata 
 -- The directory is opened once, and gives these names, where it says which, by its reads; then each entry of them is
 -- looked at, in the listing's order.
 pub record IsListedBy {S D : Type 0} (opens : S → List ℕ → Result D Error → S → Type 0)
-    (looks : S → List ℕ → Result Metadata Error → S → Type 0)
+    (looks : S → List ℕ → Result Kind Error → S → Type 0)
     (reads : D → List ℕ → Result ℕ Error → D → Type 0) (left : D → Option (List ℕ))
     (text front : List ℕ) (old new : S) (listing : List Item) : Type 0 where
   pub dir : D
@@ -110,7 +106,7 @@ FailsAtNames {S} {D} opens reads text old new = (dir : D) × (after : D)
 
 -- the directory gave names; looking at them in their order failed, or one comes twice
 pub record FailsAtEntry {S D : Type 0} (opens : S → List ℕ → Result D Error → S → Type 0)
-    (looks : S → List ℕ → Result Metadata Error → S → Type 0)
+    (looks : S → List ℕ → Result Kind Error → S → Type 0)
     (reads : D → List ℕ → Result ℕ Error → D → Type 0) (text front : List ℕ)
     (old new : S) : Type 0 where
   pub dir : D
@@ -126,7 +122,7 @@ pub record FailsAtEntry {S D : Type 0} (opens : S → List ℕ → Result D Erro
 
 -- why a directory isn't listed
 abbrev pub FailsToList : {S D : Type 0} → (S → List ℕ → Result D Error → S → Type 0)
-    → (S → List ℕ → Result Metadata Error → S → Type 0) → (D → List ℕ → Result ℕ Error → D → Type 0)
+    → (S → List ℕ → Result Kind Error → S → Type 0) → (D → List ℕ → Result ℕ Error → D → Type 0)
     → List ℕ → Path → S → S → Type 0
 FailsToList opens looks reads folder p old new = ((length folder ≡ 0) × (new ≡ old))
     ⊎ (FailsToOpen opens (entry_text folder p) old new

@@ -1,10 +1,9 @@
 -- How something is moved in a folder.
 use Rattle.std.specs.Prelude.{◌≡◌, ◌≢◌, ◌⊎◌, ℕ, Bool, true, false, List, [], ◌∷◌, ◌++◌, length, Result, Ok, Err, MatchResult}
-use Rattle.std.specs.declared.fs.OpenOptions.{OpenOptions}
 use Rattle.std.specs.declared.io.Error.{Error}
 use Rattle.pt_tree.specs.declared.faults.TreeFault.{TreeFault}
 use Rattle.pt_tree.specs.Path.{Path}
-use Rattle.pt_folder.specs.Calls.{IsAnswer, IsRefused, fault_of, for_reading}
+use Rattle.pt_folder.specs.Calls.{IsAnswer, IsRefused, fault_of}
 use Rattle.pt_folder.specs.Failure.{IsOfCall, IsUnasked}
 use Rattle.pt_folder.specs.Folder.{entry_text}
 use Rattle.pt_folder.specs.Laws.{IsPath}
@@ -15,23 +14,23 @@ abbrev pub holder_text : List ℕ → List ℕ
 holder_text path = path ++ 47 ∷ 46 ∷ 46 ∷ []
 
 -- what is at a path was opened and put onto the disk, and so it was answered
-abbrev pub IsSynced : {S F : Type 0} → (S → OpenOptions → List ℕ → Result F Error → S → Type 0)
+abbrev pub IsSynced : {S F : Type 0} → (S → List ℕ → Result F Error → S → Type 0)
     → (F → Result (Unit {0}) Error → F → Type 0) → List ℕ → S → S → Result (Unit {0}) TreeFault
     → Type 0
 IsSynced {S} {F} opens syncs path old new result = (reply : Result F Error)
-    × opens old for_reading path reply new
+    × opens old path reply new
     × MatchResult reply (λ file. (answer : Result (Unit {0}) Error) × (after : F)
     × syncs file answer after × IsAnswer answer result) (λ e. result ≡ Err (fault_of e))
 
 -- it could not be opened, or not be put onto the disk
-abbrev pub FailsToSync : {S F : Type 0} → (S → OpenOptions → List ℕ → Result F Error → S → Type 0)
+abbrev pub FailsToSync : {S F : Type 0} → (S → List ℕ → Result F Error → S → Type 0)
     → (F → Result (Unit {0}) Error → F → Type 0) → List ℕ → S → S → Error → Type 0
-FailsToSync {S} {F} opens syncs path old new e = opens old for_reading path (Err e) new
-    ⊎ ((file : F) × (after : F) × opens old for_reading path (Ok file) new
+FailsToSync {S} {F} opens syncs path old new e = opens old path (Err e) new
+    ⊎ ((file : F) × (after : F) × opens old path (Ok file) new
     × syncs file (Err e) after)
 
 -- what comes after a move: nothing, or the directory that holds what was moved is put onto the disk
-abbrev pub AfterMove : {S F : Type 0} → (S → OpenOptions → List ℕ → Result F Error → S → Type 0)
+abbrev pub AfterMove : {S F : Type 0} → (S → List ℕ → Result F Error → S → Type 0)
     → (F → Result (Unit {0}) Error → F → Type 0) → Bool → List ℕ → S → S
     → Result (Unit {0}) TreeFault → Type 0
 AfterMove opens syncs false to old new result = (new ≡ old) × (result ≡ Ok tt)
@@ -40,7 +39,7 @@ AfterMove opens syncs true to old new result = IsSynced opens syncs (holder_text
 -- the move was asked for, and by its reply this came after it
 pub record IsMovedBy {S F : Type 0}
     (renames : S → List ℕ → List ℕ → Result (Unit {0}) Error → S → Type 0)
-    (opens : S → OpenOptions → List ℕ → Result F Error → S → Type 0)
+    (opens : S → List ℕ → Result F Error → S → Type 0)
     (syncs : F → Result (Unit {0}) Error → F → Type 0) (synced : Bool) (folder : List ℕ)
     (from to : Path) (old new : S) (result : Result (Unit {0}) TreeFault) : Type 0 where
   pub reply : Result (Unit {0}) Error
@@ -54,7 +53,7 @@ pub record IsMovedBy {S F : Type 0}
 
 -- nothing is asked, and the path was refused; or the move is asked for once
 abbrev pub MovesOnce : {S F : Type 0} → (S → List ℕ → List ℕ → Result (Unit {0}) Error → S → Type 0)
-    → (S → OpenOptions → List ℕ → Result F Error → S → Type 0)
+    → (S → List ℕ → Result F Error → S → Type 0)
     → (F → Result (Unit {0}) Error → F → Type 0) → Bool → List ℕ → Path → Path → S → S
     → Result (Unit {0}) TreeFault → Type 0
 MovesOnce renames opens syncs synced folder from to old new result =
@@ -63,7 +62,7 @@ MovesOnce renames opens syncs synced folder from to old new result =
 
 -- what a failure that is kept was of: no call, the move, or putting the directory onto the disk
 abbrev pub IsOfMove : {S F : Type 0} → (S → List ℕ → List ℕ → Result (Unit {0}) Error → S → Type 0)
-    → (S → OpenOptions → List ℕ → Result F Error → S → Type 0)
+    → (S → List ℕ → Result F Error → S → Type 0)
     → (F → Result (Unit {0}) Error → F → Type 0) → List ℕ → Path → Path → S → S → Failure → Type 0
 IsOfMove {S} renames opens syncs folder from to old new f =
     (IsUnasked folder f ⊎ IsOfCall (entry_text folder to)

@@ -1,7 +1,5 @@
 -- How a file of a folder is opened for reading.
 use Rattle.std.specs.Prelude.{◌≡◌, ◌≢◌, ◌⊎◌, ℕ, List, length, Option, IfSome, Result, Ok, Err, MatchResult}
-use Rattle.std.specs.Fs.{IsFile, file_type}
-use Rattle.std.specs.declared.fs.Metadata.{Metadata}
 use Rattle.std.specs.declared.io.Error.{Error}
 use Rattle.pt_tree.specs.Path.{Path}
 use Rattle.pt_tree.specs.declared.faults.TreeFault.{TreeFault}
@@ -14,19 +12,21 @@ use Rattle.pt_folder.specs.Laws.{IsPath}
 use Rattle.pt_folder.specs.Reading.{OpensAt}
 use Rattle.pt_folder.specs.declared.failure.Failure.{Failure}
 use Rattle.pt_folder.specs.declared.failure.Cause.TheVariants as cause
+use Rattle.pt_tree.specs.declared.kind.Kind.{Kind}
+use Rattle.pt_tree.specs.declared.kind.Kind.TheVariants.{File}
 
 -- a file stands there, by the system's reply to a look; or that failed, or it is none
-abbrev pub LeadsToFile : Result Metadata Error → Result (Unit {0}) TreeFault → Type 0
-LeadsToFile (Ok metadata) (Ok done) = IsFile (file_type metadata)
-LeadsToFile (Ok metadata) (Err fault) = (¬ (IsFile (file_type metadata))) × (fault ≡ Device)
+abbrev pub LeadsToFile : Result Kind Error → Result (Unit {0}) TreeFault → Type 0
+LeadsToFile (Ok kind) (Ok done) = kind ≡ File
+LeadsToFile (Ok kind) (Err fault) = (kind ≢ File) × (fault ≡ Device)
 LeadsToFile (Err e) result = result ≡ Err (fault_of e)
 
 -- What stands at the path was looked at, links not followed. Where it is a file, it was opened, and the reply leads to this
 -- open file and this result; else nothing more is asked, and the open file is the one that was.
-pub record IsOpenedBy {S F : Type 0} (looks : S → List ℕ → Result Metadata Error → S → Type 0)
+pub record IsOpenedBy {S F : Type 0} (looks : S → List ℕ → Result Kind Error → S → Type 0)
     (opens : S → List ℕ → Result F Error → S → Type 0) (folder : List ℕ) (p : Path)
     (w v : Option (Reading F)) (old new : S) (result : Result (Unit {0}) TreeFault) : Type 0 where
-  pub reply : Result Metadata Error
+  pub reply : Result Kind Error
   pub found : Result (Unit {0}) TreeFault
   pub mid : S
   pub filled : length folder ≢ 0
@@ -39,19 +39,19 @@ pub record IsOpenedBy {S F : Type 0} (looks : S → List ℕ → Result Metadata
       (λ fault. (new ≡ mid) × (v ≡ w) × (result ≡ Err fault))
 
 -- nothing is asked of the system, and the path was refused; or it is looked at, and opened where it is a file
-abbrev pub OpensOnce : {S F : Type 0} → (S → List ℕ → Result Metadata Error → S → Type 0)
+abbrev pub OpensOnce : {S F : Type 0} → (S → List ℕ → Result Kind Error → S → Type 0)
     → (S → List ℕ → Result F Error → S → Type 0) → List ℕ → Path → Option (Reading F)
     → Option (Reading F) → S → S → Result (Unit {0}) TreeFault → Type 0
 OpensOnce looks opens folder p w v old new result = ((new ≡ old) × IsRefused folder result)
     ⊎ IsOpenedBy looks opens folder p w v old new result
 
 -- of a look at a path that should be a file's: it failed, or no file stands there now
-abbrev pub IsOfFile : {S : Type 0} → (S → List ℕ → Result Metadata Error → S → Type 0) → List ℕ → S
+abbrev pub IsOfFile : {S : Type 0} → (S → List ℕ → Result Kind Error → S → Type 0) → List ℕ → S
     → S → Failure → Type 0
 IsOfFile looks text old new f = IsAt text cause.NotFile f ⊎ IsOfCall text (λ e. looks old text (Err e) new) f
 
 -- what is kept, where memory allowed it, of opening a file: of no call, of the look, or of the opening
-abbrev pub KeepsOpening : {S F : Type 0} → (S → List ℕ → Result Metadata Error → S → Type 0)
+abbrev pub KeepsOpening : {S F : Type 0} → (S → List ℕ → Result Kind Error → S → Type 0)
     → (S → List ℕ → Result F Error → S → Type 0) → List ℕ → Path → S → S → Option Failure → Type 0
 KeepsOpening {S} looks opens folder p old new last =
     IfSome last (λ f. (IsUnasked folder f ⊎ IsOfFile looks (entry_text folder p) old new f)

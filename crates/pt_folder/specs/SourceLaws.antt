@@ -1,7 +1,6 @@
 -- What a system keeps to that keeps the tree of a folder that nobody writes, as POSIX says of its calls.
 use Rattle.std.specs.Prelude.{◌≡◌, ℕ, true, List, map, Option, None, Some, IsSome, IfOk, IsPermutation, Result}
 use Rattle.std.specs.Option.{option_map, ForSome}
-use Rattle.std.specs.declared.fs.Metadata.{Metadata}
 use Rattle.std.specs.declared.io.Error.{Error}
 use Rattle.pt_tree.specs.Forest.{Forest, Dir, dir_at, file_at, is_proper, kind_of, listing_of, node_at}
 use Rattle.pt_tree.specs.Listing.{Item}
@@ -9,9 +8,10 @@ use Rattle.pt_tree.specs.Path.{Path, parent}
 use Rattle.pt_folder.specs.Folder.{entry_text}
 use Rattle.pt_folder.specs.Laws.{IsPath, LooksRight}
 use Rattle.pt_folder.specs.Names.{GivesNames}
+use Rattle.pt_tree.specs.declared.kind.Kind.{Kind}
 
 -- a look changes nothing and shows what stands there
-pub record Looked (old new : Option Forest) (p : Path) (reply : Result Metadata Error) : Type 0 where
+pub record Looked (old new : Option Forest) (p : Path) (reply : Result Kind Error) : Type 0 where
   pub same : new ≡ old
   pub shown : ForSome old (λ f. LooksRight (option_map kind_of (node_at (Dir f) p)) reply)
 
@@ -42,9 +42,9 @@ pub record Listed {D : Type 0} (left : D → Option (List ℕ)) (old new : Optio
 -- the laws, one for each call; the conditions are those under which a source is called, and for a look that a directory
 -- stands above
 abbrev pub LookLaw : {S : Type 0} → (S → List ℕ → Option Forest)
-    → (S → List ℕ → Result Metadata Error → S → Type 0) → Type 0
+    → (S → List ℕ → Result Kind Error → S → Type 0) → Type 0
 LookLaw {S} forest looks =
-    (old new : S) (folder : List ℕ) (p : Path) (reply : Result Metadata Error) → IsPath p
+    (old new : S) (folder : List ℕ) (p : Path) (reply : Result Kind Error) → IsPath p
     → ForSome (forest old folder) (λ f. IsSome (dir_at f (parent p)))
     → looks old (entry_text folder p) reply new → Looked (forest old folder) (forest new folder) p reply
 

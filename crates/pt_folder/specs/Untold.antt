@@ -1,6 +1,5 @@
 -- A system that tells nothing keeps to the laws.
 use Rattle.std.specs.Prelude.{◌≡◌, ℕ, List, Option, None, Some, true, Result, Ok, Err, refl}
-use Rattle.std.specs.declared.fs.Metadata.{Metadata}
 use Rattle.std.specs.declared.io.Error.{Error}
 use Rattle.pt_tree.specs.Forest.{Forest, is_proper}
 use Rattle.pt_tree.specs.Path.{Path}
@@ -8,6 +7,7 @@ use Rattle.pt_tree.specs.Tree.{Tree, IsTree}
 use Rattle.pt_folder.specs.SourceLaws.{Listed, Looked, Opened}
 use Rattle.pt_folder.specs.DestLaws.{Adds, Kept, MakesDir, MakesFile, Moves}
 use Rattle.pt_folder.specs.DestLaws.{Looked as Seen, Opened as Peeked}
+use Rattle.pt_tree.specs.declared.kind.Kind.{Kind}
 
 abbrev pub no_forest : Option Forest
 no_forest = None
@@ -15,7 +15,7 @@ no_forest = None
 abbrev pub unknown : {F : Type 0} → F → Option (List ℕ)
 unknown file = None
 
-pub untold_look : (p : Path) (reply : Result Metadata Error) → Looked no_forest no_forest p reply
+pub untold_look : (p : Path) (reply : Result Kind Error) → Looked no_forest no_forest p reply
 untold_look p reply = record { same = refl; shown = λ f is. absurd (cc) }
 
 pub untold_open : {F : Type 0} (p : Path) (reply : Result F Error)
@@ -33,7 +33,7 @@ untold_proper f is = absurd (cc)
 abbrev pub no_kept : {F : Type 0} → Kept F
 no_kept = record { tree = None; place = λ _. None }
 
-pub untold_kind : {F : Type 0} (p : Path) (reply : Result Metadata Error)
+pub untold_kind : {F : Type 0} (p : Path) (reply : Result Kind Error)
     → Seen (no_kept {F = F}) no_kept p reply
 untold_kind p reply = record { same = refl; shown = λ t is. absurd (cc) }
 

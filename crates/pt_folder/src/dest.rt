@@ -3,7 +3,7 @@ ghost use Rattle.std.specs.Prelude.{◌≡◌, ◌≤◌, length, [], None, Err,
 ghost use Rattle.std.specs.Option.{option_map};
 ghost use Rattle.pt_tree.specs.declared.faults.TreeFault.TheVariants.{Device};
 ghost use Rattle.pt_folder.specs.Folder.{entry_text};
-ghost use Rattle.pt_folder.specs.Calls.{AsksOnce, CannotMake, IsThere, LeadsToKind, for_reading};
+ghost use Rattle.pt_folder.specs.Calls.{AsksOnce, CannotMake, IsThere, LeadsToKind};
 ghost use Rattle.pt_folder.specs.Failure.{FailsToPeek, IsOfCall, KeepsCall, OnDevice};
 ghost use Rattle.pt_folder.specs.Moving.{FailsToSync, IsOfMove, IsSynced, MovesOnce, holder_text};
 ghost use Rattle.pt_folder.specs.DestHeld.{IsPlaced, unless_synced};
@@ -13,7 +13,7 @@ ghost use Rattle.pt_folder.specs.Writing.{IsMadeAt, open_unless_within};
 
 use crate::bytes::read_block;
 use crate::failure::{Failure, heard};
-use crate::folder::{Folder, counted, is_there, kind_at, make_dir, reading};
+use crate::folder::{Folder, counted, is_there, kind_at, make_dir};
 use crate::system::{Handle, System};
 use crate::writing::{Writing, add, close, close_within, create};
 use pt_tree::{Block, Dest, Kind, NamePath, TreeFault};
@@ -366,7 +366,7 @@ fn sync_dir<S: System>(
     ensures kept { OnDevice result (IfSome last.new (IsOfCall path.now
         (FailsToSync S.opens S.File.Handle.syncs path.now system.old system.new))) }
 {
-    match system.open_as(&reading(), path) {
+    match system.open_to_read(path) {
         Ok(mut dir) => match dir.sync() {
             Ok(()) => Ok(()),
             Err(error) => Err(heard(last, alloc, path, error)),
@@ -384,16 +384,16 @@ fn peek<S: System>(
     last: &mut Option<Failure>,
 ) -> Result<(), TreeFault>
     ensures empty { OnErr result (block.new.items ≡ []) }
-    ensures asked { AsksOnce (λ s. S.opens s for_reading)
+    ensures asked { AsksOnce S.opens
         (PeeksAt S.File.Input.left S.File.Input.reads block.new.items)
         folder.now.path.now path.now system.old system.new result }
     ensures kept { OnDevice result (KeepsCall folder.now.path.now path.now
-        (FailsToPeek (λ s. S.opens s for_reading) S.File.Input.reads
+        (FailsToPeek S.opens S.File.Input.reads
         (entry_text folder.now.path.now path.now) system.old system.new) last.new) }
 {
     block.clear();
     let text = folder.text(path, last)?;
-    match system.open_as(&reading(), text.as_str()) {
+    match system.open_to_read(text.as_str()) {
         Ok(mut file) => match read_block(&mut file, block) {
             Ok(()) => Ok(()),
             Err(error) => Err(heard(last, folder.alloc, text.as_str(), error)),

@@ -2,18 +2,16 @@
 ghost use Rattle.std.specs.Prelude.{◌≡◌, ◌≢◌, ◌⊎◌, ◌↔◌, ◌≤◌, Err, IfOk, IfSome, OnOk, IsErrOf, IsTrue, length, string_bytes, true};
 ghost use Rattle.pt_tree.specs.Name.{is_name};
 ghost use Rattle.pt_folder.specs.Laws.{IsPath};
-ghost use Rattle.std.specs.Fs.{file_type as type_of};
 ghost use Rattle.std.specs.IoError.{error_kind};
 ghost use Rattle.pt_tree.specs.Failures.{IsCounted};
-ghost use Rattle.pt_folder.specs.Folder.{entry_text, IsAbsent, IsKind, fault_of_kind};
-ghost use Rattle.pt_folder.specs.Calls.{AsksOnce, CannotMake, IsAnswer, IsThere, LeadsToKind, MakesOnce, for_reading};
+ghost use Rattle.pt_folder.specs.Folder.{entry_text, IsAbsent, fault_of_kind};
+ghost use Rattle.pt_folder.specs.Calls.{AsksOnce, CannotMake, IsAnswer, IsThere, LeadsToKind, MakesOnce};
 ghost use Rattle.pt_folder.specs.Failure.{IsAt, IsTooLong, IsUnasked, KeepsCall, KeepsMaking, OnDevice};
 
 use crate::failure::{Cause, Failure, heard, keep};
 use crate::system::System;
 use pt_tree::{Kind, Name, NamePath, TreeFault};
 use std::alloc::{AllocError, Global};
-use std::fs::{Metadata, OpenOptions};
 use std::io;
 
 /// A folder of the system, by its path.
@@ -144,19 +142,6 @@ pub fn is_absent(error: &io::Error) -> bool
     )
 }
 
-/// The kind of an entry, by what the system says of the entry itself.
-pub fn kind_of(metadata: &Metadata) -> Kind
-    ensures { IsKind (type_of metadata.now) result }
-{
-    if metadata.is_file() {
-        Kind::File
-    } else if metadata.is_dir() {
-        Kind::Dir
-    } else {
-        Kind::Other
-    }
-}
-
 /// Counts an answer `Device` as a failure, up to 2^64 - 1, and gives the answer.
 pub fn counted<T>(failures: &mut u64, answer: Result<T, TreeFault>) -> Result<T, TreeFault>
     ensures same { result ≡ answer }
@@ -186,7 +171,7 @@ pub fn kind_at<S: System>(
 {
     *at = folder.text(path, last)?;
     match system.look(at.as_str()) {
-        Ok(metadata) => Ok(Some(kind_of(&metadata))),
+        Ok(kind) => Ok(Some(kind)),
         Err(error) if is_absent(&error) => Ok(None),
         Err(error) => Err(heard(last, folder.alloc, at.as_str(), error)),
     }
@@ -210,15 +195,6 @@ pub fn is_there<S: System>(
         Ok(_) => Ok(()),
         Err(error) => Err(heard(last, folder.alloc, text.as_str(), error)),
     }
-}
-
-/// How a file is opened for reading.
-pub fn reading() -> OpenOptions
-    ensures { result ≡ for_reading }
-{
-    let mut options = OpenOptions::new();
-    options.read(true);
-    options
 }
 
 /// Makes a directory at the path of an entry, unless the path is longer than any that may be made.

@@ -13,7 +13,7 @@ ghost use Rattle.pt_folder.specs.Listing.{FailsToGet, FailsToList, FailsToLook, 
 ghost use Rattle.pt_folder.specs.Names.{AddsNames, GivesNames, IsRefusedName, RefusesBytes, is_entry};
 
 use crate::failure::{Cause, Failure, heard, keep};
-use crate::folder::{Folder, kind_of, name_text};
+use crate::folder::{Folder, name_text};
 use crate::system::{Input, System};
 use pt_tree::{Kind, Listing, ListingFault, Name, NameFault, NamePath, TreeFault};
 use std::alloc::Global;
@@ -237,7 +237,7 @@ fn own_kind<S: System>(
         (IfSome last.new (IsOfCall text.now (FailsLook S.looks text.now))) }
 {
     match system.look(text) {
-        Ok(metadata) => Ok(kind_of(&metadata)),
+        Ok(kind) => Ok(kind),
         Err(error) => Err(heard(last, alloc, text, error)),
     }
 }

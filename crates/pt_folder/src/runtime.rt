@@ -1,8 +1,12 @@
 //! The runtime's own files as a system. It keeps nothing: what becomes of the folders isn't told.
 ghost use Rattle.std.specs.Prelude.{⊤, ◌≡◌};
+ghost use Rattle.std.specs.Fs.{file_type as type_of};
+ghost use Rattle.pt_folder.specs.Calls.{for_making, for_reading};
+ghost use Rattle.pt_folder.specs.Folder.{IsKind};
 ghost use Rattle.pt_folder.specs.Untold.{no_forest, no_kept, unknown, untold_dir, untold_file, untold_kind, untold_look, untold_move, untold_names, untold_open, untold_peek, untold_proper, untold_tree, untold_write};
 
 use crate::system::{Handle, Input, System};
+use pt_tree::Kind;
 use std::fs::{Metadata, OpenFile, OpenOptions};
 use std::io;
 use std::io::{Read, Seek, SeekFrom, Write};
@@ -60,7 +64,9 @@ impl<'a, R: Files> System for &'a R {
 
     ghost looks = { λ _ _ _ _. ⊤ };
 
-    ghost opens = { λ _ _ _ _ _. ⊤ };
+    ghost opens = { λ _ _ _ _. ⊤ };
+
+    ghost makes_file = { λ _ _ _ _. ⊤ };
 
     ghost opens_dir = { λ _ _ _ _. ⊤ };
 
@@ -94,12 +100,22 @@ impl<'a, R: Files> System for &'a R {
 
     ghost tree_law = { λ s folder t is. untold_tree t is };
 
-    fn look(&mut self, path: &str) -> io::Result<Metadata> {
-        self.symlink_metadata(path)
+    fn look(&mut self, path: &str) -> io::Result<Kind> {
+        match self.symlink_metadata(path) {
+            Ok(metadata) => Ok(kind_of(&metadata)),
+            Err(error) => Err(error),
+        }
     }
 
-    fn open_as(&mut self, how: &OpenOptions, path: &str) -> io::Result<HostFile<R::File>> {
-        match self.open_file(how, path) {
+    fn open_to_read(&mut self, path: &str) -> io::Result<HostFile<R::File>> {
+        match self.open_file(&reading(), path) {
+            Ok(file) => Ok(HostFile::new(file)),
+            Err(error) => Err(error),
+        }
+    }
+
+    fn make_file(&mut self, path: &str) -> io::Result<HostFile<R::File>> {
+        match self.open_file(&making(), path) {
             Ok(file) => Ok(HostFile::new(file)),
             Err(error) => Err(error),
         }
@@ -123,4 +139,35 @@ impl<'a, R: Files> System for &'a R {
     fn write_piece(&mut self, file: &mut HostFile<R::File>, piece: &[u8]) -> io::Result<usize> {
         file.file.write(piece)
     }
+}
+
+// The kind of an entry, by what the system says of the entry itself.
+fn kind_of(metadata: &Metadata) -> Kind
+    ensures { IsKind (type_of metadata.now) result }
+{
+    if metadata.is_file() {
+        Kind::File
+    } else if metadata.is_dir() {
+        Kind::Dir
+    } else {
+        Kind::Other
+    }
+}
+
+// How a file is opened for reading.
+fn reading() -> OpenOptions
+    ensures { result ≡ for_reading }
+{
+    let mut options = OpenOptions::new();
+    options.read(true);
+    options
+}
+
+// How a file is made: each write goes to its end, and only where nothing stands.
+fn making() -> OpenOptions
+    ensures { result ≡ for_making }
+{
+    let mut options = OpenOptions::new();
+    options.append(true).create_new(true);
+    options
 }

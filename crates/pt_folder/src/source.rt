@@ -3,7 +3,7 @@ ghost use Rattle.std.specs.Prelude.{◌≡◌, [], Some, None, Err, IfErr, IfOk,
 ghost use Rattle.std.specs.Prelude.{drop as drop_items};
 ghost use Rattle.std.specs.Option.{option_map, ForSome};
 ghost use Rattle.pt_tree.specs.declared.faults.TreeFault.TheVariants.{Device};
-ghost use Rattle.pt_folder.specs.Calls.{AsksOnce, LeadsToKind, for_reading};
+ghost use Rattle.pt_folder.specs.Calls.{AsksOnce, LeadsToKind};
 ghost use Rattle.pt_tree.specs.Failures.{IsCounted};
 ghost use Rattle.pt_tree.specs.Forest.{Dir, dir_at, kind_of, node_at};
 ghost use Rattle.pt_tree.specs.Path.{parent};
@@ -13,7 +13,7 @@ ghost use Rattle.pt_folder.specs.Opening.{IsOfFile, KeepsOpening, LeadsToFile, O
 ghost use Rattle.pt_folder.specs.Reading.{IsNext, IsOfReading, ReadsBy, StandsOpen, unread_open};
 
 use crate::failure::{Cause, Failure, heard, keep};
-use crate::folder::{Folder, counted, kind_at, reading};
+use crate::folder::{Folder, counted, kind_at};
 use crate::listing;
 use crate::reading::Reading;
 use crate::system::{Handle, Input, System};
@@ -204,15 +204,15 @@ fn open<S: System>(
     last: &mut Option<Failure>,
 ) -> Result<(), TreeFault>
     ensures same { OnErr result (opened.new ≡ opened.old) }
-    ensures asked { OpensOnce S.looks (λ s. S.opens s for_reading) folder.now.path.now path.now
+    ensures asked { OpensOnce S.looks S.opens folder.now.path.now path.now
         opened.old opened.new system.old system.new result }
     ensures at { OnOk result (string_bytes at.new ≡ entry_text folder.now.path.now path.now) }
-    ensures kept { OnDevice result (KeepsOpening S.looks (λ s. S.opens s for_reading)
+    ensures kept { OnDevice result (KeepsOpening S.looks S.opens
         folder.now.path.now path.now system.old system.new last.new) }
 {
     let text = folder.text(path, last)?;
     look_at_file(system, folder.alloc, text.as_str(), last)?;
-    match system.open_as(&reading(), text.as_str()) {
+    match system.open_to_read(text.as_str()) {
         Ok(file) => {
             *opened = Some(Reading::at_start(file));
             *at = text;
@@ -235,7 +235,7 @@ fn look_at_file<S: System>(
         (IfSome last.new (IsOfFile S.looks text.now system.old system.new)) }
 {
     match system.look(text) {
-        Ok(metadata) if metadata.is_file() => Ok(()),
+        Ok(Kind::File) => Ok(()),
         Ok(_) => {
             keep(last, alloc, text, Cause::NotFile);
             Err(TreeFault::Device)

@@ -3,17 +3,15 @@
 //! may also keep trees: then its calls keep to laws, as POSIX has them, from which follows what folders over it hold.
 ghost use Rattle.std.specs.Prelude.{◌≡◌, ℕ, List, Option, IfOk, OnOk};
 ghost use Rattle.std.specs.declared.result.Result.{Result};
-ghost use Rattle.std.specs.declared.fs.Metadata.{Metadata};
-ghost use Rattle.std.specs.declared.fs.OpenOptions.{OpenOptions};
 ghost use Rattle.std.specs.declared.io.Error.{Error};
 ghost use Rattle.std.specs.Io.{ReadsAtMost, WritesAtMost};
 ghost use Rattle.pt_tree.specs.Forest.{Forest};
-ghost use Rattle.pt_folder.specs.Calls.{for_making, for_reading};
+ghost use Rattle.pt_tree.specs.declared.kind.Kind.{Kind};
 ghost use Rattle.pt_folder.specs.Laws.{Gives, GoesRight};
 ghost use Rattle.pt_folder.specs.DestLaws.{DirLaw, FileLaw, Kept, KindLaw, MoveLaw, PeekLaw, TreeLaw, WriteLaw};
 ghost use Rattle.pt_folder.specs.SourceLaws.{LookLaw, NamesLaw, OpenLaw, ProperLaw};
 
-use std::fs::{Metadata, OpenOptions};
+use pt_tree::Kind;
 use std::io;
 
 /// What is read by pieces: an open file, or the names in a directory.
@@ -66,11 +64,14 @@ pub trait System {
     /// What it keeps below the path of a folder that is written, where it tells that.
     ghost kept: { Self → List ℕ → Kept Self.File };
 
-    /// What is at a path may be told to be this, links not followed.
-    ghost looks: { Self → List ℕ → Result Metadata Error → Self → Type 0 };
+    /// What is at a path may be told to be of this kind, links not followed.
+    ghost looks: { Self → List ℕ → Result Kind Error → Self → Type 0 };
 
-    /// The file at a path, opened so, may be this.
-    ghost opens: { Self → OpenOptions → List ℕ → Result Self.File Error → Self → Type 0 };
+    /// The file at a path, opened for reading, may be this.
+    ghost opens: { Self → List ℕ → Result Self.File Error → Self → Type 0 };
+
+    /// The file that is made at a path may be this.
+    ghost makes_file: { Self → List ℕ → Result Self.File Error → Self → Type 0 };
 
     /// The directory at a path may be this.
     ghost opens_dir: { Self → List ℕ → Result Self.Dir Error → Self → Type 0 };
@@ -84,13 +85,17 @@ pub trait System {
     /// A write of these bytes to an open file may answer so, and leave system and file so.
     ghost writes: { Self → Self.File → List ℕ → Result ℕ Error → Self → Self.File → Type 0 };
 
-    /// What is at a path itself; links aren't followed.
-    fn look(&mut self, path: &str) -> io::Result<Metadata>
+    /// The kind of what is at a path itself; links aren't followed.
+    fn look(&mut self, path: &str) -> io::Result<Kind>
         ensures { looks self.old path.now result self.new };
 
-    /// Opens a file.
-    fn open_as(&mut self, how: &OpenOptions, path: &str) -> io::Result<Self::File>
-        ensures { opens self.old how.now path.now result self.new };
+    /// Opens a file for reading.
+    fn open_to_read(&mut self, path: &str) -> io::Result<Self::File>
+        ensures { opens self.old path.now result self.new };
+
+    /// Makes a file where nothing stands, and opens it: each write goes to its end.
+    fn make_file(&mut self, path: &str) -> io::Result<Self::File>
+        ensures { makes_file self.old path.now result self.new };
 
     /// Opens a directory.
     fn open_names(&mut self, path: &str) -> io::Result<Self::Dir>
@@ -113,8 +118,7 @@ pub trait System {
     ghost look_law: { LookLaw forest looks };
 
     /// A file of a folder that is read, opened for reading.
-    ghost open_law: { OpenLaw forest Self.File.Input.bytes Self.File.Input.left
-        (λ s. opens s for_reading) };
+    ghost open_law: { OpenLaw forest Self.File.Input.bytes Self.File.Input.left opens };
 
     /// A directory of a folder that is read, opened.
     ghost names_law: { NamesLaw forest Self.Dir.left opens_dir };
@@ -126,7 +130,7 @@ pub trait System {
     ghost kind_law: { KindLaw kept looks };
 
     /// A file of a folder that is written, opened for reading.
-    ghost peek_law: { PeekLaw kept Self.File.Input.left (λ s. opens s for_reading) };
+    ghost peek_law: { PeekLaw kept Self.File.Input.left opens };
 
     /// A directory is made.
     ghost dir_law: { DirLaw kept makes_dir };
@@ -135,7 +139,7 @@ pub trait System {
     ghost move_law: { MoveLaw kept renames };
 
     /// A file is made.
-    ghost file_law: { FileLaw kept (λ s. opens s for_making) };
+    ghost file_law: { FileLaw kept makes_file };
 
     /// An open file is written to.
     ghost write_law: { WriteLaw kept writes };

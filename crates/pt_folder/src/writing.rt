@@ -2,7 +2,7 @@
 ghost use Rattle.std.specs.Prelude.{◌≡◌, None, Err, IfNone, IfSome, OnOk, OnErr};
 ghost use Rattle.pt_tree.specs.declared.faults.TreeFault.TheVariants.{Device};
 ghost use Rattle.pt_folder.specs.Folder.{entry_text};
-ghost use Rattle.pt_folder.specs.Calls.{MakesOnce, for_making};
+ghost use Rattle.pt_folder.specs.Calls.{MakesOnce};
 ghost use Rattle.pt_folder.specs.Failure.{KeepsMaking, OnDevice};
 ghost use Rattle.pt_folder.specs.Writing.{ClosesBy, FailsToAdd, IsMadeAt, IsOfWriting, MakesAt, WritesTo, open_unless_within};
 
@@ -11,7 +11,6 @@ use crate::failure::{Cause, Failure, heard, keep};
 use crate::folder::{Folder, heard_at};
 use crate::system::{Handle, System};
 use pt_tree::{NamePath, TreeFault};
-use std::fs::OpenOptions;
 
 /// The open file of a folder that is written, and its path.
 #[derive(Drop)]
@@ -31,31 +30,22 @@ pub(crate) fn create<S: System>(
 ) -> Result<(), TreeFault>
     ensures opened { OnOk result (IsMadeAt path.now writing.new) }
     ensures same { OnErr result (writing.new ≡ writing.old) }
-    ensures asked { MakesOnce longest (λ s. S.opens s for_making)
+    ensures asked { MakesOnce longest S.makes_file
         (MakesAt path.now writing.old writing.new) folder.now.path.now path.now
         system.old system.new result }
     ensures kept { OnDevice result (KeepsMaking longest folder.now.path.now path.now
-        (λ e. S.opens system.old for_making (entry_text folder.now.path.now path.now) (Err e)
+        (λ e. S.makes_file system.old (entry_text folder.now.path.now path.now) (Err e)
         system.new) last.new) }
 {
     let text = folder.text_to_make(path, longest, last)?;
     let path = path.copy()?;
-    match system.open_as(&making(), text.as_str()) {
+    match system.make_file(text.as_str()) {
         Ok(file) => {
             *writing = Some(Writing { file, path });
             Ok(())
         }
         Err(error) => Err(heard(last, folder.alloc, text.as_str(), error)),
     }
-}
-
-// How a file is made: each write goes to its end, and only where nothing stands.
-fn making() -> OpenOptions
-    ensures { result ≡ for_making }
-{
-    let mut options = OpenOptions::new();
-    options.append(true).create_new(true);
-    options
 }
 
 // Adds a piece to the open file, which stays open; where none is open, it is a failure.

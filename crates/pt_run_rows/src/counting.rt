@@ -3,8 +3,9 @@ ghost use Rattle.std.specs.Prelude.{⊤, ◌≡◌};
 ghost use Rattle.pt_folder.specs.Untold.{no_forest, no_kept, unknown, untold_dir, untold_file, untold_kind, untold_look, untold_move, untold_names, untold_open, untold_peek, untold_proper, untold_tree, untold_write};
 
 use pt_folder::{HostFile, System};
+use pt_tree::Kind;
 use std::cell::Cell;
-use std::fs::{Metadata, OpenFile, OpenOptions};
+use std::fs::{Metadata, OpenFile};
 use std::io;
 use std::io::{ErrorKind, Read, Seek, SeekFrom};
 
@@ -103,7 +104,9 @@ impl<'a> System for Counted<'a> {
 
     ghost looks = { λ _ _ _ _. ⊤ };
 
-    ghost opens = { λ _ _ _ _ _. ⊤ };
+    ghost opens = { λ _ _ _ _. ⊤ };
+
+    ghost makes_file = { λ _ _ _ _. ⊤ };
 
     ghost opens_dir = { λ _ _ _ _. ⊤ };
 
@@ -137,18 +140,22 @@ impl<'a> System for Counted<'a> {
 
     ghost tree_law = { λ s folder t is. untold_tree t is };
 
-    fn look(&mut self, _: &str) -> io::Result<Metadata> {
+    fn look(&mut self, _: &str) -> io::Result<Kind> {
         one_more(&self.counts.looks);
         if self.counts.no_look.get() {
             return Err(io::Error::from(ErrorKind::NotFound));
         }
-        Ok(Metadata::of_file(0))
+        Ok(Kind::File)
     }
 
-    fn open_as(&mut self, how: &OpenOptions, _: &str) -> io::Result<HostFile<CountedFile<'a>>> {
-        if how.asks_append() {
-            one_more(&self.counts.changes);
-        }
+    fn open_to_read(&mut self, _: &str) -> io::Result<HostFile<CountedFile<'a>>> {
+        Ok(HostFile::new(CountedFile {
+            counts: self.counts,
+        }))
+    }
+
+    fn make_file(&mut self, _: &str) -> io::Result<HostFile<CountedFile<'a>>> {
+        one_more(&self.counts.changes);
         Ok(HostFile::new(CountedFile {
             counts: self.counts,
         }))

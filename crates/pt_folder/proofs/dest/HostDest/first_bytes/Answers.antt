@@ -1,5 +1,4 @@
 use Rattle.std.proofs.Common.{subst, sym}
-use Rattle.pt_folder.specs.Calls.{for_reading}
 use Rattle.pt_folder.specs.DestHeld.{IsPlaced, seen}
 use Rattle.pt_folder.proofs.PeekTold.{peek_keeps}
 use Rattle.pt_folder.proofs.Unsynced.{peek_unless}
@@ -10,6 +9,6 @@ invariant_of-self g c =
     let self = c.args.self.now in
     let kept = seen self.synced g.S.System.kept in
     let folder = self.folder.path.now in
-    let law = peek_unless g.S.System.kept self.synced g.S.File.Input.left (λ s. g.S.System.opens s for_reading) g.met.S.System.peek_law in
-    let same = peek_keeps kept folder g.S.File.Input.left g.S.File.Input.reads (λ s. g.S.System.opens s for_reading) law self.system c.peek-peeked.new.system c.args.path.now c.peek-peeked.new.block.items c.peek-peeked.result c.peek-peeked.ensures.asked in
+    let law = peek_unless g.S.System.kept self.synced g.S.File.Input.left g.S.System.opens g.met.S.System.peek_law in
+    let same = peek_keeps kept folder g.S.File.Input.left g.S.File.Input.reads g.S.System.opens law self.system c.peek-peeked.new.system c.args.path.now c.peek-peeked.new.block.items c.peek-peeked.result c.peek-peeked.ensures.asked in
     record { placed = subst (λ k. IsPlaced k self.writing) (sym same) self.placed }

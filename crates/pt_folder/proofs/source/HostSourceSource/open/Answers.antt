@@ -1,4 +1,3 @@
-use Rattle.pt_folder.specs.Calls.{for_reading}
 use Rattle.pt_folder.specs.Reading.{unread_open}
 use Rattle.pt_folder.proofs.SourceTold.{can_open, open_told, open_same, open_stands}
 use Rattle.pt_folder.proofs.source.HostSourceSource.open.Goals as goal
@@ -9,7 +8,7 @@ invariant_of-self g c =
     let call = c.open-opened in
     let bytes = g.S.File.Input.bytes in
     let can = can_open (unread_open bytes self.reading) (g.S.System.forest self.system self.folder.path.now) c.args.path.now c.requires in
-    record { stands = open_stands g.S.System.forest bytes g.S.File.Input.left g.S.System.looks g.met.S.System.look_law (λ s. g.S.System.opens s for_reading) g.met.S.System.open_law self.folder.path.now self.system call.new.system c.args.path.now self.reading call.new.opened call.result can call.ensures.asked call.ensures.same self.stands }
+    record { stands = open_stands g.S.System.forest bytes g.S.File.Input.left g.S.System.looks g.met.S.System.look_law g.S.System.opens g.met.S.System.open_law self.folder.path.now self.system call.new.system c.args.path.now self.reading call.new.opened call.result can call.ensures.asked call.ensures.same self.stands }
 
 pub returns-clause-opened : goal.returns-clause-opened
 returns-clause-opened g c =
@@ -17,7 +16,7 @@ returns-clause-opened g c =
     let call = c.open-opened in
     let bytes = g.S.File.Input.bytes in
     let can = can_open (unread_open bytes self.reading) (g.S.System.forest self.system self.folder.path.now) c.args.path.now c.requires in
-    rw c.counted.ensures.same (open_told g.S.System.forest bytes g.S.File.Input.left g.S.System.looks g.met.S.System.look_law (λ s. g.S.System.opens s for_reading) g.met.S.System.open_law self.folder.path.now self.system call.new.system c.args.path.now self.reading call.new.opened call.result can call.ensures.asked call.ensures.same)
+    rw c.counted.ensures.same (open_told g.S.System.forest bytes g.S.File.Input.left g.S.System.looks g.met.S.System.look_law g.S.System.opens g.met.S.System.open_law self.folder.path.now self.system call.new.system c.args.path.now self.reading call.new.opened call.result can call.ensures.asked call.ensures.same)
 
 pub returns-clause-same : goal.returns-clause-same
 returns-clause-same g c =
@@ -25,4 +24,4 @@ returns-clause-same g c =
     let call = c.open-opened in
     let bytes = g.S.File.Input.bytes in
     let can = can_open (unread_open bytes self.reading) (g.S.System.forest self.system self.folder.path.now) c.args.path.now c.requires in
-    rw c.counted.ensures.same (open_same g.S.System.forest bytes g.S.File.Input.left g.S.System.looks g.met.S.System.look_law (λ s. g.S.System.opens s for_reading) g.met.S.System.open_law self.folder.path.now self.system call.new.system c.args.path.now self.reading call.new.opened call.result can call.ensures.asked call.ensures.same)
+    rw c.counted.ensures.same (open_same g.S.System.forest bytes g.S.File.Input.left g.S.System.looks g.met.S.System.look_law g.S.System.opens g.met.S.System.open_law self.folder.path.now self.system call.new.system c.args.path.now self.reading call.new.opened call.result can call.ensures.asked call.ensures.same)
