@@ -80,6 +80,10 @@ after_take p s =
       fuse = s.fuse;
     }
 
+-- another tree, and all else is as before
+abbrev pub with_tree : Tree → DestState → DestState
+with_tree t s = record { told = record { tree = t; writing = s.told.writing }; fuse = s.fuse }
+
 -- with another fuse
 abbrev pub dest_fused : Option ℕ → DestState → DestState
 dest_fused left s = record { told = s.told; fuse = with_fuse left s.fuse }

@@ -47,10 +47,10 @@ pub struct MemDest {
 }
 
 impl MemDest {
-    ghost use Rattle.pt_memory.specs.MemDest.{dest_tree, dest_state, new_dest, after_plant, after_take, dest_fused, take_refusal};
+    ghost use Rattle.pt_memory.specs.MemDest.{dest_tree, dest_state, new_dest, after_plant, after_take, dest_fused, take_refusal, with_tree};
     ghost use Rattle.pt_memory.specs.Planting.{plant_refusal};
     ghost use Rattle.pt_tree.specs.Refusal.{Answers};
-    ghost use Rattle.pt_tree.specs.Tree.{Bytes, Folder, bytes_of};
+    ghost use Rattle.pt_tree.specs.Tree.{Bytes, Folder, added, bytes_of, kind_of_entry};
 
     /// An empty tree, without a fuse.
     pub fn new(alloc: Global) -> MemDest
@@ -114,6 +114,23 @@ impl MemDest {
         ensures { option_copied result ≡ bytes_of (dest_tree self.now path.now) }
     {
         file_in(&self.entries, path)
+    }
+
+    /// The kind of what stands at a path; None where nothing does.
+    pub fn kind_at(&self, path: &NamePath) -> Option<Kind>
+        ensures { result ≡ option_map kind_of_entry (dest_tree self.now path.now) }
+    {
+        kind_in(&self.entries, path)
+    }
+
+    /// Adds a piece to the file at a path, whichever is open; without memory for it nothing is changed. Where no file
+    /// is there, nothing is.
+    pub fn add_to(&mut self, path: &NamePath, piece: &[u8]) -> Result<(), MemoryFault>
+        ensures added { OnOk result (dest_state self.new
+            ≡ with_tree (added (dest_tree self.old) path.now piece.now) (dest_state self.old)) }
+        ensures err { OnErr result (dest_state self.new ≡ dest_state self.old) }
+    {
+        append(&mut self.entries, path, piece)
     }
 
     /// Whether the two trees are equal. Open files, fuses and counts aren't compared.

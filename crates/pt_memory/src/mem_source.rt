@@ -10,7 +10,7 @@ use crate::fuse::Fuse;
 use crate::moving::rewrite;
 use crate::opening::{open, read_on};
 use crate::planting::{dir_in, dir_leaf, file_in, file_leaf, free_name, other_leaf, plant};
-use pt_tree::{Block, Listing, NamePath, Source, TreeFault};
+use pt_tree::{Block, Kind, Listing, MemoryFault, NamePath, Source, TreeFault};
 use std::alloc::Global;
 
 /// A tree of files in memory, to read from. It always tells.
@@ -26,7 +26,7 @@ pub struct MemSource {
 impl MemSource {
     ghost use Rattle.pt_memory.specs.MemSource.{source_state, source_tree, new_state, fused, after_source_call, swapped, IsPlanted, ListGives, OpenGives, NextGives};
     ghost use Rattle.pt_memory.specs.Fuse.{fuse_answer};
-    ghost use Rattle.pt_tree.specs.Forest.{file_at};
+    ghost use Rattle.pt_tree.specs.Forest.{Dir, file_at, kind_of, listing_at, node_at};
     ghost use Rattle.pt_tree.specs.Refusal.{Answers};
     ghost use Rattle.pt_memory.specs.Planting.{plant_refusal};
     ghost use Rattle.pt_tree.specs.Tree.{tree_of, put, Bytes, Folder, Special};
@@ -89,6 +89,28 @@ impl MemSource {
         ensures { option_copied result ≡ file_at (source_tree self.now) path.now }
     {
         file_in(&self.entries, path)
+    }
+
+    /// The kind of what stands at a path; None where nothing does.
+    pub fn kind_at(&self, path: &NamePath) -> Option<Kind>
+        ensures { result ≡ option_map kind_of (node_at (Dir (source_tree self.now)) path.now) }
+    {
+        match at(&self.entries, path.names()) {
+            Some(Found::File(_)) => Some(Kind::File),
+            Some(Found::Dir(_)) => Some(Kind::Dir),
+            Some(Found::Other) => Some(Kind::Other),
+            None => None,
+        }
+    }
+
+    /// The names and kinds of the directory at a path; None where none is there.
+    pub fn listing(&self, path: &NamePath) -> Result<Option<Listing>, MemoryFault>
+        ensures { IfOk result (λ listing. listing ≡ listing_at (source_tree self.now) path.now) }
+    {
+        match at(&self.entries, path.names()) {
+            Some(Found::Dir(inside)) => Ok(Some(list(self.alloc, inside)?)),
+            _ => Ok(None),
+        }
     }
 
     /// After `Some(k)` the next k calls of the trait pass and every later one answers `Device`; `None` takes the fuse
