@@ -1,0 +1,6 @@
+mod Changes
+mod Ended
+mod Joined
+mod Looks
+mod Places
+mod Taken

@@ -1,0 +1,4 @@
+pub mod Folders
+pub mod Keeping
+pub mod Pieces
+pub mod System

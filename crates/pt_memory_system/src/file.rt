@@ -1,0 +1,97 @@
+//! Open files in memory, and the names in a directory.
+ghost use Rattle.std.specs.Prelude.{◌≡◌, Some, None, drop, ⊤};
+ghost use Rattle.std.specs.Option.{option_map};
+ghost use Rattle.pt_folder.specs.Laws.{Gives, GoesRight};
+
+use crate::faults::{Faults, failed};
+use pt_folder::{Handle, Input};
+use pt_tree::NamePath;
+use std::io;
+
+/// An open file: its bytes and the place where it stands; or one that was made, to write to, with its path.
+#[derive(Drop)]
+pub struct MemFile<'a> {
+    bytes: Vec<u8>,
+    place: usize,
+    path: Option<NamePath>,
+    faults: &'a Faults,
+}
+
+impl<'a> MemFile<'a> {
+    // A file that is read from its start.
+    pub(crate) fn to_read(bytes: Vec<u8>, faults: &'a Faults) -> MemFile<'a>
+        ensures bytes { result.bytes ≡ bytes }
+        ensures place { result.place ≡ 0 }
+        ensures path { result.path ≡ None }
+    {
+        MemFile {
+            bytes,
+            place: 0,
+            path: None,
+            faults,
+        }
+    }
+
+    // A file that was made at a path.
+    pub(crate) fn to_write(path: NamePath, none: Vec<u8>, faults: &'a Faults) -> MemFile<'a>
+        ensures { result.path ≡ Some path }
+    {
+        MemFile {
+            bytes: none,
+            place: 0,
+            path: Some(path),
+            faults,
+        }
+    }
+
+    // The path at which it was made, to write to.
+    pub(crate) fn path(&self) -> Option<&NamePath>
+        ensures { option_map (λ path. path.now) result ≡ self.now.path }
+    {
+        self.path.as_ref()
+    }
+}
+
+impl<'a> Input for MemFile<'a> {
+    ghost bytes = { λ f. Some f.bytes.items };
+
+    ghost left = { λ f. Some (drop f.place f.bytes.items) };
+
+    ghost reads = { λ _ _ _ _. ⊤ };
+
+    fn read_piece(&mut self, buffer: &mut [u8]) -> io::Result<usize> {
+        if self.faults.fails() || self.path.is_some() {
+            return Err(failed());
+        }
+        if self.place >= self.bytes.len() {
+            return Ok(0);
+        }
+        let rest = &self.bytes[self.place..];
+        let count = self.faults.share(rest.len().min(buffer.len()));
+        buffer[..count].copy_from_slice(&rest[..count]);
+        self.place += count;
+        Ok(count)
+    }
+}
+
+impl<'a> Handle for MemFile<'a> {
+    ghost goes = { λ _ _ _ _. ⊤ };
+
+    ghost syncs = { λ _ _ _. ⊤ };
+
+    #[tactic(auto, using(std::proofs::lemmas::List::drop_min))]
+    fn go_to(&mut self, place: u64) -> io::Result<u64> {
+        if self.faults.fails() {
+            return Err(failed());
+        }
+        self.place = (place as usize).min(self.bytes.len());
+        Ok(place)
+    }
+
+    fn sync(&mut self) -> io::Result<()> {
+        if self.faults.fails() {
+            return Err(failed());
+        }
+        Ok(())
+    }
+}

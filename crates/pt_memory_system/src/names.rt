@@ -1,0 +1,102 @@
+//! The names in a directory in memory.
+ghost use Rattle.std.specs.Prelude.{◌≡◌, ◌++◌, OnOk, ◌≤◌, ◌<◌, Some, IfOk, IfSome, drop, length, map, ⊤};
+ghost use Rattle.std.specs.List.{flat_map};
+ghost use Rattle.pt_folder.specs.Names.{ended};
+
+use crate::faults::{Faults, failed};
+use pt_folder::Input;
+use pt_tree::{Listing, Name};
+use std::alloc::{AllocError, Global};
+use std::io;
+
+/// The names in a directory, a NUL behind each, and the place where they are read on. A read gives whole names.
+#[derive(Drop)]
+pub struct MemNames<'a> {
+    bytes: Vec<u8>,
+    place: usize,
+    faults: &'a Faults,
+}
+
+impl<'a> MemNames<'a> {
+    // The names of a listing, from the first.
+    pub(crate) fn of(
+        alloc: Global,
+        listing: &Listing,
+        faults: &'a Faults,
+    ) -> io::Result<MemNames<'a>>
+        ensures place { IfOk result (λ d. d.place ≡ 0) }
+        ensures bytes { IfOk result
+            (λ d. d.bytes.items ≡ flat_map ended (map (λ item. item.0) listing.now)) }
+    {
+        match names_of(alloc, listing) {
+            Ok(bytes) => Ok(MemNames {
+                bytes,
+                place: 0,
+                faults,
+            }),
+            Err(_) => Err(io::Error::from(io::ErrorKind::OutOfMemory)),
+        }
+    }
+}
+
+impl<'a> Input for MemNames<'a> {
+    ghost bytes = { λ d. Some d.bytes.items };
+
+    ghost left = { λ d. Some (drop d.place d.bytes.items) };
+
+    ghost reads = { λ _ _ _ _. ⊤ };
+
+    fn read_piece(&mut self, buffer: &mut [u8]) -> io::Result<usize> {
+        if self.faults.fails() {
+            return Err(failed());
+        }
+        if self.place >= self.bytes.len() {
+            return Ok(0);
+        }
+        let rest = &self.bytes[self.place..];
+        let Some(count) = whole(&rest[..rest.len().min(buffer.len())]) else {
+            return Err(io::Error::from(io::ErrorKind::InvalidInput));
+        };
+        buffer[..count].copy_from_slice(&rest[..count]);
+        self.place += count;
+        Ok(count)
+    }
+}
+
+// How many of these bytes are whole names, if any are.
+fn whole(bytes: &[u8]) -> Option<usize>
+    ensures some { IfSome result (λ n. 0 < n) }
+    ensures most { IfSome result (λ n. n ≤ length bytes.now) }
+{
+    for i in 0..bytes.len() {
+        let count = bytes.len() - i;
+        if bytes[count - 1] == 0 {
+            return Some(count);
+        }
+    }
+    None
+}
+
+// The names of a listing, a NUL behind each.
+fn names_of(alloc: Global, listing: &Listing) -> Result<Vec<u8>, AllocError>
+    ensures { IfOk result
+        (λ bytes. bytes.items ≡ flat_map ended (map (λ item. item.0) listing.now)) }
+{
+    let mut bytes = Vec::new(alloc);
+    for i in 0..listing.len() {
+        let Some((name, _)) = listing.get(i) else {
+            unreachable!()
+        };
+        add_name(&mut bytes, name)?;
+    }
+    Ok(bytes)
+}
+
+// Adds a name, and a NUL behind it.
+fn add_name(bytes: &mut Vec<u8>, name: &Name) -> Result<(), AllocError>
+    ensures { OnOk result (bytes.new.items ≡ bytes.old.items ++ ended name.now) }
+{
+    bytes.extend_from_slice(name.bytes())?;
+    bytes.push(0)?;
+    Ok(())
+}
