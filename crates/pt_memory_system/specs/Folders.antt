@@ -14,17 +14,20 @@ abbrev pub told_at : {X : Type 0} → List ℕ → X → List ℕ → Option X
 told_at path x folder = cond (bytes_eq path folder) (Some x) None
 
 -- what is told is of that folder
-pub told_is : {X : Type 0} (path : List ℕ) (x : X) (folder : List ℕ) (y : X) → told_at path x folder ≡ Some y
+pub told_is : {X : Type 0} (path : List ℕ) (x : X) (folder : List ℕ) (y : X)
+    → told_at path x folder ≡ Some y
     → (path ≡ folder) × (x ≡ y)
 told_is {X} path x folder y = by (bytes_eq path folder) refl
   where
-    by : (b : Bool) → bytes_eq path folder ≡ b → cond b (Some x) None ≡ Some y → (path ≡ folder) × (x ≡ y)
+    by : (b : Bool) → bytes_eq path folder ≡ b → cond b (Some x) None ≡ Some y
+        → (path ≡ folder) × (x ≡ y)
     by true at is = (same_name path folder at, cc)
     by false at is = absurd (cc)
 
 -- a change of it is one of what is told
 pub told_changed : {X : Type 0} (path after folder : List ℕ) (x y : X) (change : X → X) → after ≡ path
-    → (path ≡ folder → y ≡ change x) → told_at after y folder ≡ option_map change (told_at path x folder)
+    → (path ≡ folder → y ≡ change x)
+    → told_at after y folder ≡ option_map change (told_at path x folder)
 told_changed {X} path after folder x y change same made =
     ap (λ (r : List ℕ). told_at r y folder) same ∙ by (bytes_eq path folder) refl
   where

@@ -78,10 +78,12 @@ becomes old new folder change stays made =
     told_changed old.written.now new.written.now folder (dest_tree old.dest) (dest_tree new.dest) change
     stays.written made
 
-keeps : (old new : MemorySystem) (folder : List ℕ) → Stays old new → dest_tree new.dest ≡ dest_tree old.dest
+keeps : (old new : MemorySystem) (folder : List ℕ) → Stays old new
+    → dest_tree new.dest ≡ dest_tree old.dest
     → kept_in new folder ≡ kept_in old folder
 keeps old new folder stays same =
-    ap kept_of (told_same old.written.now new.written.now folder (dest_tree old.dest) (dest_tree new.dest)
+    ap kept_of
+    (told_same old.written.now new.written.now folder (dest_tree old.dest) (dest_tree new.dest)
     stays.written same)
 
 pub makes_dirs : dest.DirLaw kept_in MakesDir
@@ -115,8 +117,10 @@ writes old new folder q file after piece reply at by =
     let placed = λ (o : old.written.now ≡ folder). at (dest_tree old.dest) (told_here o) in
     by_reply reply (λ o. by.added q (placed o))
   where
-    told_here : old.written.now ≡ folder → told_at old.written.now (dest_tree old.dest) folder ≡ Some (dest_tree old.dest)
-    told_here o = ap (λ (l : List ℕ). told_at old.written.now (dest_tree old.dest) l) (sym o) ∙ ap (λ (b : Bool). cond b (Some (dest_tree old.dest)) None) (name_itself old.written.now)
+    told_here : old.written.now ≡ folder
+        → told_at old.written.now (dest_tree old.dest) folder ≡ Some (dest_tree old.dest)
+    told_here o = ap (λ (l : List ℕ). told_at old.written.now (dest_tree old.dest) l) (sym o)
+        ∙ ap (λ (b : Bool). cond b (Some (dest_tree old.dest)) None) (name_itself old.written.now)
 
     part : (count : ℕ) → (old.written.now ≡ folder → IsAdded old new q piece count)
         → dest.AddsPart (kept_in old folder) (kept_in new folder) q after piece count
@@ -126,7 +130,10 @@ writes old new folder q file after piece reply at by =
     }
 
     differs : bytes_eq old.written.now folder ≡ false → old.written.now ≡ folder → ⊥
-    differs other o = absurd (let same : bytes_eq old.written.now folder ≡ true = ap (λ (l : List ℕ). bytes_eq old.written.now l) (sym o) ∙ name_itself old.written.now in cc)
+    differs other o =
+        let same : bytes_eq old.written.now folder ≡ true =
+        ap (λ (l : List ℕ). bytes_eq old.written.now l) (sym o) ∙ name_itself old.written.now in
+        absurd (cc)
 
     by_reply : (reply : Result ℕ Error) → (old.written.now ≡ folder
         → MatchResult reply (IsAdded old new q piece) (λ _. (count : ℕ) × IsAdded old new q piece count))
@@ -136,12 +143,15 @@ writes old new folder q file after piece reply at by =
       where
         failed : (b : Bool) → bytes_eq old.written.now folder ≡ b
             → (count : ℕ) × dest.AddsPart (kept_in old folder) (kept_in new folder) q after piece count
-        failed true here = let some = is (same_name old.written.now folder here) in (some.0, part some.0 (λ o. some.1))
+        failed true here =
+            let some = is (same_name old.written.now folder here) in
+            (some.0, part some.0 (λ o. some.1))
         failed false other = (0, part 0 (λ o. absurd (differs other o)))
 
 pub trees : dest.TreeLaw kept_in
 trees s folder t is =
-    subst IsTree (told_is s.written.now (dest_tree s.dest) folder t is).1 (IsTree-tree_of (forest_of s.dest.entries))
+    subst IsTree (told_is s.written.now (dest_tree s.dest) folder t is).1
+    (IsTree-tree_of (forest_of s.dest.entries))
 
 pub propers : source.ProperLaw forest_in
 propers s folder f is =

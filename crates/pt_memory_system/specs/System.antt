@@ -45,7 +45,8 @@ abbrev pub OfEntry : List ℕ → List ℕ → (Path → Type 0) → Type 0
 OfEntry folder text P = (p : Path) → IsPath p → text ≡ entry_text folder p → P p
 
 -- a look changes nothing and is right in both folders
-pub record Looks (old : MemorySystem) (text : List ℕ) (reply : Result Kind Error) (new : MemorySystem) : Type 0 where
+pub record Looks (old : MemorySystem) (text : List ℕ) (reply : Result Kind Error)
+    (new : MemorySystem) : Type 0 where
   pub same : new ≡ old
   pub source : OfEntry old.read.now text
       (λ p. LooksRight (option_map kind_of (node_at (Dir (source_tree old.source)) p)) reply)
@@ -53,7 +54,8 @@ pub record Looks (old : MemorySystem) (text : List ℕ) (reply : Result Kind Err
       (λ p. LooksRight (option_map kind_of_entry (dest_tree old.dest p)) reply)
 
 -- a file is opened at its start with its bytes, in both folders, and nothing changes
-pub record Opens (old : MemorySystem) (text : List ℕ) (reply : Result MemFile Error) (new : MemorySystem) : Type 0 where
+pub record Opens (old : MemorySystem) (text : List ℕ) (reply : Result MemFile Error)
+    (new : MemorySystem) : Type 0 where
   pub same : new ≡ old
   pub start : IfOk reply (λ f. f.place ≡ 0)
   pub source : OfEntry old.read.now text
@@ -62,7 +64,8 @@ pub record Opens (old : MemorySystem) (text : List ℕ) (reply : Result MemFile 
       (λ p. IfOk reply (λ f. bytes_in f ≡ bytes_of (dest_tree old.dest p)))
 
 -- a directory is opened with the names of its entries, in the folder that is read, and nothing changes
-pub record OpensDir (old : MemorySystem) (text : List ℕ) (reply : Result MemNames Error) (new : MemorySystem) : Type 0 where
+pub record OpensDir (old : MemorySystem) (text : List ℕ) (reply : Result MemNames Error)
+    (new : MemorySystem) : Type 0 where
   pub same : new ≡ old
   pub source : OfEntry old.read.now text
       (λ p. IfOk reply (λ d. GivesAll (names_left d) (dir_at (source_tree old.source) p)))
@@ -74,22 +77,26 @@ pub record Stays (old new : MemorySystem) : Type 0 where
   pub written : new.written.now ≡ old.written.now
 
 -- a directory is made, or the written tree is as before
-pub record MakesDir (old : MemorySystem) (text : List ℕ) (reply : Result (Unit {0}) Error) (new : MemorySystem) : Type 0 where
+pub record MakesDir (old : MemorySystem) (text : List ℕ) (reply : Result (Unit {0}) Error)
+    (new : MemorySystem) : Type 0 where
   pub stays : Stays old new
   pub made : MatchResult reply
       (λ _. OfEntry old.written.now text (λ p. dest_tree new.dest ≡ put (dest_tree old.dest) p Folder))
       (λ _. dest_tree new.dest ≡ dest_tree old.dest)
 
 -- an empty file is made and open, or the written tree is as before
-pub record MakesFile (old : MemorySystem) (text : List ℕ) (reply : Result MemFile Error) (new : MemorySystem) : Type 0 where
+pub record MakesFile (old : MemorySystem) (text : List ℕ) (reply : Result MemFile Error)
+    (new : MemorySystem) : Type 0 where
   pub stays : Stays old new
   pub made : MatchResult reply
-      (λ f. OfEntry old.written.now text (λ p. (dest_tree new.dest ≡ put (dest_tree old.dest) p (Bytes []))
+      (λ f. OfEntry old.written.now text
+      (λ p. (dest_tree new.dest ≡ put (dest_tree old.dest) p (Bytes []))
       × (f.path ≡ Some p)))
       (λ _. dest_tree new.dest ≡ dest_tree old.dest)
 
 -- all at and below a path is moved, or the written tree is as before
-pub record Moves (old : MemorySystem) (from to : List ℕ) (reply : Result (Unit {0}) Error) (new : MemorySystem) : Type 0 where
+pub record Moves (old : MemorySystem) (from to : List ℕ) (reply : Result (Unit {0}) Error)
+    (new : MemorySystem) : Type 0 where
   pub stays : Stays old new
   pub made : MatchResult reply
       (λ _. OfEntry old.written.now from (λ p. OfEntry old.written.now to
@@ -101,7 +108,8 @@ abbrev pub IsAdded : MemorySystem → MemorySystem → Path → List ℕ → ℕ
 IsAdded old new q piece count = dest_tree new.dest ≡ added (dest_tree old.dest) q (take count piece)
 
 -- the file's bytes grow by what the answer says, or by a part of the piece
-pub record Writes (old : MemorySystem) (file : MemFile) (piece : List ℕ) (reply : Result ℕ Error) (new : MemorySystem) (after : MemFile) : Type 0 where
+pub record Writes (old : MemorySystem) (file : MemFile) (piece : List ℕ)
+    (reply : Result ℕ Error) (new : MemorySystem) (after : MemFile) : Type 0 where
   pub stays : Stays old new
   pub path : after.path ≡ file.path
   pub added : (q : Path) → file.path ≡ Some q → MatchResult reply (IsAdded old new q piece)
