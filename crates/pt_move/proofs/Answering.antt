@@ -69,33 +69,9 @@ fed_to_end here a h fed was = OnFalse_from (is_ended here) (HasBeenFed a h fed) 
 -- the hasher has no part in what the calls need
 permits_fed : (job : Job) (here : Phase) (s : State) (fed : List ℕ) (r : Option Reading) (w : Option Writing) → Permits job here (held_of s fed) r w → Permits job here (held_of s []) r w
 unfolding MayMakeContent
-permits_fed job phase.Begin s fed r w may = may
-permits_fed job (phase.Prefix here) s fed r w may = may
-permits_fed job phase.Staging s fed r w may = may
-permits_fed job phase.Root s fed r w may = may
-permits_fed job (phase.RootMake item) s fed r w may = may
-permits_fed job phase.RootRename s fed r w may = may
-permits_fed job (phase.RootCheck file) s fed r w may = may
-permits_fed job phase.OpenRoot s fed r w may = may
-permits_fed job phase.Judge s fed r w may = may
-permits_fed job (phase.OpenObject object) s fed r w may = may
-permits_fed job (phase.Scan object) s fed r w may = may
-permits_fed job (phase.Read object bytes) s fed r w may = may
 permits_fed job (phase.Make object part.Staging) s fed r w may = may
-permits_fed job (phase.Make object part.Declaration) s fed r w may = may
-permits_fed job (phase.Make object part.Version) s fed r w may = may
-permits_fed job (phase.Make object (part.Content position)) s fed r w may = may
-permits_fed job (phase.Make object part.VersionInventory) s fed r w may = may
-permits_fed job (phase.Make object part.VersionSidecar) s fed r w may = may
-permits_fed job (phase.Make object part.Inventory) s fed r w may = may
-permits_fed job (phase.Make object part.Sidecar) s fed r w may = may
-permits_fed job (phase.Copy object position left) s fed r w may = may
-permits_fed job (phase.Tuples object number) s fed r w may = may
-permits_fed job (phase.Rename object) s fed r w may = may
-permits_fed job (phase.Line object) s fed r w may = may
-permits_fed job phase.Walk s fed r w may = may
-permits_fed job phase.End s fed r w may = may
 permits_fed job phase.Ended s fed r w may = tt
+permits_fed _ _ _ _ _ _ may = may
 
 pub may_turn : (here : Phase) (s : State) (now : World) → here ≢ phase.Ended → BeganSomewhere now (record { phase = here; state = s }) → Permits (job_of s.job) here (held_of s []) now.source now.dest
 unfolding BeganSomewhere IsBegun
@@ -149,25 +125,7 @@ bounded_fed job here s fed fed' bounded = record { lines = bounded.lines; turns 
   where
     within : (here : Phase) → IsWithin job here (held_of s fed) s.counts.turns → IsWithin job here (held_of s fed') s.counts.turns
     within phase.Begin is = is
-    within (phase.Prefix here) is = is
-    within phase.Staging is = is
-    within phase.Root is = is
-    within (phase.RootMake item) is = is
-    within phase.RootRename is = is
-    within (phase.RootCheck file) is = is
-    within phase.OpenRoot is = is
-    within phase.Judge is = is
-    within (phase.OpenObject object) is = is
-    within (phase.Scan object) is = is
-    within (phase.Read object bytes) is = is
-    within (phase.Make object part) is = is
-    within (phase.Copy object position left) is = is
-    within (phase.Tuples object number) is = is
-    within (phase.Rename object) is = is
-    within (phase.Line object) is = is
-    within phase.Walk is = is
-    within phase.End is = is
-    within phase.Ended is = is
+    within _ is = is
 
 -- after a turn the run isn't to begin
 not_first : (s s' : State) (fed fed' : List ℕ) (here : Phase) (answer : Answer) → phase_after answer ≡ phase.Begin → IsBounded (job_of s.job) (phase_after answer) (kept_of s' fed') → s'.counts.turns ≡ s.counts.turns + 1 → ⊥
@@ -229,26 +187,8 @@ few_calls here s well = by here well.bounded.within
     one = least (s.counts.turns == 1)
 
     by : (here : Phase) → IsWithin (job_of s.job) here (held_of s []) s.counts.turns → most_calls here ≤ most_calls_at (record { phase = here; state = s })
-    by phase.Begin within = one
     by (phase.Prefix here) within = rw within (omega (arith))
-    by phase.Staging within = one
-    by phase.Root within = one
-    by (phase.RootMake item) within = one
-    by phase.RootRename within = one
-    by (phase.RootCheck file) within = one
-    by phase.OpenRoot within = one
-    by phase.Judge within = one
-    by (phase.OpenObject object) within = one
-    by (phase.Scan object) within = one
-    by (phase.Read object bytes) within = one
-    by (phase.Make object part) within = one
-    by (phase.Copy object position left) within = one
-    by (phase.Tuples object number) within = one
-    by (phase.Rename object) within = one
-    by (phase.Line object) within = one
-    by phase.Walk within = one
-    by phase.End within = one
-    by phase.Ended within = one
+    by _ _ = one
 
 -- ---- by the answer
 
@@ -270,12 +210,7 @@ unfolding BlamesRightly
 blames_by halt.Source old new is = record { source = is.0; dest = is.1; log = is.2 }
 blames_by halt.Dest old new is = record { source = is.0; dest = is.1; log = is.2 }
 blames_by halt.Log old new is = record { source = is.0; dest = is.1; log = is.2 }
-blames_by halt.Memory old new is = none_blamed old new fault.Memory is refl refl refl
-blames_by halt.NotPairtree old new is = none_blamed old new fault.NotPairtree is refl refl refl
-blames_by halt.Prefix old new is = none_blamed old new fault.Prefix is refl refl refl
-blames_by halt.StagingLeft old new is = none_blamed old new fault.StagingLeft is refl refl refl
-blames_by halt.Target old new is = none_blamed old new fault.Target is refl refl refl
-blames_by halt.Changed old new is = none_blamed old new fault.Changed is refl refl refl
+blames_by why old new is = none_blamed old new (fault_of why) is refl refl refl
 
 pub err_blames : (s s' : State) (old new : World) (why : Halt) (f : Fault) → f ≡ fault_of why → TurnLeaves s s' old.log new.log old.failures new.failures (Err why) → BlamesRightly {T = own_turn.Turn} old new (Err f)
 err_blames s s' old new why f is left = subst (λ f. BlamesRightly {T = own_turn.Turn} old new (Err f)) (sym is) (blames_by why old new left.failures)
@@ -291,25 +226,11 @@ none_blamed_for_ended w = record { source = refl; dest = refl; log = refl }
 -- no halt is an answer of a run that made no turn
 counted_halt : (why : Halt) (old new : Running) → IsTurn old → new.phase ≡ phase.Ended → (new.state.counts.turns ≡ old.state.counts.turns + 1) × (lines_put (counts_of new.state.counts) ≤ lines_put (counts_of old.state.counts) + 1) → EndsAs old new (Err (fault_of why)) × IsCounted old new (Err (fault_of why))
 counted_halt halt.Source old new turn ended counted = ((turn, ended), counted)
-counted_halt halt.Dest old new turn ended counted = ((turn, ended), counted)
-counted_halt halt.Log old new turn ended counted = ((turn, ended), counted)
-counted_halt halt.Memory old new turn ended counted = ((turn, ended), counted)
-counted_halt halt.NotPairtree old new turn ended counted = ((turn, ended), counted)
-counted_halt halt.Prefix old new turn ended counted = ((turn, ended), counted)
-counted_halt halt.StagingLeft old new turn ended counted = ((turn, ended), counted)
-counted_halt halt.Target old new turn ended counted = ((turn, ended), counted)
-counted_halt halt.Changed old new turn ended counted = ((turn, ended), counted)
+counted_halt _ _ _ turn ended counted = ((turn, ended), counted)
 
 stays_halt : {X : Type 0} (why : Halt) (old new : X) → StaysAs Any (Err (fault_of why)) old new
 stays_halt halt.Source old new = tt
-stays_halt halt.Dest old new = tt
-stays_halt halt.Log old new = tt
-stays_halt halt.Memory old new = tt
-stays_halt halt.NotPairtree old new = tt
-stays_halt halt.Prefix old new = tt
-stays_halt halt.StagingLeft old new = tt
-stays_halt halt.Target old new = tt
-stays_halt halt.Changed old new = tt
+stays_halt _ _ _ = tt
 
 pub err_answer : (old new : Running) (g g' : Option (List ℕ)) (F F' : Failures) (why : Halt) (f : Fault) → f ≡ fault_of why → IsTurn old → new.phase ≡ phase.Ended → TurnLeaves old.state new.state g g' F F' (Err why) → EndsAs old new (Err f)
 err_answer old new g g' F F' why f is turn ended left = subst (λ f. EndsAs old new (Err f)) (sym is) (counted_halt why old new turn ended (left.turns, left.lines)).0
@@ -319,14 +240,7 @@ err_counted old new g g' F F' why f is left = subst (λ f. IsCounted old new (Er
   where
     by : (why : Halt) → IsCounted old new (Err (fault_of why))
     by halt.Source = (left.turns, left.lines)
-    by halt.Dest = (left.turns, left.lines)
-    by halt.Log = (left.turns, left.lines)
-    by halt.Memory = (left.turns, left.lines)
-    by halt.NotPairtree = (left.turns, left.lines)
-    by halt.Prefix = (left.turns, left.lines)
-    by halt.StagingLeft = (left.turns, left.lines)
-    by halt.Target = (left.turns, left.lines)
-    by halt.Changed = (left.turns, left.lines)
+    by _ = (left.turns, left.lines)
 
 pub err_stays : {X : Type 0} (why : Halt) (f : Fault) (old new : X) → f ≡ fault_of why → StaysAs Any (Err f) old new
 err_stays why f old new is = subst (λ f. StaysAs Any (Err f) old new) (sym is) (stays_halt why old new)
@@ -454,14 +368,7 @@ turned_last here next s s' old new ended turned = subst (λ (p : Phase). Counted
 turned_by : (why : Halt) (before after : Running) (old new : World) → CountedTurn before.phase before.state after.state old new (Err why) → MakesTurn old new before after (Err (fault_of why))
 unfolding MakesTurn
 turned_by halt.Source before after old new turned = (halt.Source, refl, turned)
-turned_by halt.Dest before after old new turned = (halt.Dest, refl, turned)
-turned_by halt.Log before after old new turned = (halt.Log, refl, turned)
-turned_by halt.Memory before after old new turned = (halt.Memory, refl, turned)
-turned_by halt.NotPairtree before after old new turned = (halt.NotPairtree, refl, turned)
-turned_by halt.Prefix before after old new turned = (halt.Prefix, refl, turned)
-turned_by halt.StagingLeft before after old new turned = (halt.StagingLeft, refl, turned)
-turned_by halt.Target before after old new turned = (halt.Target, refl, turned)
-turned_by halt.Changed before after old new turned = (halt.Changed, refl, turned)
+turned_by why _ _ _ _ turned = (why, refl, turned)
 
 pub turned_halted : (why : Halt) (f : Fault) (before after : Running) (old new : World) → f ≡ fault_of why → CountedTurn before.phase before.state after.state old new (Err why) → MakesTurn old new before after (Err f)
 turned_halted why f before after old new is turned = subst (λ f. MakesTurn old new before after (Err f)) (sym is) (turned_by why before after old new turned)

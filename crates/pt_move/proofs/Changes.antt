@@ -120,75 +120,35 @@ pub record Changes (held new : Held) : Type 0 where
   pub rows : Gains held.rows new.rows
   pub contents : Gains held.contents new.contents
 
-changes_none : (held : Held) → Changes held held
-changes_none held = record { trail = moves_same held.trail; rows = gains_none held.rows; contents = gains_none held.contents }
+changes_trail : {held new : Held} → Moves held.trail new.trail → new.rows ≡ held.rows → new.contents ≡ held.contents → Changes held new
+changes_trail moves rows contents = record { trail = moves; rows = gains_same _ _ rows; contents = gains_same _ _ contents }
 
-changes_trail : (held new : Held) → Moves held.trail new.trail → new.rows ≡ held.rows → new.contents ≡ held.contents → Changes held new
-changes_trail held new moves rows contents = record { trail = moves; rows = gains_same held.rows new.rows rows; contents = gains_same held.contents new.contents contents }
+changes_back : {held new : Held} → Moves held.trail new.trail → new.rows ≡ [] → new.contents ≡ [] → Changes held new
+changes_back {held} moves rows contents = record { trail = moves; rows = subst (λ (r : List Row). Gains held.rows r) (sym rows) (gains_empty held.rows); contents = subst (λ (r : List Content). Gains held.contents r) (sym contents) (gains_empty held.contents) }
 
-changes_back : (held new : Held) → Moves held.trail new.trail → new.rows ≡ [] → new.contents ≡ [] → Changes held new
-changes_back held new moves rows contents = record { trail = moves; rows = subst (λ (r : List Row). Gains held.rows r) (sym rows) (gains_empty held.rows); contents = subst (λ (r : List Content). Gains held.contents r) (sym contents) (gains_empty held.contents) }
-
-walks_change : (job : Job) (prefix : List ℕ) (here : Phase) (held new : Held) (calls : Calls) (answer : Answer) → Walks job prefix here held new calls answer → Changes held new
-walks_change job prefix _ held _ _ _ (walk.OpensRoot _ items) = changes_trail held _ (moves_entered items held.trail) refl refl
-walks_change job prefix _ held _ _ _ (walk.LeadsOn _ found) = changes_none held
-walks_change job prefix _ held _ _ _ (walk.IsSkipped _ why found) = changes_none held
-walks_change job prefix _ held _ _ _ (walk.IsPresent _ index id here found) = changes_none held
-walks_change job prefix _ held _ _ _ (walk.IsNew _ index id found) = changes_trail held _ (moves_object index held.trail) refl refl
-walks_change job prefix _ held _ _ _ (walk.IsPast _ name at short last) = changes_trail held _ (moves_advanced held.trail) refl refl
-walks_change job prefix _ held _ _ _ (walk.IsDeep _ name at short last deep) = changes_trail held _ (moves_advanced held.trail) refl refl
-walks_change job prefix _ held _ _ _ (walk.EntersSite _ name items at short last shallow) = changes_trail held _ (moves_entered items held.trail) refl refl
-walks_change job prefix _ held _ _ _ (walk.PassesEntry _ item at other) = changes_trail held _ (moves_advanced held.trail) refl refl
-walks_change job prefix _ held _ _ _ (walk.LeavesSite _ at more) = changes_trail held _ (moves_past held.trail) refl refl
-walks_change job prefix _ held _ _ _ (walk.EndsWalk _ at last) = changes_none held
-
-scans_change : (job : Job) (here : Phase) (held new : Held) (calls : Calls) (answer : Answer) → Scans job here held new calls answer → Changes held new
-scans_change job _ held _ _ _ (scan.StartsInSite _ object gathered) = changes_trail held _ (moves_sought 0 held.trail) refl refl
-scans_change job _ held _ _ _ (scan.EntersObject _ object items apart shallow) = changes_trail held _ (moves_entered items held.trail) refl refl
-scans_change job _ held _ _ _ (scan.IsTooDeep _ object apart deep) = changes_back held _ (moves_left 0 _ held.trail) refl refl
-scans_change job _ held _ _ _ (scan.PassesShorty _ object item at passed) = changes_trail held _ (moves_advanced held.trail) refl refl
-scans_change job _ held _ _ _ (scan.EntersDirectory _ object name items at own shallow) = changes_trail held _ (moves_entered items held.trail) refl refl
-scans_change job _ held _ _ _ (scan.MeetsDeep _ object name at own deep) = changes_back held _ (moves_left 0 _ held.trail) refl refl
-scans_change job _ held _ _ _ (scan.OpensFile _ object name at room) = changes_trail held _ (moves_same held.trail) refl refl
-scans_change job _ held _ _ _ (scan.MeetsLimit _ object name at beyond) = changes_back held _ (moves_left 0 _ held.trail) refl refl
-scans_change job _ held _ _ _ (scan.MeetsOther _ object name at) = changes_back held _ (moves_left 0 _ held.trail) refl refl
-scans_change job _ held _ _ _ (scan.EndsSite _ object at site) = changes_none held
-scans_change job _ held _ _ _ (scan.EndsObject _ object at site own) = changes_trail held _ (moves_parent held.trail) refl refl
-scans_change job _ held _ _ _ (scan.LeavesDirectory _ object at site own) = changes_trail held _ (moves_past held.trail) refl refl
-scans_change job _ held _ _ _ (scan.ReadsOn _ object bytes byte block short) = changes_trail held _ (moves_same held.trail) refl refl
-scans_change job _ held _ _ _ (scan.IsTooLong _ object bytes byte block long) = changes_back held _ (moves_left 0 _ held.trail) refl refl
-scans_change job _ held _ _ _ (scan.EndsFile _ object bytes) = record { trail = moves_advanced held.trail; rows = gains_one held.rows _; contents = gains_noted held.contents _ _ }
-
-makes_change : (job : Job) (here : Phase) (held new : Held) (calls : Calls) (answer : Answer) → Makings job here held new calls answer → Changes held new
-makes_change job _ held _ _ _ (make.MakesStaging _ object) = changes_none held
-makes_change job _ held _ _ _ (make.MakesDeclaration _ object) = changes_none held
-makes_change job _ held _ _ _ (make.MakesVersion _ object) = changes_none held
-makes_change job _ held _ _ _ (make.PassesRow _ object position row at stored) = changes_none held
-makes_change job _ held _ _ _ (make.MakesFolder _ object position row at stored next) = changes_none held
-makes_change job _ held _ _ _ (make.OpensCopy _ object position row at stored next) = changes_trail held _ (moves_same held.trail) refl refl
-makes_change job _ held _ _ _ (make.CopiesOn _ object position left byte block short) = changes_trail held _ (moves_same held.trail) refl refl
-makes_change job _ held _ _ _ (make.ReadsMore _ object position left byte block long) = changes_none held
-makes_change job _ held _ _ _ (make.EndsCopy _ object position row left at same) = changes_trail held _ (moves_same held.trail) refl refl
-makes_change job _ held _ _ _ (make.ReadsOther _ object position row left at other) = changes_none held
-makes_change job _ held _ _ _ (make.MakesVersionInventory _ object) = changes_trail held _ (moves_same held.trail) refl refl
-makes_change job _ held _ _ _ (make.MakesVersionSidecar _ object) = changes_trail held _ (moves_same held.trail) refl refl
-makes_change job _ held _ _ _ (make.MakesInventory _ object) = changes_trail held _ (moves_same held.trail) refl refl
-makes_change job _ held _ _ _ (make.MakesSidecar _ object) = changes_trail held _ (moves_same held.trail) refl refl
-
-places_change : (job : Job) (counts : Counts) (here : Phase) (held new : Held) (calls : Calls) (answer : Answer) → Places job counts here held new calls answer → Changes held new
-places_change job counts _ held _ _ _ (place.MakesTuple _ object number) = changes_none held
-places_change job counts _ held _ _ _ (place.FindsTuple _ object number) = changes_none held
-places_change job counts _ held _ _ _ (place.IsInTheWay _ object number here other) = changes_none held
-places_change job counts _ held _ _ _ (place.RenamesObject _ object) = changes_none held
-places_change job counts _ held _ _ _ (place.TellsDone _ object) = changes_back held _ (moves_sought 0 held.trail) refl refl
-places_change job counts _ held _ _ _ (place.TellsEnd _) = changes_none held
-
-pub follows_change : (job : Job) (counts : Counts) (here : Phase) (prefix read : List ℕ) (held new : Held) (calls : Calls) (answer : Answer) → Follows job counts here prefix held read new calls answer → Changes held new
-follows_change job counts here prefix read held new calls answer (Start _ _ _ _ _ _ starts) = changes_none held
-follows_change job counts here prefix read held new calls answer (Walk _ _ _ _ _ _ walks) = walks_change job prefix here held new calls answer walks
-follows_change job counts here prefix read held new calls answer (Scan _ _ _ _ _ _ scans) = scans_change job here held new calls answer scans
-follows_change job counts here prefix read held new calls answer (Make _ _ _ _ _ _ makes) = makes_change job here held new calls answer makes
-follows_change job counts here prefix read held new calls answer (Place _ _ _ _ _ _ places) = places_change job counts here held new calls answer places
+pub follows_change : {job : Job} {counts : Counts} {here : Phase} {prefix read : List ℕ} (held : Held) {new : Held} {calls : Calls} {answer : Answer} → Follows job counts here prefix held read new calls answer → Changes held new
+follows_change held (Walk _ _ _ _ _ _ (walk.OpensRoot _ items)) = changes_trail (moves_entered items held.trail) refl refl
+follows_change held (Walk _ _ _ _ _ _ (walk.IsNew _ index _ _)) = changes_trail (moves_object index held.trail) refl refl
+follows_change held (Walk _ _ _ _ _ _ (walk.IsPast _ _ _ _ _)) = changes_trail (moves_advanced held.trail) refl refl
+follows_change held (Walk _ _ _ _ _ _ (walk.IsDeep _ _ _ _ _ _)) = changes_trail (moves_advanced held.trail) refl refl
+follows_change held (Walk _ _ _ _ _ _ (walk.EntersSite _ _ items _ _ _ _)) = changes_trail (moves_entered items held.trail) refl refl
+follows_change held (Walk _ _ _ _ _ _ (walk.PassesEntry _ _ _ _)) = changes_trail (moves_advanced held.trail) refl refl
+follows_change held (Walk _ _ _ _ _ _ (walk.LeavesSite _ _ _)) = changes_trail (moves_past held.trail) refl refl
+follows_change held (Scan _ _ _ _ _ _ (scan.StartsInSite _ _ _)) = changes_trail (moves_sought 0 held.trail) refl refl
+follows_change held (Scan _ _ _ _ _ _ (scan.EntersObject _ _ items _ _)) = changes_trail (moves_entered items held.trail) refl refl
+follows_change held (Scan _ _ _ _ _ _ (scan.IsTooDeep _ _ _ _)) = changes_back (moves_left 0 _ held.trail) refl refl
+follows_change held (Scan _ _ _ _ _ _ (scan.PassesShorty _ _ _ _ _)) = changes_trail (moves_advanced held.trail) refl refl
+follows_change held (Scan _ _ _ _ _ _ (scan.EntersDirectory _ _ _ items _ _ _)) = changes_trail (moves_entered items held.trail) refl refl
+follows_change held (Scan _ _ _ _ _ _ (scan.MeetsDeep _ _ _ _ _ _)) = changes_back (moves_left 0 _ held.trail) refl refl
+follows_change held (Scan _ _ _ _ _ _ (scan.MeetsLimit _ _ _ _ _)) = changes_back (moves_left 0 _ held.trail) refl refl
+follows_change held (Scan _ _ _ _ _ _ (scan.MeetsOther _ _ _ _)) = changes_back (moves_left 0 _ held.trail) refl refl
+follows_change held (Scan _ _ _ _ _ _ (scan.EndsObject _ _ _ _ _)) = changes_trail (moves_parent held.trail) refl refl
+follows_change held (Scan _ _ _ _ _ _ (scan.LeavesDirectory _ _ _ _ _)) = changes_trail (moves_past held.trail) refl refl
+follows_change held (Scan _ _ _ _ _ _ (scan.IsTooLong _ _ _ _ _ _)) = changes_back (moves_left 0 _ held.trail) refl refl
+follows_change held (Scan _ _ _ _ _ _ (scan.EndsFile _ _ _)) = record { trail = moves_advanced held.trail; rows = gains_one held.rows _; contents = gains_noted held.contents _ _ }
+follows_change held (Make _ _ _ _ _ _ (make.MakesStaging _ _)) = changes_trail (moves_same held.trail) refl refl
+follows_change held (Place _ _ _ _ _ _ (place.TellsDone _ _)) = changes_back (moves_sought 0 held.trail) refl refl
+follows_change held _ = changes_trail (moves_same held.trail) refl refl
 
 -- ---- why a turn is refused
 
@@ -200,34 +160,13 @@ IsRefusal halt.Log = ⊥
 IsRefusal halt.Memory = ⊥
 IsRefusal _ = ⊤
 
-starts_refuse : (job : Job) (here : Phase) (prefix read : List ℕ) (calls : Calls) (why : Halt) → Starts job here prefix read calls (Err why) → IsRefusal why × (calls.line ≡ None)
-starts_refuse job _ _ _ _ _ (start.IsNoStore _ entries is) = (tt, refl)
-starts_refuse job _ _ _ _ _ (start.IsNoPrefixFile _ here some other) = (tt, refl)
-starts_refuse job _ _ _ _ _ (start.IsNoPrefix _ block why is) = (tt, refl)
-starts_refuse job _ _ _ _ _ (start.HasStaging _ here) = (tt, refl)
-starts_refuse job _ _ _ _ _ (start.IsNoRoot _ here other) = (tt, refl)
-starts_refuse job _ _ _ _ _ (start.IsNoFile _ number path bytes here is other) = (tt, refl)
-starts_refuse job _ _ _ _ _ (start.Differs _ number path bytes block is other) = (tt, refl)
-
-makes_refuse : (job : Job) (here : Phase) (held new : Held) (calls : Calls) (why : Halt) → Makings job here held new calls (Err why) → IsRefusal why × (calls.line ≡ None)
-makes_refuse job _ held _ _ _ (make.ReadsMore _ object position left byte block long) = (tt, refl)
-makes_refuse job _ held _ _ _ (make.ReadsOther _ object position row left at other) = (tt, refl)
-
-places_refuse : (job : Job) (counts : Counts) (here : Phase) (held new : Held) (calls : Calls) (why : Halt) → Places job counts here held new calls (Err why) → IsRefusal why × (calls.line ≡ None)
-places_refuse job counts _ held _ _ _ (place.IsInTheWay _ object number here other) = (tt, refl)
-
-walks_refuse : (job : Job) (prefix : List ℕ) (here : Phase) (held new : Held) (calls : Calls) (why : Halt) → Walks job prefix here held new calls (Err why) → ⊥
-walks_refuse job prefix here held new calls why walks = elim walks [ ]
-
-scans_refuse : (job : Job) (here : Phase) (held new : Held) (calls : Calls) (why : Halt) → Scans job here held new calls (Err why) → ⊥
-scans_refuse job here held new calls why scans = elim scans [ ]
-
-pub follows_refuse : (job : Job) (counts : Counts) (here : Phase) (prefix read : List ℕ) (held new : Held) (calls : Calls) (why : Halt) → Follows job counts here prefix held read new calls (Err why) → IsRefusal why × (calls.line ≡ None)
-follows_refuse job counts here prefix read held new calls why (Start _ _ _ _ _ _ starts) = starts_refuse job here prefix read calls why starts
-follows_refuse job counts here prefix read held new calls why (Walk _ _ _ _ _ _ walks) = absurd (walks_refuse job prefix here held new calls why walks)
-follows_refuse job counts here prefix read held new calls why (Scan _ _ _ _ _ _ scans) = absurd (scans_refuse job here held new calls why scans)
-follows_refuse job counts here prefix read held new calls why (Make _ _ _ _ _ _ makes) = makes_refuse job here held new calls why makes
-follows_refuse job counts here prefix read held new calls why (Place _ _ _ _ _ _ places) = places_refuse job counts here held new calls why places
+pub follows_refuse : {job : Job} {counts : Counts} {here : Phase} {prefix read : List ℕ} {held new : Held} {calls : Calls} {why : Halt} → Follows job counts here prefix held read new calls (Err why) → IsRefusal why × (calls.line ≡ None)
+follows_refuse (Start _ _ _ _ _ _ (start.IsNoStore _ _ _)) = (tt, refl)
+follows_refuse (Walk _ _ _ _ _ _ walks) = elim walks [ ]
+follows_refuse (Scan _ _ _ _ _ _ scans) = elim scans [ ]
+follows_refuse (Make _ _ _ _ _ _ (make.ReadsMore _ _ _ _ _ _ _)) = (tt, refl)
+follows_refuse (Place _ _ _ _ _ _ (place.IsInTheWay _ _ _ _ _)) = (tt, refl)
+follows_refuse _ = (tt, refl)
 
 -- ---- which line is told
 
@@ -236,89 +175,19 @@ abbrev pub LineOf : Counts → Option Line → Type 0
 LineOf counts (Some (End done present skipped)) = (done ≡ counts.done) × (present ≡ counts.present) × (skipped ≡ counts.skipped)
 LineOf counts _ = ⊤
 
-starts_line : (job : Job) (counts : Counts) (here : Phase) (prefix read : List ℕ) (calls : Calls) (answer : Answer) → Starts job here prefix read calls answer → LineOf counts calls.line
-starts_line job counts _ _ _ _ _ (start.IsStore _ entries is) = tt
-starts_line job counts _ _ _ _ _ (start.IsNoStore _ entries is) = tt
-starts_line job counts _ _ _ _ _ (start.HasNoPrefix _) = tt
-starts_line job counts _ _ _ _ _ (start.IsNoPrefixFile _ here some other) = tt
-starts_line job counts _ _ _ _ _ (start.HasPrefix _ block is) = tt
-starts_line job counts _ _ _ _ _ (start.IsNoPrefix _ block why is) = tt
-starts_line job counts _ _ _ _ _ (start.HasNoStaging _) = tt
-starts_line job counts _ _ _ _ _ (start.HasStaging _ here) = tt
-starts_line job counts _ _ _ _ _ (start.HasNoRoot _) = tt
-starts_line job counts _ _ _ _ _ (start.HasRoot _) = tt
-starts_line job counts _ _ _ _ _ (start.IsNoRoot _ here other) = tt
-starts_line job counts _ _ _ _ _ (start.MakesRoot _ number item is) = tt
-starts_line job counts _ _ _ _ _ (start.RenamesRoot _) = tt
-starts_line job counts _ _ _ _ _ (start.IsSame _ number path bytes is) = tt
-starts_line job counts _ _ _ _ _ (start.IsNoFile _ number path bytes here is other) = tt
-starts_line job counts _ _ _ _ _ (start.Differs _ number path bytes block is other) = tt
-
 -- of a shorty that is passed over there may be one
 skip_line : (counts : Counts) (told : Bool) (at : Path) (why : Cause) → LineOf counts (cond told (Some (Skipped at why)) None)
 skip_line counts true at why = tt
 skip_line counts false at why = tt
 
-walks_line : (job : Job) (counts : Counts) (prefix : List ℕ) (here : Phase) (held new : Held) (calls : Calls) (answer : Answer) → Walks job prefix here held new calls answer → LineOf counts calls.line
-walks_line job counts prefix _ held _ _ _ (walk.OpensRoot _ items) = tt
-walks_line job counts prefix _ held _ _ _ (walk.LeadsOn _ found) = tt
-walks_line job counts prefix _ held _ _ _ (walk.IsSkipped _ why found) = tt
-walks_line job counts prefix _ held _ _ _ (walk.IsPresent _ index id here found) = tt
-walks_line job counts prefix _ held _ _ _ (walk.IsNew _ index id found) = tt
-walks_line job counts prefix _ held _ _ _ (walk.IsPast _ name at short last) = skip_line counts (is_first job.share) (names_to held.trail) cause.Past
-walks_line job counts prefix _ held _ _ _ (walk.IsDeep _ name at short last deep) = skip_line counts (is_first job.share) (names_to held.trail) cause.Limit
-walks_line job counts prefix _ held _ _ _ (walk.EntersSite _ name items at short last shallow) = tt
-walks_line job counts prefix _ held _ _ _ (walk.PassesEntry _ item at other) = tt
-walks_line job counts prefix _ held _ _ _ (walk.LeavesSite _ at more) = tt
-walks_line job counts prefix _ held _ _ _ (walk.EndsWalk _ at last) = tt
-
-scans_line : (job : Job) (counts : Counts) (here : Phase) (held new : Held) (calls : Calls) (answer : Answer) → Scans job here held new calls answer → LineOf counts calls.line
-scans_line job counts _ held _ _ _ (scan.StartsInSite _ object gathered) = tt
-scans_line job counts _ held _ _ _ (scan.EntersObject _ object items apart shallow) = tt
-scans_line job counts _ held _ _ _ (scan.IsTooDeep _ object apart deep) = tt
-scans_line job counts _ held _ _ _ (scan.PassesShorty _ object item at passed) = tt
-scans_line job counts _ held _ _ _ (scan.EntersDirectory _ object name items at own shallow) = tt
-scans_line job counts _ held _ _ _ (scan.MeetsDeep _ object name at own deep) = tt
-scans_line job counts _ held _ _ _ (scan.OpensFile _ object name at room) = tt
-scans_line job counts _ held _ _ _ (scan.MeetsLimit _ object name at beyond) = tt
-scans_line job counts _ held _ _ _ (scan.MeetsOther _ object name at) = tt
-scans_line job counts _ held _ _ _ (scan.EndsSite _ object at site) = tt
-scans_line job counts _ held _ _ _ (scan.EndsObject _ object at site own) = tt
-scans_line job counts _ held _ _ _ (scan.LeavesDirectory _ object at site own) = tt
-scans_line job counts _ held _ _ _ (scan.ReadsOn _ object bytes byte block short) = tt
-scans_line job counts _ held _ _ _ (scan.IsTooLong _ object bytes byte block long) = tt
-scans_line job counts _ held _ _ _ (scan.EndsFile _ object bytes) = tt
-
-makes_line : (job : Job) (counts : Counts) (here : Phase) (held new : Held) (calls : Calls) (answer : Answer) → Makings job here held new calls answer → LineOf counts calls.line
-makes_line job counts _ held _ _ _ (make.MakesStaging _ object) = tt
-makes_line job counts _ held _ _ _ (make.MakesDeclaration _ object) = tt
-makes_line job counts _ held _ _ _ (make.MakesVersion _ object) = tt
-makes_line job counts _ held _ _ _ (make.PassesRow _ object position row at stored) = tt
-makes_line job counts _ held _ _ _ (make.MakesFolder _ object position row at stored next) = tt
-makes_line job counts _ held _ _ _ (make.OpensCopy _ object position row at stored next) = tt
-makes_line job counts _ held _ _ _ (make.CopiesOn _ object position left byte block short) = tt
-makes_line job counts _ held _ _ _ (make.ReadsMore _ object position left byte block long) = tt
-makes_line job counts _ held _ _ _ (make.EndsCopy _ object position row left at same) = tt
-makes_line job counts _ held _ _ _ (make.ReadsOther _ object position row left at other) = tt
-makes_line job counts _ held _ _ _ (make.MakesVersionInventory _ object) = tt
-makes_line job counts _ held _ _ _ (make.MakesVersionSidecar _ object) = tt
-makes_line job counts _ held _ _ _ (make.MakesInventory _ object) = tt
-makes_line job counts _ held _ _ _ (make.MakesSidecar _ object) = tt
-
-places_line : (job : Job) (counts : Counts) (here : Phase) (held new : Held) (calls : Calls) (answer : Answer) → Places job counts here held new calls answer → LineOf counts calls.line
-places_line job counts _ held _ _ _ (place.MakesTuple _ object number) = tt
-places_line job counts _ held _ _ _ (place.FindsTuple _ object number) = tt
-places_line job counts _ held _ _ _ (place.IsInTheWay _ object number here other) = tt
-places_line job counts _ held _ _ _ (place.RenamesObject _ object) = tt
-places_line job counts _ held _ _ _ (place.TellsDone _ object) = tt
-places_line job counts _ held _ _ _ (place.TellsEnd _) = (refl, refl, refl)
-
-pub follows_line : (job : Job) (counts : Counts) (here : Phase) (prefix read : List ℕ) (held new : Held) (calls : Calls) (answer : Answer) → Follows job counts here prefix held read new calls answer → LineOf counts calls.line
-follows_line job counts here prefix read held new calls answer (Start _ _ _ _ _ _ starts) = starts_line job counts here prefix read calls answer starts
-follows_line job counts here prefix read held new calls answer (Walk _ _ _ _ _ _ walks) = walks_line job counts prefix here held new calls answer walks
-follows_line job counts here prefix read held new calls answer (Scan _ _ _ _ _ _ scans) = scans_line job counts here held new calls answer scans
-follows_line job counts here prefix read held new calls answer (Make _ _ _ _ _ _ makes) = makes_line job counts here held new calls answer makes
-follows_line job counts here prefix read held new calls answer (Place _ _ _ _ _ _ places) = places_line job counts here held new calls answer places
+pub follows_line : {job : Job} (counts : Counts) {here : Phase} {prefix read : List ℕ} {held new : Held} {calls : Calls} {answer : Answer} → Follows job counts here prefix held read new calls answer → LineOf counts calls.line
+follows_line _ (Start _ _ _ _ _ _ (start.IsStore _ _ _)) = tt
+follows_line {job} counts {held} (Walk _ _ _ _ _ _ (walk.IsPast _ _ _ _ _)) = skip_line counts (is_first job.share) (names_to held.trail) cause.Past
+follows_line {job} counts {held} (Walk _ _ _ _ _ _ (walk.IsDeep _ _ _ _ _ _)) = skip_line counts (is_first job.share) (names_to held.trail) cause.Limit
+follows_line _ (Scan _ _ _ _ _ _ (scan.StartsInSite _ _ _)) = tt
+follows_line _ (Make _ _ _ _ _ _ (make.MakesStaging _ _)) = tt
+follows_line _ (Place _ _ _ _ _ _ (place.TellsEnd _)) = (refl, refl, refl)
+follows_line _ _ = tt
 
 -- ---- the end
 
@@ -327,91 +196,17 @@ abbrev pub EndsWith : Counts → Phase → Option Line → Type 0
 EndsWith counts phase.Ended line = line ≡ Some (last_line counts)
 EndsWith counts _ line = ⊤
 
-starts_end : (job : Job) (counts : Counts) (here : Phase) (prefix read : List ℕ) (calls : Calls) (next : Phase) → Starts job here prefix read calls (Ok next) → EndsWith counts next calls.line
-starts_end job counts _ _ _ _ _ (start.IsStore _ entries is) = tt
-starts_end job counts _ _ _ _ _ (start.HasNoPrefix _) = tt
-starts_end job counts _ _ _ _ _ (start.HasPrefix _ block is) = tt
-starts_end job counts _ _ _ _ _ (start.HasNoStaging _) = tt
-starts_end job counts _ _ _ _ _ (start.HasNoRoot _) = tt
-starts_end job counts _ _ _ _ _ (start.HasRoot _) = tt
-starts_end job counts _ _ _ _ _ (start.MakesRoot _ number item is) = by (number == 5)
-  where
-    by : (b : Bool) → EndsWith counts (cond b phase.RootRename (phase.RootMake (number + 1))) None
-    by true = tt
-    by false = tt
-starts_end job counts _ _ _ _ _ (start.RenamesRoot _) = tt
-starts_end job counts _ _ _ _ _ (start.IsSame _ number path bytes is) = by (number == 2)
-  where
-    by : (b : Bool) → EndsWith counts (cond b phase.OpenRoot (phase.RootCheck (number + 1))) None
-    by true = tt
-    by false = tt
+either_end : (counts : Counts) (is : Bool) (first second : Phase) → EndsWith counts first None → EndsWith counts second None → EndsWith counts (cond is first second) None
+either_end counts true first second ends _ = ends
+either_end counts false first second _ ends = ends
 
-walks_end : (job : Job) (counts : Counts) (prefix : List ℕ) (here : Phase) (held new : Held) (calls : Calls) (next : Phase) → Walks job prefix here held new calls (Ok next) → EndsWith counts next calls.line
-walks_end job counts prefix _ held _ _ _ (walk.OpensRoot _ items) = tt
-walks_end job counts prefix _ held _ _ _ (walk.LeadsOn _ found) = tt
-walks_end job counts prefix _ held _ _ _ (walk.IsSkipped _ why found) = tt
-walks_end job counts prefix _ held _ _ _ (walk.IsPresent _ index id here found) = tt
-walks_end job counts prefix _ held _ _ _ (walk.IsNew _ index id found) = tt
-walks_end job counts prefix _ held _ _ _ (walk.IsPast _ name at short last) = tt
-walks_end job counts prefix _ held _ _ _ (walk.IsDeep _ name at short last deep) = tt
-walks_end job counts prefix _ held _ _ _ (walk.EntersSite _ name items at short last shallow) = tt
-walks_end job counts prefix _ held _ _ _ (walk.PassesEntry _ item at other) = tt
-walks_end job counts prefix _ held _ _ _ (walk.LeavesSite _ at more) = tt
-walks_end job counts prefix _ held _ _ _ (walk.EndsWalk _ at last) = tt
-
-scans_end : (job : Job) (counts : Counts) (here : Phase) (held new : Held) (calls : Calls) (next : Phase) → Scans job here held new calls (Ok next) → EndsWith counts next calls.line
-scans_end job counts _ held _ _ _ (scan.StartsInSite _ object gathered) = tt
-scans_end job counts _ held _ _ _ (scan.EntersObject _ object items apart shallow) = tt
-scans_end job counts _ held _ _ _ (scan.IsTooDeep _ object apart deep) = tt
-scans_end job counts _ held _ _ _ (scan.PassesShorty _ object item at passed) = tt
-scans_end job counts _ held _ _ _ (scan.EntersDirectory _ object name items at own shallow) = tt
-scans_end job counts _ held _ _ _ (scan.MeetsDeep _ object name at own deep) = tt
-scans_end job counts _ held _ _ _ (scan.OpensFile _ object name at room) = tt
-scans_end job counts _ held _ _ _ (scan.MeetsLimit _ object name at beyond) = tt
-scans_end job counts _ held _ _ _ (scan.MeetsOther _ object name at) = tt
-scans_end job counts _ held _ _ _ (scan.EndsSite _ object at site) = tt
-scans_end job counts _ held _ _ _ (scan.EndsObject _ object at site own) = tt
-scans_end job counts _ held _ _ _ (scan.LeavesDirectory _ object at site own) = tt
-scans_end job counts _ held _ _ _ (scan.ReadsOn _ object bytes byte block short) = tt
-scans_end job counts _ held _ _ _ (scan.IsTooLong _ object bytes byte block long) = tt
-scans_end job counts _ held _ _ _ (scan.EndsFile _ object bytes) = tt
-
-makes_end : (job : Job) (counts : Counts) (here : Phase) (held new : Held) (calls : Calls) (next : Phase) → Makings job here held new calls (Ok next) → EndsWith counts next calls.line
-makes_end job counts _ held _ _ _ (make.MakesStaging _ object) = tt
-makes_end job counts _ held _ _ _ (make.MakesDeclaration _ object) = tt
-makes_end job counts _ held _ _ _ (make.MakesVersion _ object) = tt
-makes_end job counts _ held _ _ _ (make.PassesRow _ object position row at stored) = tt
-makes_end job counts _ held _ _ _ (make.MakesFolder _ object position row at stored next) = tt
-makes_end job counts _ held _ _ _ (make.OpensCopy _ object position row at stored next) = tt
-makes_end job counts _ held _ _ _ (make.CopiesOn _ object position left byte block short) = tt
-makes_end job counts _ held _ _ _ (make.EndsCopy _ object position row left at same) = tt
-makes_end job counts _ held _ _ _ (make.MakesVersionInventory _ object) = tt
-makes_end job counts _ held _ _ _ (make.MakesVersionSidecar _ object) = tt
-makes_end job counts _ held _ _ _ (make.MakesInventory _ object) = tt
-makes_end job counts _ held _ _ _ (make.MakesSidecar _ object) = by (job.tuples.count == 0)
-  where
-    by : (b : Bool) → EndsWith counts (cond b (phase.Rename object) (phase.Tuples object 0)) None
-    by true = tt
-    by false = tt
-
-places_end : (job : Job) (counts : Counts) (here : Phase) (held new : Held) (calls : Calls) (next : Phase) → Places job counts here held new calls (Ok next) → EndsWith counts next calls.line
-places_end job counts _ held _ _ _ (place.MakesTuple _ object number) = by (nat_lt (number + 1) job.tuples.count)
-  where
-    by : (b : Bool) → EndsWith counts (cond b (phase.Tuples object (number + 1)) (phase.Rename object)) None
-    by true = tt
-    by false = tt
-places_end job counts _ held _ _ _ (place.FindsTuple _ object number) = by (nat_lt (number + 1) job.tuples.count)
-  where
-    by : (b : Bool) → EndsWith counts (cond b (phase.Tuples object (number + 1)) (phase.Rename object)) None
-    by true = tt
-    by false = tt
-places_end job counts _ held _ _ _ (place.RenamesObject _ object) = tt
-places_end job counts _ held _ _ _ (place.TellsDone _ object) = tt
-places_end job counts _ held _ _ _ (place.TellsEnd _) = refl
-
-pub follows_end : (job : Job) (counts : Counts) (here : Phase) (prefix read : List ℕ) (held new : Held) (calls : Calls) (next : Phase) → Follows job counts here prefix held read new calls (Ok next) → EndsWith counts next calls.line
-follows_end job counts here prefix read held new calls next (Start _ _ _ _ _ _ starts) = starts_end job counts here prefix read calls next starts
-follows_end job counts here prefix read held new calls next (Walk _ _ _ _ _ _ walks) = walks_end job counts prefix here held new calls next walks
-follows_end job counts here prefix read held new calls next (Scan _ _ _ _ _ _ scans) = scans_end job counts here held new calls next scans
-follows_end job counts here prefix read held new calls next (Make _ _ _ _ _ _ makes) = makes_end job counts here held new calls next makes
-follows_end job counts here prefix read held new calls next (Place _ _ _ _ _ _ places) = places_end job counts here held new calls next places
+pub follows_end : {job : Job} (counts : Counts) {here : Phase} {prefix read : List ℕ} {held new : Held} {calls : Calls} {next : Phase} → Follows job counts here prefix held read new calls (Ok next) → EndsWith counts next calls.line
+follows_end counts (Start _ _ _ _ _ _ (start.MakesRoot _ number _ _)) = either_end counts (number == 5) phase.RootRename (phase.RootMake (number + 1)) tt tt
+follows_end counts (Start _ _ _ _ _ _ (start.IsSame _ number _ _ _)) = either_end counts (number == 2) phase.OpenRoot (phase.RootCheck (number + 1)) tt tt
+follows_end _ (Walk _ _ _ _ _ _ (walk.OpensRoot _ _)) = tt
+follows_end _ (Scan _ _ _ _ _ _ (scan.StartsInSite _ _ _)) = tt
+follows_end {job} counts (Make _ _ _ _ _ _ (make.MakesSidecar _ object)) = either_end counts (job.tuples.count == 0) (phase.Rename object) (phase.Tuples object 0) tt tt
+follows_end {job} counts (Place _ _ _ _ _ _ (place.MakesTuple _ object number)) = either_end counts (nat_lt (number + 1) job.tuples.count) (phase.Tuples object (number + 1)) (phase.Rename object) tt tt
+follows_end {job} counts (Place _ _ _ _ _ _ (place.FindsTuple _ object number)) = either_end counts (nat_lt (number + 1) job.tuples.count) (phase.Tuples object (number + 1)) (phase.Rename object) tt tt
+follows_end _ (Place _ _ _ _ _ _ (place.TellsEnd _)) = refl
+follows_end _ _ = tt

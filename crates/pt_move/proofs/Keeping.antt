@@ -109,25 +109,11 @@ keeps_finished start old new before s' next ended kept = record {
 -- it halted the run
 halted : (P : Fault → Type 0) (why : Halt) → P (fault_of why) → IfHalted (Err (fault_of why)) P
 halted P halt.Source p = p
-halted P halt.Dest p = p
-halted P halt.Log p = p
-halted P halt.Memory p = p
-halted P halt.NotPairtree p = p
-halted P halt.Prefix p = p
-halted P halt.StagingLeft p = p
-halted P halt.Target p = p
-halted P halt.Changed p = p
+halted _ _ p = p
 
 unless_ended : (P : Type 0) (why : Halt) → P → UnlessEnded (Err (fault_of why)) P
 unless_ended P halt.Source p = p
-unless_ended P halt.Dest p = p
-unless_ended P halt.Log p = p
-unless_ended P halt.Memory p = p
-unless_ended P halt.NotPairtree p = p
-unless_ended P halt.Prefix p = p
-unless_ended P halt.StagingLeft p = p
-unless_ended P halt.Target p = p
-unless_ended P halt.Changed p = p
+unless_ended _ _ p = p
 
 halted_so : (start : Start) (old new : World) (before : Running) (s' : State) (why : Halt) → TurnKeeps start old new before.state s' (Err why) → Keeps start old new before (record { phase = phase.Ended; state = s' }) (Err (fault_of why))
 unfolding Keeps TurnKeeps

@@ -1,10 +1,10 @@
 -- What a turn of the run's definitions leaves.
-use Rattle.std.proofs.Common.{◌≡◌, ◌≤◌, ℕ, ◌+◌, List, refl, sym, subst, ap, ◌∙◌, inl, inr, arith}
-use Rattle.std.specs.Prelude.{Option, None, Some, Ok, Err}
+use Rattle.std.proofs.Common.{◌≡◌, ℕ, ◌+◌, List, refl, sym, subst, ap, ◌∙◌, inl, inr, arith}
+use Rattle.std.specs.Prelude.{Option, None, Some, Err}
 use Rattle.pt_object.specs.declared.rows.Row.{Row}
 use Rattle.pt_plan.specs.Answer.{Answer}
 use Rattle.pt_plan.specs.Job.{Job}
-use Rattle.pt_plan.specs.Lines.{Line, Done, Present, Skipped, End}
+use Rattle.pt_plan.specs.Lines.{Line, End}
 use Rattle.pt_plan.specs.Run.{Counts, turning}
 use Rattle.pt_plan.specs.Turn.{Did, FailsAtFirst, FailsLater, GoesOn, HasFailed, IsHalted, IsRefused, LeavesSome, Stays, Turn, counted}
 use Rattle.pt_plan.specs.World.{Failures, LeavesFront, Puts, World}
@@ -16,6 +16,7 @@ use Rattle.pt_state.specs.States.{counts_of, kept_of}
 use Rattle.pt_state.specs.declared.job.Report.{Report}
 use Rattle.pt_state.specs.declared.state.State.{State}
 use Rattle.pt_move.specs.Bounds.{lines_put}
+use Rattle.pt_move.proofs.Bounding.{counted_more}
 use Rattle.pt_move.proofs.Changes.{EndsWith, IsRefusal, LineOf, follows_change, follows_end, follows_line, follows_refuse, gains_same, moves_to}
 use Rattle.pt_move.specs.Held.{Gains}
 use Rattle.pt_move.specs.Leaving.{Blames, EndsBy, TurnLeaves}
@@ -28,22 +29,14 @@ refusal_blames halt.Source old new is same = absurd is
 refusal_blames halt.Dest old new is same = absurd is
 refusal_blames halt.Log old new is same = absurd is
 refusal_blames halt.Memory old new is same = absurd is
-refusal_blames halt.NotPairtree old new is same = same
-refusal_blames halt.Prefix old new is same = same
-refusal_blames halt.StagingLeft old new is same = same
-refusal_blames halt.Target old new is same = same
-refusal_blames halt.Changed old new is same = same
+refusal_blames _ _ _ _ same = same
 
 failed_blames : (why : Halt) (old new : Failures) → HasFailed why old new → Blames why old new
 failed_blames halt.Source old new failed = failed
 failed_blames halt.Dest old new failed = failed
 failed_blames halt.Log old new failed = failed
 failed_blames halt.Memory old new failed = failed
-failed_blames halt.NotPairtree old new failed = absurd failed
-failed_blames halt.Prefix old new failed = absurd failed
-failed_blames halt.StagingLeft old new failed = absurd failed
-failed_blames halt.Target old new failed = absurd failed
-failed_blames halt.Changed old new failed = absurd failed
+failed_blames _ _ _ failed = absurd failed
 
 -- ---- the log
 
@@ -56,10 +49,8 @@ counted_turn c = record { done = c.done; present = c.present; skipped = c.skippe
 
 counts_line : (line : Line) (c c' : Report) → counts_of c' ≡ counted (Some line) (counted_turn c) → LineOf (counted_turn c) (Some line) → CountsLine line c c'
 unfolding counted_turn
-counts_line (Done at bytes empty files id to) c c' is of = (ap (λ (k : Counts). k.done) is, ap (λ (k : Counts). k.present) is, ap (λ (k : Counts). k.skipped) is)
-counts_line (Present at id to) c c' is of = (ap (λ (k : Counts). k.done) is, ap (λ (k : Counts). k.present) is, ap (λ (k : Counts). k.skipped) is)
-counts_line (Skipped at why) c c' is of = (ap (λ (k : Counts). k.done) is, ap (λ (k : Counts). k.present) is, ap (λ (k : Counts). k.skipped) is)
-counts_line (End done present skipped) c c' is (d, p, s) = ((d, p, s), (ap (λ (k : Counts). k.done) is, ap (λ (k : Counts). k.present) is, ap (λ (k : Counts). k.skipped) is))
+counts_line (End _ _ _) c c' is (d, p, s) = ((d, p, s), (ap (λ (k : Counts). k.done) is, ap (λ (k : Counts). k.present) is, ap (λ (k : Counts). k.skipped) is))
+counts_line _ c c' is _ = (ap (λ (k : Counts). k.done) is, ap (λ (k : Counts). k.present) is, ap (λ (k : Counts). k.skipped) is)
 
 told_line : (line : Option Line) (g g' : Option (List ℕ)) (c c' : Report) → Puts line g g' → counts_of c' ≡ counted line (counted_turn c) → LineOf (counted_turn c) line → TellsLine g g' c c'
 unfolding Puts TellsLine GotLine counted_turn
@@ -75,34 +66,9 @@ ended_with : (next : Phase) (line : Option Line) (g g' : Option (List ℕ)) (c c
 unfolding Puts GotLine counted_turn
 ended_with phase.Ended line g g' c c' ends put is =
     (subst (λ (o : Option Line). Puts o g g') ends put, same_lines c c' _ (is ∙ ap (λ (o : Option Line). counted o (counted_turn c)) ends) refl refl refl)
-ended_with phase.Begin line g g' c c' ends put is = tt
-ended_with (phase.Prefix here) line g g' c c' ends put is = tt
-ended_with phase.Staging line g g' c c' ends put is = tt
-ended_with phase.Root line g g' c c' ends put is = tt
-ended_with (phase.RootMake item) line g g' c c' ends put is = tt
-ended_with phase.RootRename line g g' c c' ends put is = tt
-ended_with (phase.RootCheck file) line g g' c c' ends put is = tt
-ended_with phase.OpenRoot line g g' c c' ends put is = tt
-ended_with phase.Judge line g g' c c' ends put is = tt
-ended_with (phase.OpenObject object) line g g' c c' ends put is = tt
-ended_with (phase.Scan object) line g g' c c' ends put is = tt
-ended_with (phase.Read object bytes) line g g' c c' ends put is = tt
-ended_with (phase.Make object part) line g g' c c' ends put is = tt
-ended_with (phase.Copy object position left) line g g' c c' ends put is = tt
-ended_with (phase.Tuples object number) line g g' c c' ends put is = tt
-ended_with (phase.Rename object) line g g' c c' ends put is = tt
-ended_with (phase.Line object) line g g' c c' ends put is = tt
-ended_with phase.Walk line g g' c c' ends put is = tt
-ended_with phase.End line g g' c c' ends put is = tt
+ended_with _ _ _ _ _ _ _ _ _ = tt
 
--- ---- counts
-
-counted_more : (line : Option Line) (counts : Counts) → (lines_put (counted line counts) ≤ lines_put counts + 1) × ((counted line counts).turns ≡ counts.turns)
-counted_more None counts = (omega (arith), refl)
-counted_more (Some (Done at bytes empty files id to)) counts = (omega (arith), refl)
-counted_more (Some (Present at id to)) counts = (omega (arith), refl)
-counted_more (Some (Skipped at why)) counts = (omega (arith), refl)
-counted_more (Some (End done present skipped)) counts = (omega (arith), refl)
+-- ---- rows
 
 gains_by : {A : Type 0} (xs ys zs : List A) → zs ≡ ys → Gains xs ys → Gains xs zs
 gains_by xs ys zs is gains = subst (λ l. Gains xs l) (sym is) gains
@@ -130,14 +96,14 @@ pub turn_leaves : (job : Job) (here : Phase) (s s' : State) (fed fed' : List ℕ
     → TurnLeaves s s' old.log new.log old.failures new.failures answer
 unfolding Did LeavesSome Stays counted_turn Puts
 turn_leaves job here s s' fed fed' old new _ (GoesOn calls next follows did counts) =
-    let changes = follows_change job (turning (kept_of s fed)).counts here _ _ _ _ calls (Ok next) follows in
+    let changes = follows_change _ follows in
     let more = counted_more calls.line (turning (kept_of s fed)).counts in
     let put = ap lines_put counts in
     let one = more.0 in
     record {
       failures = did.1;
-      told = told_line calls.line old.log new.log s.counts s'.counts did.0.log counts (follows_line job (turning (kept_of s fed)).counts here _ _ _ _ calls (Ok next) follows);
-      ended = ended_with next calls.line old.log new.log s.counts s'.counts (follows_end job (turning (kept_of s fed)).counts here _ _ _ _ calls next follows) did.0.log counts;
+      told = told_line calls.line old.log new.log s.counts s'.counts did.0.log counts (follows_line _ follows);
+      ended = ended_with next calls.line old.log new.log s.counts s'.counts (follows_end _ follows) did.0.log counts;
       turns = ap (λ (k : Counts). k.turns) counts ∙ more.1;
       lines = omega (arith, put, one);
       trail = changes.trail;
@@ -145,7 +111,7 @@ turn_leaves job here s s' fed fed' old new _ (GoesOn calls next follows did coun
       contents = changes.contents;
     }
 turn_leaves job here s s' fed fed' old new _ (IsRefused prefix held calls why follows did halted) =
-    let refused = follows_refuse job (turning (kept_of s fed)).counts here _ _ _ _ calls why follows in
+    let refused = follows_refuse follows in
     halted_leaves s s' fed fed' s.rows old.log new.log _ _ why halted (gains_same s.rows s.rows refl) (refusal_blames why _ _ refused.0 did.1)
     (left_front None old.log new.log s.counts s'.counts (subst (λ (o : Option Line). Puts o old.log new.log) refused.1 did.0.log) halted.counts)
 turn_leaves job here s s' fed fed' old new _ (FailsAtFirst why stays halted) =
@@ -156,5 +122,5 @@ turn_leaves job here s s' fed fed' old new _ (FailsLater prefix held calls answe
     gained : Gains s.rows rows
     gained = elim which [
       | inl same ↦ gains_same s.rows rows same
-      | inr more ↦ gains_by s.rows held.rows rows more.0 (follows_change job (turning (kept_of s fed)).counts here _ _ _ _ calls answer follows).rows
+      | inr more ↦ gains_by s.rows held.rows rows more.0 (follows_change _ follows).rows
     ]

@@ -58,44 +58,22 @@ of_source halt.Source source says = tt
 of_source halt.Dest source says = tt
 of_source halt.Log source says = tt
 of_source halt.Memory source says = tt
-of_source halt.NotPairtree source says = says
-of_source halt.Prefix source says = says
-of_source halt.StagingLeft source says = says
-of_source halt.Target source says = says
-of_source halt.Changed source says = says
+of_source _ _ says = says
 
 of_dest : (job : Job) (why : Halt) (start : Tree) → (why ≡ halt.StagingLeft → SaysOfDest job fault.StagingLeft start) → (why ≡ halt.Target → SaysOfDest job fault.Target start) → SaysOfDest job (fault_of why) start
-of_dest job halt.Source start left target = tt
-of_dest job halt.Dest start left target = tt
-of_dest job halt.Log start left target = tt
-of_dest job halt.Memory start left target = tt
-of_dest job halt.NotPairtree start left target = tt
-of_dest job halt.Prefix start left target = tt
 of_dest job halt.StagingLeft start left target = left refl
 of_dest job halt.Target start left target = target refl
-of_dest job halt.Changed start left target = tt
+of_dest _ _ _ _ _ = tt
 
 of_both : (job : Job) (why : Halt) (source : Forest) (start : Tree) → (why ≡ halt.Target → SaysOfBoth job fault.Target source start) → SaysOfBoth job (fault_of why) source start
-of_both job halt.Source source start target = tt
-of_both job halt.Dest source start target = tt
-of_both job halt.Log source start target = tt
-of_both job halt.Memory source start target = tt
-of_both job halt.NotPairtree source start target = tt
-of_both job halt.Prefix source start target = tt
-of_both job halt.StagingLeft source start target = tt
 of_both job halt.Target source start target = target refl
-of_both job halt.Changed source start target = tt
+of_both _ _ _ _ _ = tt
 
 if_early : (why : Halt) (P : Type 0) → (law.is_early why ≡ true → P) → IfEarly (fault_of why) P
-if_early halt.Source P early = tt
-if_early halt.Dest P early = tt
-if_early halt.Log P early = tt
-if_early halt.Memory P early = tt
 if_early halt.NotPairtree P early = early refl
 if_early halt.Prefix P early = early refl
 if_early halt.StagingLeft P early = early refl
-if_early halt.Target P early = tt
-if_early halt.Changed P early = tt
+if_early _ _ _ = tt
 
 -- ---- a turn
 
@@ -195,15 +173,8 @@ module _ (s s' : State) (here : Phase) (fed fed' : List ℕ) (old new : World) (
 
   unstaged_after : (why : Halt) → MadeTurn (Err why) → BlamesLogLate here (Err why) → IfLog (fault_of why) (LeavesNoStaging new.dest)
   unfolding LeavesNoStaging
-  unstaged_after halt.Source turn late = tt
-  unstaged_after halt.Dest turn late = tt
   unstaged_after halt.Log turn late = λ now dest_is. failed_log_leaves_no_staging job start old new run after now begun turn late dest_is
-  unstaged_after halt.Memory turn late = tt
-  unstaged_after halt.NotPairtree turn late = tt
-  unstaged_after halt.Prefix turn late = tt
-  unstaged_after halt.StagingLeft turn late = tt
-  unstaged_after halt.Target turn late = tt
-  unstaged_after halt.Changed turn late = tt
+  unstaged_after _ _ _ = tt
 
   -- by the answer
   pub says_after : (answer : Answer) → MadeTurn answer → BlamesLogLate here answer → AnswerSays old start new s s' answer

@@ -147,14 +147,6 @@ module _ (job : Job) (first old new : World) (a b : Running) (same : a.state.job
 
   pub ran_halted : (f : Fault) → EndsAs a b (Err f) → MakesTurn old new a b (Err f) → IsRun job first new (Err f)
   unfolding MakesTurn IsRun
-  ran_halted fault.Source ends turned = halted fault.Source ends.0 turned
-  ran_halted fault.Dest ends turned = halted fault.Dest ends.0 turned
-  ran_halted fault.Log ends turned = halted fault.Log ends.0 turned
-  ran_halted fault.Memory ends turned = halted fault.Memory ends.0 turned
-  ran_halted fault.NotPairtree ends turned = halted fault.NotPairtree ends.0 turned
-  ran_halted fault.Prefix ends turned = halted fault.Prefix ends.0 turned
-  ran_halted fault.StagingLeft ends turned = halted fault.StagingLeft ends.0 turned
-  ran_halted fault.Target ends turned = halted fault.Target ends.0 turned
-  ran_halted fault.Changed ends turned = halted fault.Changed ends.0 turned
   ran_halted fault.Turns ends turned = at_limit turned
   ran_halted fault.Ended ends turned = going ends.0
+  ran_halted f ends turned = halted f ends.0 turned
