@@ -60,8 +60,8 @@ use Rattle.pt_move.specs.declared.mover.Turn.TheVariants as turn
 
 -- ---- what a turn needs
 
-pub fed_going : (here : Phase) (a : Algorithm) (h : Hasher) (fed : List ℕ) → here ≢ phase.Ended → FedUntilEnd here a h fed → HasBeenFed a h fed
-fed_going here a h fed going was = OnFalse_at (is_going here going) was
+pub fed_going : {here : Phase} (a : Algorithm) (h : Hasher) (fed : List ℕ) → here ≢ phase.Ended → FedUntilEnd here a h fed → HasBeenFed a h fed
+fed_going {here} a h fed going was = OnFalse_at (is_going here going) was
 
 pub fed_to_end : (here : Phase) (a : Algorithm) (h : Hasher) (fed : List ℕ) → HasBeenFed a h fed → FedUntilEnd here a h fed
 fed_to_end here a h fed was = OnFalse_from (is_ended here) (HasBeenFed a h fed) (λ _. was)
@@ -77,20 +77,20 @@ pub may_turn : (here : Phase) (s : State) (now : World) → here ≢ phase.Ended
 unfolding BeganSomewhere IsBegun
 may_turn here s now going (start, begun) =
     let is : InProgress start (as_told now) (record { phase = here; state = s }) = begun in
-    let was = fed_going here s.job.algorithm s.hasher is.fed going is.was in
+    let was = fed_going s.job.algorithm s.hasher is.fed going is.was in
     permits_fed (job_of s.job) here s is.fed now.source now.dest (begun_permits (job_of s.job) start (as_told now) (record { phase = here; kept = kept_of s is.fed }) (within_work_is_begun (job_of s.job) start (as_told now) (record { phase = here; kept = kept_of s is.fed }) is.begun))
 
-held_at : (job : Job) (start : Start) (world : World) (run : Run) → Begun job start world run → (past : Past) × HeldAt job past run.phase run.kept.held
+held_at : {job : Job} (start : Start) (world : World) (run : Run) → Begun job start world run → (past : Past) × HeldAt job past run.phase run.kept.held
 unfolding Begun
-held_at job start world run (past, is) = (past, is.held)
+held_at start world run (past, is) = (past, is.held)
 
 pub stands_there : (here : Phase) (s : State) (now : World) → here ≢ phase.Ended → BeganSomewhere now (record { phase = here; state = s }) → Stands here s
 unfolding BeganSomewhere IsBegun
 stands_there here s now going (start, begun) =
     let is : InProgress start (as_told now) (record { phase = here; state = s }) = begun in
-    let was = fed_going here s.job.algorithm s.hasher is.fed going is.was in
-    let held = held_at (job_of s.job) start (as_told now) (record { phase = here; kept = kept_of s is.fed }) (within_work_is_begun (job_of s.job) start (as_told now) (record { phase = here; kept = kept_of s is.fed }) is.begun) in
-    stands here s is.fed held.0 going was held.1
+    let was = fed_going s.job.algorithm s.hasher is.fed going is.was in
+    let held = held_at start (as_told now) (record { phase = here; kept = kept_of s is.fed }) (within_work_is_begun (job_of s.job) start (as_told now) (record { phase = here; kept = kept_of s is.fed }) is.begun) in
+    stands here s going was held.1
 
 fed_there : (here : Phase) (a : Algorithm) (h : Hasher) (fed : List ℕ) → HasBeenFed a h fed → HasFed here a h
 fed_there here a h fed was = OnFalse_from (is_ended here) ((fed : List ℕ) × HasBeenFed a h fed) (λ _. (fed, was))
@@ -99,7 +99,7 @@ pub has_fed : (here : Phase) (s : State) (now : World) → here ≢ phase.Ended 
 unfolding BeganSomewhere IsBegun
 has_fed here s now going (start, begun) =
     let is : InProgress start (as_told now) (record { phase = here; state = s }) = begun in
-    fed_there here s.job.algorithm s.hasher is.fed (fed_going here s.job.algorithm s.hasher is.fed going is.was)
+    fed_there here s.job.algorithm s.hasher is.fed (fed_going s.job.algorithm s.hasher is.fed going is.was)
 
 pub same_job : (here : Phase) (s s' : State) (old new : World) (answer : Answer) → CountedTurn here s s' old new answer → s'.job ≡ s.job
 unfolding CountedTurn
@@ -115,13 +115,13 @@ pub left_by_turn : (here : Phase) (s s' : State) (old new : World) (answer : Ans
 unfolding BeganSomewhere IsBegun CountedTurn
 left_by_turn here s s' old new answer going (start, begun) turned =
     let is : InProgress start (as_told old) (record { phase = here; state = s }) = begun in
-    let was = fed_going here s.job.algorithm s.hasher is.fed going is.was in
+    let was = fed_going s.job.algorithm s.hasher is.fed going is.was in
     let made = turned.1 is.fed was in
-    turn_leaves (job_of s.job) here s s' is.fed made.0 old new answer made.1.1
+    turn_leaves s' made.0 made.1.1
 
 -- what is counted doesn't lean on what the hasher was fed
-bounded_fed : (job : Job) (here : Phase) (s : State) (fed fed' : List ℕ) → IsBounded job here (kept_of s fed) → IsBounded job here (kept_of s fed')
-bounded_fed job here s fed fed' bounded = record { lines = bounded.lines; turns = bounded.turns; few = record { rows = bounded.few.rows; lengths = bounded.few.lengths }; within = within here bounded.within; prefix = bounded.prefix }
+bounded_fed : {job : Job} {here : Phase} (s : State) {fed : List ℕ} (fed' : List ℕ) → IsBounded job here (kept_of s fed) → IsBounded job here (kept_of s fed')
+bounded_fed {job} {here} s {fed} fed' bounded = record { lines = bounded.lines; turns = bounded.turns; few = record { rows = bounded.few.rows; lengths = bounded.few.lengths }; within = within here bounded.within; prefix = bounded.prefix }
   where
     within : (here : Phase) → IsWithin job here (held_of s fed) s.counts.turns → IsWithin job here (held_of s fed') s.counts.turns
     within phase.Begin is = is
@@ -138,36 +138,36 @@ pub well_after : (here : Phase) (s s' : State) (old new : World) (answer : Answe
 unfolding BeganSomewhere IsBegun CountedTurn
 well_after here s s' old new answer going (start, begun) well more turned =
     let is : InProgress start (as_told old) (record { phase = here; state = s }) = begun in
-    let was = fed_going here s.job.algorithm s.hasher is.fed going is.was in
+    let was = fed_going s.job.algorithm s.hasher is.fed going is.was in
     let made = turned.1 is.fed was in
     record {
       bounded = subst (λ j. IsBounded (job_of j) (phase_after answer) (kept_of s' [])) (sym turned.0)
-          (bounded_fed (job_of s.job) (phase_after answer) s' made.0 [] (turn_keeps_bounds (job_of s.job) here (kept_of s is.fed) (kept_of s' made.0) _ _ answer (bounded_fed (job_of s.job) here s [] is.fed well.bounded) more made.1.1));
-      fresh = λ begins. absurd (not_first s s' is.fed made.0 here answer begins (turn_keeps_bounds (job_of s.job) here (kept_of s is.fed) (kept_of s' made.0) _ _ answer (bounded_fed (job_of s.job) here s [] is.fed well.bounded) more made.1.1)
-          (turn_leaves (job_of s.job) here s s' is.fed made.0 old new answer made.1.1).turns);
+          (bounded_fed s' [] (turn_keeps_bounds (bounded_fed s is.fed well.bounded) more made.1.1));
+      fresh = λ begins. absurd (not_first s s' is.fed made.0 here answer begins (turn_keeps_bounds (bounded_fed s is.fed well.bounded) more made.1.1)
+          (turn_leaves {s = s} s' made.0 made.1.1).turns);
     }
 
 -- ---- a run that ends without a turn
 
 -- where the limit of turns was made, nothing was called
-pub begun_ends : (start : Start) (world : World) (r t : Running) → t.phase ≡ phase.Ended → t.state ≡ r.state → IsBegun start world r → IsBegun start world t
+pub begun_ends : (start : Start) (world : World) (r : Running) {t : Running} → t.phase ≡ phase.Ended → t.state ≡ r.state → IsBegun start world r → IsBegun start world t
 unfolding IsBegun
-begun_ends start world r t ended same is =
+begun_ends start world r {t} ended same is =
     subst (λ (p : Phase). InProgress start (as_told world) (record { phase = p; state = t.state })) (sym ended)
     (subst (λ (s : State). InProgress start (as_told world) (record { phase = phase.Ended; state = s })) (sym same)
     (record { fed = is.fed; was = tt; begun = stops_within_work (job_of r.state.job) start (as_told world) (run_of r is.fed) is.begun }))
 
 -- ---- what is left in the destination
 
-left_at : (job : Job) (start : Option Tree) (now : Option Writing) (past : Past) (here : Phase) (held : Held) → HeldAt job past here held → TellsAsBefore start now (DestPart job past here held) → TellsAsBefore start now (IsLeftBehind job)
-left_at job None None past here held at tells = tt
-left_at job None (Some now) past here held at tells = absurd tells
-left_at job (Some start) None past here held at tells = absurd tells
-left_at job (Some start) (Some now) past here held at tells = kept_now job past start here held now at tells
+left_at : {job : Job} (start : Option Tree) (now : Option Writing) {past : Past} {here : Phase} {held : Held} → HeldAt job past here held → TellsAsBefore start now (DestPart job past here held) → TellsAsBefore start now (IsLeftBehind job)
+left_at None None at tells = tt
+left_at None (Some now) at tells = absurd tells
+left_at (Some start) None at tells = absurd tells
+left_at {job} (Some start) (Some now) {past} {here} {held} at tells = kept_now job past start here held now at tells
 
 left_in : (job : Job) (start : Start) (world : World) (run : Run) → Begun job start world run → TellsAsBefore start.dest world.dest (IsLeftBehind job)
 unfolding Begun
-left_in job start world run (past, is) = left_at job start.dest world.dest past run.phase run.kept.held is.held is.dest
+left_in job start world run (past, is) = left_at start.dest world.dest is.held is.dest
 
 pub leaves_behind : (start : Start) (world : World) (r : Running) → IsBegun start world r → LeavesBehind r.state.job start.dest world.dest
 unfolding IsBegun LeavesBehind
@@ -224,19 +224,19 @@ unfolding BlamesRightly
 none_blamed_for_ended w = record { source = refl; dest = refl; log = refl }
 
 -- no halt is an answer of a run that made no turn
-counted_halt : (why : Halt) (old new : Running) → IsTurn old → new.phase ≡ phase.Ended → (new.state.counts.turns ≡ old.state.counts.turns + 1) × (lines_put (counts_of new.state.counts) ≤ lines_put (counts_of old.state.counts) + 1) → EndsAs old new (Err (fault_of why)) × IsCounted old new (Err (fault_of why))
-counted_halt halt.Source old new turn ended counted = ((turn, ended), counted)
-counted_halt _ _ _ turn ended counted = ((turn, ended), counted)
+counted_halt : (why : Halt) {old : Running} (new : Running) → IsTurn old → new.phase ≡ phase.Ended → (new.state.counts.turns ≡ old.state.counts.turns + 1) × (lines_put (counts_of new.state.counts) ≤ lines_put (counts_of old.state.counts) + 1) → EndsAs old new (Err (fault_of why)) × IsCounted old new (Err (fault_of why))
+counted_halt halt.Source new turn ended counted = ((turn, ended), counted)
+counted_halt _ _ turn ended counted = ((turn, ended), counted)
 
 stays_halt : {X : Type 0} (why : Halt) (old new : X) → StaysAs Any (Err (fault_of why)) old new
 stays_halt halt.Source old new = tt
 stays_halt _ _ _ = tt
 
 pub err_answer : (old new : Running) (g g' : Option (List ℕ)) (F F' : Failures) (why : Halt) (f : Fault) → f ≡ fault_of why → IsTurn old → new.phase ≡ phase.Ended → TurnLeaves old.state new.state g g' F F' (Err why) → EndsAs old new (Err f)
-err_answer old new g g' F F' why f is turn ended left = subst (λ f. EndsAs old new (Err f)) (sym is) (counted_halt why old new turn ended (left.turns, left.lines)).0
+err_answer old new g g' F F' why f is turn ended left = subst (λ f. EndsAs old new (Err f)) (sym is) (counted_halt why new turn ended (left.turns, left.lines)).0
 
-pub err_counted : (old new : Running) (g g' : Option (List ℕ)) (F F' : Failures) (why : Halt) (f : Fault) → f ≡ fault_of why → TurnLeaves old.state new.state g g' F F' (Err why) → IsCounted old new (Err f)
-err_counted old new g g' F F' why f is left = subst (λ f. IsCounted old new (Err f)) (sym is) (by why)
+pub err_counted : (old new : Running) {g : Option (List ℕ)} (g' : Option (List ℕ)) (F F' : Failures) {why : Halt} {f : Fault} → f ≡ fault_of why → TurnLeaves old.state new.state g g' F F' (Err why) → IsCounted old new (Err f)
+err_counted old new g' F F' {why} {f} is left = subst (λ f. IsCounted old new (Err f)) (sym is) (by why)
   where
     by : (why : Halt) → IsCounted old new (Err (fault_of why))
     by halt.Source = (left.turns, left.lines)
@@ -254,13 +254,13 @@ new_well job r new = record {
   fresh = λ begins. record { kept = new.kept; fed = subst (λ j. HasBeenFed j.algorithm r.state.hasher []) (sym new.job_is) new.fed };
 }
 
-pub same_begun : (start : Start) (world : World) (r t : Running) → t ≡ r → IsBegun start world r → IsBegun start world t
-same_begun start world r t same is = subst (λ (x : Running). IsBegun start world x) (sym same) is
+pub same_begun : (start : Start) (world : World) {r t : Running} → t ≡ r → IsBegun start world r → IsBegun start world t
+same_begun start world same is = subst (λ (x : Running). IsBegun start world x) (sym same) is
 
 -- nothing was put
-pub told_nothing : (g g' : Option (List ℕ)) (c c' : Report) → g' ≡ g → c' ≡ c → TellsFront g g' c c'
+pub told_nothing : {g : Option (List ℕ)} (g' : Option (List ℕ)) {c : Report} (c' : Report) → g' ≡ g → c' ≡ c → TellsFront g g' c c'
 unfolding TellsFront
-told_nothing g g' c c' same counts = (inl same, (ap (λ (k : Report). k.done) counts, ap (λ (k : Report). k.present) counts, ap (λ (k : Report). k.skipped) counts))
+told_nothing g' c' same counts = (inl same, (ap (λ (k : Report). k.done) counts, ap (λ (k : Report). k.present) counts, ap (λ (k : Report). k.skipped) counts))
 
 pub ended_well : (r : Running) (s : Running) → IsWell r → s.phase ≡ phase.Ended → s.state ≡ r.state → IsWell s
 ended_well r s well ended same = record {
@@ -269,10 +269,10 @@ ended_well r s well ended same = record {
 }
 
 -- a run that is to begin, or began somewhere, began somewhere
-pub begun_somewhere : (r : Running) (world : World) → HasBegun world r → IsWell r → IsLayout r.state.job.layout → IsWorld world → BeganSomewhere world r
+pub begun_somewhere : {r : Running} {world : World} → HasBegun world r → IsWell r → IsLayout r.state.job.layout → IsWorld world → BeganSomewhere world r
 unfolding HasBegun BeganSomewhere IsBegun
-begun_somewhere r world (inr begun) well layout is = begun
-begun_somewhere r world (inl begins) well layout is = (
+begun_somewhere (inr begun) well layout is = begun
+begun_somewhere {r} {world} (inl begins) well layout is = (
   start_of world,
   record {
     fed = [];
@@ -285,7 +285,7 @@ begun_somewhere r world (inl begins) well layout is = (
     run_is = λ i. record { phase = begins i; kept = (well.fresh begins).kept i }
 
 pub begun_seen : (r t : Running) (world : World) → t ≡ r → HasBegun world r → IsWell t → IsLayout t.state.job.layout → IsWorld world → BeganSomewhere world r
-begun_seen r t world same begun well layout is = begun_somewhere r world begun (subst (λ (x : Running). IsWell x) same well) (subst (λ (x : Running). IsLayout x.state.job.layout) same layout) is
+begun_seen r t world same begun well layout is = begun_somewhere begun (subst (λ (x : Running). IsWell x) same well) (subst (λ (x : Running). IsLayout x.state.job.layout) same layout) is
 
 pub has_begun : (start : Start) (world : World) (r : Running) → IsBegun start world r → HasBegun world r
 unfolding HasBegun
@@ -301,7 +301,7 @@ goes_on_halted here after s s' old new why ended (start, begun) on = inr (start,
 
 pub goes_on_ended : (r t : Running) (world : World) → BeganSomewhere world r → t.phase ≡ phase.Ended → t.state ≡ r.state → HasBegun world t
 unfolding HasBegun BeganSomewhere
-goes_on_ended r t world (start, begun) ended same = inr (start, begun_ends start world r t ended same begun)
+goes_on_ended r t world (start, begun) ended same = inr (start, begun_ends start world r ended same begun)
 
 pub goes_on_same : (r t : Running) (world : World) → t ≡ r → HasBegun world r → HasBegun world t
 goes_on_same r t world same is = subst (λ (x : Running). HasBegun world x) (sym same) is
@@ -327,7 +327,7 @@ unfolding StepLeaves
 leaves_halted before after old new why f is job tree left = record {
   tree = tree;
   job = job;
-  turns = err_counted before after _ _ _ _ why f is left;
+  turns = err_counted before after _ _ _ is left;
   told = left.told;
   finished = tt;
   trail = left.trail;
@@ -342,11 +342,11 @@ same_left before after w f counted same = record {
   tree = refl;
   job = ap (λ (s : State). s.job) same;
   turns = counted;
-  told = told_nothing w.log w.log _ _ refl (ap (λ (s : State). s.counts) same);
+  told = told_nothing w.log _ refl (ap (λ (s : State). s.counts) same);
   finished = tt;
-  trail = moves_to before.state.trail after.state.trail (ap (λ (s : State). s.trail) same);
-  rows = gains_same before.state.rows after.state.rows (ap (λ (s : State). s.rows) same);
-  contents = gains_same before.state.contents after.state.contents (ap (λ (s : State). s.contents) same);
+  trail = moves_to after.state.trail (ap (λ (s : State). s.trail) same);
+  rows = gains_same (ap (λ (s : State). s.rows) same);
+  contents = gains_same (ap (λ (s : State). s.contents) same);
 }
 
 pub leaves_at_limit : (before after : Running) (w : World) → after.state ≡ before.state → StepLeaves w w before after (Err fault.Turns)

@@ -14,15 +14,12 @@ use Rattle.pt_plan.specs.Job.{Job}
 use Rattle.pt_plan.specs.Lines.{Line, Done}
 use Rattle.pt_plan.specs.Run.{Counts, Held, Kept, turning, with_fed}
 use Rattle.pt_plan.specs.Turn.{Follows, FailsAtFirst, FailsLater, GoesOn, IsHalted, IsRefused, Make, Place, Scan, Start, Turn, Walk, counted}
-use Rattle.pt_plan.specs.TurnMake.{Makings}
 use Rattle.pt_plan.specs.TurnMake as make
-use Rattle.pt_plan.specs.TurnPlace.{Places, bytes_in_rows}
+use Rattle.pt_plan.specs.TurnPlace.{bytes_in_rows}
 use Rattle.pt_plan.specs.TurnPlace as place
-use Rattle.pt_plan.specs.TurnScan.{Scans, is_beyond, logical_path, none_listed}
+use Rattle.pt_plan.specs.TurnScan.{none_listed}
 use Rattle.pt_plan.specs.TurnScan as scan
-use Rattle.pt_plan.specs.TurnStart.{Starts, after_file, after_item}
 use Rattle.pt_plan.specs.TurnStart as start
-use Rattle.pt_plan.specs.TurnWalk.{Walks}
 use Rattle.pt_plan.specs.TurnWalk as walk
 use Rattle.pt_plan.specs.World.{Calls, World}
 use Rattle.pt_plan.specs.declared.phase.Phase.{Phase}
@@ -128,15 +125,15 @@ follows_prefix _ few = few
 
 -- ---- a whole turn
 
-halted_bounds : (job : Job) (here : Phase) (rows : List Row) (held : Held) (kept after : Kept) → IsBounded job here kept → kept.counts.turns < job.limits.turns → AreFew job held → held.rows ≡ rows → IsHalted rows (turning kept) after → IsBounded job phase.Ended after
-halted_bounds job here rows held kept after bounded more few same halted =
+halted_bounds : {job : Job} {here : Phase} {rows : List Row} {held : Held} {kept after : Kept} → IsBounded job here kept → kept.counts.turns < job.limits.turns → AreFew job held → held.rows ≡ rows → IsHalted rows (turning kept) after → IsBounded job phase.Ended after
+halted_bounds bounded more few same halted =
     let lines = bounded.lines in
     let put = ap lines_put halted.counts in
     let made = ap (λ (c : Counts). c.turns) halted.counts in
     record { lines = omega (arith, lines, put, made); turns = omega (arith, more, made); few = few_same few (halted.rows_are ∙ sym same); within = tt; prefix = subst (λ (p : List ℕ). length p ≤ 1024) (sym halted.prefix) bounded.prefix }
 
-pub turn_keeps_bounds : (job : Job) (here : Phase) (kept after : Kept) (old new : World) (answer : Answer) → IsBounded job here kept → kept.counts.turns < job.limits.turns → Turn job here (turning kept) after old new answer → IsBounded job (phase_after answer) after
-turn_keeps_bounds job here kept after old new _ bounded more (GoesOn calls next follows did counts) =
+pub turn_keeps_bounds : {job : Job} {here : Phase} {kept after : Kept} {old new : World} {answer : Answer} → IsBounded job here kept → kept.counts.turns < job.limits.turns → Turn job here (turning kept) after old new answer → IsBounded job (phase_after answer) after
+turn_keeps_bounds {job} {kept} {after} bounded more (GoesOn calls next follows did counts) =
     let lines = bounded.lines in
     let one = (counted_more calls.line (turning kept).counts).0 in
     let put = ap lines_put counts in
@@ -148,9 +145,9 @@ turn_keeps_bounds job here kept after old new _ bounded more (GoesOn calls next 
       prefix = follows_prefix follows bounded.prefix;
       within = subst (λ (n : ℕ). IsWithin job next after.held n) (sym made) (follows_within kept.counts.turns follows bounded.within);
     }
-turn_keeps_bounds job here kept after old new _ bounded more (IsRefused prefix held calls why follows did halted) = halted_bounds job here kept.held.rows kept.held kept after bounded more bounded.few refl halted
-turn_keeps_bounds job here kept after old new _ bounded more (FailsAtFirst why stays halted) = halted_bounds job here kept.held.rows kept.held kept after bounded more bounded.few refl halted
-turn_keeps_bounds job here kept after old new _ bounded more (FailsLater prefix held calls answer rows why follows left which halted) = elim which [
-  | inl same ↦ halted_bounds job here rows kept.held kept after bounded more bounded.few (sym same) halted
-  | inr more_held ↦ halted_bounds job here rows held kept after bounded more (follows_few kept.counts.turns follows bounded.few bounded.within) (sym more_held.0) halted
+turn_keeps_bounds bounded more (IsRefused prefix held calls why follows did halted) = halted_bounds bounded more bounded.few refl halted
+turn_keeps_bounds bounded more (FailsAtFirst why stays halted) = halted_bounds bounded more bounded.few refl halted
+turn_keeps_bounds {kept} bounded more (FailsLater prefix held calls answer rows why follows left which halted) = elim which [
+  | inl same ↦ halted_bounds bounded more bounded.few (sym same) halted
+  | inr more_held ↦ halted_bounds bounded more (follows_few kept.counts.turns follows bounded.few bounded.within) (sym more_held.0) halted
 ]

@@ -16,15 +16,12 @@ use Rattle.pt_plan.specs.Job.{Job}
 use Rattle.pt_plan.specs.Lines.{Line, End, Skipped}
 use Rattle.pt_plan.specs.Run.{Counts, Held}
 use Rattle.pt_plan.specs.Turn.{Follows, Make, Place, Scan, Start, Walk}
-use Rattle.pt_plan.specs.TurnMake.{Makings}
 use Rattle.pt_plan.specs.TurnMake as make
-use Rattle.pt_plan.specs.TurnPlace.{Places, last_line}
+use Rattle.pt_plan.specs.TurnPlace.{last_line}
 use Rattle.pt_plan.specs.TurnPlace as place
-use Rattle.pt_plan.specs.TurnScan.{Scans, to_site}
 use Rattle.pt_plan.specs.TurnScan as scan
-use Rattle.pt_plan.specs.TurnStart.{Starts}
 use Rattle.pt_plan.specs.TurnStart as start
-use Rattle.pt_plan.specs.TurnWalk.{Walks, at_object}
+use Rattle.pt_plan.specs.TurnWalk.{at_object}
 use Rattle.pt_plan.specs.TurnWalk as walk
 use Rattle.pt_plan.specs.World.{Calls}
 use Rattle.pt_plan.specs.declared.halt.Halt.{Halt}
@@ -56,8 +53,8 @@ moves_same : (t : List Frame) → Moves t t
 unfolding Moves
 moves_same t = inr (0, refl)
 
-pub moves_to : (t t' : List Frame) → t' ≡ t → Moves t t'
-moves_to t t' is = subst (λ (x : List Frame). Moves t x) (sym is) (moves_same t)
+pub moves_to : {t : List Frame} (t' : List Frame) → t' ≡ t → Moves t t'
+moves_to {t} t' is = subst (λ (x : List Frame). Moves t x) (sym is) (moves_same t)
 
 moves_entered : (items : List Item) (t : List Frame) → Moves t (entered items t)
 unfolding Moves
@@ -93,9 +90,9 @@ gains_none : {A : Type 0} (xs : List A) → Gains xs xs
 unfolding Gains
 gains_none xs = inl refl
 
-pub gains_same : {A : Type 0} (xs ys : List A) → ys ≡ xs → Gains xs ys
+pub gains_same : {A : Type 0} {xs ys : List A} → ys ≡ xs → Gains xs ys
 unfolding Gains
-gains_same xs ys is = inl is
+gains_same is = inl is
 
 gains_one : {A : Type 0} (xs : List A) (x : A) → Gains xs (xs ++ x ∷ [])
 unfolding Gains
@@ -121,34 +118,34 @@ pub record Changes (held new : Held) : Type 0 where
   pub contents : Gains held.contents new.contents
 
 changes_trail : {held new : Held} → Moves held.trail new.trail → new.rows ≡ held.rows → new.contents ≡ held.contents → Changes held new
-changes_trail moves rows contents = record { trail = moves; rows = gains_same _ _ rows; contents = gains_same _ _ contents }
+changes_trail moves rows contents = record { trail = moves; rows = gains_same rows; contents = gains_same contents }
 
 changes_back : {held new : Held} → Moves held.trail new.trail → new.rows ≡ [] → new.contents ≡ [] → Changes held new
 changes_back {held} moves rows contents = record { trail = moves; rows = subst (λ (r : List Row). Gains held.rows r) (sym rows) (gains_empty held.rows); contents = subst (λ (r : List Content). Gains held.contents r) (sym contents) (gains_empty held.contents) }
 
-pub follows_change : {job : Job} {counts : Counts} {here : Phase} {prefix read : List ℕ} (held : Held) {new : Held} {calls : Calls} {answer : Answer} → Follows job counts here prefix held read new calls answer → Changes held new
-follows_change held (Walk _ _ _ _ _ _ (walk.OpensRoot _ items)) = changes_trail (moves_entered items held.trail) refl refl
-follows_change held (Walk _ _ _ _ _ _ (walk.IsNew _ index _ _)) = changes_trail (moves_object index held.trail) refl refl
-follows_change held (Walk _ _ _ _ _ _ (walk.IsPast _ _ _ _ _)) = changes_trail (moves_advanced held.trail) refl refl
-follows_change held (Walk _ _ _ _ _ _ (walk.IsDeep _ _ _ _ _ _)) = changes_trail (moves_advanced held.trail) refl refl
-follows_change held (Walk _ _ _ _ _ _ (walk.EntersSite _ _ items _ _ _ _)) = changes_trail (moves_entered items held.trail) refl refl
-follows_change held (Walk _ _ _ _ _ _ (walk.PassesEntry _ _ _ _)) = changes_trail (moves_advanced held.trail) refl refl
-follows_change held (Walk _ _ _ _ _ _ (walk.LeavesSite _ _ _)) = changes_trail (moves_past held.trail) refl refl
-follows_change held (Scan _ _ _ _ _ _ (scan.StartsInSite _ _ _)) = changes_trail (moves_sought 0 held.trail) refl refl
-follows_change held (Scan _ _ _ _ _ _ (scan.EntersObject _ _ items _ _)) = changes_trail (moves_entered items held.trail) refl refl
-follows_change held (Scan _ _ _ _ _ _ (scan.IsTooDeep _ _ _ _)) = changes_back (moves_left 0 _ held.trail) refl refl
-follows_change held (Scan _ _ _ _ _ _ (scan.PassesShorty _ _ _ _ _)) = changes_trail (moves_advanced held.trail) refl refl
-follows_change held (Scan _ _ _ _ _ _ (scan.EntersDirectory _ _ _ items _ _ _)) = changes_trail (moves_entered items held.trail) refl refl
-follows_change held (Scan _ _ _ _ _ _ (scan.MeetsDeep _ _ _ _ _ _)) = changes_back (moves_left 0 _ held.trail) refl refl
-follows_change held (Scan _ _ _ _ _ _ (scan.MeetsLimit _ _ _ _ _)) = changes_back (moves_left 0 _ held.trail) refl refl
-follows_change held (Scan _ _ _ _ _ _ (scan.MeetsOther _ _ _ _)) = changes_back (moves_left 0 _ held.trail) refl refl
-follows_change held (Scan _ _ _ _ _ _ (scan.EndsObject _ _ _ _ _)) = changes_trail (moves_parent held.trail) refl refl
-follows_change held (Scan _ _ _ _ _ _ (scan.LeavesDirectory _ _ _ _ _)) = changes_trail (moves_past held.trail) refl refl
-follows_change held (Scan _ _ _ _ _ _ (scan.IsTooLong _ _ _ _ _ _)) = changes_back (moves_left 0 _ held.trail) refl refl
-follows_change held (Scan _ _ _ _ _ _ (scan.EndsFile _ _ _)) = record { trail = moves_advanced held.trail; rows = gains_one held.rows _; contents = gains_noted held.contents _ _ }
-follows_change held (Make _ _ _ _ _ _ (make.MakesStaging _ _)) = changes_trail (moves_same held.trail) refl refl
-follows_change held (Place _ _ _ _ _ _ (place.TellsDone _ _)) = changes_back (moves_sought 0 held.trail) refl refl
-follows_change held _ = changes_trail (moves_same held.trail) refl refl
+pub follows_change : {job : Job} {counts : Counts} {here : Phase} {prefix read : List ℕ} {held new : Held} {calls : Calls} {answer : Answer} → Follows job counts here prefix held read new calls answer → Changes held new
+follows_change {held} (Walk _ _ _ _ _ _ (walk.OpensRoot _ items)) = changes_trail (moves_entered items held.trail) refl refl
+follows_change {held} (Walk _ _ _ _ _ _ (walk.IsNew _ index _ _)) = changes_trail (moves_object index held.trail) refl refl
+follows_change {held} (Walk _ _ _ _ _ _ (walk.IsPast _ _ _ _ _)) = changes_trail (moves_advanced held.trail) refl refl
+follows_change {held} (Walk _ _ _ _ _ _ (walk.IsDeep _ _ _ _ _ _)) = changes_trail (moves_advanced held.trail) refl refl
+follows_change {held} (Walk _ _ _ _ _ _ (walk.EntersSite _ _ items _ _ _ _)) = changes_trail (moves_entered items held.trail) refl refl
+follows_change {held} (Walk _ _ _ _ _ _ (walk.PassesEntry _ _ _ _)) = changes_trail (moves_advanced held.trail) refl refl
+follows_change {held} (Walk _ _ _ _ _ _ (walk.LeavesSite _ _ _)) = changes_trail (moves_past held.trail) refl refl
+follows_change {held} (Scan _ _ _ _ _ _ (scan.StartsInSite _ _ _)) = changes_trail (moves_sought 0 held.trail) refl refl
+follows_change {held} (Scan _ _ _ _ _ _ (scan.EntersObject _ _ items _ _)) = changes_trail (moves_entered items held.trail) refl refl
+follows_change {held} (Scan _ _ _ _ _ _ (scan.IsTooDeep _ _ _ _)) = changes_back (moves_left 0 _ held.trail) refl refl
+follows_change {held} (Scan _ _ _ _ _ _ (scan.PassesShorty _ _ _ _ _)) = changes_trail (moves_advanced held.trail) refl refl
+follows_change {held} (Scan _ _ _ _ _ _ (scan.EntersDirectory _ _ _ items _ _ _)) = changes_trail (moves_entered items held.trail) refl refl
+follows_change {held} (Scan _ _ _ _ _ _ (scan.MeetsDeep _ _ _ _ _ _)) = changes_back (moves_left 0 _ held.trail) refl refl
+follows_change {held} (Scan _ _ _ _ _ _ (scan.MeetsLimit _ _ _ _ _)) = changes_back (moves_left 0 _ held.trail) refl refl
+follows_change {held} (Scan _ _ _ _ _ _ (scan.MeetsOther _ _ _ _)) = changes_back (moves_left 0 _ held.trail) refl refl
+follows_change {held} (Scan _ _ _ _ _ _ (scan.EndsObject _ _ _ _ _)) = changes_trail (moves_parent held.trail) refl refl
+follows_change {held} (Scan _ _ _ _ _ _ (scan.LeavesDirectory _ _ _ _ _)) = changes_trail (moves_past held.trail) refl refl
+follows_change {held} (Scan _ _ _ _ _ _ (scan.IsTooLong _ _ _ _ _ _)) = changes_back (moves_left 0 _ held.trail) refl refl
+follows_change {held} (Scan _ _ _ _ _ _ (scan.EndsFile _ _ _)) = record { trail = moves_advanced held.trail; rows = gains_one held.rows _; contents = gains_noted held.contents _ _ }
+follows_change {held} (Make _ _ _ _ _ _ (make.MakesStaging _ _)) = changes_trail (moves_same held.trail) refl refl
+follows_change {held} (Place _ _ _ _ _ _ (place.TellsDone _ _)) = changes_back (moves_sought 0 held.trail) refl refl
+follows_change {held} _ = changes_trail (moves_same held.trail) refl refl
 
 -- ---- why a turn is refused
 
@@ -180,14 +177,14 @@ skip_line : (counts : Counts) (told : Bool) (at : Path) (why : Cause) → LineOf
 skip_line counts true at why = tt
 skip_line counts false at why = tt
 
-pub follows_line : {job : Job} (counts : Counts) {here : Phase} {prefix read : List ℕ} {held new : Held} {calls : Calls} {answer : Answer} → Follows job counts here prefix held read new calls answer → LineOf counts calls.line
-follows_line _ (Start _ _ _ _ _ _ (start.IsStore _ _ _)) = tt
-follows_line {job} counts {held} (Walk _ _ _ _ _ _ (walk.IsPast _ _ _ _ _)) = skip_line counts (is_first job.share) (names_to held.trail) cause.Past
-follows_line {job} counts {held} (Walk _ _ _ _ _ _ (walk.IsDeep _ _ _ _ _ _)) = skip_line counts (is_first job.share) (names_to held.trail) cause.Limit
-follows_line _ (Scan _ _ _ _ _ _ (scan.StartsInSite _ _ _)) = tt
-follows_line _ (Make _ _ _ _ _ _ (make.MakesStaging _ _)) = tt
-follows_line _ (Place _ _ _ _ _ _ (place.TellsEnd _)) = (refl, refl, refl)
-follows_line _ _ = tt
+pub follows_line : {job : Job} {counts : Counts} {here : Phase} {prefix read : List ℕ} {held new : Held} {calls : Calls} {answer : Answer} → Follows job counts here prefix held read new calls answer → LineOf counts calls.line
+follows_line (Start _ _ _ _ _ _ (start.IsStore _ _ _)) = tt
+follows_line {job} {counts} {held} (Walk _ _ _ _ _ _ (walk.IsPast _ _ _ _ _)) = skip_line counts (is_first job.share) (names_to held.trail) cause.Past
+follows_line {job} {counts} {held} (Walk _ _ _ _ _ _ (walk.IsDeep _ _ _ _ _ _)) = skip_line counts (is_first job.share) (names_to held.trail) cause.Limit
+follows_line (Scan _ _ _ _ _ _ (scan.StartsInSite _ _ _)) = tt
+follows_line (Make _ _ _ _ _ _ (make.MakesStaging _ _)) = tt
+follows_line (Place _ _ _ _ _ _ (place.TellsEnd _)) = (refl, refl, refl)
+follows_line _ = tt
 
 -- ---- the end
 
@@ -200,13 +197,13 @@ either_end : (counts : Counts) (is : Bool) (first second : Phase) → EndsWith c
 either_end counts true first second ends _ = ends
 either_end counts false first second _ ends = ends
 
-pub follows_end : {job : Job} (counts : Counts) {here : Phase} {prefix read : List ℕ} {held new : Held} {calls : Calls} {next : Phase} → Follows job counts here prefix held read new calls (Ok next) → EndsWith counts next calls.line
-follows_end counts (Start _ _ _ _ _ _ (start.MakesRoot _ number _ _)) = either_end counts (number == 5) phase.RootRename (phase.RootMake (number + 1)) tt tt
-follows_end counts (Start _ _ _ _ _ _ (start.IsSame _ number _ _ _)) = either_end counts (number == 2) phase.OpenRoot (phase.RootCheck (number + 1)) tt tt
-follows_end _ (Walk _ _ _ _ _ _ (walk.OpensRoot _ _)) = tt
-follows_end _ (Scan _ _ _ _ _ _ (scan.StartsInSite _ _ _)) = tt
-follows_end {job} counts (Make _ _ _ _ _ _ (make.MakesSidecar _ object)) = either_end counts (job.tuples.count == 0) (phase.Rename object) (phase.Tuples object 0) tt tt
-follows_end {job} counts (Place _ _ _ _ _ _ (place.MakesTuple _ object number)) = either_end counts (nat_lt (number + 1) job.tuples.count) (phase.Tuples object (number + 1)) (phase.Rename object) tt tt
-follows_end {job} counts (Place _ _ _ _ _ _ (place.FindsTuple _ object number)) = either_end counts (nat_lt (number + 1) job.tuples.count) (phase.Tuples object (number + 1)) (phase.Rename object) tt tt
-follows_end _ (Place _ _ _ _ _ _ (place.TellsEnd _)) = refl
-follows_end _ _ = tt
+pub follows_end : {job : Job} {counts : Counts} {here : Phase} {prefix read : List ℕ} {held new : Held} {calls : Calls} {next : Phase} → Follows job counts here prefix held read new calls (Ok next) → EndsWith counts next calls.line
+follows_end {counts} (Start _ _ _ _ _ _ (start.MakesRoot _ number _ _)) = either_end counts (number == 5) phase.RootRename (phase.RootMake (number + 1)) tt tt
+follows_end {counts} (Start _ _ _ _ _ _ (start.IsSame _ number _ _ _)) = either_end counts (number == 2) phase.OpenRoot (phase.RootCheck (number + 1)) tt tt
+follows_end (Walk _ _ _ _ _ _ (walk.OpensRoot _ _)) = tt
+follows_end (Scan _ _ _ _ _ _ (scan.StartsInSite _ _ _)) = tt
+follows_end {job} {counts} (Make _ _ _ _ _ _ (make.MakesSidecar _ object)) = either_end counts (job.tuples.count == 0) (phase.Rename object) (phase.Tuples object 0) tt tt
+follows_end {job} {counts} (Place _ _ _ _ _ _ (place.MakesTuple _ object number)) = either_end counts (nat_lt (number + 1) job.tuples.count) (phase.Tuples object (number + 1)) (phase.Rename object) tt tt
+follows_end {job} {counts} (Place _ _ _ _ _ _ (place.FindsTuple _ object number)) = either_end counts (nat_lt (number + 1) job.tuples.count) (phase.Tuples object (number + 1)) (phase.Rename object) tt tt
+follows_end (Place _ _ _ _ _ _ (place.TellsEnd _)) = refl
+follows_end _ = tt

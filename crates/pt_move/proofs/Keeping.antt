@@ -48,7 +48,7 @@ pub tree_stays : (here : Phase) (s s' : State) (old new : World) (answer : Answe
 unfolding BeganSomewhere IsBegun CountedTurn
 tree_stays here s s' old new answer going (start, begun) turned =
     let is : InProgress start (as_told old) (record { phase = here; state = s }) = begun in
-    let made = turned.1 is.fed (fed_going here s.job.algorithm s.hasher is.fed going is.was) in
+    let made = turned.1 is.fed (fed_going s.job.algorithm s.hasher is.fed going is.was) in
     turn_tree (job_of s.job) here (turning (kept_of s is.fed)) (kept_of s' made.0) old new answer made.1.1
 
 -- ---- the turn in a step
@@ -62,7 +62,7 @@ pub keeps_after : (here : Phase) (s s' : State) (old new : World) (answer : Answ
 unfolding IsBegun CountedTurn TurnKeeps
 keeps_after here s s' old new answer going turned late start is =
     let job = turned.0 in
-    let made = turned.1 is.fed (fed_going here s.job.algorithm s.hasher is.fed going is.was) in
+    let made = turned.1 is.fed (fed_going s.job.algorithm s.hasher is.fed going is.was) in
     let going_on = is_going here going in
     let within = of_told (job_of s.job) start old (record { phase = here; kept = kept_of s is.fed }) is.begun in
     let begun : IsBegun start new (record { phase = phase_after answer; state = s' }) = record {
@@ -74,10 +74,10 @@ keeps_after here s s' old new answer going turned late start is =
     record {
       begun = begun;
       leaves = subst (λ j. LeavesBehind j start.dest new.dest) job (leaves_behind start new (record { phase = phase_after answer; state = s' }) begun);
-      stands = stands_after s s' here is.fed made.0 old new start within going_on answer made.1.1;
-      work = work_after s s' here is.fed made.0 old new start within going_on answer made.1.1;
-      bound = bound_after s s' here is.fed made.0 old new start within going_on answer made.1.1;
-      left = left_after s s' here is.fed made.0 old new start within going_on answer made.1.1;
+      stands = stands_after s s' here is.fed made.0 old new start within going_on made.1.1;
+      work = work_after s s' here is.fed made.0 old new start within going_on made.1.1;
+      bound = bound_after s s' here is.fed made.0 old new start within going_on made.1.1;
+      left = left_after s s' here is.fed made.0 old new start within going_on made.1.1;
       says = says_after s s' here is.fed made.0 old new start within going_on answer made.1.1 late;
     }
 
@@ -144,26 +144,26 @@ stands_there : (start : Start) (now : World) (r : Running) → IsBegun start now
 unfolding IsBegun StandsStillIn
 stands_there start now r is = λ t w start_is dest_is. begun_stands_still (job_of r.state.job) start (as_told now) (run_of r is.fed) t w (going_on start (as_told now) r is) start_is dest_is
 
-so_far : (job : Job) (start : Start) (now : World) (run : Run) (s : Reading) (t : Tree) → BegunWithinWork job start now run → now.source ≡ Some s → start.dest ≡ Some t → run.kept.counts.turns ≤ work job s.tree (root_in t)
+so_far : (job : Job) (start : Start) (now : World) (run : Run) {s : Reading} {t : Tree} → BegunWithinWork job start now run → now.source ≡ Some s → start.dest ≡ Some t → run.kept.counts.turns ≤ work job s.tree (root_in t)
 unfolding BegunWithinWork
-so_far job start now run s t (past, is, within) source_is start_is = let few = (within s source_is t start_is).within in omega (arith, few)
+so_far job start now run {s} {t} (past, is, within) source_is start_is = let few = (within s source_is t start_is).within in omega (arith, few)
 
 made_there : (start : Start) (now : World) (r : Running) → IsBegun start now r → MadeWithinWork r.state.job (source_tree now.source) start.dest r.state.counts
 unfolding IsBegun MadeWithinWork
 made_there start now r is = λ f t source_is start_is.
-    let reading = reading_of now.source f source_is in
-    subst (λ (f : Forest). r.state.counts.turns ≤ work (job_of r.state.job) f (root_in t)) reading.2 (so_far (job_of r.state.job) start (as_told now) (run_of r is.fed) reading.0 t is.begun reading.1 start_is)
+    let reading = reading_of now.source {f = f} source_is in
+    subst (λ (f : Forest). r.state.counts.turns ≤ work (job_of r.state.job) f (root_in t)) reading.2 (so_far (job_of r.state.job) start (as_told now) (run_of r is.fed) {s = reading.0} {t = t} is.begun reading.1 start_is)
 
 bound_there : (start : Start) (now : World) (r : Running) → r.phase ≢ phase.Ended → IsBegun start now r → HoldsWithinBound r.state.job (source_tree now.source) r.state
 unfolding IsBegun HoldsWithinBound
 bound_there start now r going is = λ f source_is.
-    let reading = reading_of now.source f source_is in
+    let reading = reading_of now.source source_is in
     subst (λ (f : Forest). IsWithinBound (job_of r.state.job) f (held_of r.state [])) reading.2 (begun_is_within_bound (job_of r.state.job) start (as_told now) (run_of r is.fed) reading.0 (going_on start (as_told now) r is) (is_going r.phase going) reading.1)
 
 left_there : (start : Start) (now : World) (r : Running) → IsBegun start now r → FaultLeaves r.state.job (source_tree now.source) start now.dest now.log
 unfolding IsBegun FaultLeaves
 left_there start now r is = λ f t w first last source_is start_is dest_is first_is last_is.
-    let reading = reading_of now.source f source_is in
+    let reading = reading_of now.source source_is in
     subst (λ (f : Forest). IsLeftByFault (job_of r.state.job) f t w.tree first last) reading.2
     (stops_leave (job_of r.state.job) start (as_told now) (run_of r is.fed) reading.0 t w first last (going_on start (as_told now) r is) reading.1 start_is dest_is first_is last_is)
 
@@ -171,7 +171,7 @@ left_there start now r is = λ f t w first last source_is start_is dest_is first
 good_there : (start : Start) (now : World) (r : Running) → r.phase ≢ phase.Ended → r.state.job.limits.turns ≤ r.state.counts.turns → IsBegun start now r → WantsMemory r.state.job (source_tree now.source) start.dest now.failures now.failures fault.Turns
 unfolding IsBegun WantsMemory
 good_there start now r going made is = λ f t source_is start_is good free enough none.
-    let reading = reading_of now.source f source_is in
+    let reading = reading_of now.source source_is in
     let less : r.state.counts.turns < work (job_of r.state.job) f (root_in t) =
     subst (λ (f : Forest). r.state.counts.turns < work (job_of r.state.job) f (root_in t)) reading.2 (turn_is_left (job_of r.state.job) start (as_told now) (run_of r is.fed) reading.0 t is.begun (is_going r.phase going) reading.1 start_is) in
     absurd (omega (arith, less, enough, made))
@@ -180,23 +180,23 @@ good_there start now r going made is = λ f t source_is start_is good free enoug
 limit_there : (start : Start) (now : World) (r : Running) → r.phase ≢ phase.Ended → r.state.job.limits.turns ≤ r.state.counts.turns → IsBegun start now r → (s : Forest) (t : Tree) → source_tree now.source ≡ Some s → start.dest ≡ Some t → r.state.job.limits.turns < work (job_of r.state.job) s (root_in t)
 unfolding IsBegun
 limit_there start now r going made is = λ f t source_is start_is.
-    let reading = reading_of now.source f source_is in
+    let reading = reading_of now.source source_is in
     let less : r.state.counts.turns < work (job_of r.state.job) f (root_in t) =
     subst (λ (f : Forest). r.state.counts.turns < work (job_of r.state.job) f (root_in t)) reading.2 (turn_is_left (job_of r.state.job) start (as_told now) (run_of r is.fed) reading.0 t is.begun (is_going r.phase going) reading.1 start_is) in
     omega (arith, less, made)
 
-same_counts : (job : own.Job) (source : Option Forest) (start : Option Tree) (s s' : State) → s' ≡ s → MadeWithinWork job source start s.counts → MadeWithinWork job source start s'.counts
-same_counts job source start s s' same made = subst (λ (x : State). MadeWithinWork job source start x.counts) (sym same) made
+same_counts : (job : own.Job) (source : Option Forest) (start : Option Tree) {s : State} (s' : State) → s' ≡ s → MadeWithinWork job source start s.counts → MadeWithinWork job source start s'.counts
+same_counts job source start s' same made = subst (λ (x : State). MadeWithinWork job source start x.counts) (sym same) made
 
 -- the limit of turns was made
 pub keeps_at_limit : (start : Start) (now : World) (before after : Running) → before.phase ≢ phase.Ended → before.state.job.limits.turns ≤ before.state.counts.turns → after.phase ≡ phase.Ended → after.state ≡ before.state → IsBegun start now before
     → Keeps start now now before after (Err fault.Turns)
 unfolding Keeps SaysRightly
 keeps_at_limit start now before after going made ended same is = record {
-  begun = begun_ends start now before after ended same is;
+  begun = begun_ends start now before ended same is;
   leaves = leaves_behind start now before is;
   stands = stands_there start now before is;
-  work = same_counts before.state.job (source_tree now.source) start.dest before.state after.state same (made_there start now before is);
+  work = same_counts before.state.job (source_tree now.source) start.dest after.state same (made_there start now before is);
   bound = subst (λ (x : State). HoldsWithinBound before.state.job (source_tree now.source) x) (sym same) (bound_there start now before going is);
   left = left_there start now before is;
   ends = tt;
@@ -211,7 +211,7 @@ keeps_at_limit start now before after going made ended same is = record {
 pub keeps_ended : (start : Start) (now : World) (before after : Running) → after ≡ before → IsBegun start now before → Keeps start now now before after (Err fault.Ended)
 unfolding Keeps
 keeps_ended start now before after same is = record {
-  begun = same_begun start now before after same is;
+  begun = same_begun start now same is;
   leaves = leaves_behind start now before is;
   stands = stands_there start now before is;
   work = subst (λ (x : Running). MadeWithinWork before.state.job (source_tree now.source) start.dest x.state.counts) (sym same) (made_there start now before is);

@@ -60,7 +60,7 @@ module _ (job : Job) (first old new : World) (a b : Running) (so_far : SoFar job
     same = step_job old new a b (Ok t) step.steps.leaves ∙ so_far.same;
     going = more.1;
     told = step_told first old new a b t so_far.told step.steps.leaves;
-    ran = ran_on job first old new a b so_far.same so_far.going so_far.ran t is step.steps.leaves step.steps.turn;
+    ran = ran_on job first old new a b so_far.same so_far.going so_far.ran is step.steps.leaves step.steps.turn;
   }
     where
       more : EndsAs a b (Ok turn.More)
@@ -84,17 +84,17 @@ module _ (job : Job) (first old new : World) (a b : Running) (so_far : SoFar job
     dest = blames.dest;
     log = blames.log;
     never_ended = tt;
-    told = subst (λ (c : Report). HasToldAll first.log new.log c) (sym counts) (step_all first old new a b t so_far.told step.steps.leaves is);
+    told = subst (λ (c : Report). HasToldAll first.log new.log c) (sym counts) (step_all first old new a b so_far.told step.steps.leaves is);
     told_front = tt;
-    run = ran_whole job first old new a b so_far.same so_far.going so_far.ran t report is counts step.steps.leaves step.steps.turn;
+    run = ran_whole job first old new a b so_far.same so_far.going so_far.ran is counts step.steps.leaves step.steps.turn;
     work = run_work (start_of first) a b old new job (source_tree first.source) so_far.begun so_far.same so_far.tree t is step.keeps report counts;
     turns = subst (λ (c : Report). c.turns ≤ job.limits.turns) (sym counts) (subst (λ (j : Job). b.state.counts.turns ≤ j.limits.turns) (step_job old new a b (Ok t) step.steps.leaves ∙ so_far.same) well.bounded.turns);
     lines = subst (λ (c : Report). lines_put (counts_of c) ≤ c.turns) (sym counts) well.bounded.lines;
   }
 
-  halted : (f : Fault) → Stepped old new a b (Err f) → Migrates job first new (Err f)
+  halted : {f : Fault} → Stepped old new a b (Err f) → Migrates job first new (Err f)
   unfolding BlamesRightly
-  halted f step = let blames : Blamed {T = Report} first new (Err f) = blames_err first old new f so_far.failures step.steps.blames in record {
+  halted {f} step = let blames : Blamed {T = Report} first new (Err f) = blames_err first old new f so_far.failures step.steps.blames in record {
     ends = tt;
     states = tt;
     left = run_left (start_of first) a b old new job (source_tree first.source) so_far.begun so_far.same so_far.tree (Err f) step.keeps;
@@ -123,4 +123,4 @@ module _ (job : Job) (first old new : World) (a b : Running) (so_far : SoFar job
   -- or it is halted
   pub migrates_halted : (f : Fault) (result : Result Report Fault) → IsErrAnd result (λ g. g ≡ f) → Stepped old new a b (Err f) → Migrates job first new result
   migrates_halted f (Ok report) is step = absurd is
-  migrates_halted f (Err g) is step = subst (λ g. Migrates job first new (Err g)) (sym is) (halted f step)
+  migrates_halted f (Err g) is step = subst (λ g. Migrates job first new (Err g)) (sym is) (halted step)

@@ -33,35 +33,35 @@ limits_turns : (b : Bounds) → IsTrue (are_limits b) → b.turns ≤ 2 ^ 40
 limits_turns b are = search rules
 
 -- so few rows, of so few bytes each
-few_bytes : (rows files each all : ℕ) → rows ≤ files → files ≤ 1000000 → each ≤ 2 ^ 43 → all ≤ rows * each → all < 2 ^ 64
-few_bytes rows files each all few most short sum =
+few_bytes : {rows files each all : ℕ} → rows ≤ files → files ≤ 1000000 → each ≤ 2 ^ 43 → all ≤ rows * each → all < 2 ^ 64
+few_bytes {rows} {each} few most short sum =
     let a : rows * each ≤ 1000000 * each = mul_mono rows 1000000 each (omega (arith, few, most)) in
     omega (arith, a, short, sum)
   where
     mul_mono : (a b c : ℕ) → a ≤ b → a * c ≤ b * c
     mul_mono a b c le = search rules
 
-adds : (job : Job) (here : Phase) (held : Held) (turns : ℕ) → IsWithin job here held turns → turns < 2 ^ 40 → job.limits.file_bytes ≤ 2 ^ 43 → AddsWithin here
-adds job phase.Begin held turns within less short = tt
-adds job (phase.Prefix here) held turns within less short = tt
-adds job phase.Staging held turns within less short = tt
-adds job phase.Root held turns within less short = tt
-adds job (phase.RootMake item) held turns within less short = tt
-adds job phase.RootRename held turns within less short = tt
-adds job (phase.RootCheck file) held turns within less short = tt
-adds job phase.OpenRoot held turns within less short = tt
-adds job phase.Judge held turns within less short = tt
-adds job (phase.OpenObject object) held turns within less short = omega (arith, within, less)
-adds job (phase.Scan object) held turns within less short = omega (arith, within, less)
-adds job (phase.Read object bytes) held turns within less short = let most = within.1 in omega (arith, most, short)
-adds job (phase.Make object part) held turns within less short = tt
-adds job (phase.Copy object position left) held turns within less short = tt
-adds job (phase.Tuples object number) held turns within less short = tt
-adds job (phase.Rename object) held turns within less short = tt
-adds job (phase.Line object) held turns within less short = tt
-adds job phase.Walk held turns within less short = tt
-adds job phase.End held turns within less short = tt
-adds job phase.Ended held turns within less short = tt
+adds : (job : Job) (here : Phase) (held : Held) {turns : ℕ} → IsWithin job here held turns → turns < 2 ^ 40 → job.limits.file_bytes ≤ 2 ^ 43 → AddsWithin here
+adds job phase.Begin held within less short = tt
+adds job (phase.Prefix here) held within less short = tt
+adds job phase.Staging held within less short = tt
+adds job phase.Root held within less short = tt
+adds job (phase.RootMake item) held within less short = tt
+adds job phase.RootRename held within less short = tt
+adds job (phase.RootCheck file) held within less short = tt
+adds job phase.OpenRoot held within less short = tt
+adds job phase.Judge held within less short = tt
+adds job (phase.OpenObject object) held within less short = omega (arith, within, less)
+adds job (phase.Scan object) held within less short = omega (arith, within, less)
+adds job (phase.Read object bytes) held within less short = let most = within.1 in omega (arith, most, short)
+adds job (phase.Make object part) held within less short = tt
+adds job (phase.Copy object position left) held within less short = tt
+adds job (phase.Tuples object number) held within less short = tt
+adds job (phase.Rename object) held within less short = tt
+adds job (phase.Line object) held within less short = tt
+adds job phase.Walk held within less short = tt
+adds job phase.End held within less short = tt
+adds job phase.Ended held within less short = tt
 
 -- what was bounded may be added to
 pub can_add : (here : Phase) (s t : State) → IsBounded (job_of s.job) here (kept_of s []) → s.counts.turns < s.job.limits.turns → IsTrue (are_limits s.job.limits) → t.counts.done ≡ s.counts.done → t.counts.present ≡ s.counts.present → t.counts.skipped ≡ s.counts.skipped → t.rows ≡ s.rows → CanAdd here t
@@ -72,8 +72,8 @@ can_add here s t bounded more are done present skipped rows =
       done = omega (arith, lines, more, most, done);
       present = omega (arith, lines, more, most, present);
       skipped = omega (arith, lines, more, most, skipped);
-      lengths = subst (λ (r : List Row). bytes_in_rows r < 2 ^ 64) (sym rows) (few_bytes (length s.rows) s.job.limits.files s.job.limits.file_bytes (bytes_in_rows s.rows) bounded.few.rows (limits_files s.job.limits are) (limits_file_bytes s.job.limits are) bounded.few.lengths);
-      here_is = adds (job_of s.job) here (kept_of s []).held s.counts.turns bounded.within (omega (arith, more, most)) (limits_file_bytes s.job.limits are);
+      lengths = subst (λ (r : List Row). bytes_in_rows r < 2 ^ 64) (sym rows) (few_bytes bounded.few.rows (limits_files s.job.limits are) (limits_file_bytes s.job.limits are) bounded.few.lengths);
+      here_is = adds (job_of s.job) here (kept_of s []).held bounded.within (omega (arith, more, most)) (limits_file_bytes s.job.limits are);
     }
 
 pub can_count : (s : State) → s.counts.turns < s.job.limits.turns → IsTrue (are_limits s.job.limits) → s.counts.turns < 2 ^ 40

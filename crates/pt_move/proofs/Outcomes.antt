@@ -47,9 +47,9 @@ use Rattle.pt_move.specs.declared.fault.Fault.TheVariants as fault
 
 -- ---- what is told
 
-pub reading_of : (r : Option Reading) (f : Forest) → source_tree r ≡ Some f → (s : Reading) × (r ≡ Some s) × (s.tree ≡ f)
-reading_of None f is = absurd (cc)
-reading_of (Some s) f is = (s, refl, some_same s.tree f is)
+pub reading_of : (r : Option Reading) {f : Forest} → source_tree r ≡ Some f → (s : Reading) × (r ≡ Some s) × (s.tree ≡ f)
+reading_of None is = absurd (cc)
+reading_of (Some s) {f} is = (s, refl, some_same s.tree f is)
 
 -- ---- halts as faults
 
@@ -60,14 +60,14 @@ of_source halt.Log source says = tt
 of_source halt.Memory source says = tt
 of_source _ _ says = says
 
-of_dest : (job : Job) (why : Halt) (start : Tree) → (why ≡ halt.StagingLeft → SaysOfDest job fault.StagingLeft start) → (why ≡ halt.Target → SaysOfDest job fault.Target start) → SaysOfDest job (fault_of why) start
-of_dest job halt.StagingLeft start left target = left refl
-of_dest job halt.Target start left target = target refl
-of_dest _ _ _ _ _ = tt
+of_dest : {job : Job} (why : Halt) (start : Tree) → (why ≡ halt.StagingLeft → SaysOfDest job fault.StagingLeft start) → (why ≡ halt.Target → SaysOfDest job fault.Target start) → SaysOfDest job (fault_of why) start
+of_dest halt.StagingLeft start left target = left refl
+of_dest halt.Target start left target = target refl
+of_dest _ _ _ _ = tt
 
-of_both : (job : Job) (why : Halt) (source : Forest) (start : Tree) → (why ≡ halt.Target → SaysOfBoth job fault.Target source start) → SaysOfBoth job (fault_of why) source start
-of_both job halt.Target source start target = target refl
-of_both _ _ _ _ _ = tt
+of_both : {job : Job} (why : Halt) (source : Forest) (start : Tree) → (why ≡ halt.Target → SaysOfBoth job fault.Target source start) → SaysOfBoth job (fault_of why) source start
+of_both halt.Target source start target = target refl
+of_both _ _ _ _ = tt
 
 if_early : (why : Halt) (P : Type 0) → (law.is_early why ≡ true → P) → IfEarly (fault_of why) P
 if_early halt.NotPairtree P early = early refl
@@ -98,29 +98,29 @@ module _ (s s' : State) (here : Phase) (fed fed' : List ℕ) (old new : World) (
   within_after (Ok next) turn = turn_keeps_within_work job start old new run after next within turn
   within_after (Err why) turn = turn_ends_within_work job start old new run after why within going turn
 
-  pub stands_after : (answer : Answer) → MadeTurn answer → StandsStillIn start.dest new.dest
+  pub stands_after : {answer : Answer} → MadeTurn answer → StandsStillIn start.dest new.dest
   unfolding StandsStillIn
-  stands_after answer turn = λ t w start_is dest_is.
+  stands_after {answer} turn = λ t w start_is dest_is.
       let later : Run = record { phase = phase_after answer; kept = after } in
       begun_stands_still job start new later t w (within_work_is_begun job start new later (within_after answer turn)) start_is dest_is
 
-  pub work_after : (answer : Answer) → MadeTurn answer → MadeWithinWork s.job (source_tree old.source) start.dest s'.counts
+  pub work_after : {answer : Answer} → MadeTurn answer → MadeWithinWork s.job (source_tree old.source) start.dest s'.counts
   unfolding MadeWithinWork
-  work_after answer turn = λ f t source_is start_is.
-      let reading = reading_of old.source f source_is in
+  work_after {answer} turn = λ f t source_is start_is.
+      let reading = reading_of old.source source_is in
       let few = turns_are_within_work job start old new run after answer reading.0 t within going turn reading.1 start_is in
       subst (λ (f : Forest). s'.counts.turns ≤ work job f (root_in t)) reading.2 few
 
-  pub bound_after : (answer : Answer) → MadeTurn answer → HoldsWithinBound s.job (source_tree old.source) s'
+  pub bound_after : {answer : Answer} → MadeTurn answer → HoldsWithinBound s.job (source_tree old.source) s'
   unfolding HoldsWithinBound
-  bound_after answer turn = λ f source_is.
-      let reading = reading_of old.source f source_is in
+  bound_after {answer} turn = λ f source_is.
+      let reading = reading_of old.source source_is in
       subst (λ (f : Forest). IsWithinBound job f (held_of s' [])) reading.2 (turn_is_within_bound job start old new run after answer reading.0 begun going turn reading.1)
 
-  pub left_after : (answer : Answer) → MadeTurn answer → FaultLeaves s.job (source_tree old.source) start new.dest new.log
+  pub left_after : {answer : Answer} → MadeTurn answer → FaultLeaves s.job (source_tree old.source) start new.dest new.log
   unfolding FaultLeaves
-  left_after answer turn = λ f t now first last source_is start_is dest_is first_is last_is.
-      let reading = reading_of new.source f (turn_tree job here (turning (kept_of s fed)) after old new answer turn ∙ source_is) in
+  left_after {answer} turn = λ f t now first last source_is start_is dest_is first_is last_is.
+      let reading = reading_of new.source (turn_tree job here (turning (kept_of s fed)) after old new answer turn ∙ source_is) in
       let later : Run = record { phase = phase_after answer; kept = after } in
       subst (λ (f : Forest). IsLeftByFault job f t now.tree first last) reading.2
       (stops_leave job start new later reading.0 t now first last (within_work_is_begun job start new later (within_after answer turn)) reading.1 start_is dest_is first_is last_is)
@@ -129,46 +129,46 @@ module _ (s s' : State) (here : Phase) (fed fed' : List ℕ) (old new : World) (
   end_whole : MadeTurn (Ok phase.Ended) → EndsWhole s.job (source_tree old.source) start new.dest new.log s'.counts
   unfolding EndsWhole
   end_whole turn = λ f t now first last source_is start_is dest_is first_is last_is.
-      let reading = reading_of old.source f source_is in
+      let reading = reading_of old.source source_is in
       subst (λ (f : Forest). IsWhole job f t now first last (counts_of s'.counts)) reading.2
       (ends_well job start old new run after reading.0 t now first last begun turn reading.1 start_is dest_is first_is last_is)
 
   end_states : MadeTurn (Ok phase.Ended) → StatesAreFiles s.job (source_tree old.source) start new.dest new.log
   unfolding StatesAreFiles
   end_states turn = λ f t now first last source_is start_is dest_is first_is last_is.
-      let reading = reading_of old.source f source_is in
+      let reading = reading_of old.source source_is in
       subst (λ (f : Forest). All (HasItsFiles job now.tree) (all_carried job f (root_in t))) reading.2
       (ends_with_states job start old new run after reading.0 t now first last begun turn reading.1 start_is dest_is first_is last_is)
 
   -- a turn that halts it
-  leaves_all : (why : Halt) → MadeTurn (Err why) → law.is_early why ≡ true → LeavesAll start new.dest new.log
+  leaves_all : {why : Halt} → MadeTurn (Err why) → law.is_early why ≡ true → LeavesAll start new.dest new.log
   unfolding LeavesAll
-  leaves_all why turn early = (
+  leaves_all {why} turn early = (
     λ t now start_is dest_is. early_leaves_dest job start old new run after why t now begun turn early start_is dest_is,
     λ first last first_is last_is. early_leaves_log job start old new run after why first last begun turn early first_is last_is,
   )
 
-  halt_says : (why : Halt) → MadeTurn (Err why) → SaysRightly s.job (source_tree old.source) start.dest (fault_of why)
+  halt_says : {why : Halt} → MadeTurn (Err why) → SaysRightly s.job (source_tree old.source) start.dest (fault_of why)
   unfolding SaysRightly
-  halt_says why turn = (
+  halt_says {why} turn = (
     λ f source_is.
-        let reading = reading_of old.source f source_is in
+        let reading = reading_of old.source source_is in
         of_source why f (subst (λ (f : Forest). law.SaysOfSource why f) reading.2 (refuses_rightly job start old new run after why reading.0 begun turn reading.1)),
     λ t start_is.
-        of_dest job why t
+        of_dest why t
         (λ same. finds_staging job start old new run after t begun (subst (λ (h : Halt). MadeTurn (Err h)) same turn) start_is)
         (λ same. finds_target job start old new run after t begun (subst (λ (h : Halt). MadeTurn (Err h)) same turn) start_is),
     λ f t source_is start_is.
-        let reading = reading_of old.source f source_is in
-        of_both job why f t
+        let reading = reading_of old.source source_is in
+        of_both why f t
         (λ same. subst (λ (f : Forest). law.IsBadTarget job (root_in t) (law.IsCarriedOf job f (root_in t))) reading.2
         (finds_target_of job start old new run after reading.0 t begun (subst (λ (h : Halt). MadeTurn (Err h)) same turn) reading.1 start_is).1),
   )
 
-  halt_good : (why : Halt) → MadeTurn (Err why) → WantsMemory s.job (source_tree old.source) start.dest old.failures new.failures (fault_of why)
+  halt_good : {why : Halt} → MadeTurn (Err why) → WantsMemory s.job (source_tree old.source) start.dest old.failures new.failures (fault_of why)
   unfolding WantsMemory
-  halt_good why turn = λ f t source_is start_is good free enough none.
-      let reading = reading_of old.source f source_is in
+  halt_good {why} turn = λ f t source_is start_is good free enough none.
+      let reading = reading_of old.source source_is in
       ap fault_of (nothing_is_refused job start old new run after why reading.0 t begun turn reading.1 start_is (subst (λ (f : Forest). IsStart job f (root_in t)) (sym reading.2) good) free none)
 
   unstaged_after : (why : Halt) → MadeTurn (Err why) → BlamesLogLate here (Err why) → IfLog (fault_of why) (LeavesNoStaging new.dest)
@@ -181,4 +181,4 @@ module _ (s s' : State) (here : Phase) (fed fed' : List ℕ) (old new : World) (
   says_after (Ok next) turn late = λ ended.
       let last : MadeTurn (Ok phase.Ended) = subst (λ (p : Phase). MadeTurn (Ok p)) ended turn in
       record { ends = end_whole last; states = end_states last }
-  says_after (Err why) turn late = record { early = if_early why (LeavesAll start new.dest new.log) (leaves_all why turn); unstaged = unstaged_after why turn late; says = halt_says why turn; good = halt_good why turn }
+  says_after (Err why) turn late = record { early = if_early why (LeavesAll start new.dest new.log) (leaves_all turn); unstaged = unstaged_after why turn late; says = halt_says turn; good = halt_good turn }

@@ -38,9 +38,9 @@ pub step_told : (first old new : World) (a b : Running) (t : Motion) → HasTold
 unfolding StepLeaves
 step_told first old new a b t told left = log.told_more first.log old.log new.log a.state.counts b.state.counts told left.told
 
-pub step_all : (first old new : World) (a b : Running) (t : Motion) → HasTold first.log old.log a.state.counts → StepLeaves old new a b (Ok t) → t ≡ motion.Finished → HasToldAll first.log new.log b.state.counts
+pub step_all : (first old new : World) (a b : Running) {t : Motion} → HasTold first.log old.log a.state.counts → StepLeaves old new a b (Ok t) → t ≡ motion.Finished → HasToldAll first.log new.log b.state.counts
 unfolding StepLeaves
-step_all first old new a b t told left last = log.told_finished t first.log old.log new.log a.state.counts b.state.counts told left.finished last
+step_all first old new a b {t} told left last = log.told_finished t first.log old.log new.log a.state.counts b.state.counts told left.finished last
 
 pub step_front : (first old new : World) (a b : Running) (f : Fault) → HasTold first.log old.log a.state.counts → StepLeaves old new a b (Err f) → HasToldFront first.log new.log
 unfolding StepLeaves
@@ -95,12 +95,12 @@ ran_nothing job w r new = record {
 -- the turn that a step made, where the hasher was fed what it was
 module _ (job : Job) (first old new : World) (a b : Running) (same : a.state.job ≡ job) (going : a.phase ≢ phase.Ended) (so_far : RanSoFar job first old a) where
   fed_now : HasBeenFed a.state.job.algorithm a.state.hasher so_far.fed
-  fed_now = fed_going a.phase a.state.job.algorithm a.state.hasher so_far.fed going so_far.was
+  fed_now = fed_going a.state.job.algorithm a.state.hasher so_far.fed going so_far.was
 
   -- and one more
-  pub ran_one_more : (next : Phase) → CountedTurn a.phase a.state b.state old new (Ok next) → b.state.counts.turns ≡ a.state.counts.turns + 1 → RanSoFar job first new (record { phase = next; state = b.state })
+  pub ran_one_more : {next : Phase} → CountedTurn a.phase a.state b.state old new (Ok next) → b.state.counts.turns ≡ a.state.counts.turns + 1 → RanSoFar job first new (record { phase = next; state = b.state })
   unfolding CountedTurn
-  ran_one_more next turned counted =
+  ran_one_more {next} turned counted =
       let made = turned.1 so_far.fed fed_now in
       record {
         fed = made.0;
@@ -110,19 +110,19 @@ module _ (job : Job) (first old new : World) (a b : Running) (same : a.state.job
             (subst (λ j. Turn (job_of j) a.phase (turning (kept_of a.state so_far.fed)) (kept_of b.state made.0) old new (Ok next)) same made.1.1));
       }
 
-  pub ran_on : (t : Motion) → t ≡ motion.More → StepLeaves old new a b (Ok t) → MakesTurn old new a b (Ok t) → RanSoFar job first new b
+  pub ran_on : {t : Motion} → t ≡ motion.More → StepLeaves old new a b (Ok t) → MakesTurn old new a b (Ok t) → RanSoFar job first new b
   unfolding StepLeaves MakesTurn
-  ran_on t is left turned = ran_one_more b.phase (subst (λ (t : Motion). MakesTurn old new a b (Ok t)) is turned) left.turns.0
+  ran_on {t} is left turned = ran_one_more (subst (λ (t : Motion). MakesTurn old new a b (Ok t)) is turned) left.turns.0
 
-  pub ran_whole : (t : Motion) (report : Report) → t ≡ motion.Finished → report ≡ b.state.counts → StepLeaves old new a b (Ok t) → MakesTurn old new a b (Ok t) → IsRun job first new (Ok report)
+  pub ran_whole : {t : Motion} {report : Report} → t ≡ motion.Finished → report ≡ b.state.counts → StepLeaves old new a b (Ok t) → MakesTurn old new a b (Ok t) → IsRun job first new (Ok report)
   unfolding StepLeaves MakesTurn IsRun
-  ran_whole t report is counts left turned =
-      let ended = ran_one_more phase.Ended (subst (λ (t : Motion). MakesTurn old new a b (Ok t)) is turned) left.turns.0 in
+  ran_whole {t} is counts left turned =
+      let ended = ran_one_more (subst (λ (t : Motion). MakesTurn old new a b (Ok t)) is turned) left.turns.0 in
       subst (λ (c : Report). Finished job first new c) (sym counts) (record { kept = kept_of b.state ended.fed; counts = refl; turns = ended.turns })
 
-  halted : (f : Fault) → IsTurn a → ((why : Halt) × (f ≡ fault_of why) × CountedTurn a.phase a.state b.state old new (Err why)) → Halted job first new f
+  halted : {f : Fault} → IsTurn a → ((why : Halt) × (f ≡ fault_of why) × CountedTurn a.phase a.state b.state old new (Err why)) → Halted job first new f
   unfolding CountedTurn
-  halted f turn (why, is, turned) =
+  halted turn (why, is, turned) =
       let made = turned.1 so_far.fed fed_now in
       record {
         count = a.state.counts.turns;
@@ -149,4 +149,4 @@ module _ (job : Job) (first old new : World) (a b : Running) (same : a.state.job
   unfolding MakesTurn IsRun
   ran_halted fault.Turns ends turned = at_limit turned
   ran_halted fault.Ended ends turned = going ends.0
-  ran_halted f ends turned = halted f ends.0 turned
+  ran_halted f ends turned = halted ends.0 turned

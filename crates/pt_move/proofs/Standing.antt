@@ -26,8 +26,8 @@ use Rattle.pt_move.specs.Stands.{Stands}
 
 -- ---- what the code needs
 
-some_entry : (o : Option Item) (item : Item) → o ≡ Some item → IsSome o
-some_entry o item is = subst (λ (x : Option Item). IsSome x) (sym is) refl
+some_entry : {o : Option Item} {item : Item} → o ≡ Some item → IsSome o
+some_entry is = subst (λ (x : Option Item). IsSome x) (sym is) refl
 
 as_site : (object : Object) (trail : List Frame) → 0 < object.site → length trail ≡ object.site → IsSite object trail
 unfolding IsSite
@@ -37,43 +37,43 @@ in_object : (object : Object) (trail : List Frame) → 0 < object.site → objec
 unfolding IsSite
 in_object object trail some within = (some, within)
 
-ready : (here : Part) (object : Object) (s : State) (fed : List ℕ) (past : Past) → HasBeenFed s.job.algorithm s.hasher fed → HeldAt (job_of s.job) past (phase.Make object here) (held_of s fed) → IsReadyFor here object s
+ready : (here : Part) {object : Object} (s : State) {fed : List ℕ} {past : Past} → HasBeenFed s.job.algorithm s.hasher fed → HeldAt (job_of s.job) past (phase.Make object here) (held_of s fed) → IsReadyFor here object s
 unfolding HasContentsOfRows HasFedInventory
-ready part.Staging object s fed past was held = tt
-ready part.Declaration object s fed past was held = tt
-ready part.Version object s fed past was held = tt
-ready (part.Content position) object s fed past was held = held.numbers.within
-ready part.VersionInventory object s fed past was held = held.rows.contents
-ready part.VersionSidecar object s fed past was held = subst (λ (f : List ℕ). HasBeenFed s.job.algorithm s.hasher f) held.fed was
-ready part.Inventory object s fed past was held = (held.rows.contents, subst (λ (f : List ℕ). HasBeenFed s.job.algorithm s.hasher f) held.fed was)
-ready part.Sidecar object s fed past was held = subst (λ (f : List ℕ). HasBeenFed s.job.algorithm s.hasher f) held.fed was
+ready part.Staging s was held = tt
+ready part.Declaration s was held = tt
+ready part.Version s was held = tt
+ready (part.Content position) s was held = held.numbers.within
+ready part.VersionInventory s was held = held.rows.contents
+ready part.VersionSidecar s was held = subst (λ (f : List ℕ). HasBeenFed s.job.algorithm s.hasher f) held.fed was
+ready part.Inventory s was held = (held.rows.contents, subst (λ (f : List ℕ). HasBeenFed s.job.algorithm s.hasher f) held.fed was)
+ready part.Sidecar s was held = subst (λ (f : List ℕ). HasBeenFed s.job.algorithm s.hasher f) held.fed was
 
 -- the row there is stored, so there is a content of that number
-stored_there : (held : Held) (position : Position) → IsAtStoredRow held position → position.stored < length held.contents
-stored_there held position at = by (slice_get held.contents position.stored) refl at.next
+stored_there : {held : Held} {position : Position} → IsAtStoredRow held position → position.stored < length held.contents
+stored_there {held} {position} at = by (slice_get held.contents position.stored) refl at.next
   where
     by : (o : Option Content) → slice_get held.contents position.stored ≡ o → option_map_or (λ (content : Content). same_path content.path at.row.path) o false ≡ true → position.stored < length held.contents
     by None is absent = absurd (cc)
     by (Some content) is there = slice_get_within held.contents position.stored content is
 
-pub stands : (here : Phase) (s : State) (fed : List ℕ) (past : Past) → here ≢ phase.Ended → HasBeenFed s.job.algorithm s.hasher fed → HeldAt (job_of s.job) past here (held_of s fed) → Stands here s
-stands phase.Begin s fed past going was held = tt
-stands (phase.Prefix here) s fed past going was held = tt
-stands phase.Staging s fed past going was held = tt
-stands phase.Root s fed past going was held = tt
-stands (phase.RootMake item) s fed past going was held = held.numbers
-stands phase.RootRename s fed past going was held = tt
-stands (phase.RootCheck file) s fed past going was held = held.numbers
-stands phase.OpenRoot s fed past going was held = held.trail.none
-stands phase.Judge s fed past going was held = tt
-stands (phase.OpenObject object) s fed past going was held = (as_site object s.trail held.ends.0.some held.ends.1, held.trail.entry)
-stands (phase.Scan object) s fed past going was held = (in_object object s.trail held.ends.0.some held.ends.1.within, held.ends.1.own)
-stands (phase.Read object bytes) s fed past going was held = (in_object object s.trail held.ends.0.some held.ends.1.within, held.ends.1.own, some_entry _ held.trail.entry.0 held.trail.entry.1)
-stands (phase.Make object here) s fed past going was held = ready here object s fed past was held
-stands (phase.Copy object position left) s fed past going was held = (held.numbers.at.within, stored_there (held_of s fed) position held.numbers)
-stands (phase.Tuples object number) s fed past going was held = held.numbers
-stands (phase.Rename object) s fed past going was held = tt
-stands (phase.Line object) s fed past going was held = let some = held.ends.0.some in let long = held.ends.1 in omega (arith, some, long)
-stands phase.Walk s fed past going was held = tt
-stands phase.End s fed past going was held = tt
-stands phase.Ended s fed past going was held = absurd (going refl)
+pub stands : (here : Phase) (s : State) {fed : List ℕ} {past : Past} → here ≢ phase.Ended → HasBeenFed s.job.algorithm s.hasher fed → HeldAt (job_of s.job) past here (held_of s fed) → Stands here s
+stands phase.Begin s going was held = tt
+stands (phase.Prefix here) s going was held = tt
+stands phase.Staging s going was held = tt
+stands phase.Root s going was held = tt
+stands (phase.RootMake item) s going was held = held.numbers
+stands phase.RootRename s going was held = tt
+stands (phase.RootCheck file) s going was held = held.numbers
+stands phase.OpenRoot s going was held = held.trail.none
+stands phase.Judge s going was held = tt
+stands (phase.OpenObject object) s going was held = (as_site object s.trail held.ends.0.some held.ends.1, held.trail.entry)
+stands (phase.Scan object) s going was held = (in_object object s.trail held.ends.0.some held.ends.1.within, held.ends.1.own)
+stands (phase.Read object bytes) s going was held = (in_object object s.trail held.ends.0.some held.ends.1.within, held.ends.1.own, some_entry {o = _} {item = held.trail.entry.0} held.trail.entry.1)
+stands (phase.Make object here) s {fed} {past} going was held = ready here {object = object} s {fed = fed} {past = past} was held
+stands (phase.Copy object position left) s {fed} going was held = (held.numbers.at.within, stored_there {held = held_of s fed} {position = position} held.numbers)
+stands (phase.Tuples object number) s going was held = held.numbers
+stands (phase.Rename object) s going was held = tt
+stands (phase.Line object) s going was held = let some = held.ends.0.some in let long = held.ends.1 in omega (arith, some, long)
+stands phase.Walk s going was held = tt
+stands phase.End s going was held = tt
+stands phase.Ended s going was held = absurd (going refl)

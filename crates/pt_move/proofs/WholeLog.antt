@@ -14,9 +14,9 @@ use Rattle.pt_state.specs.declared.job.Report.{Report}
 use Rattle.pt_move.specs.declared.mover.Turn.{Turn}
 use Rattle.pt_move.specs.declared.mover.Turn.TheVariants as turn
 
-appends_nothing : (b a : Option (List ℕ)) → a ≡ b → Appends b a []
-appends_nothing None a same = tt
-appends_nothing (Some xs) a same = subst (λ o. Appends (Some xs) o []) (sym same) (sym (append-nil xs))
+appends_nothing : (b : Option (List ℕ)) {a : Option (List ℕ)} → a ≡ b → Appends b a []
+appends_nothing None same = tt
+appends_nothing (Some xs) same = subst (λ o. Appends (Some xs) o []) (sym same) (sym (append-nil xs))
 
 appends_on : (b m a : Option (List ℕ)) (x y : List ℕ) → Appends b m x → Appends m a y → Appends b a (x ++ y)
 appends_on None m a x y p q = tt
@@ -27,39 +27,39 @@ appends_on (Some xs) (Some ms) (Some zs) x y p q = q ∙ (ap (λ l. l ++ y) p �
 count_one : (p : Line → Bool) (told : List Line) (line : Line) → count_by p (told ++ line ∷ []) ≡ count_by p told + (0 + cond (p line) 1 0)
 count_one p told line = sum_by-append (λ l. cond (p l) 1 0) told (line ∷ [])
 
-count_yes : (p : Line → Bool) (told : List Line) (line : Line) → p line ≡ true → count_by p (told ++ line ∷ []) ≡ count_by p told + 1
-count_yes p told line is = count_one p told line ∙ ap (λ b. count_by p told + (0 + cond b 1 0)) is
+count_yes : (p : Line → Bool) (told : List Line) {line : Line} → p line ≡ true → count_by p (told ++ line ∷ []) ≡ count_by p told + 1
+count_yes p told {line} is = count_one p told line ∙ ap (λ b. count_by p told + (0 + cond b 1 0)) is
 
-count_no : (p : Line → Bool) (told : List Line) (line : Line) → p line ≡ false → count_by p (told ++ line ∷ []) ≡ count_by p told
-count_no p told line is = let more : count_by p (told ++ line ∷ []) ≡ count_by p told + 0 = count_one p told line ∙ ap (λ b. count_by p told + (0 + cond b 1 0)) is in omega (arith, more)
+count_no : (p : Line → Bool) (told : List Line) {line : Line} → p line ≡ false → count_by p (told ++ line ∷ []) ≡ count_by p told
+count_no p told {line} is = let more : count_by p (told ++ line ∷ []) ≡ count_by p told + 0 = count_one p told line ∙ ap (λ b. count_by p told + (0 + cond b 1 0)) is in omega (arith, more)
 
 report_more : (told : List Line) (line : Line) (c c' : Report) → IsReport told c → CountsLine line c c' → IsReport (told ++ line ∷ []) c'
 report_more told (Done at bytes empty files id to) c c' (d, p, s) (e, f, g) =
-    (count_yes is_done told _ refl ∙ (ap (λ n. n + 1) d ∙ sym e), count_no is_present told _ refl ∙ (p ∙ sym f), count_no is_skipped told _ refl ∙ (s ∙ sym g))
+    (count_yes is_done told {line = _} refl ∙ (ap (λ n. n + 1) d ∙ sym e), count_no is_present told {line = _} refl ∙ (p ∙ sym f), count_no is_skipped told {line = _} refl ∙ (s ∙ sym g))
 report_more told (Present at id to) c c' (d, p, s) (e, f, g) =
-    (count_no is_done told _ refl ∙ (d ∙ sym e), count_yes is_present told _ refl ∙ (ap (λ n. n + 1) p ∙ sym f), count_no is_skipped told _ refl ∙ (s ∙ sym g))
+    (count_no is_done told {line = _} refl ∙ (d ∙ sym e), count_yes is_present told {line = _} refl ∙ (ap (λ n. n + 1) p ∙ sym f), count_no is_skipped told {line = _} refl ∙ (s ∙ sym g))
 report_more told (Skipped at why) c c' (d, p, s) (e, f, g) =
-    (count_no is_done told _ refl ∙ (d ∙ sym e), count_no is_present told _ refl ∙ (p ∙ sym f), count_yes is_skipped told _ refl ∙ (ap (λ n. n + 1) s ∙ sym g))
+    (count_no is_done told {line = _} refl ∙ (d ∙ sym e), count_no is_present told {line = _} refl ∙ (p ∙ sym f), count_yes is_skipped told {line = _} refl ∙ (ap (λ n. n + 1) s ∙ sym g))
 report_more told (End done present skipped) c c' (d, p, s) (numbers, (e, f, g)) =
-    (count_no is_done told _ refl ∙ (d ∙ sym e), count_no is_present told _ refl ∙ (p ∙ sym f), count_no is_skipped told _ refl ∙ (s ∙ sym g))
+    (count_no is_done told {line = _} refl ∙ (d ∙ sym e), count_no is_present told {line = _} refl ∙ (p ∙ sym f), count_no is_skipped told {line = _} refl ∙ (s ∙ sym g))
 
 report_same : (told : List Line) (c c' : Report) → IsReport told c → SameLines c c' → IsReport told c'
 report_same told c c' (d, p, s) (e, f, g) = (d ∙ sym e, p ∙ sym f, s ∙ sym g)
 
 pub told_none : (b : Option (List ℕ)) (c : Report) → c ≡ no_lines → HasTold b b c
 unfolding HasTold
-told_none b c is = ([], (appends_nothing b b refl, (sym (ap (λ (r : Report). r.done) is), sym (ap (λ (r : Report). r.present) is), sym (ap (λ (r : Report). r.skipped) is))))
+told_none b c is = ([], (appends_nothing b refl, (sym (ap (λ (r : Report). r.done) is), sym (ap (λ (r : Report). r.present) is), sym (ap (λ (r : Report). r.skipped) is))))
 
 told_on : (b m a : Option (List ℕ)) (told : List Line) (line : Line) → Appends b m (flat_map line_text told) → Appends m a (line_text line) → Appends b a (flat_map line_text (told ++ line ∷ []))
 told_on b m a told line first more = subst (Appends b a) (flat_map_more line_text [] told line) (appends_on b m a _ _ first more)
 
-same_log : (b m a : Option (List ℕ)) (xs : List ℕ) → a ≡ m → Appends b m xs → Appends b a xs
-same_log b m a xs same put = subst (λ o. Appends b o xs) (sym same) put
+same_log : (b : Option (List ℕ)) {m a : Option (List ℕ)} (xs : List ℕ) → a ≡ m → Appends b m xs → Appends b a xs
+same_log b xs same put = subst (λ o. Appends b o xs) (sym same) put
 
 pub told_more : (b m a : Option (List ℕ)) (c c' : Report) → HasTold b m c → TellsLine m a c c' → HasTold b a c'
 unfolding HasTold TellsLine GotLine
 told_more b m a c c' (told, (put, report)) turn = elim turn [
-  | inl (quiet, same) ↦ (told, (same_log b m a _ quiet put, report_same told c c' report same))
+  | inl (quiet, same) ↦ (told, (same_log b _ quiet put, report_same told c c' report same))
   | inr (line, (more, counted)) ↦ (told ++ line ∷ [], (told_on b m a told line put more, report_more told line c c' report counted))
 ]
 
@@ -80,7 +80,7 @@ front_on b m a xs ys put (n, front) = (length xs + n, subst (Appends b a) (sym (
 pub told_front : (b m a : Option (List ℕ)) (c c' : Report) → HasTold b m c → TellsFront m a c c' → HasToldFront b a
 unfolding HasTold HasToldFront TellsFront GotFront
 told_front b m a c c' (told, (put, report)) (turn, same) = elim turn [
-  | inl quiet ↦ (told, (End 0 0 0, (length (flat_map line_text told), subst (Appends b a) (sym (take-append_seam (flat_map line_text told) (line_text (End 0 0 0)))) (same_log b m a _ quiet put))))
+  | inl quiet ↦ (told, (End 0 0 0, (length (flat_map line_text told), subst (Appends b a) (sym (take-append_seam (flat_map line_text told) (line_text (End 0 0 0)))) (same_log b _ quiet put))))
   | inr (line, front) ↦ (told, (line, front_on b m a _ _ put front))
 ]
 
