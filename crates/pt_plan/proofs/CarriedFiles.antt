@@ -81,8 +81,7 @@ good_site site = good_visit site.1
 
 good_by_visit : (job : Job) (prefix : List ℕ) (path : Path) (visit : Visit) → good_visit visit ≡ true → good (verdict_by_visit job prefix path visit) ≡ true
 good_by_visit job prefix path (Listed inside) h = good_by_finding job prefix path inside (found (listing_of inside) (at_of path) (form_of job)) h
-good_by_visit job prefix path Past h = refl
-good_by_visit job prefix path Deep h = refl
+good_by_visit job prefix path _ h = refl
 
 -- whether it is of the share or not
 good_if : (b : Bool) (v : Verdict) → good v ≡ true → good (cond b v Interior) ≡ true
@@ -104,8 +103,7 @@ all_append p (x ∷ xs) ys h k =
 
 all_walked : (visit : Visit) (below : List Site) → list_all good_site below ≡ true → list_all good_site (walked visit below) ≡ true
 all_walked (Listed inside) below h = h
-all_walked Past below h = refl
-all_walked Deep below h = refl
+all_walked _ below h = refl
 
 all_either : (b : Bool) (xs : List Site) → list_all good_site xs ≡ true → list_all good_site (cond b xs []) ≡ true
 all_either true xs h = h
@@ -171,11 +169,10 @@ carried_either true xs h = refl
 carried_either false xs h = h
 
 all_carried_by : (job : Job) (taken : Bool) (verdict : Verdict) → good verdict ≡ true → list_all in_order (carried_by job taken verdict) ≡ true
-all_carried_by job taken Interior h = refl
-all_carried_by job taken (Skip why) h = refl
 all_carried_by job taken (Named id object) h =
     carried_either taken (carried_by_outcome id (outcome_by (files (entries object.inside)) (cause_of job.limits object)))
     (all_by_outcome id (files (entries object.inside)) (cause_of job.limits object) (files_in_order object.inside h))
+all_carried_by job taken _ h = refl
 
 all_in_order : (job : Job) (marks : List Marked) → list_all good_marked marks ≡ true → list_all in_order (carried job marks) ≡ true
 all_in_order job [] h = refl

@@ -27,13 +27,12 @@ abbrev is_fit : Bool → Verdict → Bool
 is_fit taken verdict = not taken || is_named verdict
 
 fit_by_verdict : (job : Job) (root : Tree) (earlier : List Item) (verdict : Verdict) → is_fit (is_taken job root earlier verdict) verdict ≡ true
-fit_by_verdict job root earlier Interior = refl
-fit_by_verdict job root earlier (Skip why) = refl
 fit_by_verdict job root earlier (Named id object) = by (is_taken job root earlier (Named id object))
   where
     by : (t : Bool) → (not t || true) ≡ true
     by true = refl
     by false = refl
+fit_by_verdict job root earlier _ = refl
 
 abbrev is_fit_mark : Marked → Bool
 is_fit_mark m = is_fit m.1 m.0.verdict

@@ -6,14 +6,14 @@ use Rattle.std.specs.Option.{option_map, option_or}
 use Rattle.pt_name.specs.Place.{place_of}
 use Rattle.pt_name.specs.Reading.{reading_of}
 use Rattle.pt_object.specs.Root.{base}
-use Rattle.pt_tree.specs.Forest.{Forest, File as a_file, Dir, Other, listing_of}
+use Rattle.pt_tree.specs.Forest.{Forest, File as a_file, listing_of}
 use Rattle.pt_tree.specs.Path.{Path, same_path}
 use Rattle.pt_tree.specs.Tree.{Tree}
 use Rattle.pt_walk.specs.Left.{entries_from}
 use Rattle.pt_walk.specs.Limits.{Bounds}
 use Rattle.pt_walk.specs.Object.{Entry as an_entry, bad_or, entries, entry_cause, files, files_with, first_bad}
 use Rattle.pt_walk.specs.Site.{found}
-use Rattle.pt_walk.specs.Sites.{Site, Visit, Listed, Past, Deep, at_of}
+use Rattle.pt_walk.specs.Sites.{Site, Visit, Listed, at_of}
 use Rattle.pt_walk.specs.declared.cause.Cause.{Cause}
 use Rattle.pt_walk.specs.declared.cause.Cause.TheVariants as cause
 use Rattle.pt_walk.specs.declared.site.Finding.{Finding}
@@ -29,8 +29,7 @@ use Rattle.pt_plan.specs.Store.{prefix_of, sites_of}
 
 entry_same : (limits : Bounds) (turns depth held : ℕ) (entry : an_entry) → entry_cause (record limits { turns = turns }) depth held entry ≡ entry_cause limits depth held entry
 entry_same limits turns depth held (path, a_file bytes) = refl
-entry_same limits turns depth held (path, Dir inside) = refl
-entry_same limits turns depth held (path, Other) = refl
+entry_same limits turns depth held (path, _) = refl
 
 first_same : (limits : Bounds) (turns depth held : ℕ) (all : List an_entry) → first_bad (record limits { turns = turns }) depth held all ≡ first_bad limits depth held all
 first_same limits turns depth held [] = refl
@@ -59,8 +58,7 @@ finding_same job turns prefix site inside finding.Gathered = reading_same job tu
 
 visit_same : (job : Job) (turns : ℕ) (prefix : List ℕ) (path : Path) (visit : Visit) → verdict_by_visit (with_turns job turns) prefix path visit ≡ verdict_by_visit job prefix path visit
 visit_same job turns prefix path (Listed inside) = finding_same job turns prefix path inside (found (listing_of inside) (at_of path) (form_of job))
-visit_same job turns prefix path Past = refl
-visit_same job turns prefix path Deep = refl
+visit_same job turns prefix path _ = refl
 
 verdict_same : (job : Job) (turns : ℕ) (prefix : List ℕ) (path : Path) (visit : Visit) → verdict_of (with_turns job turns) prefix path visit ≡ verdict_of job prefix path visit
 verdict_same job turns prefix path visit = ap (λ (v : Verdict). ours job.share v) (visit_same job turns prefix path visit)
@@ -75,18 +73,16 @@ items_same job turns source = items_same_on job turns (prefix_of source) (sites_
 -- ---- marks
 
 place_same : (job : Job) (turns : ℕ) (place : Path) (verdict : Verdict) → has_place (with_turns job turns) place verdict ≡ has_place job place verdict
-place_same job turns place Interior = refl
-place_same job turns place (Skip why) = refl
 place_same job turns place (Named id object) = ap (λ (why : Option Cause). is_none why && same_path (place_of job.tuples id) place) (cause_same job turns object)
+place_same job turns place _ = refl
 
 any_same : (job : Job) (turns : ℕ) (place : Path) (earlier : List Item) → list_any (λ (item : Item). has_place (with_turns job turns) place item.verdict) earlier ≡ list_any (λ (item : Item). has_place job place item.verdict) earlier
 any_same job turns place [] = refl
 any_same job turns place (item ∷ earlier) = λ i. place_same job turns place item.verdict i || any_same job turns place earlier i
 
 taken_same : (job : Job) (turns : ℕ) (root : Tree) (earlier : List Item) (verdict : Verdict) → is_taken (with_turns job turns) root earlier verdict ≡ is_taken job root earlier verdict
-taken_same job turns root earlier Interior = refl
-taken_same job turns root earlier (Skip why) = refl
 taken_same job turns root earlier (Named id object) = ap (λ b. is_some (root (place_of job.tuples id)) || b) (any_same job turns (place_of job.tuples id) earlier)
+taken_same job turns root earlier _ = refl
 
 marked_same_after : (job : Job) (turns : ℕ) (root : Tree) (earlier others : List Item) → marked_after (with_turns job turns) root earlier others ≡ marked_after job root earlier others
 marked_same_after job turns root earlier [] = refl
@@ -98,9 +94,8 @@ marked_same job turns source root = marked_same_after job turns root [] (items (
 -- ---- what is carried
 
 carried_same_by : (job : Job) (turns : ℕ) (taken : Bool) (verdict : Verdict) → carried_by (with_turns job turns) taken verdict ≡ carried_by job taken verdict
-carried_same_by job turns taken Interior = refl
-carried_same_by job turns taken (Skip why) = refl
 carried_same_by job turns taken (Named id object) = ap (λ (why : Option Cause). cond taken [] (carried_by_outcome id (outcome_by (files (entries object.inside)) why))) (cause_same job turns object)
+carried_same_by job turns taken _ = refl
 
 carried_same : (job : Job) (turns : ℕ) (marks : List Marked) → carried (with_turns job turns) marks ≡ carried job marks
 carried_same job turns [] = refl

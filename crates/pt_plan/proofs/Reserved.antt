@@ -9,7 +9,7 @@ use Rattle.pt_tree.specs.Forest.{Forest, listing_of}
 use Rattle.pt_tree.specs.Path.{Path}
 use Rattle.pt_walk.specs.Left.{entries_from}
 use Rattle.pt_walk.specs.Site.{found}
-use Rattle.pt_walk.specs.Sites.{Site, Visit, Listed, Past, Deep, at_of}
+use Rattle.pt_walk.specs.Sites.{Site, Visit, Listed, at_of}
 use Rattle.pt_walk.specs.declared.cause.Cause.TheVariants as cause
 use Rattle.pt_walk.specs.declared.site.Finding.{Finding}
 use Rattle.pt_walk.specs.declared.site.Finding.TheVariants as finding
@@ -51,8 +51,7 @@ free_by_finding job prefix site inside finding.Gathered = free_by_reading job pr
 
 free_by_visit : (job : Job) (prefix : List ℕ) (path : Path) (visit : Visit) → free job (verdict_by_visit job prefix path visit) ≡ true
 free_by_visit job prefix path (Listed inside) = free_by_finding job prefix path inside (found (listing_of inside) (at_of path) (form_of job))
-free_by_visit job prefix path Past = refl
-free_by_visit job prefix path Deep = refl
+free_by_visit job prefix path _ = refl
 
 -- whether it is of the share or not
 free_if : (job : Job) (b : Bool) (v : Verdict) → free job v ≡ true → free job (cond b v Interior) ≡ true

@@ -15,12 +15,12 @@ use Rattle.pt_name.specs.Reading.{reading_of}
 use Rattle.pt_name.specs.declared.prefix.PrefixFault.TheVariants as fault
 use Rattle.pt_name.specs.Share.{Portion, holds, is_first, share_number, whole}
 use Rattle.pt_tree.proofs.AtPaths.{same_from}
-use Rattle.pt_tree.specs.Forest.{Forest, Node, File, Dir, Other, find, listing_of}
+use Rattle.pt_tree.specs.Forest.{Forest, Node, File, find, listing_of}
 use Rattle.pt_tree.specs.Path.{Path, same_path}
 use Rattle.pt_tree.specs.Tree.{Tree}
 use Rattle.pt_walk.specs.Left.{entries_from}
 use Rattle.pt_walk.specs.Site.{found}
-use Rattle.pt_walk.specs.Sites.{Site, Visit, Listed, Past, Deep, at_of}
+use Rattle.pt_walk.specs.Sites.{Site, Visit, Listed, at_of}
 use Rattle.pt_walk.specs.declared.cause.Cause.TheVariants as cause
 use Rattle.pt_walk.specs.declared.site.Finding.{Finding}
 use Rattle.pt_walk.specs.declared.site.Finding.TheVariants as finding
@@ -54,8 +54,7 @@ finding_same job share prefix site inside finding.Gathered = reading_same job sh
 
 visit_same : (job : Job) (share : Portion) (prefix : List ℕ) (path : Path) (visit : Visit) → verdict_by_visit (with_share job share) prefix path visit ≡ verdict_by_visit job prefix path visit
 visit_same job share prefix path (Listed inside) = finding_same job share prefix path inside (found (listing_of inside) (at_of path) (form_of job))
-visit_same job share prefix path Past = refl
-visit_same job share prefix path Deep = refl
+visit_same job share prefix path _ = refl
 
 -- an item, whatever share it is of
 abbrev pub bare : Job → List ℕ → Site → Item
@@ -89,15 +88,13 @@ empty_text : is_utf8 [] ≡ true
 empty_text = is_utf8-from_IsUtf8 [] IsUtf8-nil
 
 prefix_text : (node : Option Node) → is_utf8 (prefix_in node) ≡ true
-prefix_text None = empty_text
 prefix_text (Some (File bytes)) = by (nat_lt 1024 (length bytes)) (is_utf8 (without_line_ends bytes)) refl
   where
     by : (long text : Bool) → is_utf8 (without_line_ends bytes) ≡ text → is_utf8 (cond (is_none (cond long (Some fault.TooLong) (cond text None (Some fault.NotUtf8)))) (without_line_ends bytes) []) ≡ true
     by true text h = empty_text
     by false true h = h
     by false false h = empty_text
-prefix_text (Some (Dir inside)) = empty_text
-prefix_text (Some Other) = empty_text
+prefix_text _ = empty_text
 
 text_by_reading : (job : Job) (prefix : List ℕ) (object : PairtreeObject) (reading : Option (List ℕ)) → is_utf8 prefix ≡ true → is_text (verdict_by_reading job prefix object reading) ≡ true
 text_by_reading job prefix object None u = refl
@@ -120,8 +117,7 @@ text_by_finding job prefix site inside finding.Gathered u = text_by_reading job 
 
 text_by_visit : (job : Job) (prefix : List ℕ) (path : Path) (visit : Visit) → is_utf8 prefix ≡ true → is_text (verdict_by_visit job prefix path visit) ≡ true
 text_by_visit job prefix path (Listed inside) u = text_by_finding job prefix path inside (found (listing_of inside) (at_of path) (form_of job)) u
-text_by_visit job prefix path Past u = refl
-text_by_visit job prefix path Deep u = refl
+text_by_visit job prefix path _ u = refl
 
 abbrev pub text_item : Item → Bool
 text_item item = is_text item.verdict
@@ -212,9 +208,8 @@ made_in job share it source root =
 
 -- the whole is the share of each item
 whole_ours : (v : Verdict) → is_ours whole v ≡ true
-whole_ours Interior = refl
-whole_ours (Skip why) = refl
 whole_ours (Named id object) = eq-eqb (share_number 1 id) 1 (whole_number id)
+whole_ours _ = refl
 
 pub made_whole : {X : Type 0} → (f : Marked → List X) (ms : List Marked) → flat_map (λ (m : Marked). cond (is_ours whole m.0.verdict) (f m) []) ms ≡ flat_map f ms
 made_whole f [] = refl

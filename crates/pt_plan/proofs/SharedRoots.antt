@@ -86,14 +86,13 @@ abbrev text_id : Carried → Bool
 text_id object = is_utf8 object.id
 
 text_of_one : (job : Job) (taken : Bool) (v : Verdict) → is_text v ≡ true → list_all text_id (carried_by job taken v) ≡ true
-text_of_one job taken Interior h = refl
-text_of_one job taken (Skip why) h = refl
 text_of_one job taken (Named id object) h = by taken (outcome job.limits object)
   where
     by : (t : Bool) (comes : Outcome) → list_all text_id (cond t [] (carried_by_outcome id comes)) ≡ true
     by true comes = refl
     by false (Fails why) = refl
     by false (Holds files) = and_from (is_utf8 id) true h refl
+text_of_one job taken _ h = refl
 
 texts_of : (job : Job) (root : Tree) (earlier others : List Item) → list_all text_item others ≡ true → list_all text_id (flat_map (λ (m : Marked). carried_by job m.1 m.0.verdict) (marked_after job root earlier others)) ≡ true
 texts_of job root earlier [] h = refl

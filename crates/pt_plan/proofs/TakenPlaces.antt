@@ -15,7 +15,7 @@ use Rattle.pt_tree.specs.Tree.{Entry, Tree}
 use Rattle.pt_walk.specs.Object.{entries, files}
 use Rattle.pt_walk.specs.declared.cause.Cause.{Cause}
 use Rattle.pt_plan.specs.Carried.{Carried, Marked, carried, carried_among, carried_by, carried_by_outcome, entry_of_object, entry_of_objects, folder_where, has_place, is_on_the_way, is_taken, is_taken_place, marked, marked_after, place_of_carried, with_objects}
-use Rattle.pt_plan.specs.Items.{Interior, Item, Named, Skip, Verdict, cause_of, items, outcome_by}
+use Rattle.pt_plan.specs.Items.{Item, Named, Verdict, cause_of, items, outcome_by}
 use Rattle.pt_plan.specs.Job.{Job}
 use Rattle.pt_plan.specs.PlaceLaws.{NextPlaceStandsWhereTaken, PlaceStandsWhereTaken}
 use Rattle.pt_plan.proofs.Growing.{append_nil, taken_against_earlier}
@@ -88,8 +88,6 @@ claims job place item = has_place job place item.verdict
 -- one item more: its place counts, whether it is carried or was taken before
 one_more : (job : Job) (root : Tree) (earlier : List Item) (place : Path) (verdict : Verdict) → is_some (root place) ≡ false
     → (list_any (claims job place) earlier || list_any (has job place) (carried_by job (is_taken job root earlier verdict) verdict)) ≡ (list_any (claims job place) earlier || has_place job place verdict)
-one_more job root earlier place Interior free = refl
-one_more job root earlier place (Skip why) free = refl
 one_more job root earlier place (Named id object) free = by_cause (cause_of job.limits object)
   where
     none_either : (t : Bool) → list_any (has job place) (cond t [] []) ≡ false
@@ -116,6 +114,7 @@ one_more job root earlier place (Named id object) free = by_cause (cause_of job.
       where
         tells : place ≡ place_of job.tuples id → is_taken_place job root earlier (place_of job.tuples id) ≡ list_any (claims job place) earlier
         tells e = ap (is_taken_place job root earlier) (sym e) ∙ ap (λ b. b || list_any (claims job place) earlier) free
+one_more job root earlier place _ free = refl
 
 or_assoc : (a b c : Bool) → ((a || b) || c) ≡ (a || (b || c))
 or_assoc true b c = refl
