@@ -1,13 +1,12 @@
 -- The objects of a proper source are proper, so their files come in order.
-use Rattle.std.proofs.Common.{◌≡◌, ℕ, zero, suc, Bool, true, false, List, [], ◌∷◌, ◌++◌, refl, cond, ◌&&◌, map}
+use Rattle.std.proofs.Common.{◌≡◌, ℕ, zero, suc, Bool, true, false, List, [], ◌∷◌, ◌++◌, refl, cond, map}
 use Rattle.std.specs.Prelude.{Option, None, Some, nat_lt, take, ◌+◌, length}
 use Rattle.std.specs.List.{concat, list_all}
 use Rattle.std.specs.Str.{is_utf8}
 use Rattle.std.proofs.lemmas.Bool.{and_from, and_parts}
 use Rattle.pt_name.specs.Reading.{reading_of}
-use Rattle.pt_object.specs.FilePaths.{File, is_logical, part_in_order, paths_of}
-use Rattle.pt_tree.specs.Forest.{Forest, none, file, other, dir, comes_before, dir_at, is_proper, listing_of}
-use Rattle.pt_tree.specs.Name.{is_name}
+use Rattle.pt_object.specs.FilePaths.{File}
+use Rattle.pt_tree.specs.Forest.{Forest, none, file, other, dir, dir_at, is_proper, listing_of}
 use Rattle.pt_tree.specs.Path.{Path}
 use Rattle.pt_tree.specs.Tree.{Tree}
 use Rattle.pt_walk.proofs.FilePaths.{file_parts, gathered_proper}
@@ -18,19 +17,18 @@ use Rattle.pt_walk.specs.Site.{found, is_short}
 use Rattle.pt_walk.specs.Sites.{Site, Visit, Listed, Past, Deep, at_of, is_last, sites_in, visit_of, walked}
 use Rattle.pt_walk.specs.declared.cause.Cause.{Cause}
 use Rattle.pt_walk.specs.declared.site.Finding.{Finding}
-use Rattle.pt_walk.specs.declared.cause.Cause.TheVariants as cause
 use Rattle.pt_walk.specs.declared.site.Finding.TheVariants as finding
 use Rattle.pt_plan.specs.Carried.{Carried, Marked, carried, carried_by, carried_by_outcome, marked, marked_after}
 use Rattle.pt_plan.specs.FileLaws.{CarriedFilesComeInOrder, comes_in_order}
-use Rattle.pt_plan.specs.Items.{Interior, Item, Named, PairtreeObject, Skip, Verdict, cause_of, encapsulated, gathered_from, is_ours, is_reserved, item_of, items, named, outcome_by, verdict_by_finding, verdict_by_reading, verdict_by_visit, verdict_of, verdict_on_candidate}
+use Rattle.pt_plan.specs.Items.{Interior, Item, Named, PairtreeObject, Skip, Verdict, cause_of, encapsulated, is_ours, is_reserved, item_of, items, outcome_by, verdict_by_finding, verdict_by_reading, verdict_by_visit, verdict_of, verdict_on_candidate}
 use Rattle.pt_plan.specs.Job.{Job, form_of}
 use Rattle.pt_plan.specs.Store.{pairtree_root, prefix_of, sites_in_root, sites_of}
 use Rattle.pt_plan.proofs.FilesInOrder.{files_come_in_order}
 
 dir_parts : (name : List ℕ) (inside after : Forest) → is_proper (dir name inside after) ≡ true → (is_proper inside ≡ true) × (is_proper after ≡ true)
 dir_parts name inside after proper =
-    and_parts (is_proper inside) (is_proper after)
-    (and_parts (comes_before name after) (is_proper inside && is_proper after) (and_parts (is_name name) (comes_before name after && (is_proper inside && is_proper after)) proper).1).1
+    and_parts _ _
+    (and_parts _ _ (and_parts _ _ proper).1).1
 
 -- ---- a verdict is good whose object, if there is one, holds what is proper
 
@@ -40,14 +38,14 @@ good (Skip why) = true
 good (Named id object) = is_proper object.inside
 
 good_either : (b : Bool) (v w : Verdict) → good v ≡ true → good w ≡ true → good (cond b v w) ≡ true
-good_either true v w x y = x
-good_either false v w x y = y
+good_either true _ _ x _ = x
+good_either false _ _ _ y = y
 
 good_by_reading : (job : Job) (prefix : List ℕ) (object : PairtreeObject) (reading : Option (List ℕ)) → is_proper object.inside ≡ true → good (verdict_by_reading job prefix object reading) ≡ true
-good_by_reading job prefix object None proper = refl
+good_by_reading _ _ _ None _ = refl
 good_by_reading job prefix object (Some read) proper =
-    good_either (is_utf8 read) (named job (prefix ++ read) object) (Skip cause.Utf8)
-    (good_either (is_reserved job (prefix ++ read)) (Skip cause.Reserved) (Named (prefix ++ read) object) refl proper) refl
+    good_either (is_utf8 read) _ _
+    (good_either (is_reserved job (prefix ++ read)) _ _ refl proper) refl
 
 proper_from : (i : ℕ) (f : Forest) → is_proper f ≡ true → is_proper (entries_from i f) ≡ true
 proper_from zero f proper = proper
@@ -61,13 +59,13 @@ good_candidate job prefix site none proper = refl
 good_candidate job prefix site (file name bytes after) proper = refl
 good_candidate job prefix site (other name after) proper = refl
 good_candidate job prefix site (dir name inside after) proper =
-    good_by_reading job prefix (record { at = site ++ name ∷ []; gathered = false; inside = inside }) (reading_of (concat site)) (dir_parts name inside after proper).0
+    good_by_reading job prefix _ (reading_of (concat site)) (dir_parts name inside after proper).0
 
 good_by_finding : (job : Job) (prefix : List ℕ) (site : Path) (inside : Forest) (what : Finding) → is_proper inside ≡ true → good (verdict_by_finding job prefix site inside what) ≡ true
-good_by_finding job prefix site inside finding.Interior proper = refl
-good_by_finding job prefix site inside (finding.Skip why) proper = refl
-good_by_finding job prefix site inside (finding.Candidate i) proper = good_candidate job prefix site (entries_from i inside) (proper_from i inside proper)
-good_by_finding job prefix site inside finding.Gathered proper = good_by_reading job prefix (gathered_from site inside) (reading_of (concat site)) (gathered_proper inside proper)
+good_by_finding _ _ _ _ finding.Interior _ = refl
+good_by_finding _ _ _ _ (finding.Skip _) _ = refl
+good_by_finding job prefix site inside (finding.Candidate i) proper = good_candidate job prefix site _ (proper_from i inside proper)
+good_by_finding job prefix site inside finding.Gathered proper = good_by_reading job prefix _ (reading_of (concat site)) (gathered_proper inside proper)
 
 -- ---- a directory on the way is good that, if it is listed, holds what is proper
 
@@ -81,33 +79,33 @@ good_site site = good_visit site.1
 
 good_by_visit : (job : Job) (prefix : List ℕ) (path : Path) (visit : Visit) → good_visit visit ≡ true → good (verdict_by_visit job prefix path visit) ≡ true
 good_by_visit job prefix path (Listed inside) h = good_by_finding job prefix path inside (found (listing_of inside) (at_of path) (form_of job)) h
-good_by_visit job prefix path _ h = refl
+good_by_visit _ _ _ _ _ = refl
 
 -- whether it is of the share or not
 good_if : (b : Bool) (v : Verdict) → good v ≡ true → good (cond b v Interior) ≡ true
-good_if true v h = h
-good_if false v h = refl
+good_if true _ h = h
+good_if false _ _ = refl
 
 good_verdict : (job : Job) (prefix : List ℕ) (path : Path) (visit : Visit) → good_visit visit ≡ true → good (verdict_of job prefix path visit) ≡ true
-good_verdict job prefix path visit h = good_if (is_ours job.share (verdict_by_visit job prefix path visit)) (verdict_by_visit job prefix path visit) (good_by_visit job prefix path visit h)
+good_verdict job prefix path visit h = good_if (is_ours job.share (verdict_by_visit job prefix path visit)) _ (good_by_visit job prefix path visit h)
 
 visit_either : (b : Bool) (v w : Visit) → good_visit v ≡ true → good_visit w ≡ true → good_visit (cond b v w) ≡ true
-visit_either true v w x y = x
-visit_either false v w x y = y
+visit_either true _ _ x _ = x
+visit_either false _ _ _ y = y
 
 all_append : {X : Type 0} → (p : X → Bool) (xs ys : List X) → list_all p xs ≡ true → list_all p ys ≡ true → list_all p (xs ++ ys) ≡ true
-all_append p [] ys h k = k
+all_append _ [] _ _ k = k
 all_append p (x ∷ xs) ys h k =
-    let parts = and_parts (p x) (list_all p xs) h in
-    and_from (p x) (list_all p (xs ++ ys)) parts.0 (all_append p xs ys parts.1 k)
+    let parts = and_parts (p x) _ h in
+    and_from (p x) _ parts.0 (all_append p xs ys parts.1 k)
 
 all_walked : (visit : Visit) (below : List Site) → list_all good_site below ≡ true → list_all good_site (walked visit below) ≡ true
-all_walked (Listed inside) below h = h
-all_walked _ below h = refl
+all_walked (Listed _) _ h = h
+all_walked _ _ _ = refl
 
 all_either : (b : Bool) (xs : List Site) → list_all good_site xs ≡ true → list_all good_site (cond b xs []) ≡ true
-all_either true xs h = h
-all_either false xs h = refl
+all_either true _ h = h
+all_either false _ _ = refl
 
 good_sites : (depth : ℕ) (path : Path) (f : Forest) → is_proper f ≡ true → list_all good_site (sites_in depth path f) ≡ true
 good_sites depth path none proper = refl
@@ -129,26 +127,26 @@ abbrev good_item : Item → Bool
 good_item item = good item.verdict
 
 good_items : (job : Job) (prefix : List ℕ) (ways : List Site) → list_all good_site ways ≡ true → list_all good_item (map (item_of job prefix) ways) ≡ true
-good_items job prefix [] h = refl
+good_items _ _ [] _ = refl
 good_items job prefix (site ∷ ways) h =
-    let parts = and_parts (good_site site) (list_all good_site ways) h in
-    and_from (good (verdict_of job prefix site.0 site.1)) (list_all good_item (map (item_of job prefix) ways)) (good_verdict job prefix site.0 site.1 parts.0) (good_items job prefix ways parts.1)
+    let parts = and_parts _ _ h in
+    and_from _ _ (good_verdict job prefix site.0 site.1 parts.0) (good_items job prefix ways parts.1)
 
 abbrev good_marked : Marked → Bool
 good_marked m = good_item m.0
 
 all_marked : (job : Job) (root : Tree) (earlier others : List Item) → list_all good_item others ≡ true → list_all good_marked (marked_after job root earlier others) ≡ true
-all_marked job root earlier [] h = refl
+all_marked _ _ _ [] _ = refl
 all_marked job root earlier (item ∷ others) h =
-    let parts = and_parts (good_item item) (list_all good_item others) h in
-    and_from (good_item item) (list_all good_marked (marked_after job root (earlier ++ item ∷ []) others)) parts.0 (all_marked job root (earlier ++ item ∷ []) others parts.1)
+    let parts = and_parts _ _ h in
+    and_from _ _ parts.0 (all_marked job root (earlier ++ item ∷ []) others parts.1)
 
 pub all_take : {X : Type 0} → (p : X → Bool) (k : ℕ) (xs : List X) → list_all p xs ≡ true → list_all p (take k xs) ≡ true
-all_take p zero xs h = refl
-all_take p (suc k) [] h = refl
+all_take _ zero _ _ = refl
+all_take _ (suc _) [] _ = refl
 all_take p (suc k) (x ∷ xs) h =
-    let parts = and_parts (p x) (list_all p xs) h in
-    and_from (p x) (list_all p (take k xs)) parts.0 (all_take p k xs parts.1)
+    let parts = and_parts (p x) _ h in
+    and_from (p x) _ parts.0 (all_take p k xs parts.1)
 
 -- ---- and what is carried of them
 
@@ -158,31 +156,31 @@ in_order object = comes_in_order object.files
 files_in_order : (inside : Forest) → is_proper inside ≡ true → comes_in_order (files (entries inside)) ≡ true
 files_in_order inside proper =
     let both = files_come_in_order inside proper in
-    and_from (part_in_order (paths_of (files (entries inside)))) (list_all is_logical (paths_of (files (entries inside)))) both.0 both.1
+    and_from _ _ both.0 both.1
 
 all_by_outcome : (id : List ℕ) (held : List File) (why : Option Cause) → comes_in_order held ≡ true → list_all in_order (carried_by_outcome id (outcome_by held why)) ≡ true
-all_by_outcome id held None h = and_from (comes_in_order held) true h refl
-all_by_outcome id held (Some why) h = refl
+all_by_outcome _ held None h = and_from _ true h refl
+all_by_outcome _ _ (Some _) _ = refl
 
 carried_either : (taken : Bool) (xs : List Carried) → list_all in_order xs ≡ true → list_all in_order (cond taken [] xs) ≡ true
-carried_either true xs h = refl
-carried_either false xs h = h
+carried_either true _ _ = refl
+carried_either false _ h = h
 
 all_carried_by : (job : Job) (taken : Bool) (verdict : Verdict) → good verdict ≡ true → list_all in_order (carried_by job taken verdict) ≡ true
 all_carried_by job taken (Named id object) h =
-    carried_either taken (carried_by_outcome id (outcome_by (files (entries object.inside)) (cause_of job.limits object)))
-    (all_by_outcome id (files (entries object.inside)) (cause_of job.limits object) (files_in_order object.inside h))
-all_carried_by job taken _ h = refl
+    carried_either taken _
+    (all_by_outcome id _ (cause_of job.limits object) (files_in_order object.inside h))
+all_carried_by _ _ _ _ = refl
 
 all_in_order : (job : Job) (marks : List Marked) → list_all good_marked marks ≡ true → list_all in_order (carried job marks) ≡ true
-all_in_order job [] h = refl
+all_in_order _ [] _ = refl
 all_in_order job (m ∷ marks) h =
     let parts = and_parts (good_marked m) (list_all good_marked marks) h in
     all_append in_order (carried_by job m.1 m.0.verdict) (carried job marks) (all_carried_by job m.1 m.0.verdict parts.0) (all_in_order job marks parts.1)
 
 good_in_root : (depth : ℕ) (top : Option Forest) → ((inside : Forest) → top ≡ Some inside → is_proper inside ≡ true) → list_all good_site (sites_in_root depth top) ≡ true
-good_in_root depth None h = refl
-good_in_root depth (Some top) h = and_from (is_proper top) (list_all good_site (sites_in depth [] top)) (h top refl) (good_sites depth [] top (h top refl))
+good_in_root _ None _ = refl
+good_in_root depth (Some top) h = and_from _ _ (h top refl) (good_sites depth [] top (h top refl))
 
 pub carried_files_come_in_order : CarriedFilesComeInOrder
 carried_files_come_in_order job source root k proper =

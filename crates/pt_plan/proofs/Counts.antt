@@ -32,15 +32,15 @@ fit_by_verdict job root earlier (Named id object) = by (is_taken job root earlie
     by : (t : Bool) → (not t || true) ≡ true
     by true = refl
     by false = refl
-fit_by_verdict job root earlier _ = refl
+fit_by_verdict _ _ _ _ = refl
 
 abbrev is_fit_mark : Marked → Bool
 is_fit_mark m = is_fit m.1 m.0.verdict
 
 all_fit : (job : Job) (root : Tree) (earlier others : List Item) → list_all is_fit_mark (marked_after job root earlier others) ≡ true
-all_fit job root earlier [] = refl
+all_fit _ _ _ [] = refl
 all_fit job root earlier (item ∷ others) =
-    and_from (is_fit (is_taken job root earlier item.verdict) item.verdict) (list_all is_fit_mark (marked_after job root (earlier ++ item ∷ []) others))
+    and_from _ _
     (fit_by_verdict job root earlier item.verdict) (all_fit job root (earlier ++ item ∷ []) others)
 
 -- the numbers of some lines
@@ -54,24 +54,24 @@ record AreTold (told : List Line) (done present skipped : ℕ) : Type 0 where
 told_by_cause : (job : Job) (path : Path) (id : List ℕ) (object : PairtreeObject) (why : Option Cause)
     → AreTold (line_by_outcome path id object (place_of job.tuples id) (outcome_by (files (entries object.inside)) why) ∷ [])
     (length (carried_by_outcome id (outcome_by (files (entries object.inside)) why))) 0 (cond (is_some why) 1 0)
-told_by_cause job path id object None = record { as_done = refl; as_present = refl; as_skipped = refl; as_all = refl }
-told_by_cause job path id object (Some why) = record { as_done = refl; as_present = refl; as_skipped = refl; as_all = refl }
+told_by_cause _ _ _ _ None = record { as_done = refl; as_present = refl; as_skipped = refl; as_all = refl }
+told_by_cause _ _ _ _ (Some _) = record { as_done = refl; as_present = refl; as_skipped = refl; as_all = refl }
 
 told_by_verdict : (job : Job) (path : Path) (taken : Bool) (verdict : Verdict) → is_fit taken verdict ≡ true
     → AreTold (line_by_verdict job path taken verdict) (length (carried_by job taken verdict)) (cond taken 1 0) (cond (is_verdict_passed_over job taken verdict) 1 0)
-told_by_verdict job path true Interior fit = absurd (false≢true fit)
-told_by_verdict job path false Interior fit = record { as_done = refl; as_present = refl; as_skipped = refl; as_all = refl }
-told_by_verdict job path true (Skip why) fit = absurd (false≢true fit)
-told_by_verdict job path false (Skip why) fit = record { as_done = refl; as_present = refl; as_skipped = refl; as_all = refl }
-told_by_verdict job path true (Named id object) fit = record { as_done = refl; as_present = refl; as_skipped = refl; as_all = refl }
-told_by_verdict job path false (Named id object) fit = told_by_cause job path id object (cause_of job.limits object)
+told_by_verdict _ _ true Interior fit = absurd (false≢true fit)
+told_by_verdict _ _ false Interior _ = record { as_done = refl; as_present = refl; as_skipped = refl; as_all = refl }
+told_by_verdict _ _ true (Skip _) fit = absurd (false≢true fit)
+told_by_verdict _ _ false (Skip _) _ = record { as_done = refl; as_present = refl; as_skipped = refl; as_all = refl }
+told_by_verdict _ _ true (Named _ _) _ = record { as_done = refl; as_present = refl; as_skipped = refl; as_all = refl }
+told_by_verdict job path false (Named id object) _ = told_by_cause job path id object (cause_of job.limits object)
 
 -- and of all lines
 told_all : (job : Job) (marks : List Marked) → list_all is_fit_mark marks ≡ true
     → AreTold (flat_map (line_of job) marks) (length (carried job marks)) (count_by (λ m. m.1) marks) (count_by (is_passed_over job) marks)
-told_all job [] fit = record { as_done = refl; as_present = refl; as_skipped = refl; as_all = refl }
+told_all _ [] _ = record { as_done = refl; as_present = refl; as_skipped = refl; as_all = refl }
 told_all job (m ∷ marks) fit =
-    let parts = and_parts (is_fit_mark m) (list_all is_fit_mark marks) fit in
+    let parts = and_parts _ _ fit in
     let first = told_by_verdict job m.0.path m.1 m.0.verdict parts.0 in
     let later = told_all job marks parts.1 in
     let both : length (carried job (m ∷ marks)) ≡ length (carried_by job m.1 m.0.verdict) + length (carried job marks) = length-append (carried_by job m.1 m.0.verdict) (carried job marks) in
@@ -107,7 +107,7 @@ end_line_tells_numbers job source root = told_lines job (marked job source root)
 
 pub each_line_is_counted : EachLineIsCounted
 each_line_is_counted job source root k =
-    let told = told_all job (take k (marked job source root)) (all_take is_fit_mark k (marked job source root) (all_fit job root [] (items job source))) in
+    let told = told_all job (take k (marked job source root)) (all_take is_fit_mark k _ (all_fit job root [] (items job source))) in
     told.as_all ∙ λ i. sym told.as_done i + sym told.as_present i + sym told.as_skipped i
 
 pub counts_grow : CountsGrow

@@ -15,12 +15,12 @@ same_paths [] = refl
 same_paths (file ∷ others) = ap (λ (paths : List Path). file.0 ∷ paths) (same_paths others)
 
 same_before : (p q : Path) → parts_before p q ≡ walk.parts_before p q
-same_before [] q = refl
-same_before (a ∷ p) [] = refl
+same_before [] _ = refl
+same_before (_ ∷ _) [] = refl
 same_before (a ∷ p) (b ∷ q) = ap (λ (later : Bool). cond (bytes_eq a b) later (is_before a b)) (same_before p q)
 
 all_before : (p : Path) (paths : List Path) → list_all (parts_before p) paths ≡ list_all (walk.parts_before p) paths
-all_before p [] = refl
+all_before _ [] = refl
 all_before p (q ∷ paths) = ap (λ (here : Bool). here && list_all (parts_before p) paths) (same_before p q) ∙ ap (λ (later : Bool). walk.parts_before p q && later) (all_before p paths)
 
 same_order : (paths : List Path) → part_in_order paths ≡ walk.part_in_order paths
@@ -29,7 +29,7 @@ same_order (p ∷ paths) = ap (λ (here : Bool). here && part_in_order paths) (a
 
 same_logical : (p : Path) → is_logical p ≡ walk.is_logical p
 same_logical [] = refl
-same_logical (name ∷ p) = refl
+same_logical (_ ∷ _) = refl
 
 all_logical : (paths : List Path) → list_all is_logical paths ≡ list_all walk.is_logical paths
 all_logical [] = refl

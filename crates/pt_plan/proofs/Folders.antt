@@ -14,8 +14,8 @@ abbrev pub is_one : Path → List Path → Bool
 is_one path paths = list_any (same_path path) paths
 
 top_below : (name : List ℕ) (paths : List Path) → is_one [] (map (λ (folder : Path). name ∷ folder) paths) ≡ false
-top_below name [] = refl
-top_below name (path ∷ paths) = top_below name paths
+top_below _ [] = refl
+top_below name (_ ∷ paths) = top_below name paths
 
 pub top_is_none : (p : Path) → is_one [] (folders_above p) ≡ false
 top_is_none [] = refl
@@ -23,7 +23,7 @@ top_is_none (name ∷ []) = refl
 top_is_none (name ∷ next ∷ path) = top_below name (folders_above (next ∷ path))
 
 one_below : (m name : List ℕ) (q : Path) (paths : List Path) → is_one (m ∷ q) (map (λ (folder : Path). name ∷ folder) paths) ≡ (bytes_eq m name && is_one q paths)
-one_below m name q [] = by (bytes_eq m name)
+one_below m name _ [] = by (bytes_eq m name)
   where
     by : (t : Bool) → false ≡ (t && false)
     by true = refl
@@ -36,7 +36,7 @@ one_below m name q (path ∷ paths) = ap (λ b. (bytes_eq m name && same_path q 
 
 -- but for the top, a path is one of the folders above another exactly where it leads there and isn't it
 pub above : (m : List ℕ) (q p : Path) → is_one (m ∷ q) (folders_above p) ≡ (leads (m ∷ q) p && not (leads p (m ∷ q)))
-above m q [] = refl
+above _ _ [] = refl
 above m q (name ∷ []) = by (bytes_eq m name) (bytes_eq name m) refl (λ b e. bytes_eq-sym m name b e) q
   where
     by : (s t : Bool) → bytes_eq m name ≡ s → ((b : Bool) → bytes_eq m name ≡ b → bytes_eq name m ≡ b) → (q : Path)
@@ -79,13 +79,13 @@ pub record IsAbove (q p : Path) : Type 0 where
 pub is_above : (q p : Path) → is_one q (folders_above p) ≡ true → IsAbove q p
 is_above [] p h = absurd (true≢false (sym h ∙ top_is_none p))
 is_above (m ∷ q) p h =
-    let parts = and_parts (leads (m ∷ q) p) (not (leads p (m ∷ q))) (sym (above m q p) ∙ h) in
+    let parts = and_parts _ _ (sym (above m q p) ∙ h) in
     record { on = parts.0; short = shorter (m ∷ q) p parts.0 (not-true (leads p (m ∷ q)) parts.1) }
 
 -- of the first of some paths
 pub one_of_first : (q : Path) (n : ℕ) (paths : List Path) → is_one q (take n paths) ≡ true → is_one q paths ≡ true
-one_of_first q zero paths h = absurd (false≢true h)
-one_of_first q (suc n) [] h = absurd (false≢true h)
+one_of_first _ zero _ h = absurd (false≢true h)
+one_of_first _ (suc _) [] h = absurd (false≢true h)
 one_of_first q (suc n) (p ∷ paths) h = by (same_path q p) (λ k. one_of_first q n paths k) h
   where
     by : (t : Bool) → (is_one q (take n paths) ≡ true → is_one q paths ≡ true) → (t || is_one q (take n paths)) ≡ true → (t || is_one q paths) ≡ true
@@ -93,16 +93,16 @@ one_of_first q (suc n) (p ∷ paths) h = by (same_path q p) (λ k. one_of_first 
     by false later h = later h
 
 -- a test that each of some paths passes follows from another, where it does at each of them
-pub each_one : (test other : Path → Bool) (paths : List Path) → ((q : Path) → is_one q paths ≡ true → test q ≡ true → other q ≡ true) → list_all test paths ≡ true → list_all other paths ≡ true
-each_one test other [] from h = refl
-each_one test other (p ∷ paths) from h =
-    let parts = and_parts (test p) (list_all test paths) h in
-    and_from (other p) (list_all other paths) (from p (ap (λ b. b || is_one p paths) (path_itself p)) parts.0)
-    (each_one test other paths (λ q one is. from q (or_right (same_path q p) (is_one q paths) one) is) parts.1)
+pub each_one : {test other : Path → Bool} (paths : List Path) → ((q : Path) → is_one q paths ≡ true → test q ≡ true → other q ≡ true) → list_all test paths ≡ true → list_all other paths ≡ true
+each_one [] _ _ = refl
+each_one {test} {other} (p ∷ paths) from h =
+    let parts = and_parts (test p) _ h in
+    and_from (other p) _ (from p (ap (λ b. b || is_one p paths) (path_itself p)) parts.0)
+    (each_one paths (λ q one is. from q (or_right _ _ one) is) parts.1)
 
 -- two tests that say the same of each of some paths
 pub each_same : (test other : Path → Bool) (paths : List Path) → ((q : Path) → is_one q paths ≡ true → test q ≡ other q) → list_all test paths ≡ list_all other paths
-each_same test other [] same = refl
+each_same _ _ [] _ = refl
 each_same test other (p ∷ paths) same =
     ap (λ b. b && list_all test paths) (same p (ap (λ b. b || is_one p paths) (path_itself p)))
-    ∙ ap (λ b. other p && b) (each_same test other paths (λ q one. same q (or_right (same_path q p) (is_one q paths) one)))
+    ∙ ap (λ b. other p && b) (each_same test other paths (λ q one. same q (or_right _ _ one)))

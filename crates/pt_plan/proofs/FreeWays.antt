@@ -7,7 +7,7 @@ use Rattle.std.proofs.lemmas.Bool.{and_from}
 use Rattle.pt_object.specs.Root.{base, base_where}
 use Rattle.pt_tree.specs.Path.{Path}
 use Rattle.pt_tree.specs.Tree.{Entry, Tree}
-use Rattle.pt_plan.specs.Carried.{Carried, carried_among, folder_where, is_folder_or_free, is_on_the_way, is_way_free, place_of_carried, with_objects}
+use Rattle.pt_plan.specs.Carried.{Carried, carried_among, folder_where, is_folder_or_free, is_on_the_way, is_way_free, with_objects}
 use Rattle.pt_plan.specs.Job.{Job}
 use Rattle.pt_plan.specs.PlaceLaws.{IsRooted, WayStaysFree}
 use Rattle.pt_plan.specs.Roots.{tuple_folders}
@@ -17,11 +17,11 @@ use Rattle.pt_plan.proofs.WithObjects.{none_of_objects, short_as}
 
 -- objects leave the way to a place as it was
 pub way_with_objects : (job : Job) (objects : List Carried) (t : Tree) (object : Carried) → is_way_free job (with_objects job objects t) object ≡ is_way_free job t object
-way_with_objects job objects t object = each_same (λ folder. is_folder_or_free (with_objects job objects t folder)) (λ folder. is_folder_or_free (t folder)) (tuple_folders job object) at
+way_with_objects job objects t object = each_same _ _ _ at
   where
     at : (q : Path) → is_one q (tuple_folders job object) ≡ true → is_folder_or_free (with_objects job objects t q) ≡ is_folder_or_free (t q)
     at q one =
-        let above = is_above q (place_of_carried job object) one in
+        let above = is_above q _ one in
         ap (λ (o : Option Entry). is_folder_or_free (option_or (t q) (option_or o (folder_where (is_on_the_way job objects q))))) (none_of_objects job q objects (short_as job object.id q above.short))
         ∙ by (t q) (is_on_the_way job objects q)
       where
@@ -31,16 +31,16 @@ way_with_objects job objects t object = each_same (λ folder. is_folder_or_free 
         by None false = refl
 
 -- where nothing stands, each way is free
-none_in_the_way : (root : Tree) (folders : List Path) → ((q : Path) → root q ≡ None) → list_all (λ folder. is_folder_or_free (root folder)) folders ≡ true
-none_in_the_way root [] none = refl
-none_in_the_way root (folder ∷ folders) none =
-    and_from (is_folder_or_free (root folder)) (list_all (λ folder. is_folder_or_free (root folder)) folders) (ap is_folder_or_free (none folder)) (none_in_the_way root folders none)
+none_in_the_way : {root : Tree} (folders : List Path) → ((q : Path) → root q ≡ None) → list_all (λ folder. is_folder_or_free (root folder)) folders ≡ true
+none_in_the_way [] _ = refl
+none_in_the_way {root} (folder ∷ folders) none =
+    and_from _ _ (ap is_folder_or_free (none folder)) (none_in_the_way folders none)
 
 pub way_in_base : (job : Job) (root : Tree) (object : Carried) → IsRooted root → is_way_free job (base job.tuples root) object ≡ is_way_free job root object
 way_in_base job root object rooted = by (root []) refl
   where
     by : (o : Option Entry) → root [] ≡ o → is_way_free job (base_where job.tuples root o) object ≡ is_way_free job root object
-    by None e = new_root_ways job object ∙ sym (none_in_the_way root (tuple_folders job object) (λ q. rooted e q))
+    by None e = new_root_ways job object ∙ sym (none_in_the_way (tuple_folders job object) (λ q. rooted e q))
     by (Some entry) e = refl
 
 pub way_stays_free : WayStaysFree

@@ -21,8 +21,8 @@ mark job root before item = (item, is_taken job root before item.verdict)
 
 mark_at : (job : Job) (root : Tree) (earlier others : List Item) (k : ℕ)
     → slice_get (marked_after job root earlier others) k ≡ option_map (mark job root (earlier ++ take k others)) (slice_get others k)
-mark_at job root earlier [] k = refl
-mark_at job root earlier (item ∷ others) zero = ap (λ (before : List Item). Some (mark job root before item)) (sym (append_nil earlier))
+mark_at _ _ _ [] _ = refl
+mark_at job root earlier (item ∷ _) zero = ap (λ (before : List Item). Some (mark job root before item)) (sym (append_nil earlier))
 mark_at job root earlier (item ∷ others) (suc k) =
     mark_at job root (earlier ++ item ∷ []) others k
     ∙ ap (λ (before : List Item). option_map (mark job root before) (slice_get others k)) (append_assoc earlier (item ∷ []) (take k others))
@@ -31,24 +31,24 @@ pub taken_against_earlier : IsTakenAgainstEarlier
 taken_against_earlier job source root k = mark_at job root [] (items job source) k
 
 -- of a list with one element more
-one_more : {X Y : Type 0} → (f : X → List Y) (k : ℕ) (xs : List X) (x : X) → slice_get xs k ≡ Some x → flat_map f (take (suc k) xs) ≡ flat_map f (take k xs) ++ f x
-one_more f k [] x h = absurd (cc)
-one_more f zero (y ∷ xs) x h = append_nil (f y) ∙ ap f (some_is y x h)
+one_more : {X Y : Type 0} → (f : X → List Y) (k : ℕ) (xs : List X) {x : X} → slice_get xs k ≡ Some x → flat_map f (take (suc k) xs) ≡ flat_map f (take k xs) ++ f x
+one_more f k [] h = absurd (cc)
+one_more f zero (y ∷ xs) {x} h = append_nil (f y) ∙ ap f (some_is y x h)
   where
     some_is : {A : Type 0} → (a b : A) → Some a ≡ Some b → a ≡ b
     some_is a b e = cc
-one_more f (suc k) (y ∷ xs) x h = ap (λ l. f y ++ l) (one_more f k xs x h) ∙ sym (append_assoc (f y) (flat_map f (take k xs)) (f x))
+one_more f (suc k) (y ∷ xs) {x} h = ap (λ l. f y ++ l) (one_more f k xs h) ∙ sym (append_assoc (f y) (flat_map f (take k xs)) (f x))
 
 pub carried_grows : CarriedGrows
-carried_grows job source root k m h = one_more (λ (m : Marked). carried_by job m.1 m.0.verdict) k (marked job source root) m h
+carried_grows job source root k m h = one_more (λ (m : Marked). carried_by job m.1 m.0.verdict) k (marked job source root) h
 
 pub text_grows : TextGrows
 text_grows job source root k m h =
-    let more : lines job source root (suc k) ≡ lines job source root k ++ line_of job m = one_more (line_of job) k (marked job source root) m h in
+    let more : lines job source root (suc k) ≡ lines job source root k ++ line_of job m = one_more (line_of job) k (marked job source root) h in
     (more, ap (flat_map line_text) more ∙ flat_map-append line_text (lines job source root k) (line_of job m))
 
 as_many : (job : Job) (root : Tree) (earlier others : List Item) → length (marked_after job root earlier others) ≡ length others
-as_many job root earlier [] = refl
+as_many _ _ _ [] = refl
 as_many job root earlier (item ∷ others) = ap (λ n. suc n) (as_many job root (earlier ++ item ∷ []) others)
 
 pub all_items_are_all : AllItemsAreAll
@@ -61,11 +61,11 @@ all_items_are_all job source root k h =
 
 or_nothing : (here : Option Entry) → option_or here None ≡ here
 or_nothing None = refl
-or_nothing (Some entry) = refl
+or_nothing (Some _) = refl
 
 pub begins_with_the_base : BeginsWithTheBase
-begins_with_the_base job source root = λ i path. or_nothing (base job.tuples root path) i
+begins_with_the_base job _ root = λ i path. or_nothing (base job.tuples root path) i
 
 pub what_stands_stays : WhatStandsStays
-what_stands_stays job source root k path entry h =
+what_stands_stays job source root k path _ h =
     ap (λ (here : Option Entry). option_or here (option_or (entry_of_objects job (carried_among job source root k) path) (folder_where (is_on_the_way job (carried_among job source root k) path)))) h

@@ -1,5 +1,5 @@
 -- The objects that are carried come to free places, each whole.
-use Rattle.std.proofs.Common.{◌≡◌, ℕ, zero, suc, List, [], ◌∷◌, ◌++◌, Bool, true, false, refl, sym, ◌∙◌, ap, subst, map, take, inl, inr, ◌&&◌}
+use Rattle.std.proofs.Common.{◌≡◌, ℕ, zero, suc, List, [], ◌∷◌, ◌++◌, Bool, true, false, refl, sym, ◌∙◌, ap, subst, map, take, inl, inr}
 use Rattle.std.specs.Prelude.{◌⊎◌, Option, None, Some, is_none, slice_get}
 use Rattle.std.specs.List.{list_all}
 use Rattle.std.proofs.lemmas.Bool.{and_from, and_parts}
@@ -31,27 +31,27 @@ use Rattle.pt_plan.proofs.WithObjects.{in_two_lots}
 -- one object more, which is whole and comes to a free place
 pub one_comes : (job : Job) (objects : List Carried) (object : Carried) (t : Tree) → come_to_free_places job t objects ≡ true → is_whole object ≡ true → is_place_free job (with_objects job objects t) object ≡ true
     → come_to_free_places job t (objects ++ object ∷ []) ≡ true
-one_comes job [] object t come whole free =
-    and_from (is_whole object) (is_place_free job t object && true) whole
-    (and_from (is_place_free job t object) true (subst (λ (u : Tree). is_place_free job u object ≡ true) none free) refl)
+one_comes job [] object t _ whole free =
+    and_from _ _ whole
+    (and_from _ true (subst (λ (u : Tree). is_place_free job u object ≡ true) none free) refl)
   where
     none : with_objects job [] t ≡ t
     none = without_folders t
 one_comes job (first ∷ objects) object t come whole free =
-    let parts = and_parts (is_whole first) (is_place_free job t first && come_to_free_places job (with_objects job (first ∷ []) t) objects) come in
-    let more = and_parts (is_place_free job t first) (come_to_free_places job (with_objects job (first ∷ []) t) objects) parts.1 in
-    and_from (is_whole first) (is_place_free job t first && come_to_free_places job (with_objects job (first ∷ []) t) (objects ++ object ∷ [])) parts.0
-    (and_from (is_place_free job t first) (come_to_free_places job (with_objects job (first ∷ []) t) (objects ++ object ∷ [])) more.0
-    (one_comes job objects object (with_objects job (first ∷ []) t) more.1 whole (subst (λ (u : Tree). is_place_free job u object ≡ true) (sym both) free)))
+    let parts = and_parts _ _ come in
+    let more = and_parts _ _ parts.1 in
+    and_from _ _ parts.0
+    (and_from _ _ more.0
+    (one_comes job objects object _ more.1 whole (subst (λ (u : Tree). is_place_free job u object ≡ true) (sym both) free)))
   where
     both : with_objects job objects (with_objects job (first ∷ []) t) ≡ with_objects job (first ∷ objects) t
     both = ap (with_objects job objects) (sym (without_folders (with_objects job (first ∷ []) t))) ∙ in_two_lots job (first ∷ []) objects [] t (no_folders job objects)
 
 -- of an item one object is carried, or none
 one_or_none : (job : Job) (taken : Bool) (verdict : Verdict) → (carried_by job taken verdict ≡ []) ⊎ ((object : Carried) × (carried_by job taken verdict ≡ object ∷ []))
-one_or_none job taken Interior = inl refl
-one_or_none job taken (Skip why) = inl refl
-one_or_none job true (Named id object) = inl refl
+one_or_none _ _ Interior = inl refl
+one_or_none _ _ (Skip _) = inl refl
+one_or_none _ true (Named _ _) = inl refl
 one_or_none job false (Named id object) = by (outcome job.limits object)
   where
     by : (o : Outcome) → (carried_by_outcome id o ≡ []) ⊎ ((object : Carried) × (carried_by_outcome id o ≡ object ∷ []))
@@ -59,8 +59,8 @@ one_or_none job false (Named id object) = by (outcome job.limits object)
     by (Holds files) = inr (record { id = id; files = files }, refl)
 
 past : {X : Type 0} → (xs : List X) (k : ℕ) → slice_get xs k ≡ None → take (suc k) xs ≡ take k xs
-past [] zero h = refl
-past [] (suc k) h = refl
+past [] zero _ = refl
+past [] (suc _) _ = refl
 past (x ∷ xs) zero h = absurd (cc)
 past (x ∷ xs) (suc k) h = ap (λ l. x ∷ l) (past xs k h)
 
@@ -75,21 +75,21 @@ next_whole job source root k object proper more =
     in_order_apart (paths_of object.files) (and_parts (part_in_order (paths_of object.files)) (list_all is_logical (paths_of object.files)) last.0).0
 
 -- the next object comes to a free place
-next_comes : (job : Job) (source : Forest) (root : Tree) (k : ℕ) (object : Carried) → is_proper source ≡ true → HasNoGaps root → IsCarriedAs job source root k object
+next_comes : (job : Job) (source : Forest) {root : Tree} (k : ℕ) {object : Carried} → is_proper source ≡ true → HasNoGaps root → IsCarriedAs job source root k object
     → come_to_free_places job (base job.tuples root) (carried_among job source root k) ≡ true → come_to_free_places job (base job.tuples root) (carried_among job source root k ++ object ∷ []) ≡ true
-next_comes job source root k object proper gaps (m, at, is) come =
+next_comes job source {root} k {object} proper gaps (m, at, is) come =
     one_comes job (carried_among job source root k) object (base job.tuples root) come
     (next_whole job source root k object proper (carried_grows job source root k m at ∙ ap (λ (l : List Carried). carried_among job source root k ++ l) is))
-    (ap is_none (place_is_free job source root k object gaps (m, at, is)))
+    (ap is_none (place_is_free job source k gaps (m, at, is)))
 
 -- so all do
-all_come : (job : Job) (source : Forest) (root : Tree) (k : ℕ) → is_proper source ≡ true → HasNoGaps root → come_to_free_places job (base job.tuples root) (carried_among job source root k) ≡ true
-all_come job source root zero proper gaps = refl
-all_come job source root (suc k) proper gaps = by (slice_get (marked job source root) k) refl (all_come job source root k proper gaps)
+all_come : (job : Job) (source : Forest) {root : Tree} (k : ℕ) → is_proper source ≡ true → HasNoGaps root → come_to_free_places job (base job.tuples root) (carried_among job source root k) ≡ true
+all_come _ _ zero _ _ = refl
+all_come job source {root} (suc k) proper gaps = by (slice_get (marked job source root) k) refl (all_come job source k proper gaps)
   where
     by : (o : Option Marked) → slice_get (marked job source root) k ≡ o → come_to_free_places job (base job.tuples root) (carried_among job source root k) ≡ true
         → come_to_free_places job (base job.tuples root) (carried_among job source root (suc k)) ≡ true
-    by None at come = ap (λ (l : List Marked). come_to_free_places job (base job.tuples root) (carried job l)) (past (marked job source root) k at) ∙ come
+    by None at come = ap (λ (l : List Marked). come_to_free_places job (base job.tuples root) (carried job l)) (past _ k at) ∙ come
     by (Some m) at come = either (one_or_none job m.1 m.0.verdict)
       where
         grown : (l : List Carried) → carried_by job m.1 m.0.verdict ≡ l → carried_among job source root (suc k) ≡ carried_among job source root k ++ l
@@ -98,22 +98,22 @@ all_come job source root (suc k) proper gaps = by (slice_get (marked job source 
         either : (carried_by job m.1 m.0.verdict ≡ []) ⊎ ((object : Carried) × (carried_by job m.1 m.0.verdict ≡ object ∷ []))
             → come_to_free_places job (base job.tuples root) (carried_among job source root (suc k)) ≡ true
         either (inl none) = ap (come_to_free_places job (base job.tuples root)) (grown [] none ∙ append_nil (carried_among job source root k)) ∙ come
-        either (inr (object, is)) = ap (come_to_free_places job (base job.tuples root)) (grown (object ∷ []) is) ∙ next_comes job source root k object proper gaps (m, at, is) come
+        either (inr (object, is)) = ap (come_to_free_places job (base job.tuples root)) (grown (object ∷ []) is) ∙ next_comes job source k proper gaps (m, at, is) come
 
-kept_left : (job : Job) (source : Forest) (start now : Tree) (log : List ℕ) → is_proper source ≡ true → HasNoGaps (root_in start) → IsLeft job source start now log → IsKept job start now
-kept_left job source start _ _ proper gaps AsItWas = kept.AsItWas
-kept_left job source start _ _ proper gaps (MakingRoot now free at) = kept.MakingRoot now free at
-kept_left job source start _ _ proper gaps (Between k log within told) = Holding (carried_among job source (root_in start) k) (all_come job source (root_in start) k proper gaps)
-kept_left job source start _ _ proper gaps (Carrying k tuples object now log is told at) =
-    Making (carried_among job source (root_in start) k) object tuples now (next_comes job source (root_in start) k object proper gaps is (all_come job source (root_in start) k proper gaps)) (inl at)
+kept_left : {job : Job} {source : Forest} {start now : Tree} {log : List ℕ} → is_proper source ≡ true → HasNoGaps (root_in start) → IsLeft job source start now log → IsKept job start now
+kept_left _ _ AsItWas = kept.AsItWas
+kept_left _ _ (MakingRoot now free at) = kept.MakingRoot now free at
+kept_left {job} {source} {start} proper gaps (Between k _ _ _) = Holding (carried_among job source (root_in start) k) (all_come job source k proper gaps)
+kept_left {job} {source} {start} proper gaps (Carrying k tuples object now _ is _ at) =
+    Making (carried_among job source (root_in start) k) object tuples now (next_comes job source k proper gaps is (all_come job source k proper gaps)) (inl at)
 
 pub faults_leave_what_is_kept : FaultsLeaveWhatIsKept
-faults_leave_what_is_kept job source start now log proper gaps (inl same) = subst (λ (t : Tree). IsKept job start t) (sym same.0) kept.AsItWas
-faults_leave_what_is_kept job source start now log proper gaps (inr left) = kept_left job source start now log proper gaps left.1
+faults_leave_what_is_kept job _ start _ _ _ _ (inl same) = subst (λ (t : Tree). IsKept job start t) (sym same.0) kept.AsItWas
+faults_leave_what_is_kept _ _ _ _ _ proper gaps (inr left) = kept_left proper gaps left.1
 
 paths_of_rows : (all rows : List Row) (held : Path → List ℕ) → paths_of (map (λ (row : Row). (row.path, held (stored_path all row))) rows) ≡ row_paths rows
-paths_of_rows all [] held = refl
+paths_of_rows _ [] _ = refl
 paths_of_rows all (row ∷ rows) held = ap (λ (paths : List Path). row.path ∷ paths) (paths_of_rows all rows held)
 
 pub rows_make_whole_objects : RowsMakeWholeObjects
-rows_make_whole_objects id rows held apart = ap are_apart (paths_of_rows rows rows held) ∙ apart
+rows_make_whole_objects _ rows held apart = ap are_apart (paths_of_rows rows rows held) ∙ apart

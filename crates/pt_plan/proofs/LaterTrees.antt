@@ -6,7 +6,7 @@ use Rattle.std.proofs.lemmas.Bool.{and_parts, false_from_ne_true, false≢true}
 use Rattle.pt_object.proofs.Ways.{is_same}
 use Rattle.pt_object.specs.Inventory.{inventory_text}
 use Rattle.pt_object.specs.Object.{bytes_in, rows_of, stored_files}
-use Rattle.pt_object.specs.Script.{Item, StandsAtPrefix, cut_last, done, item_entry, item_in, item_path, made}
+use Rattle.pt_object.specs.Script.{Item, StandsAtPrefix, cut_last, done, item_entry, item_in, made}
 use Rattle.pt_object.specs.Scripts.{object_items, root_items, staging}
 use Rattle.pt_tree.specs.Forest.{Forest}
 use Rattle.pt_tree.specs.Path.{Path, rest_below, same_path}
@@ -29,13 +29,13 @@ outside path p beside within =
     false_from_ne_true (same_path path p) (λ same. false≢true (sym (ap is_some beside) ∙ ap (λ (q : Path). is_some (rest_below staging q)) (is_same path p same) ∙ within))
 
 pub made_beside : (script : List Item) (t : Tree) → list_all in_staging script ≡ true → (path : Path) → rest_below staging path ≡ None → made script t path ≡ t path
-made_beside [] t h path beside = refl
+made_beside [] _ _ _ _ = refl
 made_beside (item ∷ script) t h path beside =
-    let parts = and_parts (in_staging item) (list_all in_staging script) h in
-    made_beside script (done item t) parts.1 path beside ∙ ap (λ b. cond b (Some (item_entry item)) (t path)) (outside path (item_path item) beside parts.0)
+    let parts = and_parts _ _ h in
+    made_beside script (done item t) parts.1 path beside ∙ ap (λ b. cond b (Some (item_entry item)) (t path)) (outside path _ beside parts.0)
 
 pub prefix_beside : (items : List Item) (start now : Tree) → StandsAtPrefix (map (item_in staging) items) start now → (path : Path) → rest_below staging path ≡ None → now path ≡ start path
-prefix_beside items start now at path beside =
+prefix_beside items start _ at path beside =
     ap (λ (t : Tree). t path) at.stands
     ∙ made_beside (cut_last at.bytes (take at.items (map (item_in staging) items))) start
     (cut_in at.bytes (take at.items (map (item_in staging) items)) (all_take in_staging at.items (map (item_in staging) items) (items_in items))) path beside
@@ -43,22 +43,22 @@ prefix_beside items start now at path beside =
 -- ---- beside the root
 
 -- a path beside the root is as it was
-root_beside : (t root : Tree) (path : Path) → rest_below storage_root path ≡ None → with_root t root path ≡ t path
-root_beside t root path beside = rw beside refl
+root_beside : (t root : Tree) {path : Path} → rest_below storage_root path ≡ None → with_root t root path ≡ t path
+root_beside _ _ beside = rw beside refl
 
-left_beside : (job : Job) (source : Forest) (start now : Tree) (log : List ℕ) → IsLeft job source start now log → (path : Path) → rest_below storage_root path ≡ None → rest_below staging path ≡ None → now path ≡ start path
-left_beside job source start _ _ AsItWas path off out = refl
-left_beside job source start _ _ (MakingRoot now free at) path off out = prefix_beside (root_items job.tuples) start now at path out
-left_beside job source start _ _ (Between k log within told) path off out = root_beside start (after job source (root_in start) k) path off
-left_beside job source start _ _ (Carrying k tuples object now log is told at) path off out =
+left_beside : {job : Job} {source : Forest} {start now : Tree} {log : List ℕ} → IsLeft job source start now log → {path : Path} → rest_below storage_root path ≡ None → rest_below staging path ≡ None → now path ≡ start path
+left_beside AsItWas _ _ = refl
+left_beside {job} {start} (MakingRoot now _ at) {path} _ out = prefix_beside (root_items job.tuples) start now at path out
+left_beside {job} {source} {start} (Between k _ _ _) off _ = root_beside start (after job source (root_in start) k) off
+left_beside {job} {source} {start} (Carrying k tuples object now _ _ _ at) {path} off out =
     let rows = rows_of job.algorithm object.files in
     let made = object_items job.algorithm (inventory_text object.id rows job.meta job.algorithm) (stored_files rows (bytes_in object.files)) in
     let later = on_the_way_to job source (root_in start) k object tuples in
-    prefix_beside made (with_root start later) now at path out ∙ root_beside start later path off
+    prefix_beside made _ now at path out ∙ root_beside start later off
 
-may_beside : (job : Job) (source : Forest) (start now : Tree) (log : List ℕ) → MayBeLeft job source start now log → (path : Path) → rest_below storage_root path ≡ None → rest_below staging path ≡ None → now path ≡ start path
-may_beside job source start now log (inl same) path off out = ap (λ (t : Tree). t path) same.0
-may_beside job source start now log (inr left) path off out = left_beside job source start now log left.1 path off out
+may_beside : {job : Job} {source : Forest} {start now : Tree} {log : List ℕ} → MayBeLeft job source start now log → {path : Path} → rest_below storage_root path ≡ None → rest_below staging path ≡ None → now path ≡ start path
+may_beside (inl same) {path} _ _ = ap (λ (t : Tree). t path) same.0
+may_beside (inr left) off out = left_beside left.1 off out
 
 -- ---- the run after it
 
@@ -68,14 +68,14 @@ module _ (job : Job) (source : Forest) (start now : Tree) (log : List ℕ) (left
     where
       elsewhere : rest_below storage_root path ≡ None → (o : Option Path) → rest_below staging path ≡ o → without_at o (now path) ≡ without_at o (start path)
       elsewhere off (Some rest) e = refl
-      elsewhere off None e = may_beside job source start now log left path off e
+      elsewhere off None e = may_beside left off e
 
       by : (o : Option Path) → rest_below storage_root path ≡ o → with_root (without now staging) (after_all job source (root_in (without now staging))) path ≡ with_root (without start staging) (after_all job source (root_in start)) path
       by (Some rest) e = rw e (ap (λ (t : Tree). t rest) alike.same)
       by None e =
-          root_beside (without now staging) (after_all job source (root_in (without now staging))) path e
+          root_beside (without now staging) (after_all job source (root_in (without now staging))) {path = path} e
           ∙ elsewhere e (rest_below staging path) refl
-          ∙ sym (root_beside (without start staging) (after_all job source (root_in start)) path e)
+          ∙ sym (root_beside (without start staging) (after_all job source (root_in start)) {path = path} e)
 
 pub rerun_leaves_the_same : RerunLeavesTheSame
 rerun_leaves_the_same job source start now log tree begins left =

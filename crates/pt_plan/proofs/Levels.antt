@@ -18,7 +18,7 @@ whole_of (x ∷ p) (y ∷ q) rest is = by (bytes_eq x y) refl (λ e. whole_of p 
 
 -- of two paths of one length one leads to the other only if they are one
 pub level : (p q : Path) → length p ≡ length q → leads p q ≡ same_path p q
-level [] [] h = refl
+level [] [] _ = refl
 level [] (y ∷ q) h = absurd (omega arith)
 level (x ∷ p) [] h = absurd (omega arith)
 level (x ∷ p) (y ∷ q) h = by (bytes_eq x y) (level p q (omega arith))
@@ -30,7 +30,7 @@ level (x ∷ p) (y ∷ q) h = by (bytes_eq x y) (level p q (omega arith))
 -- a longer path leads to no shorter one
 pub longer : (p q : Path) → length q < length p → leads p q ≡ false
 longer [] q h = absurd (omega arith)
-longer (x ∷ p) [] h = refl
+longer (_ ∷ _) [] _ = refl
 longer (x ∷ p) (y ∷ q) h = by (bytes_eq x y) (longer p q (omega arith))
   where
     by : (t : Bool) → leads p q ≡ false → is_some (cond t (rest_below p q) None) ≡ false
@@ -39,9 +39,9 @@ longer (x ∷ p) (y ∷ q) h = by (bytes_eq x y) (longer p q (omega arith))
 
 -- what leads to a path leads to what that leads to
 pub leads_through : (p q r : Path) → leads p q ≡ true → leads q r ≡ true → leads p r ≡ true
-leads_through [] q r h k = refl
-leads_through (x ∷ p) [] r h k = absurd (false≢true h)
-leads_through (x ∷ p) (y ∷ q) [] h k = absurd (false≢true k)
+leads_through [] _ _ _ _ = refl
+leads_through (_ ∷ _) [] _ h _ = absurd (false≢true h)
+leads_through (_ ∷ _) (_ ∷ _) [] _ k = absurd (false≢true k)
 leads_through (x ∷ p) (y ∷ q) (z ∷ r) h k = by (bytes_eq x y) (bytes_eq y z) refl refl (λ a b. leads_through p q r a b) h k
   where
     by : (s t : Bool) → bytes_eq x y ≡ s → bytes_eq y z ≡ t → (leads p q ≡ true → leads q r ≡ true → leads p r ≡ true)
@@ -52,10 +52,10 @@ leads_through (x ∷ p) (y ∷ q) (z ∷ r) h k = by (bytes_eq x y) (bytes_eq y 
 
 -- two paths of one length that lead to one path are one
 pub one_way : (p q r : Path) → length p ≡ length q → leads p r ≡ true → leads q r ≡ true → p ≡ q
-one_way [] [] r n h k = refl
+one_way [] [] _ _ _ _ = refl
 one_way [] (y ∷ q) r n h k = absurd (omega arith)
 one_way (x ∷ p) [] r n h k = absurd (omega arith)
-one_way (x ∷ p) (y ∷ q) [] n h k = absurd (false≢true h)
+one_way (_ ∷ _) (_ ∷ _) [] _ h _ = absurd (false≢true h)
 one_way (x ∷ p) (y ∷ q) (z ∷ r) n h k = by (bytes_eq x z) (bytes_eq y z) refl refl (λ a b. one_way p q r (omega arith) a b) h k
   where
     by : (s t : Bool) → bytes_eq x z ≡ s → bytes_eq y z ≡ t → (leads p r ≡ true → leads q r ≡ true → p ≡ q)

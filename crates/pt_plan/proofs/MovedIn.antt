@@ -20,8 +20,8 @@ use Rattle.pt_plan.proofs.Levels.{whole_of}
 -- ---- a root of a destination
 
 pub gap_below : (t : Tree) → IsTree t → (path : Path) (q : Path) → t path ≡ None → t (path ++ q) ≡ None
-gap_below t tree path [] none = ap t (append_nil path) ∙ none
-gap_below t tree path (name ∷ q) none = ap t (sym (append_assoc path (name ∷ []) q)) ∙ gap_below t tree (path ++ name ∷ []) q (by (t (path ++ name ∷ [])) refl)
+gap_below t _ path [] none = ap t (append_nil path) ∙ none
+gap_below t tree path (name ∷ q) none = ap t (sym (append_assoc path (name ∷ []) q)) ∙ gap_below t tree _ q (by (t (path ++ name ∷ [])) refl)
   where
     by : (o : Option Entry) → t (path ++ name ∷ []) ≡ o → o ≡ None
     by None e = refl
@@ -29,25 +29,25 @@ gap_below t tree path (name ∷ q) none = ap t (sym (append_assoc path (name ∷
         let folder : None ≡ Some Folder = sym none ∙ tree.above path name (ap is_some e) in
         absurd (cc)
 
-no_gaps : (t : Tree) → IsTree t → HasNoGaps (root_in t)
-no_gaps t tree path none q = ap t (sym (append_assoc storage_root path q)) ∙ gap_below t tree (storage_root ++ path) q none
+no_gaps : {t : Tree} → IsTree t → HasNoGaps (root_in t)
+no_gaps {t} tree path none q = ap t (sym (append_assoc storage_root path q)) ∙ gap_below t tree _ q none
 
 pub roots_have_no_gaps : RootsHaveNoGaps
-roots_have_no_gaps t tree = (no_gaps t tree, no_gaps t tree [])
+roots_have_no_gaps _ tree = (no_gaps tree, no_gaps tree [])
 
 -- a path is in the root, or the root's part of it doesn't matter
-own_at : (t : Tree) (path : Path) (o : Option Path) → rest_below storage_root path ≡ o → placed_at (root_in t) o (t path) ≡ t path
-own_at t path None e = refl
-own_at t path (Some rest) e = ap t (sym (whole_of storage_root path rest e))
+own_at : (t : Tree) {path : Path} (o : Option Path) → rest_below storage_root path ≡ o → placed_at (root_in t) o (t path) ≡ t path
+own_at _ None _ = refl
+own_at t {path} (Some rest) e = ap t (sym (whole_of storage_root path rest e))
 
 pub root_is_its_own : RootIsItsOwn
-root_is_its_own t i path = own_at t path (rest_below storage_root path) refl i
+root_is_its_own t i path = own_at t {path = path} (rest_below storage_root path) refl i
 
 -- ---- made in place
 
 put_at : (t root : Tree) (path : Path) (entry : Entry) (q : Path) → put (with_root t root) (storage_root ++ path) entry q ≡ with_root t (put root path entry) q
-put_at t root path entry [] = refl
-put_at t root path entry (x ∷ q) = by (bytes_eq x (codes "ocfl")) (bytes_eq (codes "ocfl") x) (sym (bytes_eq-sym x (codes "ocfl") (bytes_eq x (codes "ocfl")) refl))
+put_at _ _ _ _ [] = refl
+put_at t root path entry (x ∷ q) = by (bytes_eq x (codes "ocfl")) (bytes_eq (codes "ocfl") x) (sym (bytes_eq-sym x _ _ refl))
   where
     by : (s u : Bool) → s ≡ u → cond (s && same_path q path) (Some entry) (placed_at root (cond u (Some q) None) (t (x ∷ q))) ≡ placed_at (put root path entry) (cond u (Some q) None) (t (x ∷ q))
     by true true e = refl
@@ -65,7 +65,7 @@ not_both x a b = false≢true (ap (bytes_eq (codes "ocfl")) (same_name (codes "s
 
 moved_in_at : (t root inside : Tree) (place : Path) → IsFree t staging → (q : Path)
     → moved (placed (with_root t root) staging inside) staging (storage_root ++ place) q ≡ with_root t (placed root place inside) q
-moved_in_at t root inside place free [] = refl
+moved_in_at _ _ _ _ _ [] = refl
 moved_in_at t root inside place free (x ∷ q) = by (bytes_eq (codes "ocfl") x) (bytes_eq (codes "staging") x) (rest_below place q) refl refl refl
   where
     by : (a b : Bool) (o : Option Path) → bytes_eq (codes "ocfl") x ≡ a → bytes_eq (codes "staging") x ≡ b → rest_below place q ≡ o
@@ -76,7 +76,7 @@ moved_in_at t root inside place free (x ∷ q) = by (bytes_eq (codes "ocfl") x) 
         ap (λ c. placed_at inside (cond c (Some q) None) (with_root t root (x ∷ q))) b
         ∙ ap (λ c. placed_at root (cond c (Some q) None) (t (x ∷ q))) a
         ∙ sym (ap (λ (c : Option Path). placed_at inside c (root q)) r)
-    by false true o a b r = sym (ap (λ (y : List ℕ). t (y ∷ q)) (sym (same_name (codes "staging") x b)) ∙ free q)
+    by false true o a b r = sym (ap (λ (y : List ℕ). t (y ∷ q)) (sym (same_name _ x b)) ∙ free q)
     by false false o a b r =
         ap (λ c. placed_at inside (cond c (Some q) None) (with_root t root (x ∷ q))) b
         ∙ ap (λ c. placed_at root (cond c (Some q) None) (t (x ∷ q))) a
@@ -90,18 +90,18 @@ root_is_moved_in t root free =
 
 -- ---- folder by folder
 
-take_more : (folders : List Path) (n : ℕ) (folder : Path) → slice_get folders n ≡ Some folder → take (suc n) folders ≡ take n folders ++ folder ∷ []
-take_more [] n folder h = absurd (cc)
-take_more (f ∷ folders) zero folder h = let same : f ≡ folder = cc in λ i. same i ∷ []
-take_more (f ∷ folders) (suc n) folder h = ap (λ (l : List Path). f ∷ l) (take_more folders n folder h)
+take_more : (folders : List Path) (n : ℕ) {folder : Path} → slice_get folders n ≡ Some folder → take (suc n) folders ≡ take n folders ++ folder ∷ []
+take_more [] n h = absurd (cc)
+take_more (f ∷ folders) zero {folder} h = let same : f ≡ folder = cc in λ i. same i ∷ []
+take_more (f ∷ folders) (suc n) h = ap (λ (l : List Path). f ∷ l) (take_more folders n h)
 
-one_more : (folders : List Path) (n : ℕ) (folder q : Path) → slice_get folders n ≡ Some folder → is_one q (take (suc n) folders) ≡ (is_one q (take n folders) || (same_path q folder || false))
-one_more folders n folder q h = ap (is_one q) (take_more folders n folder h) ∙ list_any-append (same_path q) (take n folders) (folder ∷ [])
+one_more : (folders : List Path) (n : ℕ) {folder : Path} (q : Path) → slice_get folders n ≡ Some folder → is_one q (take (suc n) folders) ≡ (is_one q (take n folders) || (same_path q folder || false))
+one_more folders n {folder} q h = ap (is_one q) (take_more folders n h) ∙ list_any-append (same_path q) (take n folders) (folder ∷ [])
 
-made_at : (folders : List Path) (t : Tree) (n : ℕ) (folder : Path) → slice_get folders n ≡ Some folder → with_folders (take n folders) t folder ≡ None
+made_at : (folders : List Path) (t : Tree) (n : ℕ) {folder : Path} → slice_get folders n ≡ Some folder → with_folders (take n folders) t folder ≡ None
     → (q : Path) → with_folders (take (suc n) folders) t q ≡ put (with_folders (take n folders) t) folder Folder q
-made_at folders t n folder h none q =
-    ap (λ b. option_or (t q) (folder_where b)) (one_more folders n folder q h)
+made_at folders t n {folder} h none q =
+    ap (λ b. option_or (t q) (folder_where b)) (one_more folders n q h)
     ∙ by (t q) (is_one q (take n folders)) (same_path q folder) (λ e. ap (with_folders (take n folders) t) (is_same q folder e) ∙ none)
   where
     by : (here : Option Entry) (one same : Bool) → (same ≡ true → option_or here (folder_where one) ≡ None)
@@ -113,10 +113,10 @@ made_at folders t n folder h none q =
     by None false true tells = refl
     by None false false tells = refl
 
-there_at : (folders : List Path) (t : Tree) (n : ℕ) (folder : Path) → slice_get folders n ≡ Some folder → with_folders (take n folders) t folder ≡ Some Folder
+there_at : (folders : List Path) (t : Tree) (n : ℕ) {folder : Path} → slice_get folders n ≡ Some folder → with_folders (take n folders) t folder ≡ Some Folder
     → (q : Path) → with_folders (take (suc n) folders) t q ≡ with_folders (take n folders) t q
-there_at folders t n folder h there q =
-    ap (λ b. option_or (t q) (folder_where b)) (one_more folders n folder q h)
+there_at folders t n {folder} h there q =
+    ap (λ b. option_or (t q) (folder_where b)) (one_more folders n q h)
     ∙ by (t q) (is_one q (take n folders)) (same_path q folder) (λ e. ap (with_folders (take n folders) t) (is_same q folder e) ∙ there)
   where
     by : (here : Option Entry) (one same : Bool) → (same ≡ true → option_or here (folder_where one) ≡ Some Folder)
@@ -127,7 +127,7 @@ there_at folders t n folder h there q =
     by None false false tells = refl
 
 pub folders_grow : FoldersGrow
-folders_grow folders t n folder h = (
-  λ none i q. made_at folders t n folder h none q i,
-  λ there i q. there_at folders t n folder h there q i,
+folders_grow folders t n _ h = (
+  λ none i q. made_at folders t n h none q i,
+  λ there i q. there_at folders t n h there q i,
 )

@@ -39,11 +39,11 @@ record IsNextNamed (object : Carried) (taken : Bool) (verdict : Verdict) : Type 
   named : verdict ≡ Named object.id from
   free : taken ≡ false
 
-next_named : (job : Job) (object : Carried) (taken : Bool) (verdict : Verdict) → carried_by job taken verdict ≡ object ∷ [] → IsNextNamed object taken verdict
-next_named job object taken Interior h = absurd (cc)
-next_named job object taken (Skip why) h = absurd (cc)
-next_named job object true (Named id from) h = absurd (cc)
-next_named job object false (Named id from) h = by (outcome job.limits from) h
+next_named : (job : Job) {object : Carried} (taken : Bool) (verdict : Verdict) → carried_by job taken verdict ≡ object ∷ [] → IsNextNamed object taken verdict
+next_named job taken Interior h = absurd (cc)
+next_named job taken (Skip why) h = absurd (cc)
+next_named job true (Named id from) h = absurd (cc)
+next_named job {object} false (Named id from) h = by (outcome job.limits from) h
   where
     by : (o : Outcome) → carried_by_outcome id o ≡ object ∷ [] → IsNextNamed object false (Named id from)
     by (Fails why) h = absurd (cc)
@@ -53,25 +53,25 @@ next_named job object false (Named id from) h = by (outcome job.limits from) h
         record { from = from; named = ap (λ (c : Carried). Named c.id from) same; free = refl }
 
 none_where : (o : Option Entry) → is_some o ≡ false → o ≡ None
-none_where None h = refl
-none_where (Some entry) h = absurd (true≢false h)
+none_where None _ = refl
+none_where (Some _) h = absurd (true≢false h)
 
 -- nothing stands at its place before
-pub place_is_free : (job : Job) (source : Forest) (root : Tree) (k : ℕ) (object : Carried) → HasNoGaps root → IsCarriedAs job source root k object → after job source root k (place_of_carried job object) ≡ None
-place_is_free job source root k object gaps (m, at, is) =
-    let next = next_named job object m.1 m.0.verdict is in
-    none_where (after job source root k (place_of_carried job object)) (next_place_stands_where_taken job source root k m object.id next.from (gaps []) at next.named ∙ next.free)
+pub place_is_free : (job : Job) (source : Forest) {root : Tree} (k : ℕ) {object : Carried} → HasNoGaps root → IsCarriedAs job source root k object → after job source root k (place_of_carried job object) ≡ None
+place_is_free job source {root} k {object} gaps (m, at, is) =
+    let next = next_named job m.1 m.0.verdict is in
+    none_where _ (next_place_stands_where_taken job source root k m object.id next.from (gaps []) at next.named ∙ next.free)
 
 -- so its place isn't reserved
-place_is_open : (job : Job) (source : Forest) (root : Tree) (k : ℕ) (object : Carried) → IsCarriedAs job source root k object → is_reserved job object.id ≡ false
-place_is_open job source root k object (m, at, is) =
-    let next = next_named job object m.1 m.0.verdict is in
+place_is_open : (job : Job) (source : Forest) (root : Tree) (k : ℕ) {object : Carried} → IsCarriedAs job source root k object → is_reserved job object.id ≡ false
+place_is_open job source root k {object} (m, at, is) =
+    let next = next_named job m.1 m.0.verdict is in
     named_is_not_reserved job source k m.0 object.id next.from (marked_item job source root k m at).0 next.named
 
 -- nor anything below it
-base_below : (job : Job) (root : Tree) (id : List ℕ) → HasNoGaps root → is_reserved job id ≡ false → base job.tuples root (place_of job.tuples id) ≡ None
+base_below : (job : Job) {root : Tree} (id : List ℕ) → HasNoGaps root → is_reserved job id ≡ false → base job.tuples root (place_of job.tuples id) ≡ None
     → (rest : Path) → base job.tuples root (place_of job.tuples id ++ rest) ≡ None
-base_below job root id gaps reserved none rest = by (root []) refl none
+base_below job {root} id gaps reserved none rest = by (root []) refl none
   where
     by : (o : Option Entry) → root [] ≡ o → base_where job.tuples root o (place_of job.tuples id) ≡ None → base_where job.tuples root o (place_of job.tuples id ++ rest) ≡ None
     by None e none = nothing_below_place job id reserved rest
@@ -86,33 +86,33 @@ nothing : (here inside : Option Entry) (way : Bool) → option_or here (option_o
 nothing (Some entry) inside way h = let k : Some entry ≡ None = h in absurd (cc)
 nothing None (Some entry) way h = let k : Some entry ≡ None = h in absurd (cc)
 nothing None None true h = let k : Some Folder ≡ None = h in absurd (cc)
-nothing None None false h = record { here_none = refl; off_way = refl }
+nothing None None false _ = record { here_none = refl; off_way = refl }
 
-or_parts : (a b : Bool) → (a || b) ≡ false → (a ≡ false) × (b ≡ false)
-or_parts true b h = absurd (true≢false h)
-or_parts false b h = (refl, h)
+or_parts : (a : Bool) {b : Bool} → (a || b) ≡ false → (a ≡ false) × (b ≡ false)
+or_parts true h = absurd (true≢false h)
+or_parts false h = (refl, h)
 
 pub below_itself : (p rest : Path) → leads p (p ++ rest) ≡ true
 below_itself p rest = leads-on p p rest (leads-itself p)
 
 -- earlier objects have nothing at or below a place that they don't have, and no way goes there
 no_entries : (job : Job) (id : List ℕ) (rest : Path) (objects : List Carried) → is_on_the_way job objects (place_of job.tuples id) ≡ false → entry_of_objects job objects (place_of job.tuples id ++ rest) ≡ None
-no_entries job id rest [] h = refl
+no_entries _ _ _ [] _ = refl
 no_entries job id rest (object ∷ objects) h =
-    let parts = or_parts (leads (place_of job.tuples id) (place_of_carried job object)) (is_on_the_way job objects (place_of job.tuples id)) h in
+    let parts = or_parts _ h in
     ap (λ (o : Option Entry). option_or o (entry_of_objects job objects (place_of job.tuples id ++ rest)))
-    (none_of_object job object (place_of job.tuples id ++ rest) (false_from_ne_true (leads (place_of_carried job object) (place_of job.tuples id ++ rest)) (λ e. apart parts.0 e)))
+    (none_of_object job object _ (false_from_ne_true (leads (place_of_carried job object) (place_of job.tuples id ++ rest)) (λ e. apart parts.0 e)))
     ∙ no_entries job id rest objects parts.1
   where
     apart : leads (place_of job.tuples id) (place_of_carried job object) ≡ false → leads (place_of_carried job object) (place_of job.tuples id ++ rest) ≡ true → ⊥
     apart off on =
-        let same = one_way (place_of_carried job object) (place_of job.tuples id) (place_of job.tuples id ++ rest) (as_long job.tuples object.id id) on (below_itself (place_of job.tuples id) rest) in
+        let same = one_way _ _ _ (as_long job.tuples object.id id) on (below_itself (place_of job.tuples id) rest) in
         true≢false (sym (leads-itself (place_of job.tuples id)) ∙ ap (λ (p : Path). leads (place_of job.tuples id) p) (sym same) ∙ off)
 
 no_way : (job : Job) (id : List ℕ) (rest : Path) (objects : List Carried) → is_on_the_way job objects (place_of job.tuples id) ≡ false → is_on_the_way job objects (place_of job.tuples id ++ rest) ≡ false
-no_way job id rest [] h = refl
+no_way _ _ _ [] _ = refl
 no_way job id rest (object ∷ objects) h =
-    let parts = or_parts (leads (place_of job.tuples id) (place_of_carried job object)) (is_on_the_way job objects (place_of job.tuples id)) h in
+    let parts = or_parts (leads (place_of job.tuples id) (place_of_carried job object)) h in
     ap (λ b. b || is_on_the_way job objects (place_of job.tuples id ++ rest))
     (false_from_ne_true (leads (place_of job.tuples id ++ rest) (place_of_carried job object))
     (λ e. true≢false (sym (leads_through (place_of job.tuples id) (place_of job.tuples id ++ rest) (place_of_carried job object) (below_itself (place_of job.tuples id) rest) e) ∙ parts.0)))
@@ -121,7 +121,7 @@ no_way job id rest (object ∷ objects) h =
 -- ---- the root with it
 
 pub rest_of : (p rest : Path) → rest_below p (p ++ rest) ≡ Some rest
-rest_of [] rest = refl
+rest_of [] _ = refl
 rest_of (x ∷ p) rest = ap (λ b. cond b (rest_below p (p ++ rest)) None) (name_itself x) ∙ rest_of p rest
 
 -- at its place and below
@@ -130,7 +130,7 @@ at_place : (job : Job) (objects : List Carried) (object : Carried) (t : Tree) �
     → with_objects job (objects ++ object ∷ []) t (place_of_carried job object ++ rest) ≡ object_of object.id object.files job.meta job.algorithm rest
 at_place job objects object t free gaps rest =
     let p = place_of_carried job object in
-    let off = nothing (t p) (entry_of_objects job objects p) (is_on_the_way job objects p) free in
+    let off = nothing (t p) _ _ free in
     ap (λ (o : Option Entry). option_or o (option_or (entry_of_objects job (objects ++ object ∷ []) (p ++ rest)) (folder_where (is_on_the_way job (objects ++ object ∷ []) (p ++ rest))))) (gaps rest)
     ∙ ap (λ (o : Option Entry). option_or o (folder_where (is_on_the_way job (objects ++ object ∷ []) (p ++ rest))))
     (entries-append job (p ++ rest) objects (object ∷ []) ∙ ap (λ (o : Option Entry). option_or o (option_or (entry_of_object job (p ++ rest) object) None)) (no_entries job object.id rest objects off.off_way))
@@ -182,15 +182,15 @@ grown_at job objects object t top free gaps q = by (rest_below (place_of_carried
   where
     by : (o : Option Path) → rest_below (place_of_carried job object) q ≡ o
         → with_objects job (objects ++ object ∷ []) t q ≡ placed_at (object_of object.id object.files job.meta job.algorithm) o (with_folders (tuple_folders job object) (with_objects job objects t) q)
-    by (Some rest) e = ap (with_objects job (objects ++ object ∷ []) t) (whole_of (place_of_carried job object) q rest e) ∙ at_place job objects object t free gaps rest
+    by (Some rest) e = ap (with_objects job (objects ++ object ∷ []) t) (whole_of _ q rest e) ∙ at_place job objects object t free gaps rest
     by None e = elsewhere job objects object t top q e
 
 pub after_grows : AfterGrows
 after_grows job source root k object gaps (m, at, is) =
     let objects = carried_among job source root k in
     let start = base job.tuples root in
-    let free = place_is_free job source root k object gaps (m, at, is) in
+    let free = place_is_free job source k gaps (m, at, is) in
     let none : start (place_of_carried job object) ≡ None =
     (nothing (start (place_of_carried job object)) (entry_of_objects job objects (place_of_carried job object)) (is_on_the_way job objects (place_of_carried job object)) free).here_none in
     ap (λ (l : List Carried). with_objects job l start) (carried_grows job source root k m at ∙ ap (λ (l : List Carried). objects ++ l) is)
-    ∙ λ i q. grown_at job objects object start (base_top job root) free (base_below job root object.id gaps (place_is_open job source root k object (m, at, is)) none) q i
+    ∙ λ i q. grown_at job objects object start (base_top job root) free (base_below job object.id gaps (place_is_open job source root k (m, at, is)) none) q i

@@ -32,7 +32,7 @@ entry_same limits turns depth held (path, a_file bytes) = refl
 entry_same limits turns depth held (path, _) = refl
 
 first_same : (limits : Bounds) (turns depth held : ℕ) (all : List an_entry) → first_bad (record limits { turns = turns }) depth held all ≡ first_bad limits depth held all
-first_same limits turns depth held [] = refl
+first_same _ _ _ _ [] = refl
 first_same limits turns depth held (entry ∷ others) = λ i. bad_or (entry_same limits turns depth held entry i) entry (first_same limits turns depth (files_with held entry) others i)
 
 cause_same : (job : Job) (turns : ℕ) (object : PairtreeObject) → cause_of (with_turns job turns).limits object ≡ cause_of job.limits object
@@ -43,28 +43,28 @@ cause_same job turns object =
 -- ---- verdicts
 
 reading_same : (job : Job) (turns : ℕ) (prefix : List ℕ) (object : PairtreeObject) (reading : Option (List ℕ)) → verdict_by_reading (with_turns job turns) prefix object reading ≡ verdict_by_reading job prefix object reading
-reading_same job turns prefix object None = refl
-reading_same job turns prefix object (Some read) = refl
+reading_same _ _ _ _ None = refl
+reading_same _ _ _ _ (Some _) = refl
 
 candidate_same : (job : Job) (turns : ℕ) (prefix : List ℕ) (site : Path) (object : Option PairtreeObject) → verdict_on_candidate (with_turns job turns) prefix site object ≡ verdict_on_candidate job prefix site object
-candidate_same job turns prefix site None = refl
+candidate_same _ _ _ _ None = refl
 candidate_same job turns prefix site (Some object) = reading_same job turns prefix object (reading_of (concat site))
 
 finding_same : (job : Job) (turns : ℕ) (prefix : List ℕ) (site : Path) (inside : Forest) (what : Finding) → verdict_by_finding (with_turns job turns) prefix site inside what ≡ verdict_by_finding job prefix site inside what
-finding_same job turns prefix site inside finding.Interior = refl
-finding_same job turns prefix site inside (finding.Skip why) = refl
+finding_same _ _ _ _ _ finding.Interior = refl
+finding_same _ _ _ _ _ (finding.Skip _) = refl
 finding_same job turns prefix site inside (finding.Candidate i) = candidate_same job turns prefix site (encapsulated site (entries_from i inside))
 finding_same job turns prefix site inside finding.Gathered = reading_same job turns prefix (gathered_from site inside) (reading_of (concat site))
 
 visit_same : (job : Job) (turns : ℕ) (prefix : List ℕ) (path : Path) (visit : Visit) → verdict_by_visit (with_turns job turns) prefix path visit ≡ verdict_by_visit job prefix path visit
 visit_same job turns prefix path (Listed inside) = finding_same job turns prefix path inside (found (listing_of inside) (at_of path) (form_of job))
-visit_same job turns prefix path _ = refl
+visit_same _ _ _ _ _ = refl
 
 verdict_same : (job : Job) (turns : ℕ) (prefix : List ℕ) (path : Path) (visit : Visit) → verdict_of (with_turns job turns) prefix path visit ≡ verdict_of job prefix path visit
 verdict_same job turns prefix path visit = ap (λ (v : Verdict). ours job.share v) (visit_same job turns prefix path visit)
 
 items_same_on : (job : Job) (turns : ℕ) (prefix : List ℕ) (ways : List Site) → map (item_of (with_turns job turns) prefix) ways ≡ map (item_of job prefix) ways
-items_same_on job turns prefix [] = refl
+items_same_on _ _ _ [] = refl
 items_same_on job turns prefix (site ∷ ways) = λ i. record { path = site.0; visit = site.1; verdict = verdict_same job turns prefix site.0 site.1 i } ∷ items_same_on job turns prefix ways i
 
 items_same : (job : Job) (turns : ℕ) (source : Forest) → items (with_turns job turns) source ≡ items job source
@@ -74,18 +74,18 @@ items_same job turns source = items_same_on job turns (prefix_of source) (sites_
 
 place_same : (job : Job) (turns : ℕ) (place : Path) (verdict : Verdict) → has_place (with_turns job turns) place verdict ≡ has_place job place verdict
 place_same job turns place (Named id object) = ap (λ (why : Option Cause). is_none why && same_path (place_of job.tuples id) place) (cause_same job turns object)
-place_same job turns place _ = refl
+place_same _ _ _ _ = refl
 
 any_same : (job : Job) (turns : ℕ) (place : Path) (earlier : List Item) → list_any (λ (item : Item). has_place (with_turns job turns) place item.verdict) earlier ≡ list_any (λ (item : Item). has_place job place item.verdict) earlier
-any_same job turns place [] = refl
+any_same _ _ _ [] = refl
 any_same job turns place (item ∷ earlier) = λ i. place_same job turns place item.verdict i || any_same job turns place earlier i
 
 taken_same : (job : Job) (turns : ℕ) (root : Tree) (earlier : List Item) (verdict : Verdict) → is_taken (with_turns job turns) root earlier verdict ≡ is_taken job root earlier verdict
-taken_same job turns root earlier (Named id object) = ap (λ b. is_some (root (place_of job.tuples id)) || b) (any_same job turns (place_of job.tuples id) earlier)
-taken_same job turns root earlier _ = refl
+taken_same job turns root earlier (Named id _) = ap (λ b. is_some (root (place_of job.tuples id)) || b) (any_same job turns (place_of job.tuples id) earlier)
+taken_same _ _ _ _ _ = refl
 
 marked_same_after : (job : Job) (turns : ℕ) (root : Tree) (earlier others : List Item) → marked_after (with_turns job turns) root earlier others ≡ marked_after job root earlier others
-marked_same_after job turns root earlier [] = refl
+marked_same_after _ _ _ _ [] = refl
 marked_same_after job turns root earlier (item ∷ others) = λ i. (item, taken_same job turns root earlier item.verdict i) ∷ marked_same_after job turns root (earlier ++ item ∷ []) others i
 
 marked_same : (job : Job) (turns : ℕ) (source : Forest) (root : Tree) → marked (with_turns job turns) source root ≡ marked job source root
@@ -95,17 +95,17 @@ marked_same job turns source root = marked_same_after job turns root [] (items (
 
 carried_same_by : (job : Job) (turns : ℕ) (taken : Bool) (verdict : Verdict) → carried_by (with_turns job turns) taken verdict ≡ carried_by job taken verdict
 carried_same_by job turns taken (Named id object) = ap (λ (why : Option Cause). cond taken [] (carried_by_outcome id (outcome_by (files (entries object.inside)) why))) (cause_same job turns object)
-carried_same_by job turns taken _ = refl
+carried_same_by _ _ _ _ = refl
 
 carried_same : (job : Job) (turns : ℕ) (marks : List Marked) → carried (with_turns job turns) marks ≡ carried job marks
-carried_same job turns [] = refl
+carried_same _ _ [] = refl
 carried_same job turns (m ∷ marks) = λ i. carried_same_by job turns m.1 m.0.verdict i ++ carried_same job turns marks i
 
 all_carried_same : (job : Job) (turns : ℕ) (source : Forest) (root : Tree) → all_carried (with_turns job turns) source root ≡ all_carried job source root
 all_carried_same job turns source root = carried_same job turns (marked (with_turns job turns) source root) ∙ ap (carried job) (marked_same job turns source root)
 
 entries_same : (job : Job) (turns : ℕ) (objects : List Carried) (path : Path) → entry_of_objects (with_turns job turns) objects path ≡ entry_of_objects job objects path
-entries_same job turns [] path = refl
+entries_same _ _ [] _ = refl
 entries_same job turns (object ∷ objects) path = ap (option_or (entry_of_object job path object)) (entries_same job turns objects path)
 
 with_same : (job : Job) (turns : ℕ) (objects : List Carried) (t : Tree) → with_objects (with_turns job turns) objects t ≡ with_objects job objects t
@@ -114,23 +114,23 @@ with_same job turns objects t i path = option_or (t path) (option_or (entries_sa
 -- ---- what is told
 
 line_same : (job : Job) (turns : ℕ) (path : Path) (taken : Bool) (verdict : Verdict) → line_by_verdict (with_turns job turns) path taken verdict ≡ line_by_verdict job path taken verdict
-line_same job turns path taken Interior = refl
-line_same job turns path taken (Skip why) = refl
-line_same job turns path true (Named id object) = refl
+line_same _ _ _ _ Interior = refl
+line_same _ _ _ _ (Skip _) = refl
+line_same _ _ _ true (Named _ _) = refl
 line_same job turns path false (Named id object) =
     ap (λ (why : Option Cause). line_by_outcome path id object (place_of job.tuples id) (outcome_by (files (entries object.inside)) why) ∷ []) (cause_same job turns object)
 
 lines_same : (job : Job) (turns : ℕ) (marks : List Marked) → flat_map (line_of (with_turns job turns)) marks ≡ flat_map (line_of job) marks
-lines_same job turns [] = refl
+lines_same _ _ [] = refl
 lines_same job turns (m ∷ marks) = λ i. line_same job turns m.0.path m.1 m.0.verdict i ++ lines_same job turns marks i
 
-target_same : (job : Job) (turns : ℕ) (source : Forest) (root : Tree) → IsTarget job source root → IsTarget (with_turns job turns) source root
-target_same job turns source root (inl free) = inl free
-target_same job turns source root (inr usable) = inr (record { files = usable.files; ways = ap (list_all (is_way_free job root)) (all_carried_same job turns source root) ∙ usable.ways })
+target_same : {job : Job} (turns : ℕ) {source : Forest} {root : Tree} → IsTarget job source root → IsTarget (with_turns job turns) source root
+target_same _ (inl free) = inl free
+target_same {job} turns {source} {root} (inr usable) = inr (record { files = usable.files; ways = ap (list_all (is_way_free job root)) (all_carried_same job turns source root) ∙ usable.ways })
 
 pub turns_have_no_part : TurnsHaveNoPart
 turns_have_no_part job turns source root = (
   with_same job turns (all_carried (with_turns job turns) source root) (base job.tuples root) ∙ ap (λ (l : List Carried). with_objects job l (base job.tuples root)) (all_carried_same job turns source root),
   lines_same job turns (marked (with_turns job turns) source root) ∙ ap (flat_map (line_of job)) (marked_same job turns source root),
-  target_same job turns source root,
+  target_same turns,
 )

@@ -27,7 +27,7 @@ use Rattle.pt_plan.proofs.Growing.{append_nil}
 -- ---- lengths
 
 same_long : (size count : ℕ) (d e a b : List ℕ) → length (tuples_from size count d ++ a ∷ []) ≡ length (tuples_from size count e ++ b ∷ [])
-same_long size zero d e a b = refl
+same_long _ zero _ _ _ _ = refl
 same_long size (suc count) d e a b = ap (λ n. suc n) (same_long size count (drop size d) (drop size e) a b)
 
 pub as_long : (tuples : Tuples) (a b : List ℕ) → length (place_of tuples a) ≡ length (place_of tuples b)
@@ -37,9 +37,9 @@ as_long tuples a b = same_long tuples.size tuples.count (digest_text a) (digest_
 
 -- what each digit passes, and 0
 passed : (p : ℕ → Bool) (xs : List ℕ) → list_all p xs ≡ true → All (λ x. p x ≡ true) xs
-passed p [] h = All-nil (λ x. p x ≡ true)
+passed p [] _ = All-nil (λ x. p x ≡ true)
 passed p (x ∷ xs) h =
-    let parts = and_parts (p x) (list_all p xs) h in
+    let parts = and_parts (p x) _ h in
     All-cons (λ y. p y ≡ true) x xs parts.0 (passed p xs parts.1)
 
 digit_passes : (p : ℕ → Bool) → list_all p lower_digits ≡ true → p 0 ≡ true → (d : ℕ) → p (slice_index lower_digits d) ≡ true
@@ -50,10 +50,10 @@ digit_passes p all none d = elim (cases_lt d 16) [
 
 digits_pass : (p : ℕ → Bool) → list_all p lower_digits ≡ true → p 0 ≡ true → (bytes : List ℕ) → list_all p (encode_lower bytes) ≡ true
 unfolding encode_with
-digits_pass p all none [] = refl
+digits_pass _ _ _ [] = refl
 digits_pass p all none (b ∷ bytes) =
-    and_from (p (slice_index lower_digits (b / 16))) (p (slice_index lower_digits (b % 16)) && list_all p (encode_lower bytes)) (digit_passes p all none (b / 16))
-    (and_from (p (slice_index lower_digits (b % 16))) (list_all p (encode_lower bytes)) (digit_passes p all none (b % 16)) (digits_pass p all none bytes))
+    and_from _ _ (digit_passes p all none (b / 16))
+    (and_from _ _ (digit_passes p all none (b % 16)) (digits_pass p all none bytes))
 
 -- neither `.` nor `=`
 abbrev is_plain : ℕ → Bool
@@ -70,16 +70,16 @@ spelled_plain : (b : ℕ) → list_all is_plain (encoded_spelling b) ≡ true
 spelled_plain b = by (is_safe b) refl
   where
     by : (t : Bool) → is_safe b ≡ t → list_all is_plain (cond t (b ∷ []) (37 ∷ hex_pair b)) ≡ true
-    by true e = and_from (is_plain b) true (safe_plain b e) refl
+    by true e = and_from _ true (safe_plain b e) refl
     by false e =
-        and_from (is_plain (slice_index lower_digits (b / 16))) (is_plain (slice_index lower_digits (b % 16)) && true) (digit_passes is_plain refl refl (b / 16))
-        (and_from (is_plain (slice_index lower_digits (b % 16))) true (digit_passes is_plain refl refl (b % 16)) refl)
+        and_from _ _ (digit_passes is_plain refl refl (b / 16))
+        (and_from _ true (digit_passes is_plain refl refl (b % 16)) refl)
 
 encoded_plain : (id : List ℕ) → list_all is_plain (encoded_of id) ≡ true
 encoded_plain [] = refl
 encoded_plain (b ∷ id) =
     list_all-append is_plain (encoded_spelling b) (encoded_of id)
-    ∙ and_from (list_all is_plain (encoded_spelling b)) (list_all is_plain (encoded_of id)) (spelled_plain b) (encoded_plain id)
+    ∙ and_from _ _ (spelled_plain b) (encoded_plain id)
 
 last_plain : (id : List ℕ) → list_all is_plain (last_name_of id) ≡ true
 last_plain id = by (nat_le (length (encoded_of id)) 100)
@@ -88,7 +88,7 @@ last_plain id = by (nat_le (length (encoded_of id)) 100)
     by true = encoded_plain id
     by false =
         list_all-append is_plain (take 100 (encoded_of id)) (45 ∷ digest_text id)
-        ∙ and_from (list_all is_plain (take 100 (encoded_of id))) (list_all is_plain (digest_text id)) (all_take is_plain 100 (encoded_of id) (encoded_plain id)) (digits_pass is_plain refl refl (sha256 id))
+        ∙ and_from _ _ (all_take is_plain 100 (encoded_of id) (encoded_plain id)) (digits_pass is_plain refl refl (sha256 id))
 
 -- texts of which one passes a test and the other doesn't
 differ : (p : ℕ → Bool) (a b : List ℕ) → list_all p a ≡ true → list_all p b ≡ false → bytes_eq a b ≡ false
@@ -99,7 +99,7 @@ differ p a b h k = false_from_ne_true (bytes_eq a b) (λ e. true≢false (sym h 
 -- below a name that no entry of it has, nothing stands
 nothing_below : (tuples : Tuples) (name : List ℕ) (more : Path) → bytes_eq name (codes "0=ocfl_1.1") ≡ false → bytes_eq name (codes "ocfl_layout.json") ≡ false → bytes_eq name (codes "extensions") ≡ false
     → root_of tuples (name ∷ more) ≡ None
-nothing_below tuples name more a b e = rw (a, b, e) refl
+nothing_below _ _ _ a b e = rw (a, b, e) refl
 
 nothing_below_tuple : (tuples : Tuples) (name : List ℕ) (more : Path) → list_all is_digit_like name ≡ true → root_of tuples (name ∷ more) ≡ None
 nothing_below_tuple tuples name more d =
@@ -107,27 +107,27 @@ nothing_below_tuple tuples name more d =
 
 nothing_by : (tuples : Tuples) (size count : ℕ) (digits last : List ℕ) (rest : Path) → list_all is_digit_like digits ≡ true → list_all is_plain last ≡ true
     → (count == 0 && same_path (tuples_from size count digits ++ last ∷ []) (codes "extensions" ∷ [])) ≡ false → root_of tuples ((tuples_from size count digits ++ last ∷ []) ++ rest) ≡ None
-nothing_by tuples size zero digits last rest d l reserved =
+nothing_by tuples _ zero _ last rest _ l reserved =
     nothing_below tuples last rest (differ is_plain last (codes "0=ocfl_1.1") l refl) (differ is_plain last (codes "ocfl_layout.json") l refl) (by (bytes_eq last (codes "extensions")) reserved)
   where
     by : (t : Bool) → (t && true) ≡ false → t ≡ false
     by true h = h
     by false h = refl
-nothing_by tuples size (suc count) digits last rest d l reserved =
+nothing_by tuples size (suc count) digits last rest d _ _ =
     nothing_below_tuple tuples (take size digits) ((tuples_from size count (drop size digits) ++ last ∷ []) ++ rest) (all_take is_digit_like size digits d)
 
 -- nothing stands in a new root at a place or below it
 pub nothing_below_place : (job : Job) (id : List ℕ) → is_reserved job id ≡ false → (rest : Path) → root_of job.tuples (place_of job.tuples id ++ rest) ≡ None
 nothing_below_place job id reserved rest =
-    nothing_by job.tuples job.tuples.size job.tuples.count (digest_text id) (last_name_of id) rest (digits_pass is_digit_like refl refl (sha256 id)) (last_plain id) reserved
+    nothing_by job.tuples job.tuples.size job.tuples.count _ _ rest (digits_pass is_digit_like refl refl (sha256 id)) (last_plain id) reserved
 
 nothing_at_place : (job : Job) (id : List ℕ) → is_reserved job id ≡ false → root_of job.tuples (place_of job.tuples id) ≡ None
 nothing_at_place job id reserved = ap (root_of job.tuples) (sym (append_nil (place_of job.tuples id))) ∙ nothing_below_place job id reserved []
 
 -- at a place something stands in the base exactly where it stood in the root
-pub base_at_place : (job : Job) (root : Tree) (id : List ℕ) → IsRooted root → is_reserved job id ≡ false
+pub base_at_place : (job : Job) {root : Tree} (id : List ℕ) → IsRooted root → is_reserved job id ≡ false
     → is_some (base job.tuples root (place_of job.tuples id)) ≡ is_some (root (place_of job.tuples id))
-base_at_place job root id rooted reserved = by (root []) refl
+base_at_place job {root} id rooted reserved = by (root []) refl
   where
     by : (o : Option Entry) → root [] ≡ o → is_some (base_where job.tuples root o (place_of job.tuples id)) ≡ is_some (root (place_of job.tuples id))
     by None e = ap is_some (nothing_at_place job id reserved) ∙ sym (ap is_some (rooted e (place_of job.tuples id)))
@@ -136,23 +136,23 @@ base_at_place job root id rooted reserved = by (root []) refl
 -- folders on the way to a place are none of the entries of a new root
 ways_below : (tuples : Tuples) (name : List ℕ) (folders : List Path) → ((more : Path) → root_of tuples (name ∷ more) ≡ None)
     → list_all (λ folder. is_folder_or_free (root_of tuples folder)) (map (λ (folder : Path). name ∷ folder) folders) ≡ true
-ways_below tuples name [] none = refl
+ways_below _ _ [] _ = refl
 ways_below tuples name (folder ∷ folders) none =
-    and_from (is_folder_or_free (root_of tuples (name ∷ folder))) (list_all (λ folder. is_folder_or_free (root_of tuples folder)) (map (λ (folder : Path). name ∷ folder) folders))
+    and_from _ _
     (ap is_folder_or_free (none folder)) (ways_below tuples name folders none)
 
 ways_from : (tuples : Tuples) (name : List ℕ) (path : Path) → ((more : Path) → root_of tuples (name ∷ more) ≡ None)
     → list_all (λ folder. is_folder_or_free (root_of tuples folder)) (folders_above (name ∷ path)) ≡ true
-ways_from tuples name [] none = refl
+ways_from _ _ [] _ = refl
 ways_from tuples name (next ∷ path) none =
-    and_from (is_folder_or_free (root_of tuples (name ∷ []))) (list_all (λ folder. is_folder_or_free (root_of tuples folder)) (map (λ (folder : Path). name ∷ folder) (folders_above (next ∷ path))))
+    and_from _ _
     (ap is_folder_or_free (none [])) (ways_below tuples name (folders_above (next ∷ path)) none)
 
 ways_by : (tuples : Tuples) (size count : ℕ) (digits last : List ℕ) → list_all is_digit_like digits ≡ true
     → list_all (λ folder. is_folder_or_free (root_of tuples folder)) (folders_above (tuples_from size count digits ++ last ∷ [])) ≡ true
-ways_by tuples size zero digits last d = refl
+ways_by _ _ zero _ _ _ = refl
 ways_by tuples size (suc count) digits last d =
     ways_from tuples (take size digits) (tuples_from size count (drop size digits) ++ last ∷ []) (λ more. nothing_below_tuple tuples (take size digits) more (all_take is_digit_like size digits d))
 
 pub new_root_ways : (job : Job) (object : Carried) → is_way_free job (root_of job.tuples) object ≡ true
-new_root_ways job object = ways_by job.tuples job.tuples.size job.tuples.count (digest_text object.id) (last_name_of object.id) (digits_pass is_digit_like refl refl (sha256 object.id))
+new_root_ways job object = ways_by job.tuples job.tuples.size job.tuples.count _ (last_name_of object.id) (digits_pass is_digit_like refl refl (sha256 object.id))

@@ -27,8 +27,8 @@ HoldsItems job root later done = (id : List ℕ) → is_reserved job id ≡ fals
 
 -- ---- the items that it holds are taken
 
-none_again : (taken : Bool) (id : List ℕ) (job : Job) (object : PairtreeObject) → (is_none (cause_of job.limits object) ≡ true → taken ≡ true) → carried_by job taken (Named id object) ≡ []
-none_again taken id job object tells = by (cause_of job.limits object) taken tells
+none_again : {taken : Bool} (id : List ℕ) (job : Job) (object : PairtreeObject) → (is_none (cause_of job.limits object) ≡ true → taken ≡ true) → carried_by job taken (Named id object) ≡ []
+none_again {taken} id job object tells = by (cause_of job.limits object) taken tells
   where
     by : (why : Option Cause) (t : Bool) → (is_none why ≡ true → t ≡ true) → cond t [] (carried_by_outcome id (outcome_by (files (entries object.inside)) why)) ≡ []
     by (Some why) true tells = refl
@@ -39,20 +39,20 @@ none_again taken id job object tells = by (cause_of job.limits object) taken tel
 -- the place of one of some items is claimed
 claimed : (job : Job) (place : Path) (before : List Item) (item : Item) (others : List Item) → claims job place item ≡ true → list_any (claims job place) (before ++ item ∷ others) ≡ true
 claimed job place before item others h =
-    list_any-append (claims job place) before (item ∷ others) ∙ ap (λ b. list_any (claims job place) before || (b || list_any (claims job place) others)) h ∙ or_right (list_any (claims job place) before) true refl
+    list_any-append (claims job place) before (item ∷ others) ∙ ap (λ b. list_any (claims job place) before || (b || list_any (claims job place) others)) h ∙ or_right _ true refl
 
-done_again : (job : Job) (root later : Tree) (done : List Item) → HoldsItems job root later done
+done_again : (job : Job) (root later : Tree) {done : List Item} → HoldsItems job root later done
     → (before item_and_others earlier : List Item) → before ++ item_and_others ≡ done → list_all (free_item job) item_and_others ≡ true → carried job (marked_after job later earlier item_and_others) ≡ []
-done_again job root later done holds before [] earlier are open_places = refl
-done_again job root later done holds before (item ∷ others) earlier are open_places =
-    let parts = and_parts (free_item job item) (list_all (free_item job) others) open_places in
+done_again _ _ _ _ _ [] _ _ _ = refl
+done_again job root later {done} holds before (item ∷ others) earlier are open_places =
+    let parts = and_parts _ _ open_places in
     ap (λ (l : List Carried). l ++ carried job (marked_after job later (earlier ++ item ∷ []) others)) (by item.verdict refl parts.0)
-    ∙ done_again job root later done holds (before ++ item ∷ []) others (earlier ++ item ∷ []) (append_assoc before (item ∷ []) others ∙ are) parts.1
+    ∙ done_again job root later holds (before ++ item ∷ []) others (earlier ++ item ∷ []) (append_assoc before (item ∷ []) others ∙ are) parts.1
   where
     by : (v : Verdict) → item.verdict ≡ v → free job v ≡ true → carried_by job (is_taken job later earlier v) v ≡ []
     by Interior is h = refl
     by (Skip why) is h = refl
-    by (Named id object) is h = none_again (is_taken_place job later earlier (place_of job.tuples id)) id job object (λ clear. ap (λ b. b || list_any (claims job (place_of job.tuples id)) earlier) (stands clear))
+    by (Named id object) is h = none_again id job object (λ clear. ap (λ b. b || list_any (claims job (place_of job.tuples id)) earlier) (stands clear))
       where
         mine : is_none (cause_of job.limits object) ≡ true → claims job (place_of job.tuples id) item ≡ true
         mine clear =
@@ -65,20 +65,20 @@ done_again job root later done holds before (item ∷ others) earlier are open_p
             holds id (not-true (is_reserved job id) h)
             ∙ ap (λ (l : List Item). is_taken_place job root l (place_of job.tuples id)) (sym are)
             ∙ ap (λ b. is_some (root (place_of job.tuples id)) || b) (claimed job (place_of job.tuples id) before item others (mine clear))
-            ∙ or_right (is_some (root (place_of job.tuples id))) true refl
+            ∙ or_right _ true refl
 
 -- ---- and the others are taken where they were
 
 or_twice : (a b e : Bool) → ((a || b) || (b || e)) ≡ (a || (b || e))
-or_twice true b e = refl
-or_twice false true e = refl
-or_twice false false e = refl
+or_twice true _ _ = refl
+or_twice false true _ = refl
+or_twice false false _ = refl
 
 rest_alike : (job : Job) (root later : Tree) (done : List Item) → HoldsItems job root later done
     → (more others : List Item) → list_all (free_item job) others ≡ true → carried job (marked_after job later (done ++ more) others) ≡ carried job (marked_after job root (done ++ more) others)
-rest_alike job root later done holds more [] open_places = refl
+rest_alike _ _ _ _ _ _ [] _ = refl
 rest_alike job root later done holds more (item ∷ others) open_places =
-    let parts = and_parts (free_item job item) (list_all (free_item job) others) open_places in
+    let parts = and_parts _ _ open_places in
     ap (λ (l : List Carried). l ++ carried job (marked_after job later ((done ++ more) ++ item ∷ []) others)) (ap (λ b. carried_by job b item.verdict) (by item.verdict parts.0))
     ∙ ap (λ (l : List Carried). carried_by job (is_taken job root (done ++ more) item.verdict) item.verdict ++ l)
     (ap (λ (l : List Item). carried job (marked_after job later l others)) (append_assoc done more (item ∷ []))
@@ -101,7 +101,7 @@ rest_alike job root later done holds more (item ∷ others) open_places =
 -- the marks of all items but the first ones
 marks_left : (job : Job) (root : Tree) (earlier others : List Item) (k : ℕ) → drop k (marked_after job root earlier others) ≡ marked_after job root (earlier ++ take k others) (drop k others)
 marks_left job root earlier others zero = ap (λ (l : List Item). marked_after job root l others) (sym (append_nil earlier))
-marks_left job root earlier [] (suc k) = refl
+marks_left _ _ _ [] (suc _) = refl
 marks_left job root earlier (item ∷ others) (suc k) =
     marks_left job root (earlier ++ item ∷ []) others k ∙ ap (λ (l : List Item). marked_after job root l (drop k others)) (append_assoc earlier (item ∷ []) (take k others))
 
@@ -124,9 +124,9 @@ carried_in_two job source root k =
     ap (carried job) (sym (take-append-drop k (marked job source root))) ∙ carried-append job (take k (marked job source root)) (drop k (marked job source root))
 
 all_drop : {X : Type 0} → (p : X → Bool) (k : ℕ) (xs : List X) → list_all p xs ≡ true → list_all p (drop k xs) ≡ true
-all_drop p zero xs h = h
-all_drop p (suc k) [] h = refl
-all_drop p (suc k) (x ∷ xs) h = all_drop p k xs (and_parts (p x) (list_all p xs) h).1
+all_drop _ zero _ h = h
+all_drop _ (suc _) [] _ = refl
+all_drop p (suc k) (x ∷ xs) h = all_drop p k xs (and_parts (p x) _ h).1
 
 pub carried_again : (job : Job) (source : Forest) (root later : Tree) (k : ℕ) → HoldsItems job root later (take k (items job source)) → all_carried job source later ≡ left_after job source root k
 carried_again job source root later k holds =
@@ -135,7 +135,7 @@ carried_again job source root later k holds =
     ap (λ (l : List Item). carried job (marked_after job later [] l)) (sym (take-append-drop k all))
     ∙ ap (carried job) (marks_of_both job later [] (take k all) (drop k all))
     ∙ carried-append job (marked_after job later [] (take k all)) (marked_after job later (take k all) (drop k all))
-    ∙ ap (λ (l : List Carried). l ++ carried job (marked_after job later (take k all) (drop k all))) (done_again job root later (take k all) holds [] (take k all) [] refl (all_take (free_item job) k all open_places))
+    ∙ ap (λ (l : List Carried). l ++ carried job (marked_after job later (take k all) (drop k all))) (done_again job root later holds [] (take k all) [] refl (all_take (free_item job) k all open_places))
     ∙ ap (λ (l : List Item). carried job (marked_after job later l (drop k all))) (sym (append_nil (take k all)))
     ∙ rest_alike job root later (take k all) holds [] (drop k all) (all_drop (free_item job) k all open_places)
     ∙ ap (λ (l : List Item). carried job (marked_after job root l (drop k all))) (append_nil (take k all))

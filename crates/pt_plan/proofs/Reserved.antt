@@ -32,7 +32,7 @@ free_named job id object = by (is_reserved job id) refl
     by false e = not_from_false (is_reserved job id) e
 
 free_by_reading : (job : Job) (prefix : List ℕ) (object : PairtreeObject) (reading : Option (List ℕ)) → free job (verdict_by_reading job prefix object reading) ≡ true
-free_by_reading job prefix object None = refl
+free_by_reading _ _ _ None = refl
 free_by_reading job prefix object (Some read) = by (is_utf8 read)
   where
     by : (t : Bool) → free job (cond t (named job (prefix ++ read) object) (Skip cause.Utf8)) ≡ true
@@ -40,44 +40,44 @@ free_by_reading job prefix object (Some read) = by (is_utf8 read)
     by false = refl
 
 free_candidate : (job : Job) (prefix : List ℕ) (site : Path) (object : Option PairtreeObject) → free job (verdict_on_candidate job prefix site object) ≡ true
-free_candidate job prefix site None = refl
+free_candidate _ _ _ None = refl
 free_candidate job prefix site (Some object) = free_by_reading job prefix object (reading_of (concat site))
 
 free_by_finding : (job : Job) (prefix : List ℕ) (site : Path) (inside : Forest) (what : Finding) → free job (verdict_by_finding job prefix site inside what) ≡ true
-free_by_finding job prefix site inside finding.Interior = refl
-free_by_finding job prefix site inside (finding.Skip why) = refl
+free_by_finding _ _ _ _ finding.Interior = refl
+free_by_finding _ _ _ _ (finding.Skip _) = refl
 free_by_finding job prefix site inside (finding.Candidate i) = free_candidate job prefix site (encapsulated site (entries_from i inside))
 free_by_finding job prefix site inside finding.Gathered = free_by_reading job prefix (gathered_from site inside) (reading_of (concat site))
 
 free_by_visit : (job : Job) (prefix : List ℕ) (path : Path) (visit : Visit) → free job (verdict_by_visit job prefix path visit) ≡ true
 free_by_visit job prefix path (Listed inside) = free_by_finding job prefix path inside (found (listing_of inside) (at_of path) (form_of job))
-free_by_visit job prefix path _ = refl
+free_by_visit _ _ _ _ = refl
 
 -- whether it is of the share or not
 free_if : (job : Job) (b : Bool) (v : Verdict) → free job v ≡ true → free job (cond b v Interior) ≡ true
-free_if job true v h = h
-free_if job false v h = refl
+free_if _ true _ h = h
+free_if _ false _ _ = refl
 
 free_verdict : (job : Job) (prefix : List ℕ) (path : Path) (visit : Visit) → free job (verdict_of job prefix path visit) ≡ true
-free_verdict job prefix path visit = free_if job (is_ours job.share (verdict_by_visit job prefix path visit)) (verdict_by_visit job prefix path visit) (free_by_visit job prefix path visit)
+free_verdict job prefix path visit = free_if job (is_ours job.share (verdict_by_visit job prefix path visit)) _ (free_by_visit job prefix path visit)
 
-free_at : (job : Job) (prefix : List ℕ) (ways : List Site) (k : ℕ) (item : Item) → slice_get (map (item_of job prefix) ways) k ≡ Some item → free job item.verdict ≡ true
-free_at job prefix [] k item is = absurd (cc)
-free_at job prefix (site ∷ ways) zero item is =
+free_at : (job : Job) (prefix : List ℕ) (ways : List Site) (k : ℕ) {item : Item} → slice_get (map (item_of job prefix) ways) k ≡ Some item → free job item.verdict ≡ true
+free_at job prefix [] k is = absurd (cc)
+free_at job prefix (site ∷ ways) zero {item} is =
     let same : item_of job prefix site ≡ item = cc in
     subst (λ (i : Item). free job i.verdict ≡ true) same (free_verdict job prefix site.0 site.1)
-free_at job prefix (site ∷ ways) (suc k) item is = free_at job prefix ways k item is
+free_at job prefix (_ ∷ ways) (suc k) {item} is = free_at job prefix ways k is
 
 abbrev pub free_item : Job → Item → Bool
 free_item job item = free job item.verdict
 
 free_items : (job : Job) (prefix : List ℕ) (ways : List Site) → list_all (free_item job) (map (item_of job prefix) ways) ≡ true
-free_items job prefix [] = refl
-free_items job prefix (site ∷ ways) = and_from (free job (verdict_of job prefix site.0 site.1)) (list_all (free_item job) (map (item_of job prefix) ways)) (free_verdict job prefix site.0 site.1) (free_items job prefix ways)
+free_items _ _ [] = refl
+free_items job prefix (site ∷ ways) = and_from _ _ (free_verdict job prefix site.0 site.1) (free_items job prefix ways)
 
 pub all_free : (job : Job) (source : Forest) → list_all (free_item job) (items job source) ≡ true
 all_free job source = free_items job (prefix_of source) (sites_of job.limits.depth source)
 
 pub named_is_not_reserved : NamedIsNotReserved
-named_is_not_reserved job source k item id object is what =
-    not-true (is_reserved job id) (subst (λ (v : Verdict). free job v ≡ true) what (free_at job (prefix_of source) (sites_of job.limits.depth source) k item is))
+named_is_not_reserved job source k _ id _ is what =
+    not-true (is_reserved job id) (subst (λ (v : Verdict). free job v ≡ true) what (free_at job _ _ k is))

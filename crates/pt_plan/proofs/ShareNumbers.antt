@@ -17,11 +17,11 @@ use Rattle.pt_name.specs.Tuples.{Tuples}
 
 -- ---- the bytes of a text
 
-top_of : (c : ℕ) → scalar c ≡ true → c < 1114112
-top_of c h = elim (scalar_cases c h) [ inl low ↦ omega (arith, low) | inr high ↦ high.1 ]
+top_of : {c : ℕ} → scalar c ≡ true → c < 1114112
+top_of {c} h = elim (scalar_cases c h) [ inl low ↦ omega (arith, low) | inr high ↦ high.1 ]
 
-one : (b : ℕ) (bs : List ℕ) → b < 256 → All (λ b. b < 256) bs → All (λ b. b < 256) (b ∷ bs)
-one b bs h rest = All-cons (λ b. b < 256) b bs h rest
+one : {b : ℕ} (bs : List ℕ) → b < 256 → All (λ b. b < 256) bs → All (λ b. b < 256) (b ∷ bs)
+one {b} bs h rest = All-cons (λ b. b < 256) b bs h rest
 
 small_encode : (c : ℕ) → scalar c ≡ true → All (λ b. b < 256) (encode c)
 unfolding encode
@@ -29,20 +29,20 @@ small_encode c h = by (nat_lt c 128) (nat_lt c 2048) (nat_lt c 65536) refl refl 
   where
     by : (x y z : Bool) → nat_lt c 128 ≡ x → nat_lt c 2048 ≡ y → nat_lt c 65536 ≡ z
         → All (λ b. b < 256) (cond x (c ∷ []) (cond y ((192 + c / 64) ∷ next c ∷ []) (cond z ((224 + c / 4096) ∷ next (c / 64) ∷ next c ∷ []) ((240 + c / 262144) ∷ next (c / 4096) ∷ next (c / 64) ∷ next c ∷ []))))
-    by true y z a b d = let low = ltb-true c 128 a in one c [] (omega (arith, low)) (All-nil (λ b. b < 256))
-    by false true z a b d = let low = ltb-true c 2048 b in one (192 + c / 64) (next c ∷ []) (omega (arith, low)) (one (next c) [] (omega arith) (All-nil (λ b. b < 256)))
+    by true y z a b d = let low = ltb-true c 128 a in one [] (omega (arith, low)) (All-nil (λ b. b < 256))
+    by false true z a b d = let low = ltb-true c 2048 b in one (next c ∷ []) (omega (arith, low)) (one [] (omega arith) (All-nil (λ b. b < 256)))
     by false false true a b d =
         let low = ltb-true c 65536 d in
-        one (224 + c / 4096) (next (c / 64) ∷ next c ∷ []) (omega (arith, low)) (one (next (c / 64)) (next c ∷ []) (omega arith) (one (next c) [] (omega arith) (All-nil (λ b. b < 256))))
+        one (next (c / 64) ∷ next c ∷ []) (omega (arith, low)) (one (next c ∷ []) (omega arith) (one [] (omega arith) (All-nil (λ b. b < 256))))
     by false false false a b d =
-        let low = top_of c h in
-        one (240 + c / 262144) (next (c / 4096) ∷ next (c / 64) ∷ next c ∷ []) (omega (arith, low))
-        (one (next (c / 4096)) (next (c / 64) ∷ next c ∷ []) (omega arith) (one (next (c / 64)) (next c ∷ []) (omega arith) (one (next c) [] (omega arith) (All-nil (λ b. b < 256)))))
+        let low = top_of {c = c} h in
+        one (next (c / 4096) ∷ next (c / 64) ∷ next c ∷ []) (omega (arith, low))
+        (one (next (c / 64) ∷ next c ∷ []) (omega arith) (one (next c ∷ []) (omega arith) (one [] (omega arith) (All-nil (λ b. b < 256)))))
 
 small_encodes : (cs : List ℕ) → scalars cs ≡ true → All (λ b. b < 256) (encodes cs)
-small_encodes [] h = All-nil (λ b. b < 256)
+small_encodes [] _ = All-nil (λ b. b < 256)
 small_encodes (c ∷ cs) h =
-    let parts = and_parts (scalar c) (scalars cs) h in
+    let parts = and_parts _ _ h in
     All-append (λ b. b < 256) _ _ (small_encode c parts.0) (small_encodes cs parts.1)
 
 -- a text's bytes are bytes
@@ -54,8 +54,8 @@ small_text text h =
 -- ---- numbers
 
 -- there are so many shares
-pub number_within : (count : ℕ) (id : List ℕ) → 1 ≤ count → share_number count id ≤ count
-number_within count id some =
+pub number_within : {count : ℕ} (id : List ℕ) → 1 ≤ count → share_number count id ≤ count
+number_within {count} id some =
     let small = digest_number-small id in
     let product : count * (digest_number id + 1) ≤ count * 2 ^ 32 = mul-le-mul_left count (omega (arith, small)) in
     let below : digest_number id * count / 2 ^ 32 < count = (div-lt_iff_lt-mul (omega arith)).1 (omega (arith, product, some)) in

@@ -39,22 +39,22 @@ with_share job share = record job { share = share }
 -- ---- the share has no part in what an item is
 
 reading_same : (job : Job) (share : Portion) (prefix : List ℕ) (object : PairtreeObject) (reading : Option (List ℕ)) → verdict_by_reading (with_share job share) prefix object reading ≡ verdict_by_reading job prefix object reading
-reading_same job share prefix object None = refl
-reading_same job share prefix object (Some read) = refl
+reading_same _ _ _ _ None = refl
+reading_same _ _ _ _ (Some _) = refl
 
 candidate_same : (job : Job) (share : Portion) (prefix : List ℕ) (site : Path) (object : Option PairtreeObject) → verdict_on_candidate (with_share job share) prefix site object ≡ verdict_on_candidate job prefix site object
-candidate_same job share prefix site None = refl
+candidate_same _ _ _ _ None = refl
 candidate_same job share prefix site (Some object) = reading_same job share prefix object (reading_of (concat site))
 
 finding_same : (job : Job) (share : Portion) (prefix : List ℕ) (site : Path) (inside : Forest) (what : Finding) → verdict_by_finding (with_share job share) prefix site inside what ≡ verdict_by_finding job prefix site inside what
-finding_same job share prefix site inside finding.Interior = refl
-finding_same job share prefix site inside (finding.Skip why) = refl
+finding_same _ _ _ _ _ finding.Interior = refl
+finding_same _ _ _ _ _ (finding.Skip _) = refl
 finding_same job share prefix site inside (finding.Candidate i) = candidate_same job share prefix site (encapsulated site (entries_from i inside))
 finding_same job share prefix site inside finding.Gathered = reading_same job share prefix (gathered_from site inside) (reading_of (concat site))
 
 visit_same : (job : Job) (share : Portion) (prefix : List ℕ) (path : Path) (visit : Visit) → verdict_by_visit (with_share job share) prefix path visit ≡ verdict_by_visit job prefix path visit
 visit_same job share prefix path (Listed inside) = finding_same job share prefix path inside (found (listing_of inside) (at_of path) (form_of job))
-visit_same job share prefix path _ = refl
+visit_same _ _ _ _ _ = refl
 
 -- an item, whatever share it is of
 abbrev pub bare : Job → List ℕ → Site → Item
@@ -68,7 +68,7 @@ abbrev in_share : Portion → Item → Item
 in_share share item = record { path = item.path; visit = item.visit; verdict = ours share item.verdict }
 
 items_on : (job : Job) (share : Portion) (prefix : List ℕ) (ways : List Site) → map (item_of (with_share job share) prefix) ways ≡ map (in_share share) (map (bare job prefix) ways)
-items_on job share prefix [] = refl
+items_on _ _ _ [] = refl
 items_on job share prefix (site ∷ ways) = λ i. record { path = site.0; visit = site.1; verdict = ours share (visit_same job share prefix site.0 site.1 i) } ∷ items_on job share prefix ways i
 
 items_in : (job : Job) (share : Portion) (source : Forest) → items (with_share job share) source ≡ map (in_share share) (bare_items job source)
@@ -97,7 +97,7 @@ prefix_text (Some (File bytes)) = by (nat_lt 1024 (length bytes)) (is_utf8 (with
 prefix_text _ = empty_text
 
 text_by_reading : (job : Job) (prefix : List ℕ) (object : PairtreeObject) (reading : Option (List ℕ)) → is_utf8 prefix ≡ true → is_text (verdict_by_reading job prefix object reading) ≡ true
-text_by_reading job prefix object None u = refl
+text_by_reading _ _ _ None _ = refl
 text_by_reading job prefix object (Some read) u = by (is_utf8 read) (is_reserved job (prefix ++ read)) refl
   where
     by : (t r : Bool) → is_utf8 read ≡ t → is_text (cond t (cond r (Skip cause.Reserved) (Named (prefix ++ read) object)) (Skip cause.Utf8)) ≡ true
@@ -106,28 +106,28 @@ text_by_reading job prefix object (Some read) u = by (is_utf8 read) (is_reserved
     by true false h = both_texts prefix read u h
 
 text_by_candidate : (job : Job) (prefix : List ℕ) (site : Path) (object : Option PairtreeObject) → is_utf8 prefix ≡ true → is_text (verdict_on_candidate job prefix site object) ≡ true
-text_by_candidate job prefix site None u = refl
+text_by_candidate _ _ _ None _ = refl
 text_by_candidate job prefix site (Some object) u = text_by_reading job prefix object (reading_of (concat site)) u
 
 text_by_finding : (job : Job) (prefix : List ℕ) (site : Path) (inside : Forest) (what : Finding) → is_utf8 prefix ≡ true → is_text (verdict_by_finding job prefix site inside what) ≡ true
-text_by_finding job prefix site inside finding.Interior u = refl
-text_by_finding job prefix site inside (finding.Skip why) u = refl
+text_by_finding _ _ _ _ finding.Interior _ = refl
+text_by_finding _ _ _ _ (finding.Skip _) _ = refl
 text_by_finding job prefix site inside (finding.Candidate i) u = text_by_candidate job prefix site (encapsulated site (entries_from i inside)) u
 text_by_finding job prefix site inside finding.Gathered u = text_by_reading job prefix (gathered_from site inside) (reading_of (concat site)) u
 
 text_by_visit : (job : Job) (prefix : List ℕ) (path : Path) (visit : Visit) → is_utf8 prefix ≡ true → is_text (verdict_by_visit job prefix path visit) ≡ true
 text_by_visit job prefix path (Listed inside) u = text_by_finding job prefix path inside (found (listing_of inside) (at_of path) (form_of job)) u
-text_by_visit job prefix path _ u = refl
+text_by_visit _ _ _ _ _ = refl
 
 abbrev pub text_item : Item → Bool
 text_item item = is_text item.verdict
 
 texts_on : (job : Job) (prefix : List ℕ) (ways : List Site) → is_utf8 prefix ≡ true → list_all text_item (map (bare job prefix) ways) ≡ true
-texts_on job prefix [] u = refl
-texts_on job prefix (site ∷ ways) u = and_from (is_text (verdict_by_visit job prefix site.0 site.1)) (list_all text_item (map (bare job prefix) ways)) (text_by_visit job prefix site.0 site.1 u) (texts_on job prefix ways u)
+texts_on _ _ [] _ = refl
+texts_on job prefix (site ∷ ways) u = and_from _ _ (text_by_visit job prefix site.0 site.1 u) (texts_on job prefix ways u)
 
 pub texts_in : (job : Job) (source : Forest) → list_all text_item (bare_items job source) ≡ true
-texts_in job source = texts_on job (prefix_of source) (sites_of job.limits.depth source) (prefix_text (find source prefix_file))
+texts_in job source = texts_on job _ (sites_of job.limits.depth source) (prefix_text (find source prefix_file))
 
 -- ---- what is taken
 
@@ -137,8 +137,8 @@ never false = refl
 
 place_in : (job : Job) (share : Portion) (id : List ℕ) (v : Verdict) → is_text v ≡ true → is_utf8 id ≡ true → holds share id ≡ true
     → has_place (with_share job share) (place_of job.tuples id) (ours share v) ≡ has_place job (place_of job.tuples id) v
-place_in job share id Interior t u h = refl
-place_in job share id (Skip why) t u h = by (is_first share)
+place_in _ _ _ Interior _ _ _ = refl
+place_in job share id (Skip why) _ _ _ = by (is_first share)
   where
     by : (b : Bool) → has_place (with_share job share) (place_of job.tuples id) (cond b (Skip why) Interior) ≡ false
     by true = refl
@@ -148,7 +148,7 @@ place_in job share id (Named i o) t u h = by (holds share i) refl
     apart : (s : Bool) → holds share i ≡ false → same_path (place_of job.tuples i) (place_of job.tuples id) ≡ s → s ≡ false
     apart false not same = refl
     apart true not same =
-        let number = one_share job.tuples share.count i id t u (same_from (place_of job.tuples i) (place_of job.tuples id) same) in
+        let number = one_share job.tuples share.count i id t u (same_from _ _ same) in
         absurd (true≢false (sym h ∙ ap (λ n. n == share.index) (sym number) ∙ not))
 
     by : (b : Bool) → holds share i ≡ b → has_place (with_share job share) (place_of job.tuples id) (cond b (Named i o) Interior) ≡ has_place job (place_of job.tuples id) (Named i o)
@@ -157,9 +157,9 @@ place_in job share id (Named i o) t u h = by (holds share i) refl
 
 any_in : (job : Job) (share : Portion) (id : List ℕ) (earlier : List Item) → list_all text_item earlier ≡ true → is_utf8 id ≡ true → holds share id ≡ true
     → list_any (λ (item : Item). has_place (with_share job share) (place_of job.tuples id) item.verdict) (map (in_share share) earlier) ≡ list_any (λ (item : Item). has_place job (place_of job.tuples id) item.verdict) earlier
-any_in job share id [] t u h = refl
+any_in _ _ _ [] _ _ _ = refl
 any_in job share id (item ∷ earlier) t u h =
-    let parts = and_parts (text_item item) (list_all text_item earlier) t in
+    let parts = and_parts _ _ t in
     λ k. place_in job share id item.verdict parts.0 u h k || any_in job share id earlier parts.1 u h k
 
 -- ---- item by item
@@ -172,47 +172,47 @@ pub record MadeOfItems (X : Type 0) (job : Job) (share : Portion) : Type 0 where
   pub none : (path : Path) (taken : Bool) → all path taken Interior ≡ []
 
 -- in the share as in the whole, or nothing
-one_in : {X : Type 0} → (job : Job) (share : Portion) (it : MadeOfItems X job share) (root : Tree) (earlier : List Item) (path : Path) (v : Verdict) → list_all text_item earlier ≡ true → is_text v ≡ true
+one_in : {X : Type 0} → {job : Job} {share : Portion} (it : MadeOfItems X job share) (root : Tree) (earlier : List Item) (path : Path) (v : Verdict) → list_all text_item earlier ≡ true → is_text v ≡ true
     → it.mine path (is_taken (with_share job share) root (map (in_share share) earlier) (ours share v)) (ours share v) ≡ cond (is_ours share v) (it.all path (is_taken job root earlier v) v) []
-one_in job share it root earlier path Interior t u = it.same path false Interior
-one_in job share it root earlier path (Skip why) t u = by (is_first share)
+one_in it _ _ path Interior _ _ = it.same path false Interior
+one_in {job} {share} it root earlier path (Skip why) _ _ = by (is_first share)
   where
     by : (b : Bool) → it.mine path (is_taken (with_share job share) root (map (in_share share) earlier) (cond b (Skip why) Interior)) (cond b (Skip why) Interior) ≡ cond b (it.all path false (Skip why)) []
     by true = it.same path false (Skip why)
     by false = it.same path false Interior ∙ it.none path false
-one_in job share it root earlier path (Named id o) t u = by (holds share id) refl
+one_in {job} {share} it root earlier path (Named id o) t u = by (holds share id) refl
   where
     by : (b : Bool) → holds share id ≡ b → it.mine path (is_taken (with_share job share) root (map (in_share share) earlier) (cond b (Named id o) Interior)) (cond b (Named id o) Interior) ≡ cond b (it.all path (is_taken job root earlier (Named id o)) (Named id o)) []
     by true h = ap (λ b. it.mine path (is_some (root (place_of job.tuples id)) || b) (Named id o)) (any_in job share id earlier t u h) ∙ it.same path (is_taken job root earlier (Named id o)) (Named id o)
     by false h = it.same path false Interior ∙ it.none path false
 
-all_in : {X : Type 0} → (job : Job) (share : Portion) (it : MadeOfItems X job share) (root : Tree) (earlier others : List Item) → list_all text_item earlier ≡ true → list_all text_item others ≡ true
+all_in : {X : Type 0} → {job : Job} {share : Portion} (it : MadeOfItems X job share) (root : Tree) (earlier others : List Item) → list_all text_item earlier ≡ true → list_all text_item others ≡ true
     → flat_map (λ (m : Marked). it.mine m.0.path m.1 m.0.verdict) (marked_after (with_share job share) root (map (in_share share) earlier) (map (in_share share) others))
     ≡ flat_map (λ (m : Marked). cond (is_ours share m.0.verdict) (it.all m.0.path m.1 m.0.verdict) []) (marked_after job root earlier others)
-all_in job share it root earlier [] t u = refl
-all_in job share it root earlier (item ∷ others) t u =
-    let parts = and_parts (text_item item) (list_all text_item others) u in
-    let more : list_all text_item (earlier ++ item ∷ []) ≡ true = list_all-append text_item earlier (item ∷ []) ∙ and_from (list_all text_item earlier) (list_all text_item (item ∷ [])) t (and_from (text_item item) true parts.0 refl) in
-    let here = one_in job share it root earlier item.path item.verdict t parts.0 in
+all_in _ _ _ [] _ _ = refl
+all_in {job} {share} it root earlier (item ∷ others) t u =
+    let parts = and_parts _ _ u in
+    let more : list_all text_item (earlier ++ item ∷ []) ≡ true = list_all-append text_item earlier (item ∷ []) ∙ and_from _ _ t (and_from _ true parts.0 refl) in
+    let here = one_in it root earlier item.path item.verdict t parts.0 in
     let later = ap (λ (before : List Item). flat_map (λ (m : Marked). it.mine m.0.path m.1 m.0.verdict) (marked_after (with_share job share) root before (map (in_share share) others))) (sym (map-append (in_share share) earlier (item ∷ [])))
-    ∙ all_in job share it root (earlier ++ item ∷ []) others more parts.1 in
+    ∙ all_in it root (earlier ++ item ∷ []) others more parts.1 in
     λ k. here k ++ later k
 
 -- what is made of all items of a source, in a share and in the whole
-pub made_in : {X : Type 0} → (job : Job) (share : Portion) (it : MadeOfItems X job share) (source : Forest) (root : Tree)
+pub made_in : {X : Type 0} → {job : Job} {share : Portion} (it : MadeOfItems X job share) (source : Forest) (root : Tree)
     → flat_map (λ (m : Marked). it.mine m.0.path m.1 m.0.verdict) (marked (with_share job share) source root)
     ≡ flat_map (λ (m : Marked). cond (is_ours share m.0.verdict) (it.all m.0.path m.1 m.0.verdict) []) (marked_after job root [] (bare_items job source))
-made_in job share it source root =
+made_in {job} {share} it source root =
     ap (λ (l : List Item). flat_map (λ (m : Marked). it.mine m.0.path m.1 m.0.verdict) (marked_after (with_share job share) root [] l)) (items_in job share source)
-    ∙ all_in job share it root [] (bare_items job source) refl (texts_in job source)
+    ∙ all_in it root [] (bare_items job source) refl (texts_in job source)
 
 -- the whole is the share of each item
 whole_ours : (v : Verdict) → is_ours whole v ≡ true
-whole_ours (Named id object) = eq-eqb (share_number 1 id) 1 (whole_number id)
+whole_ours (Named id _) = eq-eqb (share_number 1 id) 1 (whole_number id)
 whole_ours _ = refl
 
 pub made_whole : {X : Type 0} → (f : Marked → List X) (ms : List Marked) → flat_map (λ (m : Marked). cond (is_ours whole m.0.verdict) (f m) []) ms ≡ flat_map f ms
-made_whole f [] = refl
+made_whole _ [] = refl
 made_whole f (m ∷ ms) = λ k. cond (whole_ours m.0.verdict k) (f m) [] ++ made_whole f ms k
 
 -- ---- lines
@@ -233,21 +233,21 @@ lines_made job share = record {
 
 -- ---- sums over shares
 
-sum_of_none : (f : ℕ → ℕ) (count : ℕ) → ((index : ℕ) → index ≤ count → f index ≡ 0) → sum_of_shares f count ≡ 0
-sum_of_none f zero none = refl
-sum_of_none f (suc count) none =
-    let front = sum_of_none f count (λ index h. none index (omega (arith, h))) in
+sum_of_none : {f : ℕ → ℕ} (count : ℕ) → ((index : ℕ) → index ≤ count → f index ≡ 0) → sum_of_shares f count ≡ 0
+sum_of_none zero _ = refl
+sum_of_none (suc count) none =
+    let front = sum_of_none count (λ index h. none index (omega (arith, h))) in
     let last = none (suc count) (omega arith) in
     omega (arith, front, last)
 
-sum_at_one : (f : ℕ → ℕ) (n x count : ℕ) → 1 ≤ n → n ≤ count → f n ≡ x → ((index : ℕ) → index ≢ n → f index ≡ 0) → sum_of_shares f count ≡ x
-sum_at_one f n x zero first last at off = absurd (omega (arith, first, last))
-sum_at_one f n x (suc count) first last at off = by (n == suc count) refl (λ less. sum_at_one f n x count first less at off)
+sum_at_one : {f : ℕ → ℕ} {n x : ℕ} (count : ℕ) → 1 ≤ n → n ≤ count → f n ≡ x → ((index : ℕ) → index ≢ n → f index ≡ 0) → sum_of_shares f count ≡ x
+sum_at_one zero first last at off = absurd (omega (arith, first, last))
+sum_at_one {f} {n} {x} (suc count) first last at off = by (n == suc count) refl (λ less. sum_at_one count first less at off)
   where
     by : (t : Bool) → (n == suc count) ≡ t → (n ≤ count → sum_of_shares f count ≡ x) → sum_of_shares f (suc count) ≡ x
     by true h front_is =
         let here : n ≡ suc count = eqb-true n (suc count) h in
-        let front = sum_of_none f count (λ index less. off index (λ e. omega (arith, e, here, less))) in
+        let front = sum_of_none count (λ index less. off index (λ e. omega (arith, e, here, less))) in
         let mine = ap f (sym here) ∙ at in
         omega (arith, front, mine)
     by false h front_is =
@@ -257,30 +257,30 @@ sum_at_one f n x (suc count) first last at off = by (n == suc count) refl (λ le
         omega (arith, front, mine)
 
 sum_of_both : (f g : ℕ → ℕ) (count : ℕ) → sum_of_shares (λ index. f index + g index) count ≡ sum_of_shares f count + sum_of_shares g count
-sum_of_both f g zero = refl
+sum_of_both _ _ zero = refl
 sum_of_both f g (suc count) = let front = sum_of_both f g count in omega (arith, front)
 
-same_sums : (f g : ℕ → ℕ) (count : ℕ) → ((index : ℕ) → f index ≡ g index) → sum_of_shares f count ≡ sum_of_shares g count
-same_sums f g zero same = refl
-same_sums f g (suc count) same = λ k. same_sums f g count same k + same (suc count) k
+same_sums : {f g : ℕ → ℕ} (count : ℕ) → ((index : ℕ) → f index ≡ g index) → sum_of_shares f count ≡ sum_of_shares g count
+same_sums zero _ = refl
+same_sums (suc count) same = λ k. same_sums count same k + same (suc count) k
 
 -- an item's lines are those of one share
-shared_line : (test : Line → Bool) (count : ℕ) (v : Verdict) (told : List Line) → 1 ≤ count → (v ≡ Interior → told ≡ [])
+shared_line : (test : Line → Bool) {count : ℕ} (v : Verdict) {told : List Line} → 1 ≤ count → (v ≡ Interior → told ≡ [])
     → sum_of_shares (λ index. count_by test (cond (is_ours (record { index = index; count = count }) v) told [])) count ≡ count_by test told
-shared_line test count Interior told some none =
+shared_line test {count} Interior _ none =
     let nothing = ap (count_by test) (none refl) in
-    sum_of_none (λ index. count_by test told) count (λ index h. nothing) ∙ sym nothing
-shared_line test count (Skip why) told some none =
-    sum_at_one (λ index. count_by test (cond (index == 1) told [])) 1 (count_by test told) count (omega arith) some refl (λ index apart. by index apart (index == 1) refl)
+    sum_of_none count (λ index h. nothing) ∙ sym nothing
+shared_line test {count} (Skip why) {told} some none =
+    sum_at_one count (omega arith) some refl (λ index apart. by index apart (index == 1) refl)
   where
     by : (index : ℕ) → index ≢ 1 → (t : Bool) → (index == 1) ≡ t → count_by test (cond t told []) ≡ 0
     by index apart true h = absurd (apart (eqb-true index 1 h))
     by index apart false h = refl
-shared_line test count (Named id object) told some none =
+shared_line test {count} (Named id object) {told} some none =
     let n = share_number count id in
     let mine = eq-eqb n n refl in
-    let within = number_within count id some in
-    sum_at_one (λ index. count_by test (cond (n == index) told [])) n (count_by test told) count (omega arith) within (ap (λ b. count_by test (cond b told [])) mine) (λ index apart. by index apart (n == index) refl)
+    let within = number_within id some in
+    sum_at_one count (omega arith) within (ap (λ b. count_by test (cond b told [])) mine) (λ index apart. by index apart (n == index) refl)
   where
     by : (index : ℕ) → index ≢ share_number count id → (t : Bool) → (share_number count id == index) ≡ t → count_by test (cond t told []) ≡ 0
     by index apart true h = absurd (apart (sym (eqb-true (share_number count id) index h)))
@@ -289,20 +289,20 @@ shared_line test count (Named id object) told some none =
 more_lines : (test : Line → Bool) (first later : List Line) → count_by test (first ++ later) ≡ count_by test first + count_by test later
 more_lines test first later = sum_by-append (λ line. cond (test line) 1 0) first later
 
-shared_lines : (job : Job) (test : Line → Bool) (count : ℕ) (ms : List Marked) → 1 ≤ count
+shared_lines : (job : Job) (test : Line → Bool) {count : ℕ} (ms : List Marked) → 1 ≤ count
     → sum_of_shares (λ index. count_by test (flat_map (λ (m : Marked). cond (is_ours (record { index = index; count = count }) m.0.verdict) (line_of job m) []) ms)) count ≡ count_by test (flat_map (line_of job) ms)
-shared_lines job test count [] some = sum_of_none (λ index. 0) count (λ index h. refl)
-shared_lines job test count (m ∷ ms) some =
-    same_sums _ _ count (λ index. more_lines test (cond (is_ours (record { index = index; count = count }) m.0.verdict) (line_of job m) []) (flat_map (λ (x : Marked). cond (is_ours (record { index = index; count = count }) x.0.verdict) (line_of job x) []) ms))
+shared_lines _ _ {count} [] _ = sum_of_none count (λ index h. refl)
+shared_lines job test {count} (m ∷ ms) some =
+    same_sums count (λ index. more_lines test (cond (is_ours (record { index = index; count = count }) m.0.verdict) (line_of job m) []) (flat_map (λ (x : Marked). cond (is_ours (record { index = index; count = count }) x.0.verdict) (line_of job x) []) ms))
     ∙ sum_of_both (λ index. count_by test (cond (is_ours (record { index = index; count = count }) m.0.verdict) (line_of job m) [])) (λ index. count_by test (flat_map (λ (x : Marked). cond (is_ours (record { index = index; count = count }) x.0.verdict) (line_of job x) []) ms)) count
-    ∙ ap (λ n. n + sum_of_shares (λ index. count_by test (flat_map (λ (x : Marked). cond (is_ours (record { index = index; count = count }) x.0.verdict) (line_of job x) []) ms)) count) (shared_line test count m.0.verdict (line_of job m) some (λ is. ap (line_by_verdict job m.0.path m.1) is))
-    ∙ ap (λ n. count_by test (line_of job m) + n) (shared_lines job test count ms some)
+    ∙ ap (λ n. n + sum_of_shares (λ index. count_by test (flat_map (λ (x : Marked). cond (is_ours (record { index = index; count = count }) x.0.verdict) (line_of job x) []) ms)) count) (shared_line test m.0.verdict some (λ is. ap (line_by_verdict job m.0.path m.1) is))
+    ∙ ap (λ n. count_by test (line_of job m) + n) (shared_lines job test ms some)
     ∙ sym (more_lines test (line_of job m) (flat_map (line_of job) ms))
 
 pub shares_tell_the_whole : SharesTellTheWhole
 unfolding lines_made
 shares_tell_the_whole job source root count some test =
     let ms = marked_after job root [] (bare_items job source) in
-    ap (count_by test) (made_in job whole (lines_made job whole) source root ∙ made_whole (line_of job) ms)
-    ∙ sym (shared_lines job test count ms some)
-    ∙ sym (same_sums _ _ count (λ index. ap (count_by test) (made_in job (record { index = index; count = count }) (lines_made job (record { index = index; count = count })) source root)))
+    ap (count_by test) (made_in (lines_made job whole) source root ∙ made_whole (line_of job) ms)
+    ∙ sym (shared_lines job test ms some)
+    ∙ sym (same_sums count (λ index. ap (count_by test) (made_in (lines_made job (record { index = index; count = count })) source root)))

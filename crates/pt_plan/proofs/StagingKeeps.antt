@@ -19,7 +19,7 @@ in_staging item = is_some (rest_below staging (item_path item))
 
 -- no path of the root is
 other_path : (path p : Path) → is_some (rest_below staging p) ≡ true → same_path (storage_root ++ path) p ≡ false
-other_path path [] h = refl
+other_path _ [] _ = refl
 other_path path (x ∷ p) h = by (bytes_eq (codes "staging") x) refl h
   where
     by : (t : Bool) → bytes_eq (codes "staging") x ≡ t → is_some (cond t (rest_below [] p) None) ≡ true → (bytes_eq (codes "ocfl") x && same_path path p) ≡ false
@@ -27,29 +27,29 @@ other_path path (x ∷ p) h = by (bytes_eq (codes "staging") x) refl h
     by false e h = absurd (false≢true h)
 
 made_keeps : (script : List Item) (t : Tree) → list_all in_staging script ≡ true → (path : Path) → made script t (storage_root ++ path) ≡ t (storage_root ++ path)
-made_keeps [] t h path = refl
+made_keeps [] _ _ _ = refl
 made_keeps (item ∷ script) t h path =
     let parts = and_parts (in_staging item) (list_all in_staging script) h in
     made_keeps script (done item t) parts.1 path ∙ ap (λ b. cond b (Some (item_entry item)) (t (storage_root ++ path))) (other_path path (item_path item) parts.0)
 
 pub items_in : (items : List Item) → list_all in_staging (map (item_in staging) items) ≡ true
 items_in [] = refl
-items_in (MakeFolder path ∷ items) = items_in items
-items_in (MakeFile path bytes ∷ items) = items_in items
+items_in (MakeFolder _ ∷ items) = items_in items
+items_in (MakeFile _ _ ∷ items) = items_in items
 
 pub cut_in : (count : ℕ) (script : List Item) → list_all in_staging script ≡ true → list_all in_staging (cut_last count script) ≡ true
-cut_in count [] h = refl
-cut_in count (MakeFolder path ∷ []) h = h
-cut_in count (MakeFile path bytes ∷ []) h = h
+cut_in _ [] _ = refl
+cut_in _ (MakeFolder path ∷ []) h = h
+cut_in _ (MakeFile path bytes ∷ []) h = h
 cut_in count (item ∷ next ∷ script) h =
-    let parts = and_parts (in_staging item) (list_all in_staging (next ∷ script)) h in
-    and_from (in_staging item) (list_all in_staging (cut_last count (next ∷ script))) parts.0 (cut_in count (next ∷ script) parts.1)
+    let parts = and_parts _ _ h in
+    and_from _ _ parts.0 (cut_in count (next ∷ script) parts.1)
 
-pub root_at_prefix : (items : List Item) (start now : Tree) → StandsAtPrefix (map (item_in staging) items) start now → root_in now ≡ root_in start
-root_at_prefix items start now at =
+pub root_at_prefix : (items : List Item) {start now : Tree} → StandsAtPrefix (map (item_in staging) items) start now → root_in now ≡ root_in start
+root_at_prefix items {start} at =
     ap root_in at.stands
     ∙ λ i path. made_keeps (cut_last at.bytes (take at.items (map (item_in staging) items))) start
     (cut_in at.bytes (take at.items (map (item_in staging) items)) (all_take in_staging at.items (map (item_in staging) items) (items_in items))) path i
 
 pub root_stays_without_staging : RootStaysWithoutStaging
-root_stays_without_staging t = refl
+root_stays_without_staging _ = refl

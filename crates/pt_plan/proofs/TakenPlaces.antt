@@ -35,7 +35,7 @@ has job place object = same_path place (place_of_carried job object)
 
 -- it is on the way to objects exactly where one of them has it
 pub way_at_place : (job : Job) (id : List ℕ) (objects : List Carried) → is_on_the_way job objects (place_of job.tuples id) ≡ list_any (has job (place_of job.tuples id)) objects
-way_at_place job id [] = refl
+way_at_place _ _ [] = refl
 way_at_place job id (object ∷ objects) =
     ap (λ b. b || is_on_the_way job objects (place_of job.tuples id)) (level (place_of job.tuples id) (place_of_carried job object) (as_long job.tuples id object.id))
     ∙ ap (λ b. has job (place_of job.tuples id) object || b) (way_at_place job id objects)
@@ -50,7 +50,7 @@ below_object job object path h = by (rest_below (place_of_carried job object) pa
 
 -- so do objects
 some_below : (job : Job) (id : List ℕ) (objects : List Carried) → is_some (entry_of_objects job objects (place_of job.tuples id)) ≡ true → list_any (has job (place_of job.tuples id)) objects ≡ true
-some_below job id [] h = absurd (false≢true h)
+some_below _ _ [] h = absurd (false≢true h)
 some_below job id (object ∷ objects) h = by (entry_of_object job (place_of job.tuples id) object) refl (λ k. some_below job id objects k) h
   where
     here : is_some (entry_of_object job (place_of job.tuples id) object) ≡ true → has job (place_of job.tuples id) object ≡ true
@@ -64,7 +64,7 @@ some_below job id (object ∷ objects) h = by (entry_of_object job (place_of job
         → is_some (option_or o (entry_of_objects job objects (place_of job.tuples id))) ≡ true
         → (has job (place_of job.tuples id) object || list_any (has job (place_of job.tuples id)) objects) ≡ true
     by (Some entry) is later h = ap (λ b. b || list_any (has job (place_of job.tuples id)) objects) (here (ap is_some is))
-    by None is later h = or_right (has job (place_of job.tuples id) object) (list_any (has job (place_of job.tuples id)) objects) (later h)
+    by None is later h = or_right _ _ (later h)
 
 -- at a place something stands with some objects exactly where it stood before, or one of them has the place
 pub stands_with_objects : (job : Job) (id : List ℕ) (objects : List Carried) (t : Tree)
@@ -109,22 +109,22 @@ one_more job root earlier place (Named id object) free = by_cause (cause_of job.
     by_cause (Some why) = ap (λ b. list_any (claims job place) earlier || b) (none_either (is_taken_place job root earlier (place_of job.tuples id)))
     by_cause None =
         ap (λ b. list_any (claims job place) earlier || b) (one (is_taken_place job root earlier (place_of job.tuples id)))
-        ∙ here (is_taken_place job root earlier (place_of job.tuples id)) (same_path place (place_of job.tuples id)) (λ e. tells (is_same place (place_of job.tuples id) e))
+        ∙ here (is_taken_place job root earlier (place_of job.tuples id)) (same_path place (place_of job.tuples id)) (λ e. tells (is_same place _ e))
         ∙ ap (λ b. list_any (claims job place) earlier || b) (same_path-sym place (place_of job.tuples id))
       where
         tells : place ≡ place_of job.tuples id → is_taken_place job root earlier (place_of job.tuples id) ≡ list_any (claims job place) earlier
         tells e = ap (is_taken_place job root earlier) (sym e) ∙ ap (λ b. b || list_any (claims job place) earlier) free
-one_more job root earlier place _ free = refl
+one_more _ _ _ _ _ _ = refl
 
 or_assoc : (a b c : Bool) → ((a || b) || c) ≡ (a || (b || c))
-or_assoc true b c = refl
-or_assoc false b c = refl
+or_assoc true _ _ = refl
+or_assoc false _ _ = refl
 
 -- so for the first items, after earlier ones
 first_ones : (job : Job) (root : Tree) (earlier others : List Item) (k : ℕ) (place : Path) → is_some (root place) ≡ false
     → (list_any (claims job place) earlier || list_any (has job place) (carried job (take k (marked_after job root earlier others)))) ≡ list_any (claims job place) (earlier ++ take k others)
-first_ones job root earlier others zero place free = or_false (list_any (claims job place) earlier) ∙ ap (list_any (claims job place)) (sym (append_nil earlier))
-first_ones job root earlier [] (suc k) place free = or_false (list_any (claims job place) earlier) ∙ ap (list_any (claims job place)) (sym (append_nil earlier))
+first_ones job _ earlier _ zero place _ = or_false (list_any (claims job place) earlier) ∙ ap (list_any (claims job place)) (sym (append_nil earlier))
+first_ones job _ earlier [] (suc _) place _ = or_false (list_any (claims job place) earlier) ∙ ap (list_any (claims job place)) (sym (append_nil earlier))
 first_ones job root earlier (item ∷ others) (suc k) place free =
     let taken = is_taken job root earlier item.verdict in
     let later = carried job (take k (marked_after job root (earlier ++ item ∷ []) others)) in
@@ -149,7 +149,7 @@ taken_by_carried job source root k place = by (is_some (root place)) refl
 pub place_stands_where_taken : PlaceStandsWhereTaken
 place_stands_where_taken job source root k id rooted reserved =
     stands_with_objects job id (carried_among job source root k) (base job.tuples root)
-    ∙ ap (λ b. b || list_any (has job (place_of job.tuples id)) (carried_among job source root k)) (base_at_place job root id rooted reserved)
+    ∙ ap (λ b. b || list_any (has job (place_of job.tuples id)) (carried_among job source root k)) (base_at_place job id rooted reserved)
     ∙ taken_by_carried job source root k (place_of job.tuples id)
 
 -- the item that a mark is on, and what the mark says

@@ -6,7 +6,6 @@ use Rattle.std.proofs.lemmas.Bool.{and_parts, false_from_ne_true}
 use Rattle.std.proofs.lemmas.List.Elements.{All-append, All-cons, All-nil, All-weaker}
 use Rattle.pt_object.proofs.VersionStates.{state_is_the_files}
 use Rattle.pt_object.proofs.Ways.{leads}
-use Rattle.pt_object.specs.FilePaths.{is_logical, part_in_order, paths_of}
 use Rattle.pt_object.specs.Holding.{placed_at}
 use Rattle.pt_object.specs.Object.{object_of}
 use Rattle.pt_object.specs.Root.{base}
@@ -53,7 +52,7 @@ module _ (job : Job) (source : Forest) (root : Tree) (k : ℕ) (next : Carried) 
   stays_whole object stands q =
       ap (λ (t : Tree). t path) (after_grows job source root k next gaps is)
       ∙ ap (λ (o : Option Path). placed_at inside o (with_folders (tuple_folders job next) before path)) (no_rest there path (false_from_ne_true (leads there path) apart))
-      ∙ stands_with_folders (tuple_folders job next) before path (false_from_ne_true (is_one path (tuple_folders job next)) long)
+      ∙ stands_with_folders _ before (false_from_ne_true (is_one path (tuple_folders job next)) long)
       ∙ stands q
     where
       here : Path
@@ -70,13 +69,13 @@ module _ (job : Job) (source : Forest) (root : Tree) (k : ℕ) (next : Carried) 
 
       apart : leads there (place_of_carried job object ++ q) ≡ true → ⊥
       apart on =
-          let same : there ≡ place_of_carried job object = one_way there (place_of_carried job object) (place_of_carried job object ++ q) level on (below_itself (place_of_carried job object) q) in
-          let no : None ≡ Some Folder = sym (place_is_free job source root k next gaps is) ∙ ap before same ∙ stood in
+          let same : there ≡ place_of_carried job object = one_way there _ _ level on (below_itself (place_of_carried job object) q) in
+          let no : None ≡ Some Folder = sym (place_is_free job source k gaps is) ∙ ap before same ∙ stood in
           absurd (cc)
 
       long : is_one (place_of_carried job object ++ q) (tuple_folders job next) ≡ true → ⊥
       long one =
-          let above = is_above (place_of_carried job object ++ q) there one in
+          let above = is_above _ there one in
           let short = above.short in
           let more : length (place_of_carried job object ++ q) ≡ length (place_of_carried job object) + length q = length-append (place_of_carried job object) q in
           let same_long = level in
@@ -86,9 +85,9 @@ module _ (job : Job) (source : Forest) (root : Tree) (k : ℕ) (next : Carried) 
 
 -- an item's object is carried, or none is
 one_or_none : (job : Job) (taken : Bool) (verdict : Verdict) → (carried_by job taken verdict ≡ []) ⊎ ((object : Carried) × (carried_by job taken verdict ≡ object ∷ []))
-one_or_none job taken Interior = inl refl
-one_or_none job taken (Skip why) = inl refl
-one_or_none job true (Named id object) = inl refl
+one_or_none _ _ Interior = inl refl
+one_or_none _ _ (Skip _) = inl refl
+one_or_none _ true (Named _ _) = inl refl
 one_or_none job false (Named id object) = by (outcome job.limits object)
   where
     by : (o : Outcome) → (carried_by_outcome id o ≡ []) ⊎ ((object : Carried) × (carried_by_outcome id o ≡ object ∷ []))
@@ -97,8 +96,8 @@ one_or_none job false (Named id object) = by (outcome job.limits object)
 
 -- behind the last element there is none more
 none_more : {X : Type 0} → (xs : List X) (k : ℕ) → slice_get xs k ≡ None → take (suc k) xs ≡ take k xs
-none_more [] zero none = refl
-none_more [] (suc k) none = refl
+none_more [] zero _ = refl
+none_more [] (suc _) _ = refl
 none_more (x ∷ xs) zero none = absurd (cc)
 none_more {X = X} (x ∷ xs) (suc k) none = ap (λ (l : List X). x ∷ l) (none_more xs k none)
 
@@ -106,10 +105,10 @@ abbrev AllWhole : Job → Forest → Tree → ℕ → Type 0
 AllWhole job source root k = All (StandsWhole job (after job source root k)) (carried_among job source root k)
 
 -- with one item more
-one_item_more : (job : Job) (source : Forest) (root : Tree) (k : ℕ) → HasNoGaps root → AllWhole job source root k → (o : Option Marked) → slice_get (marked job source root) k ≡ o → AllWhole job source root (suc k)
-one_item_more job source root k gaps earlier None e =
-    subst (λ (l : List Marked). All (StandsWhole job (with_objects job (carried job l) (base job.tuples root))) (carried job l)) (sym (none_more (marked job source root) k e)) earlier
-one_item_more job source root k gaps earlier (Some m) e = elim (one_or_none job m.1 m.0.verdict) [
+one_item_more : (job : Job) (source : Forest) {root : Tree} (k : ℕ) → HasNoGaps root → AllWhole job source root k → (o : Option Marked) → slice_get (marked job source root) k ≡ o → AllWhole job source root (suc k)
+one_item_more job source {root} k _ earlier None e =
+    subst (λ (l : List Marked). All (StandsWhole job (with_objects job (carried job l) (base job.tuples root))) (carried job l)) (sym (none_more _ k e)) earlier
+one_item_more job source {root} k gaps earlier (Some m) e = elim (one_or_none job m.1 m.0.verdict) [
   | inl none ↦ (let same = after_stays job source root k m e none in
       let objects : carried_among job source root (suc k) ≡ carried_among job source root k = carried_grows job source root k m e ∙ ap (λ (l : List Carried). carried_among job source root k ++ l) none ∙ append_nil (carried_among job source root k) in
       subst (λ (t : Tree). All (StandsWhole job t) (carried_among job source root (suc k))) (sym same) (subst (λ (l : List Carried). All (StandsWhole job (after job source root k)) l) (sym objects) earlier))
@@ -122,15 +121,15 @@ one_item_more job source root k gaps earlier (Some m) e = elim (one_or_none job 
 ]
 
 pub carried_stand_whole : CarriedStandWhole
-carried_stand_whole job source root zero gaps = All-nil (StandsWhole job (after job source root zero))
-carried_stand_whole job source root (suc k) gaps = one_item_more job source root k gaps (carried_stand_whole job source root k gaps) (slice_get (marked job source root) k) refl
+carried_stand_whole job source root zero _ = All-nil (StandsWhole job (after job source root zero))
+carried_stand_whole job source root (suc k) gaps = one_item_more job source k gaps (carried_stand_whole job source root k gaps) _ refl
 
 -- ---- the versions
 
 each_passes : {X : Type 0} → (p : X → Bool) (xs : List X) → list_all p xs ≡ true → All (λ x. p x ≡ true) xs
-each_passes p [] h = All-nil (λ x. p x ≡ true)
+each_passes p [] _ = All-nil (λ x. p x ≡ true)
 each_passes p (x ∷ xs) h =
-    let parts = and_parts (p x) (list_all p xs) h in
+    let parts = and_parts (p x) _ h in
     All-cons (λ y. p y ≡ true) x xs parts.0 (each_passes p xs parts.1)
 
 abbrev in_order : Carried → Bool
@@ -150,12 +149,12 @@ carried_have_their_files job source start proper tree = by
 
     ordered : All (λ object. in_order object ≡ true) (all_carried job source (root_in start))
     ordered =
-        each_passes in_order (all_carried job source (root_in start))
+        each_passes in_order _
         (subst (λ (l : List Carried). list_all in_order l ≡ true) (all_are).0 (carried_files_come_in_order job source (root_in start) (length (items job source)) proper))
 
     its_files : (object : Carried) → StandsWhole job (after_all job source (root_in start)) object → in_order object ≡ true → HasItsFiles job (with_root start (after_all job source (root_in start))) object
     its_files object stands order apart =
-        let parts = and_parts (part_in_order (paths_of object.files)) (list_all is_logical (paths_of object.files)) order in
+        let parts = and_parts _ _ order in
         state_is_the_files object.id object.files job.meta job.algorithm (with_root start (after_all job source (root_in start))) (storage_root ++ place_of_carried job object) parts.0 parts.1 apart stands
 
     by : All (HasItsFiles job (with_root start (after_all job source (root_in start)))) (all_carried job source (root_in start))

@@ -24,8 +24,8 @@ use Rattle.pt_plan.proofs.PlaceShapes.{as_long}
 -- ---- an object's own folder
 
 held_below : (files later : List File) → held_at (map (file_in version_folder) files ++ later) [] ≡ held_at later []
-held_below [] later = refl
-held_below (file ∷ files) later = held_below files later
+held_below [] _ = refl
+held_below (_ ∷ files) later = held_below files later
 
 top_of_files : (algorithm : Algorithm) (text : List ℕ) (stored : List File) → held_at (object_files algorithm text stored) [] ≡ None
 top_of_files algorithm text stored = held_below (map content_file stored) (inventory_files version_folder algorithm text ++ inventory_files [] algorithm text)
@@ -74,13 +74,13 @@ pub short_as : (job : Job) (id : List ℕ) (path : Path) → length path < lengt
 short_as job id path h other = let same = as_long job.tuples id other in omega (arith, same, h)
 
 pub none_of_objects : (job : Job) (path : Path) (objects : List Carried) → IsShort job path → entry_of_objects job objects path ≡ None
-none_of_objects job path [] short = refl
+none_of_objects _ _ [] _ = refl
 none_of_objects job path (object ∷ objects) short =
     ap (λ (o : Option Entry). option_or o (entry_of_objects job objects path)) (none_of_object job object path (longer (place_of_carried job object) path (short object.id)))
     ∙ none_of_objects job path objects short
 
 pub entries-append : (job : Job) (path : Path) (first later : List Carried) → entry_of_objects job (first ++ later) path ≡ option_or (entry_of_objects job first path) (entry_of_objects job later path)
-entries-append job path [] later = refl
+entries-append _ _ [] _ = refl
 entries-append job path (object ∷ first) later = ap (option_or (entry_of_object job path object)) (entries-append job path first later) ∙ by (entry_of_object job path object)
   where
     by : (o : Option Entry) → option_or o (option_or (entry_of_objects job first path) (entry_of_objects job later path)) ≡ option_or (option_or o (entry_of_objects job first path)) (entry_of_objects job later path)
@@ -95,9 +95,9 @@ pub record LeadsToOne (job : Job) (path : Path) : Type 0 where
   pub id : List ℕ
   pub on : leads path (place_of job.tuples id) ≡ true
 
-pub leads_to_one : (job : Job) (path : Path) (objects : List Carried) → is_on_the_way job objects path ≡ true → LeadsToOne job path
-leads_to_one job path [] h = absurd (false≢true h)
-leads_to_one job path (object ∷ objects) h = by (leads path (place_of_carried job object)) refl (λ k. leads_to_one job path objects k) h
+pub leads_to_one : {job : Job} {path : Path} (objects : List Carried) → is_on_the_way job objects path ≡ true → LeadsToOne job path
+leads_to_one [] h = absurd (false≢true h)
+leads_to_one {job} {path} (object ∷ objects) h = by (leads path (place_of_carried job object)) refl (λ k. leads_to_one objects k) h
   where
     by : (t : Bool) → leads path (place_of_carried job object) ≡ t → (is_on_the_way job objects path ≡ true → LeadsToOne job path) → (t || is_on_the_way job objects path) ≡ true → LeadsToOne job path
     by true e later h = record { id = object.id; on = e }
@@ -118,11 +118,11 @@ folder_on_the_way job path id object here on later = by (rest_below (place_of_ca
     by : (o : Option Path) → rest_below (place_of_carried job object) path ≡ o
         → option_or (option_or (option_and_then (object_of object.id object.files job.meta job.algorithm) o) here) (Some Folder) ≡ Some Folder
     by None e = later
-    by (Some rest) e = at rest (whole_of (place_of_carried job object) path rest e)
+    by (Some rest) e = at rest (whole_of _ path rest e)
 
 pub folders_on_the_way : (job : Job) (path : Path) (id : List ℕ) (objects : List Carried) → leads path (place_of job.tuples id) ≡ true → option_or (entry_of_objects job objects path) (Some Folder) ≡ Some Folder
-folders_on_the_way job path id [] on = refl
-folders_on_the_way job path id (object ∷ objects) on = folder_on_the_way job path id object (entry_of_objects job objects path) on (folders_on_the_way job path id objects on)
+folders_on_the_way _ _ _ [] _ = refl
+folders_on_the_way job path id (object ∷ objects) on = folder_on_the_way job path id object _ on (folders_on_the_way job path id objects on)
 
 -- ---- objects in two lots
 
@@ -143,7 +143,7 @@ in_two_lots_at job first later folders t to path =
         ≡ option_or here (option_or (option_or inside (entry_of_objects job later path)) (folder_where (way || is_on_the_way job later path)))
     by (Some entry) inside way one w o = refl
     by None (Some entry) way one w o = refl
-    by None None true one w o = let place = leads_to_one job path first w in sym (folders_on_the_way job path place.id later place.on)
+    by None None true one w o = let place = leads_to_one {job = job} first w in sym (folders_on_the_way job path place.id later place.on)
     by None None false true w o =
         let parts = to path o in
         sym (ap (λ (e : Option Entry). option_or e (folder_where (is_on_the_way job later path))) (none_of_objects job path later parts.0) ∙ ap folder_where parts.1)
@@ -154,8 +154,8 @@ pub in_two_lots : (job : Job) (first later : List Carried) (folders : List Path)
 in_two_lots job first later folders t to i path = in_two_lots_at job first later folders t to path i
 
 -- folders that are no places
-pub stands_with_folders : (folders : List Path) (t : Tree) (path : Path) → is_one path folders ≡ false → with_folders folders t path ≡ t path
-stands_with_folders folders t path h = ap (λ b. option_or (t path) (folder_where b)) h ∙ by (t path)
+pub stands_with_folders : (folders : List Path) (t : Tree) {path : Path} → is_one path folders ≡ false → with_folders folders t path ≡ t path
+stands_with_folders _ t {path} h = ap (λ b. option_or (t path) (folder_where b)) h ∙ by (t path)
   where
     by : (o : Option Entry) → option_or o None ≡ o
     by None = refl
