@@ -1,6 +1,5 @@
 -- An audit under way.
-use Rattle.std.specs.Prelude.{◌≡◌, ◌+◌, ℕ, min, None, Option, Some, Ok, Err, Result}
-use Rattle.std.specs.Prelude.{String}
+use Rattle.std.specs.Prelude.{◌≡◌, ◌+◌, ℕ, min, None, Option, Some, Ok, Err, Result, String}
 use Rattle.std.specs.String.{string_bytes}
 use Rattle.std.specs.Global.{Global}
 use Rattle.pt_audit.specs.Lines.{End, line_by, line_text}

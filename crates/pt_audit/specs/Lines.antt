@@ -1,6 +1,5 @@
 -- The lines of an audit's log: each one compact JSON object with its keys in byte order, and LF.
-use Rattle.std.specs.Prelude.{ℕ, List, [], ◌∷◌, ◌++◌, Option, None, Some, Ok, Err, Result, ⊤, codes}
-use Rattle.std.specs.Prelude.{String}
+use Rattle.std.specs.Prelude.{ℕ, List, [], ◌∷◌, ◌++◌, Option, None, Some, Ok, Err, Result, ⊤, codes, String}
 use Rattle.std.specs.String.{string_bytes}
 use Rattle.std.specs.Global.{Global}
 use Rattle.pt_audit.specs.Difference.{why_word}
