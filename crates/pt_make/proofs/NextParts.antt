@@ -129,6 +129,7 @@ left_new to from f a b c created stays = (
     log = stays.2 ∙ created.0.log;
   },
   subst (λ (x : Failures). HasFailed f x c.failures) created.1 stays.3,
+  stays.4,
 )
 
 pub copy_unopened : (s s' : State) (a b c : World) (object : Object) (position : Position) (copied : Copied) (f : Halt) (result : Answer) → IsErrAnd result (λ h. h ≡ f) → Did (does (Creates copied.to)) a b → Stays f b c → IsNextCopy s object position copied → KeepsAll s s'

@@ -7,6 +7,7 @@ use Rattle.pt_object.specs.Hasher.{HasBeenFed}
 use Rattle.pt_object.specs.Script.{MakeFile}
 use Rattle.pt_object.specs.Scripts.{staging}
 use Rattle.pt_plan.specs.TurnMake.{behind, behind_stored, content_at, in_content, in_version, is_stored, path_of_source, text_of_inventory}
+use Rattle.pt_plan.specs.TurnPlace.{bytes_in_rows}
 use Rattle.pt_plan.specs.TurnWalk.{in_pairtree}
 use Rattle.pt_object.specs.declared.rows.Row.{Row}
 use Rattle.pt_tree.specs.Path.{Path}
@@ -22,6 +23,11 @@ use Rattle.pt_make.specs.declared.inventories.Folder.{Folder}
 use Rattle.pt_make.specs.declared.inventories.Folder.TheVariants as folder
 use Rattle.pt_state.specs.States.{job_of}
 use Rattle.pt_state.specs.declared.state.State.{State}
+
+-- the row and the content of the position are there
+pub record IsAt (position : Position) (rows : List Row) (contents : List Content) : Type 0 where
+  pub row : position.row < length rows
+  pub stored : position.stored < length contents
 
 -- the row at the position is passed, and this is next
 unfoldable pub IsPassed : State → Position → Part → Type 0
@@ -75,6 +81,12 @@ EndsAs rows contents position left digest None = IsOther rows position left dige
 -- the contents are those of the rows
 unfoldable pub HasContentsOfRows : State → Type 0
 HasContentsOfRows s = s.contents ≡ map content_of_row (distinct s.rows)
+
+-- a done line of the object can be counted, with the lengths of its files, and its site is on the trail
+pub record CanTellDone (s : State) : Type 0 where
+  pub few : s.counts.done < 2 ^ 40
+  pub small : bytes_in_rows s.rows < 2 ^ 64
+  pub site : 0 < length s.trail
 
 -- ---- inventories
 

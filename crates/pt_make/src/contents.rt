@@ -1,13 +1,13 @@
 #![tactic(auto, using(crate::proofs::NextParts::next_steps, crate::proofs::NextParts::next_parts, pt_state::proofs::Turns::turns))]
 //! The turns that make an object's contents: a row whose content is stored is passed; of any other the folders on the
 //! way are made, one a turn, and then its file, for which the source's is opened.
-ghost use Rattle.std.specs.Prelude.{◌≡◌, ◌<◌, [], IfOk, length, IfErr};
+ghost use Rattle.std.specs.Prelude.{◌≡◌, ◌<◌, [], IfOk, length};
 ghost use Rattle.pt_plan.specs.Permits.{MayMakeContent};
 ghost use Rattle.pt_plan.specs.TurnMake.{content_at, is_stored as is_stored_of};
 ghost use Rattle.pt_plan.specs.declared.phase.Part.TheVariants as part;
 ghost use Rattle.pt_plan.specs.declared.phase.Phase.TheVariants as phase;
 ghost use Rattle.pt_state.specs.States.{held_of};
-ghost use Rattle.pt_state.specs.Outside.{IsNotOfLog, Turned};
+ghost use Rattle.pt_state.specs.Outside.{TakesTurn};
 ghost use Rattle.pt_tree.specs.Dest.{MayMake};
 ghost use Rattle.pt_tree.specs.Source.{CanOpen};
 ghost use Rattle.pt_make.specs.Making.{IsNextCopy, IsNextFolder, IsStep};
@@ -47,10 +47,8 @@ pub(crate) fn make_content<O: Outside>(
     requires row { position.row < length state.old.rows }
     requires may { MayMakeContent (O.world out.old).source (O.world out.old).dest object
         (held_of state.old []) position }
-    ensures turn { Turned (phase.Make object (part.Content position)) state.old state.new
-        (O.world out.old) (O.world out.new) result }
-    ensures other { IfErr result IsNotOfLog }
-    ensures calls { O.within 1 out.old out.new }
+    ensures turn { TakesTurn O.world (O.within 1) (phase.Make object (part.Content position))
+        state.old state.new out.old out.new result }
 {
     match next_step(state, &object, position)? {
         Step::Pass(next) => Ok(Phase::Make(object, next)),
@@ -115,10 +113,8 @@ fn make_folder<O: Outside>(
 ) -> Result<Phase, Halt>
     requires next { IsNextFolder state.now position path.now }
     requires may { MayMake (O.world out.old).dest path.now }
-    ensures turn { Turned (phase.Make object (part.Content position)) state.now state.now
-        (O.world out.old) (O.world out.new) result }
-    ensures other { IfErr result IsNotOfLog }
-    ensures calls { O.within 0 out.old out.new }
+    ensures turn { TakesTurn O.world (O.within 0) (phase.Make object (part.Content position))
+        state.now state.now out.old out.new result }
 {
     out.mkdir(path)?;
     let directories = position.directories + 1;
@@ -138,12 +134,10 @@ fn open_copy<O: Outside>(
     out: &mut O,
 ) -> Result<Phase, Halt>
     requires next { IsNextCopy state.old object position copied.now }
-    requires make { MayMake (O.world out.old).dest copied.now.to }
-    requires open { CanOpen (O.world out.old).source copied.now.from }
-    ensures turn { Turned (phase.Make object (part.Content position)) state.old state.new
-        (O.world out.old) (O.world out.new) result }
-    ensures other { IfErr result IsNotOfLog }
-    ensures calls { O.within 1 out.old out.new }
+    requires may { MayMake (O.world out.old).dest copied.now.to
+        × CanOpen (O.world out.old).source copied.now.from }
+    ensures turn { TakesTurn O.world (O.within 1) (phase.Make object (part.Content position))
+        state.old state.new out.old out.new result }
 {
     out.create(&copied.to)?;
     out.open(&copied.from)?;

@@ -1,16 +1,15 @@
 #![tactic(auto, using(crate::proofs::Texts::files, pt_state::proofs::Together::together))]
 //! The turns that make an object's inventory and its sidecar, in the version's folder and at the top: the turn that
 //! makes the inventory in the version's folder feeds its text to the hasher, whose digest stands in both sidecars.
-ghost use Rattle.std.specs.Prelude.{◌≡◌, ◌∷◌, [], IfErr, IfOk, OnOk};
+ghost use Rattle.std.specs.Prelude.{◌≡◌, ◌∷◌, [], IfOk};
 ghost use Rattle.std.specs.String.{string_bytes};
 ghost use Rattle.pt_object.specs.Algorithm.{digest_of};
 ghost use Rattle.pt_object.specs.Files.{sidecar_text};
 ghost use Rattle.pt_object.specs.Hasher.{HasBeenFed};
 ghost use Rattle.pt_object.specs.Object.{inventory_name, sidecar_name as sidecar_name_of};
-ghost use Rattle.pt_plan.specs.Turn.{Did, LeavesSome};
 ghost use Rattle.pt_plan.specs.TurnMake.{after_last};
 ghost use Rattle.pt_plan.specs.declared.phase.Phase.TheVariants as phase;
-ghost use Rattle.pt_state.specs.Outside.{IsNotOfLog, Turned};
+ghost use Rattle.pt_state.specs.Outside.{TakesTurn, Wrote};
 ghost use Rattle.pt_state.specs.States.{job_of};
 ghost use Rattle.pt_tree.specs.Dest.{MayMake};
 ghost use Rattle.pt_tree.specs.Known.{known_text};
@@ -45,10 +44,8 @@ pub(crate) fn make_inventory<O: Outside>(
     requires contents { HasContentsOfRows state.old }
     requires fed { IsFedFor folder state.old object }
     requires may { MayMake (O.world out.old).dest (in_folder folder (inventory_name ∷ [])) }
-    ensures turn { Turned (phase.Make object (inventory_part folder)) state.old state.new
-        (O.world out.old) (O.world out.new) result }
-    ensures other { IfErr result IsNotOfLog }
-    ensures calls { O.within 0 out.old out.new }
+    ensures turn { TakesTurn O.world (O.within 0) (phase.Make object (inventory_part folder))
+        state.old state.new out.old out.new result }
 {
     let path = path_in(state.alloc, folder, Known::Inventory)?;
     let text = inventory_of(state, &object)?;
@@ -97,10 +94,8 @@ pub(crate) fn make_sidecar<O: Outside>(
     requires fed { HasFedInventory state.old object }
     requires may { MayMake (O.world out.old).dest
         (in_folder folder (sidecar_name_of state.old.job.algorithm ∷ [])) }
-    ensures turn { Turned (phase.Make object (sidecar_part folder)) state.old state.new
-        (O.world out.old) (O.world out.new) result }
-    ensures other { IfErr result IsNotOfLog }
-    ensures calls { O.within 0 out.old out.new }
+    ensures turn { TakesTurn O.world (O.within 0) (phase.Make object (sidecar_part folder))
+        state.old state.new out.old out.new result }
 {
     let path = sidecar_path(state.alloc, folder, state.job.algorithm)?;
     put_sidecar(state, &object, &path, out)?;
@@ -133,14 +128,9 @@ fn put_sidecar<O: Outside>(
 ) -> Result<(), Halt>
     requires fed { HasFedInventory state.now object.now }
     requires may { MayMake (O.world out.old).dest path.now }
-    ensures ok { OnOk result (Did (makes_file path.now
+    ensures { Wrote O.world (O.within 0) (makes_file path.now
         (sidecar_text state.now.job.algorithm (inventory_held state.now object.now)))
-        (O.world out.old) (O.world out.new)) }
-    ensures err { IfErr result (λ why. LeavesSome (makes_file path.now
-        (sidecar_text state.now.job.algorithm (inventory_held state.now object.now))) why
-        (O.world out.old) (O.world out.new)) }
-    ensures other { IfErr result IsNotOfLog }
-    ensures calls { O.within 0 out.old out.new }
+        out.old out.new result }
 {
     let digest = inventory_digest(state, object)?;
     let text = sidecar_of(state.alloc, &digest)?;

@@ -1,6 +1,6 @@
 #![tactic(auto, using(crate::proofs::Parts::parts, pt_state::proofs::Turns::turns))]
 //! The turns that make an object in `staging`, one part each.
-ghost use Rattle.std.specs.Prelude.{◌++◌, ◌∷◌, [], IfErr};
+ghost use Rattle.std.specs.Prelude.{◌++◌, ◌∷◌, []};
 ghost use Rattle.pt_object.specs.Object.{object_declaration_name};
 ghost use Rattle.pt_object.specs.Scripts.{staging};
 ghost use Rattle.pt_plan.specs.Permits.{MayMakePart};
@@ -8,7 +8,7 @@ ghost use Rattle.pt_plan.specs.TurnMake.{in_version};
 ghost use Rattle.pt_plan.specs.declared.phase.Part.TheVariants as part;
 ghost use Rattle.pt_plan.specs.declared.phase.Phase.TheVariants as phase;
 ghost use Rattle.pt_state.specs.States.{held_of, job_of};
-ghost use Rattle.pt_state.specs.Outside.{IsNotOfLog, Turned};
+ghost use Rattle.pt_state.specs.Outside.{TakesTurn};
 ghost use Rattle.pt_tree.specs.Dest.{MayMake};
 ghost use Rattle.pt_make.specs.Making.{IsReadyFor};
 
@@ -33,10 +33,8 @@ pub fn make<O: Outside>(
     requires may { MayMakePart (job_of state.old.job) object part (held_of state.old [])
         (O.world out.old).source (O.world out.old).dest }
     requires ready { IsReadyFor part object state.old }
-    ensures turn { Turned (phase.Make object part) state.old state.new
-        (O.world out.old) (O.world out.new) result }
-    ensures other { IfErr result IsNotOfLog }
-    ensures calls { O.within 1 out.old out.new }
+    ensures turn { TakesTurn O.world (O.within 1) (phase.Make object part) state.old state.new
+        out.old out.new result }
 {
     match part {
         Part::Staging => make_staging(state, object, out),
@@ -53,10 +51,8 @@ pub fn make<O: Outside>(
 // Makes `staging`.
 fn make_staging<O: Outside>(state: &State, object: Object, out: &mut O) -> Result<Phase, Halt>
     requires may { MayMake (O.world out.old).dest staging }
-    ensures turn { Turned (phase.Make object part.Staging) state.now state.now
-        (O.world out.old) (O.world out.new) result }
-    ensures other { IfErr result IsNotOfLog }
-    ensures calls { O.within 0 out.old out.new }
+    ensures turn { TakesTurn O.world (O.within 0) (phase.Make object part.Staging)
+        state.now state.now out.old out.new result }
 {
     let path = path_of(state.alloc, &[Known::Staging])?;
     out.mkdir(&path)?;
@@ -66,10 +62,8 @@ fn make_staging<O: Outside>(state: &State, object: Object, out: &mut O) -> Resul
 // Makes the object's declaration (OCFL 1.1, "Object Conformance Declaration").
 fn make_declaration<O: Outside>(state: &State, object: Object, out: &mut O) -> Result<Phase, Halt>
     requires may { MayMake (O.world out.old).dest (staging ++ object_declaration_name ∷ []) }
-    ensures turn { Turned (phase.Make object part.Declaration) state.now state.now
-        (O.world out.old) (O.world out.new) result }
-    ensures other { IfErr result IsNotOfLog }
-    ensures calls { O.within 0 out.old out.new }
+    ensures turn { TakesTurn O.world (O.within 0) (phase.Make object part.Declaration)
+        state.now state.now out.old out.new result }
 {
     let path = path_of(state.alloc, &[Known::Staging, Known::Declaration])?;
     put_file(out, &path, object_declaration())?;
@@ -79,10 +73,8 @@ fn make_declaration<O: Outside>(state: &State, object: Object, out: &mut O) -> R
 // Makes the version's folder (OCFL 1.1, "Version Directories").
 fn make_version<O: Outside>(state: &State, object: Object, out: &mut O) -> Result<Phase, Halt>
     requires may { MayMake (O.world out.old).dest (in_version []) }
-    ensures turn { Turned (phase.Make object part.Version) state.now state.now
-        (O.world out.old) (O.world out.new) result }
-    ensures other { IfErr result IsNotOfLog }
-    ensures calls { O.within 0 out.old out.new }
+    ensures turn { TakesTurn O.world (O.within 0) (phase.Make object part.Version)
+        state.now state.now out.old out.new result }
 {
     let path = path_of(state.alloc, &[Known::Staging, Known::Version])?;
     out.mkdir(&path)?;

@@ -1,13 +1,13 @@
 #![tactic(auto, using(crate::proofs::Places::placing, pt_state::proofs::Turns::turns))]
 //! The turns that bring an object from `staging` to its place in the storage root.
-ghost use Rattle.std.specs.Prelude.{◌≡◌, ◌<◌, IfErr};
+ghost use Rattle.std.specs.Prelude.{◌≡◌, ◌<◌};
 ghost use Rattle.pt_object.specs.Scripts.{staging};
 ghost use Rattle.pt_plan.specs.Permits.{HasParent};
 ghost use Rattle.pt_plan.specs.TurnPlace.{after_tuple as after_tuple_of, tuple_folder};
 ghost use Rattle.pt_plan.specs.TurnWalk.{in_root};
 ghost use Rattle.pt_plan.specs.declared.phase.Phase.TheVariants as phase;
 ghost use Rattle.pt_state.specs.States.{job_of};
-ghost use Rattle.pt_state.specs.Outside.{IsNotOfLog, Turned};
+ghost use Rattle.pt_state.specs.Outside.{TakesTurn};
 ghost use Rattle.pt_tree.specs.Dest.{MayMove};
 
 use pt_plan::{Halt, Object, Phase};
@@ -24,10 +24,8 @@ pub fn make_tuple<O: Outside>(
 ) -> Result<Phase, Halt>
     requires few { index < state.now.job.layout.count }
     requires may { HasParent (O.world out.old).dest (tuple_folder object index) }
-    ensures turn { Turned (phase.Tuples object index) state.now state.now
-        (O.world out.old) (O.world out.new) result }
-    ensures other { IfErr result IsNotOfLog }
-    ensures calls { O.within 0 out.old out.new }
+    ensures turn { TakesTurn O.world (O.within 0) (phase.Tuples object index) state.now state.now
+        out.old out.new result }
 {
     let _tuples = state.job.layout.count();
     let path = front_in_storage_root(state.alloc, &object.place, index + 1)?;
@@ -45,10 +43,8 @@ fn enter_tuple<O: Outside>(
     requires few { index < state.now.job.layout.count }
     requires path { path.now ≡ tuple_folder object index }
     requires may { HasParent (O.world out.old).dest path.now }
-    ensures turn { Turned (phase.Tuples object index) state.now state.now
-        (O.world out.old) (O.world out.new) result }
-    ensures other { IfErr result IsNotOfLog }
-    ensures calls { O.within 0 out.old out.new }
+    ensures turn { TakesTurn O.world (O.within 0) (phase.Tuples object index) state.now state.now
+        out.old out.new result }
 {
     match out.kind(path)? {
         None => {
@@ -76,10 +72,8 @@ fn after_tuple(state: &State, object: Object, index: usize) -> Phase
 /// Renames `staging` to an object's place.
 pub fn rename<O: Outside>(state: &State, object: Object, out: &mut O) -> Result<Phase, Halt>
     requires may { MayMove (O.world out.old).dest staging (in_root object.place) }
-    ensures turn { Turned (phase.Rename object) state.now state.now
-        (O.world out.old) (O.world out.new) result }
-    ensures other { IfErr result IsNotOfLog }
-    ensures calls { O.within 0 out.old out.new }
+    ensures turn { TakesTurn O.world (O.within 0) (phase.Rename object) state.now state.now
+        out.old out.new result }
 {
     let from = path_of(state.alloc, &[Known::Staging])?;
     let to = in_storage_root(state.alloc, &object.place)?;
@@ -95,12 +89,9 @@ fn move_object<O: Outside>(
     out: &mut O,
 ) -> Result<Phase, Halt>
     requires may { MayMove (O.world out.old).dest from.now to.now }
-    requires from { from.now ≡ staging }
-    requires to { to.now ≡ in_root object.place }
-    ensures turn { Turned (phase.Rename object) state.now state.now
-        (O.world out.old) (O.world out.new) result }
-    ensures other { IfErr result IsNotOfLog }
-    ensures calls { O.within 0 out.old out.new }
+    requires paths { (from.now ≡ staging) × (to.now ≡ in_root object.place) }
+    ensures turn { TakesTurn O.world (O.within 0) (phase.Rename object) state.now state.now
+        out.old out.new result }
 {
     out.rename(from, to)?;
     Ok(Phase::Line(object))

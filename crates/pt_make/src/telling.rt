@@ -1,9 +1,10 @@
 #![tactic(auto, using(crate::proofs::Tells::telling, pt_state::proofs::Turns::turns))]
 //! The turns that tell of an object that was carried, and of the end.
-ghost use Rattle.std.specs.Prelude.{◌≡◌, ◌<◌, ◌^◌, length};
+ghost use Rattle.std.specs.Prelude.{◌≡◌, ◌<◌, ◌^◌};
 ghost use Rattle.pt_plan.specs.TurnPlace.{bytes_in_rows as bytes_in_rows_of};
 ghost use Rattle.pt_plan.specs.declared.phase.Phase.TheVariants as phase;
-ghost use Rattle.pt_state.specs.Outside.{Turned};
+ghost use Rattle.pt_state.specs.Outside.{TakesTurn};
+ghost use Rattle.pt_make.specs.Making.{CanTellDone};
 
 use pt_object::Rows;
 use pt_plan::{Halt, Object, Phase};
@@ -14,12 +15,9 @@ use pt_state::{Outside, State};
 
 /// Tells that an object is done, and walks on from its site.
 pub fn tell_done<O: Outside>(state: &mut State, object: Object, out: &mut O) -> Result<Phase, Halt>
-    requires few { state.old.counts.done < 2 ^ 40 }
-    requires small { bytes_in_rows_of state.old.rows < 2 ^ 64 }
-    requires site { 0 < length state.old.trail }
-    ensures turn { Turned (phase.Line object) state.old state.new
-        (O.world out.old) (O.world out.new) result }
-    ensures calls { O.within 0 out.old out.new }
+    requires { CanTellDone state.old }
+    ensures turn { TakesTurn O.world (O.within 0) (phase.Line object) state.old state.new
+        out.old out.new result }
 {
     let at = object_path(&object, &state.trail)?;
     let line = Done {
@@ -37,9 +35,8 @@ pub fn tell_done<O: Outside>(state: &mut State, object: Object, out: &mut O) -> 
 
 /// Tells that the run is done.
 pub fn tell_end<O: Outside>(state: &State, out: &mut O) -> Result<Phase, Halt>
-    ensures turn { Turned phase.End state.now state.now
-        (O.world out.old) (O.world out.new) result }
-    ensures calls { O.within 0 out.old out.new }
+    ensures turn { TakesTurn O.world (O.within 0) phase.End state.now state.now
+        out.old out.new result }
 {
     put_end(state.alloc, out, &state.counts)?;
     Ok(Phase::Ended)

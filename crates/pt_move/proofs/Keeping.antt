@@ -28,7 +28,7 @@ use Rattle.pt_state.specs.States.{held_of, job_of, kept_of}
 use Rattle.pt_state.specs.Outside.{FedAfter}
 use Rattle.pt_state.specs.declared.job.Job as own
 use Rattle.pt_state.specs.declared.state.State.{State}
-use Rattle.pt_move.specs.Turning.{BlamesLogLate, CountedTurn}
+use Rattle.pt_move.specs.Turning.{CountedTurn}
 use Rattle.pt_move.specs.Fault.{fault_of}
 use Rattle.pt_move.specs.Outcome.{FaultLeaves, HoldsWithinBound, IfEarly, IfLog, LeavesAll, LeavesNoStaging, MadeWithinWork, SaysRightly, StandsStillIn, WantsMemory}
 use Rattle.pt_move.specs.Promises.{IfHalted, Keeps, TurnKeeps, UnlessEnded}
@@ -38,6 +38,7 @@ use Rattle.pt_move.specs.declared.fault.Fault.TheVariants as fault
 use Rattle.pt_move.specs.declared.mover.Turn.TheVariants as turn
 use Rattle.pt_move.proofs.Answering.{begun_ends, fed_going, fed_to_end, leaves_behind, same_begun}
 use Rattle.pt_move.proofs.Going.{is_going}
+use Rattle.pt_move.proofs.LateLog.{turn_late}
 use Rattle.pt_move.proofs.Told.{of_told, to_told}
 use Rattle.pt_move.proofs.Outcomes.{bound_after, left_after, reading_of, says_after, stands_after, within_after, work_after}
 
@@ -57,10 +58,10 @@ fed_after : (answer : Answer) (s s' : State) (fed : List ℕ) → s'.job ≡ s.j
 fed_after (Ok next) s s' fed job was = fed_to_end next s'.job.algorithm s'.hasher fed (subst (λ j. HasBeenFed j.algorithm s'.hasher fed) (sym job) was)
 fed_after (Err why) s s' fed job was = tt
 
-pub keeps_after : (here : Phase) (s s' : State) (old new : World) (answer : Answer) → here ≢ phase.Ended → CountedTurn here s s' old new answer → BlamesLogLate here answer
+pub keeps_after : (here : Phase) (s s' : State) (old new : World) (answer : Answer) → here ≢ phase.Ended → CountedTurn here s s' old new answer
     → (start : Start) → IsBegun start old (record { phase = here; state = s }) → TurnKeeps start old new s s' answer
 unfolding IsBegun CountedTurn TurnKeeps
-keeps_after here s s' old new answer going turned late start is =
+keeps_after here s s' old new answer going turned start is =
     let job = turned.0 in
     let made = turned.1 is.fed (fed_going s.job.algorithm s.hasher is.fed going is.was) in
     let going_on = is_going here going in
@@ -78,7 +79,7 @@ keeps_after here s s' old new answer going turned late start is =
       work = work_after s s' here is.fed made.0 old new start within going_on made.1.1;
       bound = bound_after s s' here is.fed made.0 old new start within going_on made.1.1;
       left = left_after s s' here is.fed made.0 old new start within going_on made.1.1;
-      says = says_after s s' here is.fed made.0 old new start within going_on answer made.1.1 late;
+      says = says_after s s' here is.fed made.0 old new start within going_on answer made.1.1 (turn_late made.1.1);
     }
 
 -- ---- by the answer

@@ -1,37 +1,63 @@
 -- The log is blamed only where lines may be told.
-use Rattle.std.proofs.Common.{◌≡◌, true}
-use Rattle.std.specs.Prelude.{IfErr, Ok, Err}
+use Rattle.std.proofs.Common.{◌≡◌, ℕ, List, true, refl}
+use Rattle.std.specs.Prelude.{Option, None, Some, Ok, Err, ⊤}
 use Rattle.pt_begun.specs.LogLaws.{may_tell}
 use Rattle.pt_plan.specs.Answer.{Answer}
+use Rattle.pt_plan.specs.Job.{Job}
+use Rattle.pt_plan.specs.Lines.{Line}
+use Rattle.pt_plan.specs.Run.{Counts, Held, Kept}
+use Rattle.pt_plan.specs.Turn.{FailsAtFirst, FailsLater, Follows, GoesOn, IsNotOfLog, IsRefused, LeavesSome, MayBlame, Make, Place, Scan, Start, Stays, Turn, Walk}
+use Rattle.pt_plan.specs.TurnMake as make
+use Rattle.pt_plan.specs.TurnPlace as place
+use Rattle.pt_plan.specs.TurnScan as scan
+use Rattle.pt_plan.specs.TurnStart as start
+use Rattle.pt_plan.specs.TurnWalk as walk
+use Rattle.pt_plan.specs.World.{Calls, World}
+use Rattle.pt_plan.specs.declared.halt.Halt.{Halt}
 use Rattle.pt_plan.specs.declared.halt.Halt.TheVariants as halt
 use Rattle.pt_plan.specs.declared.phase.Phase.{Phase}
-use Rattle.pt_state.specs.Outside.{IsNotOfLog}
-use Rattle.pt_move.specs.Turning.{BlamesLogLate}
+use Rattle.pt_move.proofs.Changes.{IsRefusal, follows_refuse}
 
--- a turn that puts no line
-pub puts_none : (here : Phase) (answer : Answer) → IfErr answer IsNotOfLog → BlamesLogLate here answer
-puts_none here (Ok next) other = tt
-puts_none here (Err halt.Source) other = tt
-puts_none here (Err halt.Dest) other = tt
-puts_none here (Err halt.Log) other = absurd (other)
-puts_none here (Err halt.Memory) other = tt
-puts_none here (Err halt.NotPairtree) other = tt
-puts_none here (Err halt.Prefix) other = tt
-puts_none here (Err halt.StagingLeft) other = tt
-puts_none here (Err halt.Target) other = tt
-puts_none here (Err halt.Changed) other = tt
+-- the answer blames the log only where lines may be told
+abbrev pub BlamesLogLate : Phase → Answer → Type 0
+BlamesLogLate here (Ok next) = ⊤
+BlamesLogLate here (Err halt.Log) = may_tell here ≡ true
+BlamesLogLate here (Err why) = ⊤
 
--- and one at a phase at which it may
-pub may_put : (here : Phase) (answer : Answer) → may_tell here ≡ true → BlamesLogLate here answer
-may_put here (Ok next) tells = tt
-may_put here (Err halt.Source) tells = tt
-may_put here (Err halt.Dest) tells = tt
-may_put here (Err halt.Log) tells = tells
-may_put here (Err halt.Memory) tells = tt
-may_put here (Err halt.NotPairtree) tells = tt
-may_put here (Err halt.Prefix) tells = tt
-may_put here (Err halt.StagingLeft) tells = tt
-may_put here (Err halt.Target) tells = tt
-may_put here (Err halt.Changed) tells = tt
+-- a turn that tells a line is made where lines may be told
+told_late : {job : Job} {counts : Counts} {here : Phase} {prefix read : List ℕ} {held new : Held} {calls : Calls} {answer : Answer} {line : Line} → Follows job counts here prefix held read new calls answer → calls.line ≡ Some line → may_tell here ≡ true
+told_late (Start _ _ _ _ _ _ (start.IsStore _ _ _)) tells = absurd (cc)
+told_late (Start _ _ _ _ _ _ _) tells = absurd (cc)
+told_late (Walk _ _ _ _ _ _ (walk.OpensRoot _ _)) _ = refl
+told_late (Scan _ _ _ _ _ _ (scan.StartsInSite _ _ _)) _ = refl
+told_late (Make _ _ _ _ _ _ (make.MakesStaging _ _)) tells = absurd (cc)
+told_late (Make _ _ _ _ _ _ _) tells = absurd (cc)
+told_late (Place _ _ _ _ _ _ (place.MakesTuple _ _ _)) tells = absurd (cc)
+told_late (Place _ _ _ _ _ _ (place.FindsTuple _ _ _)) tells = absurd (cc)
+told_late (Place _ _ _ _ _ _ (place.IsInTheWay _ _ _ _ _)) tells = absurd (cc)
+told_late (Place _ _ _ _ _ _ (place.RenamesObject _ _)) tells = absurd (cc)
+told_late _ _ = refl
 
-pub ruleset late = (puts_none, may_put)
+-- a refusal isn't of the log
+refusal_not_log : (why : Halt) → IsRefusal why → IsNotOfLog why
+refusal_not_log halt.Log is = absurd is
+refusal_not_log _ is = tt
+
+other_late : (here : Phase) (why : Halt) → IsNotOfLog why → BlamesLogLate here (Err why)
+other_late here halt.Log other = absurd other
+other_late here _ other = tt
+
+there_late : (here : Phase) (why : Halt) → may_tell here ≡ true → BlamesLogLate here (Err why)
+there_late here halt.Log tells = tells
+there_late here _ tells = tt
+
+by_line : (here : Phase) (line : Option Line) (why : Halt) → ((told : Line) → line ≡ Some told → may_tell here ≡ true) → MayBlame line why → BlamesLogLate here (Err why)
+by_line here None why tells blames = other_late here why blames
+by_line here (Some line) why tells blames = there_late here why (tells line refl)
+
+pub turn_late : {job : Job} {here : Phase} {before after : Kept} {old new : World} {answer : Answer} → Turn job here before after old new answer → BlamesLogLate here answer
+unfolding Stays LeavesSome
+turn_late (GoesOn _ _ _ _ _) = tt
+turn_late {here} (IsRefused _ _ _ why follows _ _) = other_late here why (refusal_not_log why (follows_refuse follows).0)
+turn_late {here} (FailsAtFirst why stays _) = other_late here why stays.4
+turn_late {here} (FailsLater _ _ calls _ _ why follows left _ _) = by_line here calls.line why (λ told is. told_late follows is) left.2

@@ -1,5 +1,5 @@
 -- What a turn needs, from what always holds of a run.
-use Rattle.std.proofs.Common.{◌≡◌, ◌<◌, ◌≤◌, ◌*◌, ◌^◌, ℕ, List, [], ◌∙◌, sym, subst, length, arith, rules}
+use Rattle.std.proofs.Common.{◌≡◌, ◌<◌, ◌≤◌, ◌*◌, ◌^◌, ℕ, List, [], ◌∙◌, sym, subst, arith, rules}
 use Rattle.std.specs.Prelude.{IsTrue}
 use Rattle.pt_object.specs.Hasher.{HasBeenFed}
 use Rattle.pt_object.specs.declared.hasher.Hasher.{Hasher}

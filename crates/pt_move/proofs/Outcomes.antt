@@ -24,7 +24,7 @@ use Rattle.pt_begun.specs.FaultLeft.{IsLeftByFault}
 use Rattle.pt_begun.specs.RefusalLaws as law
 use Rattle.pt_begun.proofs.refusals.EarlyHalts.{early_leaves_dest, early_leaves_log}
 use Rattle.pt_begun.proofs.faults.LogHalts.{failed_log_leaves_no_staging}
-use Rattle.pt_move.specs.Turning.{BlamesLogLate}
+use Rattle.pt_move.proofs.LateLog.{BlamesLogLate}
 use Rattle.pt_begun.proofs.ends.Ending.{ends_well}
 use Rattle.pt_begun.proofs.ends.EndStates.{ends_with_states}
 use Rattle.pt_begun.proofs.refusals.GoodStarts.{nothing_is_refused}

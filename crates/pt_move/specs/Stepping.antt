@@ -1,14 +1,18 @@
 -- What one step answers, and what it leaves.
 use Rattle.std.specs.Prelude.{◌≡◌, ◌≢◌, ◌+◌, ◌<◌, ◌==◌, ◌≤◌, ℕ, IfOk, Result, Ok, Err, cond, ⊤}
+use Rattle.pt_plan.specs.Answer.{Answer, phase_after}
 use Rattle.pt_plan.specs.World.{World, source_tree}
 use Rattle.pt_plan.specs.declared.halt.Halt.{Halt}
+use Rattle.pt_plan.specs.declared.phase.Phase.{Phase}
 use Rattle.pt_plan.specs.declared.phase.Phase.TheVariants as phase
 use Rattle.pt_state.specs.States.{counts_of}
+use Rattle.pt_state.specs.declared.state.State.{State}
 use Rattle.pt_move.specs.Bounds.{lines_put}
 use Rattle.pt_move.specs.Turning.{CountedTurn}
 use Rattle.pt_move.specs.Counting.{Counts}
 use Rattle.pt_move.specs.Fault.{fault_of}
 use Rattle.pt_move.specs.Held.{Gains, Moves}
+use Rattle.pt_move.specs.Leaving.{TurnLeaves}
 use Rattle.pt_move.specs.Lines.{FinishTold, Tells}
 use Rattle.pt_move.specs.Running.{BeganSomewhere, IsWell, Running}
 use Rattle.pt_move.specs.declared.fault.Fault.{Fault}
@@ -98,6 +102,17 @@ pub record Left (old new : World) (before after : Running) (result : Result Turn
 -- what one step leaves outside, and of what is held
 unfoldable pub StepLeaves : World → World → Running → Running → Result Turn Fault → Type 0
 StepLeaves old new before after result = Left old new before after result
+
+-- ---- the turn of a step
+
+-- a turn at this phase, over all devices as one: it was counted, and this is what it leaves
+pub record Made {O : Type 0} (world : O → World) (within : O → O → Type 0) (here : Phase) (s s' : State)
+    (old new : O) (answer : Answer) : Type 0 where
+  pub tree : source_tree (world new).source ≡ source_tree (world old).source
+  pub turn : CountedTurn here s s' (world old) (world new) answer
+  pub well : IsWell (record { phase = phase_after answer; state = s' })
+  pub leaves : TurnLeaves s s' (world old).log (world new).log (world old).failures (world new).failures answer
+  pub few : within old new
 
 -- ---- a step over three devices
 

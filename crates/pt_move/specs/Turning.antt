@@ -1,16 +1,14 @@
 -- One turn of a run, counted.
 use Rattle.std.specs.Bool.{OnFalse}
-use Rattle.std.specs.Prelude.{◌≡◌, ℕ, true, List, Ok, Err, ⊤}
+use Rattle.std.specs.Prelude.{◌≡◌, ℕ, List}
 use Rattle.pt_object.specs.Hasher.{HasBeenFed}
 use Rattle.pt_object.specs.declared.algorithm.Algorithm.{Algorithm}
 use Rattle.pt_object.specs.declared.hasher.Hasher.{Hasher}
 use Rattle.pt_begun.specs.EndLaws.{is_ended}
-use Rattle.pt_begun.specs.LogLaws.{may_tell}
 use Rattle.pt_plan.specs.Answer.{Answer}
 use Rattle.pt_plan.specs.Run.{turning}
 use Rattle.pt_plan.specs.Turn.{Turn}
 use Rattle.pt_plan.specs.World.{World}
-use Rattle.pt_plan.specs.declared.halt.Halt.TheVariants as halt
 use Rattle.pt_plan.specs.declared.phase.Phase.{Phase}
 use Rattle.pt_state.specs.Outside.{FedAfter}
 use Rattle.pt_state.specs.States.{job_of, kept_of}
@@ -25,12 +23,12 @@ CountedTurn here s s' old new answer =
     × (FedAfter answer s.job.algorithm s'.hasher fed'
     × Turn (job_of s.job) here (turning (kept_of s fed)) (kept_of s' fed') old new answer))
 
+-- so it is over all devices as one, and the source is called no more often than this
+pub record TakesCounted {O : Type 0} (world : O → World) (within : O → O → Type 0) (here : Phase) (s s' : State)
+    (old new : O) (answer : Answer) : Type 0 where
+  pub turn : CountedTurn here s s' (world old) (world new) answer
+  pub few : within old new
+
 -- until a run has ended, its hasher has been fed something
 abbrev pub HasFed : Phase → Algorithm → Hasher → Type 0
 HasFed here algorithm hasher = OnFalse (is_ended here) ((fed : List ℕ) × HasBeenFed algorithm hasher fed)
-
--- the log is blamed only where lines may be told
-abbrev pub BlamesLogLate : Phase → Answer → Type 0
-BlamesLogLate here (Ok next) = ⊤
-BlamesLogLate here (Err halt.Log) = may_tell here ≡ true
-BlamesLogLate here (Err why) = ⊤

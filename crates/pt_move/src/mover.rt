@@ -1,18 +1,15 @@
 #![tactic(auto, using(crate::proofs::Answering::stepping, crate::proofs::Keeping::answered))]
 // A run under way, made turn by turn.
-ghost use Rattle.std.specs.Prelude.{◌≡◌, ◌≢◌, ◌<◌, ◌+◌, length};
+ghost use Rattle.std.specs.Prelude.{◌≡◌, ◌+◌, length};
 ghost use Rattle.pt_begun.specs.Begun.{IsWorld, Start, start_of};
-ghost use Rattle.pt_plan.specs.Answer.{phase_after};
-ghost use Rattle.pt_plan.specs.World.{World, source_tree};
+ghost use Rattle.pt_plan.specs.World.{World};
 ghost use Rattle.pt_plan.specs.declared.phase.Phase.TheVariants as phase;
 ghost use Rattle.pt_state.specs.Counting.{AtMostCalls};
 ghost use Rattle.pt_state.specs.Outside.{world};
-ghost use Rattle.pt_move.specs.Turning.{CountedTurn};
 ghost use Rattle.pt_walk.specs.Trail.{entries_held};
-ghost use Rattle.pt_move.specs.Leaving.{TurnLeaves};
 ghost use Rattle.pt_move.specs.Promises.{Keeps, TurnKeeps};
 ghost use Rattle.pt_move.specs.Running.{BeganSomewhere, HasBegun, IsBegun, IsNew, IsWell};
-ghost use Rattle.pt_move.specs.Stepping.{Any, IsReady, Stays, Steps, most_calls_at};
+ghost use Rattle.pt_move.specs.Stepping.{Any, IsReady, Made, Stays, Steps, most_calls_at};
 
 use crate::Fault;
 use crate::turning::turn;
@@ -132,7 +129,8 @@ impl Mover {
             (world (S.told source.new) (D.told dest.new) (L.told log.new)
             (S.failed source.new) (D.failed dest.new) (L.failed log.new))
             self.old self.new result }
-        ensures calls { AtMostCalls (most_calls_at self.old) (S.called source.old) (S.called source.new) }
+        ensures calls { AtMostCalls (most_calls_at self.old)
+            (S.called source.old) (S.called source.new) }
         ensures source_stays { Stays S.keeps result source.old source.new }
         ensures dest_stays { Stays D.keeps result dest.old dest.new }
         ensures log_stays { Stays L.keeps result log.old log.new }
@@ -201,13 +199,9 @@ fn made_turn<O: Outside>(state: &mut State, here: Phase, out: &mut O) -> Result<
     ensures keeps { (start : Start)
         → IsBegun start (O.world out.old) (record { phase = here; state = state.old })
         → TurnKeeps start (O.world out.old) (O.world out.new) state.old state.new result }
-    ensures tree { source_tree (O.world out.new).source ≡ source_tree (O.world out.old).source }
-    ensures turn { CountedTurn here state.old state.new (O.world out.old) (O.world out.new) result }
-    ensures well { IsWell (record { phase = phase_after result; state = state.new }) }
-    ensures leaves { TurnLeaves state.old state.new (O.world out.old).log (O.world out.new).log
-        (O.world out.old).failures (O.world out.new).failures result }
-    ensures calls { O.within (most_calls_at (record { phase = here; state = state.old }))
-        out.old out.new }
+    ensures made { Made O.world
+        (O.within (most_calls_at (record { phase = here; state = state.old })))
+        here state.old state.new out.old out.new result }
 {
     turn(state, here, out)
 }

@@ -1,12 +1,12 @@
-#![tactic(auto, using(crate::proofs::Needs::standing, crate::proofs::LateLog::late))]
+#![tactic(auto, using(crate::proofs::Needs::standing))]
 // One turn: what is done at each phase.
 ghost use Rattle.std.specs.Prelude.{◌<◌, []};
 ghost use Rattle.pt_plan.specs.Permits.{Permits};
-ghost use Rattle.pt_state.specs.Outside.{Turned};
+ghost use Rattle.pt_state.specs.Outside.{TakesTurn};
 ghost use Rattle.pt_state.specs.States.{held_of, job_of, kept_of};
 ghost use Rattle.pt_move.specs.Bounds.{IsBounded, most_calls};
 ghost use Rattle.pt_move.specs.Stands.{CanAdd, Stands};
-ghost use Rattle.pt_move.specs.Turning.{BlamesLogLate, CountedTurn, HasFed};
+ghost use Rattle.pt_move.specs.Turning.{HasFed, TakesCounted};
 
 use pt_make::{copying, making, placing, telling};
 use pt_plan::{Halt, Phase};
@@ -16,7 +16,7 @@ use pt_state::{Outside, State};
 
 /// Makes the turn of a phase, which is counted as it begins, and gives the next phase, or why the run halts: `Source`,
 /// `Dest` and `Log` where that device failed, `Memory` where a growth was refused, the others where the table of turns
-/// says so (docs/MODEL.md); `Log` only where lines may be told. It is a turn of the run's definitions, whatever the devices tell.
+/// says so (docs/MODEL.md). It is a turn of the run's definitions, whatever the devices tell.
 pub(crate) fn turn<O: Outside>(state: &mut State, phase: Phase, out: &mut O) -> Result<Phase, Halt>
     requires permits { Permits (job_of state.old.job) phase (held_of state.old [])
         (O.world out.old).source (O.world out.old).dest }
@@ -24,10 +24,8 @@ pub(crate) fn turn<O: Outside>(state: &mut State, phase: Phase, out: &mut O) -> 
     requires fed { HasFed phase state.old.job.algorithm state.old.hasher }
     requires bounded { IsBounded (job_of state.old.job) phase (kept_of state.old []) }
     requires within { state.old.counts.turns < state.old.job.limits.turns }
-    ensures turn { CountedTurn phase state.old state.new
-        (O.world out.old) (O.world out.new) result }
-    ensures late { BlamesLogLate phase result }
-    ensures calls { O.within (most_calls phase) out.old out.new }
+    ensures turn { TakesCounted O.world (O.within (most_calls phase)) phase state.old state.new
+        out.old out.new result }
 {
     let _most = state.job.limits.turns();
     state.counts.turns += 1;
@@ -40,9 +38,8 @@ fn turn_at<O: Outside>(state: &mut State, phase: Phase, out: &mut O) -> Result<P
         (O.world out.old).source (O.world out.old).dest }
     requires stands { Stands phase state.old }
     requires adds { CanAdd phase state.old }
-    ensures turn { Turned phase state.old state.new (O.world out.old) (O.world out.new) result }
-    ensures late { BlamesLogLate phase result }
-    ensures calls { O.within (most_calls phase) out.old out.new }
+    ensures turn { TakesTurn O.world (O.within (most_calls phase)) phase state.old state.new
+        out.old out.new result }
 {
     match phase {
         Phase::Begin => store::begin(state, out),

@@ -10,25 +10,13 @@ use Rattle.std.proofs.lemmas.Bool.{true≢false, false≢true, and_parts}
 use Rattle.pt_tree.specs.Listing.{is_before}
 use Rattle.pt_tree.specs.Path.{Path, rest_below, same_path}
 use Rattle.pt_tree.specs.Tree.{Bytes, Tree, added, edited_by, moved, moved_at}
+use Rattle.pt_tree.proofs.Below.{rest_of, whole_of}
 use Rattle.pt_object.specs.FilePaths.{File, part_in_order, parts_before, paths_of}
 use Rattle.pt_object.specs.Holding.{IsFree, leads_to, placed, placed_at}
 use Rattle.pt_object.specs.ObjectLaws.{LastFileTellsFolders, MovedStandsThere, PieceMakesMore}
 use Rattle.pt_object.specs.Script.{MakeFile, done}
 use Rattle.pt_object.proofs.InOrder.{is_less}
 use Rattle.pt_object.proofs.Ways.{leads, leads_to-push, name_itself, path_itself, same_name}
-
-rest_of : (p q : Path) → rest_below p (p ++ q) ≡ Some q
-rest_of [] q = refl
-rest_of (x ∷ p) q = ap (λ t. cond t (rest_below p (p ++ q)) None) (name_itself x) ∙ rest_of p q
-
-whole_of : (p q rest : Path) → rest_below p q ≡ Some rest → q ≡ p ++ rest
-whole_of [] q rest is = cc
-whole_of (x ∷ p) [] rest is = absurd (cc)
-whole_of (x ∷ p) (y ∷ q) rest is = by (bytes_eq x y) refl (λ e. whole_of p q rest e) is
-  where
-    by : (t : Bool) → bytes_eq x y ≡ t → (rest_below p q ≡ Some rest → q ≡ p ++ rest) → cond t (rest_below p q) None ≡ Some rest → y ∷ q ≡ x ∷ p ++ rest
-    by true same later e = λ i. sym (same_name x y same) i ∷ later e i
-    by false other later e = absurd (cc)
 
 moved_there_at : (t inside : Tree) (from to : Path) → IsFree t from → (q : Path) → moved (placed t from inside) from to q ≡ placed t to inside q
 moved_there_at t inside from to free q = by (rest_below to q) (rest_below from q) refl

@@ -10,6 +10,7 @@ mod index;
 mod inventories;
 pub mod laws;
 mod manifest;
+pub mod members;
 mod meta;
 mod moment;
 mod output;

@@ -1,10 +1,10 @@
-ghost use Rattle.std.specs.Prelude.{◌≡◌, IfOk, OnOk, map, slice_get};
+ghost use Rattle.std.specs.Prelude.{◌≡◌, IfOk, map, slice_get};
 ghost use Rattle.std.specs.String.{string_bytes};
-ghost use Rattle.serde_json.specs.Data.{put, string};
-ghost use Rattle.serde_json.specs.View.{members_view, view};
+ghost use Rattle.serde_json.specs.View.{view};
 ghost use Rattle.pt_object.specs.RootFiles.{config_text, config_tree, files_lent, layout_text, root_files_of};
 
 use crate::files::ROOT_DECLARATION;
+use crate::members::put_text;
 use pt_name::Layout;
 use pt_tree::{MemoryFault, Name, NamePath};
 use serde_json::{Map, Value, json};
@@ -80,20 +80,6 @@ fn config(alloc: Global, size: u32, count: u32) -> Result<Value, AllocError>
     serde_json::put(&mut members, alloc, "numberOfTuples", Value::from(count))?;
     serde_json::put(&mut members, alloc, "tupleSize", Value::from(size))?;
     Ok(Value::from(members))
-}
-
-// Puts a text at a key.
-fn put_text(
-    members: &mut Map<String, Value>,
-    alloc: Global,
-    key: &str,
-    text: &str,
-) -> Result<(), AllocError>
-    ensures { OnOk result (members_view members.new.entries
-        ≡ put key.now (string text.now) (members_view members.old.entries)) }
-{
-    let text = String::from_str(alloc, text)?;
-    serde_json::put(members, alloc, key, Value::from(text))
 }
 
 fn path_of(alloc: Global, names: &[&str]) -> Result<NamePath, MemoryFault>

@@ -5,16 +5,7 @@ use Rattle.std.specs.Str.{bytes_eq}
 use Rattle.std.proofs.lemmas.Bool.{false≢true, true≢false}
 use Rattle.pt_object.proofs.Ways.{is_same, leads, path_itself, same_name}
 use Rattle.pt_tree.specs.Path.{Path, rest_below, same_path}
-
--- the rest of a path, behind the path that it is below
-pub whole_of : (p q rest : Path) → rest_below p q ≡ Some rest → q ≡ p ++ rest
-whole_of [] q rest is = cc
-whole_of (x ∷ p) [] rest is = absurd (cc)
-whole_of (x ∷ p) (y ∷ q) rest is = by (bytes_eq x y) refl (λ e. whole_of p q rest e) is
-  where
-    by : (t : Bool) → bytes_eq x y ≡ t → (rest_below p q ≡ Some rest → q ≡ p ++ rest) → cond t (rest_below p q) None ≡ Some rest → y ∷ q ≡ x ∷ p ++ rest
-    by true same later e = λ i. sym (same_name x y same) i ∷ later e i
-    by false other later e = absurd (cc)
+use Rattle.pt_tree.proofs.Below.{whole_of}
 
 -- of two paths of one length one leads to the other only if they are one
 pub level : (p q : Path) → length p ≡ length q → leads p q ≡ same_path p q

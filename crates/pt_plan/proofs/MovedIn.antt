@@ -10,24 +10,14 @@ use Rattle.pt_object.specs.Holding.{IsFree, placed, placed_at}
 use Rattle.pt_object.specs.Scripts.{staging}
 use Rattle.pt_tree.specs.Path.{Path, rest_below, same_path}
 use Rattle.pt_tree.specs.Tree.{Entry, Folder, IsTree, Tree, moved, moved_at, put}
+use Rattle.pt_tree.proofs.Below.{gap_below, whole_of}
 use Rattle.pt_plan.specs.Carried.{folder_where}
 use Rattle.pt_plan.specs.GrowthLaws.{FoldersGrow, HasNoGaps, ObjectIsMovedIn, RootIsItsOwn, RootIsMadeInPlace, RootIsMovedIn, RootsHaveNoGaps}
 use Rattle.pt_plan.specs.Roots.{root_in, storage_root, with_folders, with_root}
 use Rattle.pt_plan.proofs.Folders.{is_one}
 use Rattle.pt_plan.proofs.Growing.{append_nil}
-use Rattle.pt_plan.proofs.Levels.{whole_of}
 
 -- ---- a root of a destination
-
-pub gap_below : (t : Tree) → IsTree t → (path : Path) (q : Path) → t path ≡ None → t (path ++ q) ≡ None
-gap_below t _ path [] none = ap t (append_nil path) ∙ none
-gap_below t tree path (name ∷ q) none = ap t (sym (append_assoc path (name ∷ []) q)) ∙ gap_below t tree _ q (by (t (path ++ name ∷ [])) refl)
-  where
-    by : (o : Option Entry) → t (path ++ name ∷ []) ≡ o → o ≡ None
-    by None e = refl
-    by (Some entry) e =
-        let folder : None ≡ Some Folder = sym none ∙ tree.above path name (ap is_some e) in
-        absurd (cc)
 
 no_gaps : {t : Tree} → IsTree t → HasNoGaps (root_in t)
 no_gaps {t} tree path none q = ap t (sym (append_assoc storage_root path q)) ∙ gap_below t tree _ q none

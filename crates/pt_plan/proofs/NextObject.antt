@@ -11,6 +11,7 @@ use Rattle.pt_name.specs.Place.{place_of}
 use Rattle.pt_tree.specs.Forest.{Forest}
 use Rattle.pt_tree.specs.Path.{Path, rest_below}
 use Rattle.pt_tree.specs.Tree.{Entry, Folder, Tree}
+use Rattle.pt_tree.proofs.Below.{rest_of, whole_of}
 use Rattle.pt_plan.specs.Carried.{Carried, after, carried_among, carried_by, carried_by_outcome, entry_of_object, entry_of_objects, folder_where, is_on_the_way, place_of_carried, with_objects}
 use Rattle.pt_plan.specs.Faults.{IsCarriedAs}
 use Rattle.pt_plan.specs.GrowthLaws.{AfterGrows, AfterStays, HasNoGaps}
@@ -19,7 +20,7 @@ use Rattle.pt_plan.specs.Job.{Job}
 use Rattle.pt_plan.specs.Roots.{tuple_folders, with_folders}
 use Rattle.pt_plan.proofs.Folders.{above, is_one}
 use Rattle.pt_plan.proofs.Growing.{append_nil, carried_grows}
-use Rattle.pt_plan.proofs.Levels.{leads_through, one_way, whole_of}
+use Rattle.pt_plan.proofs.Levels.{leads_through, one_way}
 use Rattle.pt_plan.proofs.PlaceShapes.{as_long, nothing_below_place}
 use Rattle.pt_plan.proofs.Reserved.{named_is_not_reserved}
 use Rattle.pt_plan.proofs.TakenPlaces.{marked_item, next_place_stands_where_taken, or_false}
@@ -119,10 +120,6 @@ no_way job id rest (object ∷ objects) h =
     ∙ no_way job id rest objects parts.1
 
 -- ---- the root with it
-
-pub rest_of : (p rest : Path) → rest_below p (p ++ rest) ≡ Some rest
-rest_of [] _ = refl
-rest_of (x ∷ p) rest = ap (λ b. cond b (rest_below p (p ++ rest)) None) (name_itself x) ∙ rest_of p rest
 
 -- at its place and below
 at_place : (job : Job) (objects : List Carried) (object : Carried) (t : Tree) → with_objects job objects t (place_of_carried job object) ≡ None

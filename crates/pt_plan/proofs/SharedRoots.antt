@@ -15,12 +15,12 @@ use Rattle.pt_object.proofs.Ways.{leads}
 use Rattle.pt_tree.specs.Forest.{Forest}
 use Rattle.pt_tree.specs.Path.{Path, rest_below}
 use Rattle.pt_tree.specs.Tree.{Entry, Folder, Tree}
+use Rattle.pt_tree.proofs.Below.{whole_of}
 use Rattle.pt_plan.specs.Carried.{Carried, Marked, after_all, all_carried, carried_by, carried_by_outcome, entry_of_object, entry_of_objects, folder_where, is_on_the_way, is_taken, marked_after, place_of_carried, with_objects}
 use Rattle.pt_plan.specs.Items.{Fails, Holds, Interior, Item, Named, Outcome, Skip, Verdict, is_ours, outcome}
 use Rattle.pt_plan.specs.Job.{Job}
 use Rattle.pt_plan.specs.ShareLaws.{IsOneOf, SharesLeaveTheWhole, SharesMeetInFolders, of_whole}
 use Rattle.pt_plan.proofs.Growing.{append_nil}
-use Rattle.pt_plan.proofs.Levels.{whole_of}
 use Rattle.pt_plan.proofs.PlaceShapes.{as_long}
 use Rattle.pt_plan.proofs.ShareNumbers.{number_within, one_share}
 use Rattle.pt_plan.proofs.SharedItems.{MadeOfItems, bare_items, is_text, made_in, made_whole, text_item, texts_in, with_share}

@@ -12,6 +12,7 @@ use Rattle.pt_object.specs.Root.{base}
 use Rattle.pt_tree.specs.Forest.{Forest}
 use Rattle.pt_tree.specs.Path.{Path}
 use Rattle.pt_tree.specs.Tree.{Folder, Tree}
+use Rattle.pt_tree.proofs.Below.{rest_of}
 use Rattle.pt_plan.specs.Carried.{Carried, Marked, after, after_all, all_carried, carried, carried_among, carried_by, carried_by_outcome, marked, place_of_carried, with_objects}
 use Rattle.pt_plan.specs.Faults.{IsCarriedAs}
 use Rattle.pt_plan.specs.FileLaws.{comes_in_order}
@@ -25,7 +26,7 @@ use Rattle.pt_plan.proofs.Folders.{is_above, is_one}
 use Rattle.pt_plan.proofs.Growing.{all_items_are_all, append_nil, carried_grows}
 use Rattle.pt_plan.proofs.Levels.{one_way}
 use Rattle.pt_plan.proofs.MovedIn.{roots_have_no_gaps}
-use Rattle.pt_plan.proofs.NextObject.{after_grows, after_stays, below_itself, place_is_free, rest_of}
+use Rattle.pt_plan.proofs.NextObject.{after_grows, after_stays, below_itself, place_is_free}
 use Rattle.pt_plan.proofs.PlaceShapes.{as_long}
 use Rattle.pt_plan.proofs.WithObjects.{no_rest, stands_with_folders, top_of_object}
 

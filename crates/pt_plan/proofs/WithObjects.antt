@@ -14,11 +14,12 @@ use Rattle.pt_object.specs.declared.algorithm.Algorithm.{Algorithm}
 use Rattle.pt_object.proofs.Ways.{leads}
 use Rattle.pt_tree.specs.Path.{Path, rest_below}
 use Rattle.pt_tree.specs.Tree.{Entry, Folder, Tree}
+use Rattle.pt_tree.proofs.Below.{whole_of}
 use Rattle.pt_plan.specs.Carried.{Carried, entry_of_object, entry_of_objects, folder_where, is_on_the_way, place_of_carried, with_objects}
 use Rattle.pt_plan.specs.Job.{Job}
 use Rattle.pt_plan.specs.Roots.{with_folders}
 use Rattle.pt_plan.proofs.Folders.{is_one}
-use Rattle.pt_plan.proofs.Levels.{longer, whole_of}
+use Rattle.pt_plan.proofs.Levels.{longer}
 use Rattle.pt_plan.proofs.PlaceShapes.{as_long}
 
 -- ---- an object's own folder

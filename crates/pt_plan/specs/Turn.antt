@@ -1,5 +1,5 @@
 -- One turn of a run: what it does where all calls succeed, and what it leaves where it breaks off. Faults of devices and want of memory apart, what is held and what the devices tell leave it no choice.
-use Rattle.std.specs.Prelude.{◌≡◌, ◌⊎◌, ℕ, ◌+◌, List, Option, None, Some, Ok, Err}
+use Rattle.std.specs.Prelude.{◌≡◌, ◌⊎◌, ℕ, ◌+◌, List, Option, None, Some, Ok, Err, ⊤}
 use Rattle.pt_object.specs.declared.rows.Row.{Row}
 use Rattle.pt_tree.specs.Failures.{HasRisen}
 use Rattle.pt_plan.specs.Answer.{Answer}
@@ -79,20 +79,31 @@ HasFailed halt.StagingLeft old new = ⊥
 HasFailed halt.Target old new = ⊥
 HasFailed halt.Changed old new = ⊥
 
+-- it isn't the log that failed
+abbrev pub IsNotOfLog : Halt → Type 0
+IsNotOfLog halt.Log = ⊥
+IsNotOfLog _ = ⊤
+
+-- a run halts for the log only in a turn that tells a line
+abbrev pub MayBlame : Option Line → Halt → Type 0
+MayBlame None why = IsNotOfLog why
+MayBlame (Some line) why = ⊤
+
 -- ---- one turn
 
 -- all calls succeeded
 unfoldable pub Did : Calls → World → World → Type 0
 Did calls old new = Happens calls old new × NoneFailed old.failures new.failures
 
--- nothing was changed, and the run halts for this
+-- nothing was changed, no line was begun, and the run halts for this
 unfoldable pub Stays : Halt → World → World → Type 0
 Stays why old new = (source_tree new.source ≡ source_tree old.source) × (new.dest ≡ old.dest)
-    × (new.log ≡ old.log) × HasFailed why old.failures new.failures
+    × (new.log ≡ old.log) × HasFailed why old.failures new.failures × MayBlame None why
 
 -- a part of what the calls change is left, and the run halts for this
 unfoldable pub LeavesSome : Calls → Halt → World → World → Type 0
 LeavesSome calls why old new = BreaksOff calls old new × HasFailed why old.failures new.failures
+    × MayBlame calls.line why
 
 -- what a run keeps that was halted: all as it was, but that a row more may be held, and that what the hasher was fed doesn't matter any more
 pub record IsHalted (rows : List Row) (before after : Kept) : Type 0 where

@@ -98,7 +98,7 @@ noted_file s s' a b object bytes block path digest did none there digests trail 
 none_read : (a b : World) → Did (asks (Reads [])) a b → LeavesSome (asks (Reads [])) halt.Memory a b × Answers (Reads []) a.source b.source
 unfolding Did LeavesSome Answers Changes Puts
 none_read a b did = (
-  (record { read = did.0.source.0; found = tt; source = asked_tree (Reads []) a.source b.source did.0.source; dest = Untouched ChangesNothing (ap dest_tree did.0.dest); log = did.0.log }, did.1),
+  (record { read = did.0.source.0; found = tt; source = asked_tree (Reads []) a.source b.source did.0.source; dest = Untouched ChangesNothing (ap dest_tree did.0.dest); log = did.0.log }, did.1, tt),
   did.0.source,
 )
 

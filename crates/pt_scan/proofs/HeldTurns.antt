@@ -49,6 +49,7 @@ read_left block line f a b c first next = (
     log = subst (λ (o : Option (List ℕ)). AppendsFront o c.log (line_text line)) first.0.log next.0.log;
   },
   subst (λ (x : Failures). HasFailed f x c.failures) first.1 next.1,
+  tt,
 )
 
 abbrev pub finds_and_tells : Path → Option Kind → Line → Calls
@@ -82,6 +83,7 @@ looked_left path here line f a b c first next = (
     log = subst (λ (o : Option (List ℕ)). AppendsFront o c.log (line_text line)) first.0.log next.0.log;
   },
   subst (λ (x : Failures). HasFailed f x c.failures) first.1 next.1,
+  tt,
 )
 
 -- ---- what is held

@@ -49,7 +49,7 @@ has_entered s s' a b path items is_empty did is empty to = record { items = item
 -- memory was short before the source was called, or after it was listed
 pub unasked : (w : World) (f : Halt) → f ≡ halt.Memory → Stays f w w
 unfolding Stays
-unasked w f is = subst (λ (f : Halt). Stays f w w) (sym is) (refl, refl, refl, refl)
+unasked w f is = subst (λ (f : Halt). Stays f w w) (sym is) (refl, refl, refl, refl, tt)
 
 pub listed_unentered : (a b : World) (path : Path) (items : List Item) (f : Halt) → f ≡ halt.Memory → Did (asks (Lists path items)) a b → Stays f a b
 listed_unentered a b path items f is did = subst (λ (f : Halt). Stays f a b) (sym is) (asked_stays (Lists path items) a b did)

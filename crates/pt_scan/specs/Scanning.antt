@@ -1,17 +1,21 @@
 -- What the turns of the scan ask, and what their parts come to, over the world of the devices.
-use Rattle.std.specs.Prelude.{◌≡◌, ◌<◌, ◌≤◌, ◌==◌, ℕ, Bool, false, List, [], Ok, Some, length}
+use Rattle.std.specs.Prelude.{◌≡◌, ◌<◌, ◌≤◌, ◌==◌, ◌^◌, ℕ, Bool, false, IfErr, IfOk, IsSome, IsTrue, List, Option, [], Ok, OnErr, OnOk, Result, Some, length}
 use Rattle.std.specs.String.{string_bytes}
 use Rattle.pt_tree.specs.Listing.{Item}
+use Rattle.pt_tree.specs.Source.{Reading}
 use Rattle.pt_tree.specs.declared.kind.Kind.TheVariants as kind
-use Rattle.pt_walk.specs.Trail.{current_entry, entered, names_to, sought}
+use Rattle.pt_walk.specs.Trail.{current_entry, entered, is_dir_entry, names_to, sought, trail_path}
 use Rattle.pt_walk.specs.declared.cause.Cause.{Cause}
 use Rattle.pt_walk.specs.declared.cause.Cause.TheVariants as cause
 use Rattle.pt_walk.specs.declared.frame.Frame.{Frame}
 use Rattle.pt_plan.specs.Run.{with_trail}
-use Rattle.pt_plan.specs.Turn.{Did}
-use Rattle.pt_plan.specs.TurnScan.{Scans, back_at_site, is_passed, skipped, to_site, with_directory}
+use Rattle.pt_plan.specs.Lines.{Skipped}
+use Rattle.pt_plan.specs.Permits.{MayEnter}
+use Rattle.pt_plan.specs.Turn.{Did, LeavesSome, Stays}
+use Rattle.pt_plan.specs.TurnScan.{Scans, back_at_site, is_passed, own_listings, skipped, to_site, with_directory}
 use Rattle.pt_plan.specs.TurnWalk.{in_pairtree}
 use Rattle.pt_plan.specs.World.{Lists, World, asks, tells}
+use Rattle.pt_plan.specs.declared.halt.Halt.{Halt}
 use Rattle.pt_plan.specs.declared.object.Object.{Object}
 use Rattle.pt_plan.specs.declared.phase.Phase.{Phase}
 use Rattle.pt_plan.specs.declared.phase.Phase.TheVariants as phase
@@ -24,11 +28,46 @@ use Rattle.pt_state.specs.declared.state.State.{State}
 unfoldable pub IsSite : Object → List Frame → Type 0
 IsSite object trail = (0 < object.site) × (object.site ≤ length trail)
 
+-- and a skip line of it can be counted
+pub record CanPassOver (object : Object) (s : State) : Type 0 where
+  pub site : IsSite object s.trail
+  pub few : s.counts.skipped < 2 ^ 40
+
+-- listings of the object's own are on the trail too
+pub record IsInObject (object : Object) (trail : List Frame) : Type 0 where
+  pub site : IsSite object trail
+  pub own : 0 < own_listings object trail
+
+-- the trail is at an entry of them
+pub record IsAtEntry (object : Object) (trail : List Frame) : Type 0 where
+  pub site : IsSite object trail
+  pub own : 0 < own_listings object trail
+  pub entry : IsSome (current_entry trail)
+
+-- a run that scans the object may do so
+pub record CanScan (object : Object) (s : State) : Type 0 where
+  pub site : IsSite object s.trail
+  pub own : 0 < own_listings object s.trail
+  pub few : s.counts.skipped < 2 ^ 40
+
+-- and one that reads a file of it, of which so many bytes were read
+pub record CanReadOn (object : Object) (bytes : ℕ) (s : State) : Type 0 where
+  pub site : IsSite object s.trail
+  pub own : 0 < own_listings object s.trail
+  pub entry : IsSome (current_entry s.trail)
+  pub few : s.counts.skipped < 2 ^ 40
+  pub short : bytes ≤ 2 ^ 43
+
 -- the entry at the trail's place is a directory of the object
 unfoldable pub IsAtDirectory : Object → List Frame → Type 0
 IsAtDirectory object trail = (name : List ℕ)
     × ((current_entry trail ≡ Some (name, kind.Dir))
     × (is_passed object trail (name, kind.Dir) ≡ false))
+
+-- it is a directory, which may be listed and entered
+pub record CanEnter (told : Option Reading) (trail : List Frame) : Type 0 where
+  pub directory : IsTrue (is_dir_entry (current_entry trail))
+  pub may : MayEnter told trail
 
 -- it is a file
 unfoldable pub IsAtFile : List Frame → Type 0
@@ -87,3 +126,21 @@ pub record Enters (s s' : State) (old new : World) (is_empty : Bool) : Type 0 wh
   pub listed : Did (asks (Lists (in_pairtree (names_to s.trail)) items)) old new
   pub empty : is_empty ≡ (length items == 0)
   pub moved : Moved (entered items s.trail) s.counts s s'
+
+-- that it was entered, or failed to be listed, and all that is held is as it was
+pub record Entered {O : Type 0} (world : O → World) (within : O → O → Type 0) (s s' : State) (old new : O)
+    (result : Result Bool Halt) : Type 0 where
+  pub did : IfOk result (Enters s s' (world old) (world new))
+  pub failed : IfErr result (λ why. Stays why (world old) (world new))
+  pub same : OnErr result (IsKept s s')
+  pub few : within old new
+
+-- that the object was passed over for this cause, or a front of its line was put, and all that is held is as it was
+pub record GaveUp {O T : Type 0} (world : O → World) (within : O → O → Type 0) (object : Object) (why : Cause)
+    (s s' : State) (old new : O) (result : Result T Halt) : Type 0 where
+  pub did : OnOk result (Did (tells (Skipped (trail_path (to_site object s.trail)) why)) (world old) (world new))
+  pub back : OnOk result (IsBackAtSite object s s')
+  pub left : IfErr result (λ f. LeavesSome (tells (Skipped (trail_path (to_site object s.trail)) why)) f
+      (world old) (world new))
+  pub same : OnErr result (IsKept s s')
+  pub few : within old new

@@ -1,5 +1,5 @@
 -- What the turns of the walk ask of where it stands.
-use Rattle.std.specs.Prelude.{◌≡◌, ℕ, List, true, Ok, Some}
+use Rattle.std.specs.Prelude.{◌≡◌, ◌<◌, ◌^◌, ℕ, List, true, Ok, Some}
 use Rattle.std.specs.String.{string_bytes}
 use Rattle.pt_name.specs.Share.{is_first}
 use Rattle.pt_tree.specs.Listing.{Item}
@@ -19,6 +19,11 @@ use Rattle.pt_state.specs.declared.state.State.{State}
 -- the entry at the trail's place is a shorty
 unfoldable pub IsAtShorty : List Frame → Type 0
 IsAtShorty trail = (name : List ℕ) × ((current_entry trail ≡ Some (name, kind.Dir)) × (is_short name ≡ true))
+
+-- and a skip line of it can be counted
+pub record CanPassShorty (s : State) : Type 0 where
+  pub shorty : IsAtShorty s.trail
+  pub few : s.counts.skipped < 2 ^ 40
 
 -- it is to be passed over for this cause, which the first share tells
 unfoldable pub PassesShorty : State → Cause → Type 0

@@ -1,17 +1,16 @@
 #![tactic(auto, using(crate::proofs::Judged::judging, pt_state::proofs::Turns::turns))]
 //! The turn that judges a site: what it is, and whether its object may be carried.
-ghost use Rattle.std.specs.Prelude.{◌≡◌, ◌<◌, ◌==◌, ◌&&◌, ◌++◌, ◌^◌, ◌∷◌, [], codes, cond, IfOk, IfSome, IsTrue, length};
+ghost use Rattle.std.specs.Prelude.{◌≡◌, ◌<◌, ◌++◌, ◌^◌, ◌∷◌, [], codes, cond, IfOk, IfSome, IsTrue, length};
 ghost use Rattle.std.specs.List.{concat};
-ghost use Rattle.pt_name.specs.Share.{holds};
 ghost use Rattle.pt_plan.specs.Job.{form_of as form_of_job};
 ghost use Rattle.pt_plan.specs.TurnWalk.{at_object, found_at, path_of_object};
 ghost use Rattle.pt_plan.specs.declared.phase.Phase.TheVariants as phase;
 ghost use Rattle.pt_tree.specs.Path.{same_path};
 ghost use Rattle.pt_walk.specs.Trail.{has_place, trail_path};
 ghost use Rattle.pt_walk.specs.declared.site.Form.TheVariants as form;
-ghost use Rattle.pt_state.specs.Outside.{Turned};
+ghost use Rattle.pt_state.specs.Outside.{TakesTurn};
 ghost use Rattle.pt_state.specs.States.{job_of};
-ghost use Rattle.pt_scan.specs.Judging.{FindsObject, IsNamed, IsPlaced, PassesSite, is_own_place};
+ghost use Rattle.pt_scan.specs.Judging.{CanPass, IsJudging, IsNamed, IsOurs, IsPassedAt, IsPlaced, is_own_place};
 ghost use Rattle.pt_scan.specs.declared.judging.Verdict.TheVariants as verdict;
 
 use crate::walking::at;
@@ -32,11 +31,9 @@ use std::alloc::Global;
 /// Halts for `Dest` where the place can't be asked for, for `Log` where a line can't be put, and for `Memory` where a
 /// growth is refused; what is held stays then.
 pub fn judge<O: Outside>(state: &mut State, out: &mut O) -> Result<Phase, Halt>
-    requires skipped { state.old.counts.skipped < 2 ^ 40 }
-    requires present { state.old.counts.present < 2 ^ 40 }
-    ensures turn { Turned phase.Judge state.old state.new
-        (O.world out.old) (O.world out.new) result }
-    ensures calls { O.within 0 out.old out.new }
+    requires { CanPass state.old }
+    ensures turn { TakesTurn O.world (O.within 0) phase.Judge state.old state.new
+        out.old out.new result }
 {
     let site = state.trail.path()?;
     match finding(state, &site) {
@@ -72,12 +69,10 @@ fn pass_over<O: Outside>(
     cause: Cause,
     out: &mut O,
 ) -> Result<Phase, Halt>
-    requires site { site.now ≡ trail_path state.old.trail }
-    requires line { PassesSite state.old cause }
+    requires line { IsPassedAt state.old site.now cause }
     requires few { state.old.counts.skipped < 2 ^ 40 }
-    ensures turn { Turned phase.Judge state.old state.new
-        (O.world out.old) (O.world out.new) result }
-    ensures calls { O.within 0 out.old out.new }
+    ensures turn { TakesTurn O.world (O.within 0) phase.Judge state.old state.new
+        out.old out.new result }
 {
     if !state.job.share.is_first() {
         return Ok(Phase::Walk);
@@ -94,13 +89,10 @@ fn judge_object<O: Outside>(
     index: Option<usize>,
     out: &mut O,
 ) -> Result<Phase, Halt>
-    requires site { site.now ≡ trail_path state.old.trail }
-    requires object { FindsObject state.old index }
-    requires skipped { state.old.counts.skipped < 2 ^ 40 }
-    requires present { state.old.counts.present < 2 ^ 40 }
-    ensures turn { Turned phase.Judge state.old state.new
-        (O.world out.old) (O.world out.new) result }
-    ensures calls { O.within 0 out.old out.new }
+    requires judges { IsJudging state.old site.now index }
+    requires passes { CanPass state.old }
+    ensures turn { TakesTurn O.world (O.within 0) phase.Judge state.old state.new
+        out.old out.new result }
 {
     match named(state, site)? {
         Verdict::Carry(candidate) => {
@@ -135,14 +127,11 @@ fn find_place<O: Outside>(
     candidate: Candidate,
     out: &mut O,
 ) -> Result<Phase, Halt>
-    requires site { site.now ≡ trail_path state.old.trail }
-    requires object { FindsObject state.old index }
-    requires named { IsNamed state.old (verdict.Carry candidate) }
-    requires ours { IsTrue (holds state.old.job.share candidate.id) }
+    requires judges { IsJudging state.old site.now index }
+    requires ours { IsOurs state.old candidate }
     requires present { state.old.counts.present < 2 ^ 40 }
-    ensures turn { Turned phase.Judge state.old state.new
-        (O.world out.old) (O.world out.new) result }
-    ensures calls { O.within 0 out.old out.new }
+    ensures turn { TakesTurn O.world (O.within 0) phase.Judge state.old state.new
+        out.old out.new result }
 {
     let path = in_storage_root(state.alloc, &candidate.place)?;
     match out.kind(&path)? {
@@ -212,8 +201,7 @@ fn opened(candidate: Candidate, gathered: bool, site: usize) -> Phase
 // Whether the object at a site can be carried: its identifier is what the names of the site's path read, behind the
 // prefix (Pairtree 0.1, "Identifier string cleaning").
 fn named(state: &State, site: &NamePath) -> Result<Verdict, MemoryFault>
-    requires site { site.now ≡ trail_path state.now.trail }
-    requires some { 0 < length site.now }
+    requires { (site.now ≡ trail_path state.now.trail) × (0 < length site.now) }
     ensures { IfOk result (IsNamed state.now) }
 {
     let text = text_of_names(state.alloc, site)?;

@@ -1,14 +1,12 @@
 #![tactic(auto, using(crate::proofs::FileTurns::reading, crate::proofs::ObjectPaths::paths, pt_state::proofs::Turns::turns))]
 //! The turns that read a file of an object, for its digest and its length.
-ghost use Rattle.std.specs.Prelude.{◌≡◌, ◌<◌, ◌≤◌, ◌+◌, ◌^◌, IsSome, length};
+ghost use Rattle.std.specs.Prelude.{◌≡◌, ◌<◌, ◌+◌, length};
 ghost use Rattle.pt_plan.specs.Turn.{Did};
-ghost use Rattle.pt_plan.specs.TurnScan.{own_listings};
 ghost use Rattle.pt_plan.specs.World.{World, Reads, asks};
 ghost use Rattle.pt_plan.specs.declared.phase.Phase.TheVariants as phase;
 ghost use Rattle.pt_tree.specs.Source.{CanRead};
-ghost use Rattle.pt_walk.specs.Trail.{current_entry};
-ghost use Rattle.pt_state.specs.Outside.{Turned};
-ghost use Rattle.pt_scan.specs.Scanning.{IsSite};
+ghost use Rattle.pt_state.specs.Outside.{EndsTurn, TakesTurn, Turned};
+ghost use Rattle.pt_scan.specs.Scanning.{CanPassOver, CanReadOn};
 
 use crate::scanning::{give_up, logical_names};
 use pt_object::Hasher;
@@ -33,14 +31,9 @@ pub fn read<O: Outside>(
     out: &mut O,
 ) -> Result<Phase, Halt>
     requires may { CanRead (O.world out.old).source }
-    requires site { IsSite object state.old.trail }
-    requires own { 0 < own_listings object state.old.trail }
-    requires entry { IsSome (current_entry state.old.trail) }
-    requires few { state.old.counts.skipped < 2 ^ 40 }
-    requires short { bytes ≤ 2 ^ 43 }
-    ensures turn { Turned (phase.Read object bytes) state.old state.new
-        (O.world out.old) (O.world out.new) result }
-    ensures calls { O.within 1 out.old out.new }
+    requires reads { CanReadOn object bytes state.old }
+    ensures turn { TakesTurn O.world (O.within 1) (phase.Read object bytes) state.old state.new
+        out.old out.new result }
 {
     out.next(&mut state.block)?;
     take_block(state, object, bytes, out)
@@ -53,15 +46,9 @@ fn take_block<O: Outside>(
     bytes: u64,
     out: &mut O,
 ) -> Result<Phase, Halt>
-    requires site { IsSite object state.old.trail }
-    requires own { 0 < own_listings object state.old.trail }
-    requires entry { IsSome (current_entry state.old.trail) }
-    requires few { state.old.counts.skipped < 2 ^ 40 }
-    requires short { bytes ≤ 2 ^ 43 }
-    ensures turn { (before : World)
-        → Did (asks (Reads state.old.block.items)) before (O.world out.old)
-        → Turned (phase.Read object bytes) state.old state.new before (O.world out.new) result }
-    ensures calls { O.within 0 out.old out.new }
+    requires { CanReadOn object bytes state.old }
+    ensures turn { EndsTurn O.world (O.within 0) (asks (Reads state.old.block.items))
+        (phase.Read object bytes) state.old state.new out.old out.new result }
 {
     if state.block.is_empty() {
         return end_file(state, object, bytes);
@@ -77,9 +64,7 @@ fn take_block<O: Outside>(
 // Notes the row of a file that was read to its end.
 fn end_file(state: &mut State, object: Object, bytes: u64) -> Result<Phase, Halt>
     requires ended { length state.old.block.items ≡ 0 }
-    requires site { IsSite object state.old.trail }
-    requires own { 0 < own_listings object state.old.trail }
-    requires entry { IsSome (current_entry state.old.trail) }
+    requires reads { CanReadOn object bytes state.old }
     ensures turn { (before after : World) → Did (asks (Reads state.old.block.items)) before after
         → Turned (phase.Read object bytes) state.old state.new before after result }
 {
@@ -101,14 +86,11 @@ fn pass_object<O: Outside>(
     bytes: u64,
     out: &mut O,
 ) -> Result<Phase, Halt>
-    requires some { 0 < length state.old.block.items }
-    requires long { state.old.job.limits.file_bytes < bytes + length state.old.block.items }
-    requires site { IsSite object state.old.trail }
-    requires few { state.old.counts.skipped < 2 ^ 40 }
-    ensures turn { (before : World)
-        → Did (asks (Reads state.old.block.items)) before (O.world out.old)
-        → Turned (phase.Read object bytes) state.old state.new before (O.world out.new) result }
-    ensures calls { O.within 0 out.old out.new }
+    requires long { (0 < length state.old.block.items)
+        × (state.old.job.limits.file_bytes < bytes + length state.old.block.items) }
+    requires passes { CanPassOver object state.old }
+    ensures turn { EndsTurn O.world (O.within 0) (asks (Reads state.old.block.items))
+        (phase.Read object bytes) state.old state.new out.old out.new result }
 {
     give_up(state, &object, Cause::Limit, out)?;
     Ok(Phase::Walk)

@@ -1,18 +1,16 @@
 #![tactic(auto, using(crate::proofs::ScanTurns::scanning, crate::proofs::ObjectPaths::paths, crate::proofs::Leaving::leaving, pt_state::proofs::Turns::turns))]
 //! The turns that scan an object: its directories are listed and entered, its files opened.
-ghost use Rattle.std.specs.Prelude.{◌≡◌, ◌<◌, ◌+◌, ◌-◌, ◌==◌, ◌&&◌, ◌^◌, IfErr, IfOk, IsSome, IsTrue, None, Ok, OnErr, OnOk, cond, drop, false, length, nat_lt, not};
-ghost use Rattle.pt_plan.specs.Lines.{Skipped};
+ghost use Rattle.std.specs.Prelude.{◌≡◌, ◌<◌, ◌+◌, ◌-◌, ◌==◌, ◌&&◌, ◌^◌, IfOk, IsTrue, None, Ok, cond, drop, false, length, nat_lt, not};
 ghost use Rattle.pt_plan.specs.Permits.{MayEnter, MayOpen};
-ghost use Rattle.pt_plan.specs.Turn.{Did, LeavesSome, Stays};
-ghost use Rattle.pt_plan.specs.TurnScan.{is_in_site as is_in_site_of, logical_path as logical_path_of, own_listings, to_site};
-ghost use Rattle.pt_plan.specs.World.{World, tells};
+ghost use Rattle.pt_plan.specs.TurnScan.{is_in_site as is_in_site_of, logical_path as logical_path_of, to_site};
+ghost use Rattle.pt_plan.specs.World.{World};
 ghost use Rattle.pt_plan.specs.declared.phase.Phase.{Phase};
 ghost use Rattle.pt_plan.specs.declared.phase.Phase.TheVariants as phase;
 ghost use Rattle.pt_tree.specs.Path.{joined};
 ghost use Rattle.pt_walk.specs.Site.{is_shorty as is_shorty_entry};
 ghost use Rattle.pt_walk.specs.Trail.{current_entry, is_dir_entry, names_to, trail_path};
-ghost use Rattle.pt_state.specs.Outside.{Turned};
-ghost use Rattle.pt_scan.specs.Scanning.{Enters, GivesUp, IsAtFile, IsBackAtSite, IsKept, IsSite, MeetsDirectory};
+ghost use Rattle.pt_state.specs.Outside.{TakesTurn, TakesTurnAt, Turned};
+ghost use Rattle.pt_scan.specs.Scanning.{CanEnter, CanPassOver, CanScan, Entered, GaveUp, GivesUp, IsAtEntry, IsAtFile, IsInObject, IsSite, MeetsDirectory};
 
 use crate::walking::listed_path;
 use pt_object::Hasher;
@@ -39,12 +37,10 @@ pub fn open_object<O: Outside>(
     requires may { object.gathered ≡ false → MayEnter (O.world out.old).source state.old.trail }
     requires directory { object.gathered ≡ false
         → IsTrue (is_dir_entry (current_entry state.old.trail)) }
-    requires site { IsSite object state.old.trail }
-    requires few { state.old.counts.skipped < 2 ^ 40 }
+    requires passes { CanPassOver object state.old }
     requires empty { object.empty < 2 ^ 40 }
-    ensures turn { Turned (phase.OpenObject object) state.old state.new
-        (O.world out.old) (O.world out.new) result }
-    ensures calls { O.within 1 out.old out.new }
+    ensures turn { TakesTurn O.world (O.within 1) (phase.OpenObject object) state.old state.new
+        out.old out.new result }
 {
     if object.gathered {
         state.trail.seek(0);
@@ -62,13 +58,10 @@ pub fn open_object<O: Outside>(
 pub fn scan<O: Outside>(state: &mut State, object: Object, out: &mut O) -> Result<Phase, Halt>
     requires enter { MayEnter (O.world out.old).source state.old.trail }
     requires open { MayOpen (O.world out.old).source state.old.trail }
-    requires site { IsSite object state.old.trail }
-    requires own { 0 < own_listings object state.old.trail }
-    requires few { state.old.counts.skipped < 2 ^ 40 }
+    requires scans { CanScan object state.old }
     requires empty { object.empty < 2 ^ 40 }
-    ensures turn { Turned (phase.Scan object) state.old state.new
-        (O.world out.old) (O.world out.new) result }
-    ensures calls { O.within 1 out.old out.new }
+    ensures turn { TakesTurn O.world (O.within 1) (phase.Scan object) state.old state.new
+        out.old out.new result }
 {
     let in_site = is_in_site(&object, &state.trail);
     match state.trail.current() {
@@ -108,11 +101,9 @@ fn pass_object<O: Outside>(
     cause: Cause,
     out: &mut O,
 ) -> Result<Phase, Halt>
-    requires site { IsSite object state.old.trail }
-    requires few { state.old.counts.skipped < 2 ^ 40 }
-    ensures turn { (here : Phase) → GivesUp here object cause state.old
-        → Turned here state.old state.new (O.world out.old) (O.world out.new) result }
-    ensures calls { O.within 0 out.old out.new }
+    requires { CanPassOver object state.old }
+    ensures turn { TakesTurnAt O.world (O.within 0) (λ here. GivesUp here object cause state.old)
+        state.old state.new out.old out.new result }
 {
     give_up(state, &object, cause, out)?;
     Ok(Phase::Walk)
@@ -124,14 +115,11 @@ fn enter_directory<O: Outside>(
     object: Object,
     out: &mut O,
 ) -> Result<Phase, Halt>
-    requires directory { IsTrue (is_dir_entry (current_entry state.old.trail)) }
-    requires may { MayEnter (O.world out.old).source state.old.trail }
-    requires site { IsSite object state.old.trail }
-    requires few { state.old.counts.skipped < 2 ^ 40 }
+    requires enter { CanEnter (O.world out.old).source state.old.trail }
+    requires passes { CanPassOver object state.old }
     requires empty { object.empty < 2 ^ 40 }
-    ensures turn { (here : Phase) → MeetsDirectory here object state.old
-        → Turned here state.old state.new (O.world out.old) (O.world out.new) result }
-    ensures calls { O.within 1 out.old out.new }
+    ensures turn { TakesTurnAt O.world (O.within 1) (λ here. MeetsDirectory here object state.old)
+        state.old state.new out.old out.new result }
 {
     if state.trail.len() as u64 > state.job.limits.depth() {
         return pass_object(state, object, Cause::Limit, out);
@@ -142,12 +130,8 @@ fn enter_directory<O: Outside>(
 
 // Lists the directory at the trail's place and enters it; gives whether it has no entries.
 fn enter<O: Outside>(state: &mut State, out: &mut O) -> Result<bool, Halt>
-    requires directory { IsTrue (is_dir_entry (current_entry state.old.trail)) }
-    requires may { MayEnter (O.world out.old).source state.old.trail }
-    ensures ok { IfOk result (Enters state.old state.new (O.world out.old) (O.world out.new)) }
-    ensures err { IfErr result (λ why. Stays why (O.world out.old) (O.world out.new)) }
-    ensures same { OnErr result (IsKept state.old state.new) }
-    ensures calls { O.within 1 out.old out.new }
+    requires enter { CanEnter (O.world out.old).source state.old.trail }
+    ensures { Entered O.world (O.within 1) state.old state.new out.old out.new result }
 {
     let path = listed_path(state)?;
     let listing = out.list(&path)?;
@@ -171,12 +155,9 @@ fn with_directory(mut object: Object, is_empty: bool) -> Object
 fn meet_file<O: Outside>(state: &mut State, object: Object, out: &mut O) -> Result<Phase, Halt>
     requires file { IsAtFile state.old.trail }
     requires may { MayOpen (O.world out.old).source state.old.trail }
-    requires site { IsSite object state.old.trail }
-    requires own { 0 < own_listings object state.old.trail }
-    requires few { state.old.counts.skipped < 2 ^ 40 }
-    ensures turn { Turned (phase.Scan object) state.old state.new
-        (O.world out.old) (O.world out.new) result }
-    ensures calls { O.within 1 out.old out.new }
+    requires scans { CanScan object state.old }
+    ensures turn { TakesTurn O.world (O.within 1) (phase.Scan object) state.old state.new
+        out.old out.new result }
 {
     if state.rows.len() as u64 >= state.job.limits.files() {
         return pass_object(state, object, Cause::Limit, out);
@@ -194,10 +175,8 @@ fn meet_file<O: Outside>(state: &mut State, object: Object, out: &mut O) -> Resu
 
 // Of the path of the entry at the trail's place, the names of the logical path: those behind the object's directory.
 pub(crate) fn logical_names<'a>(object: &Object, trail: &Trail, entry: &'a NamePath) -> &'a [Name]
-    requires entry { entry.now ≡ names_to trail.now }
-    requires some { IsSome (current_entry trail.now) }
-    requires site { IsSite object.now trail.now }
-    requires own { 0 < own_listings object.now trail.now }
+    requires names { entry.now ≡ names_to trail.now }
+    requires there { IsAtEntry object.now trail.now }
     ensures { result.now ≡ logical_path_of object.now trail.now }
 {
     let _listings = trail.len();
@@ -234,8 +213,7 @@ fn first_name(object: &Object) -> usize
 fn leave_listing(state: &mut State, object: Object, in_site: bool) -> Phase
     requires none { current_entry state.old.trail ≡ None }
     requires in_site { in_site ≡ is_in_site_of object state.old.trail }
-    requires site { IsSite object state.old.trail }
-    requires own { 0 < own_listings object state.old.trail }
+    requires inside { IsInObject object state.old.trail }
     ensures turn { (w : World) → Turned (phase.Scan object) state.old state.new w w (Ok result) }
 {
     if in_site {
@@ -264,17 +242,9 @@ pub(crate) fn give_up<O: Outside>(
     cause: Cause,
     out: &mut O,
 ) -> Result<(), Halt>
-    requires site { IsSite object.now state.old.trail }
-    requires few { state.old.counts.skipped < 2 ^ 40 }
-    ensures ok { OnOk result (Did
-        (tells (Skipped (trail_path (to_site object.now state.old.trail)) cause))
-        (O.world out.old) (O.world out.new)) }
-    ensures back { OnOk result (IsBackAtSite object.now state.old state.new) }
-    ensures err { IfErr result (λ why. LeavesSome
-        (tells (Skipped (trail_path (to_site object.now state.old.trail)) cause)) why
-        (O.world out.old) (O.world out.new)) }
-    ensures same { OnErr result (IsKept state.old state.new) }
-    ensures calls { O.within 0 out.old out.new }
+    requires { CanPassOver object.now state.old }
+    ensures { GaveUp O.world (O.within 0) object.now cause state.old state.new
+        out.old out.new result }
 {
     let path = site_path(state.alloc, object, &state.trail)?;
     put_skip(state.alloc, out, &path, cause, &mut state.counts)?;

@@ -8,8 +8,8 @@ ghost use Rattle.pt_tree.specs.Source.{CanList};
 ghost use Rattle.pt_walk.specs.Sites.{at_of, is_last as is_last_of};
 ghost use Rattle.pt_walk.specs.Trail.{names_to};
 ghost use Rattle.pt_walk.specs.declared.site.At.TheVariants as at;
-ghost use Rattle.pt_state.specs.Outside.{Turned};
-ghost use Rattle.pt_scan.specs.Walking.{EntersSite, IsAtShorty, PassesShorty};
+ghost use Rattle.pt_state.specs.Outside.{TakesTurn};
+ghost use Rattle.pt_scan.specs.Walking.{CanPassShorty, EntersSite, IsAtShorty, PassesShorty};
 
 use pt_plan::{Halt, Phase};
 use pt_state::lines::put_skip;
@@ -24,9 +24,8 @@ use pt_walk::{At, Cause, is_shorty};
 pub fn open_root<O: Outside>(state: &mut State, out: &mut O) -> Result<Phase, Halt>
     requires may { CanList (O.world out.old).source (in_pairtree_of []) }
     requires trail { state.old.trail ≡ [] }
-    ensures turn { Turned phase.OpenRoot state.old state.new
-        (O.world out.old) (O.world out.new) result }
-    ensures calls { O.within 1 out.old out.new }
+    ensures turn { TakesTurn O.world (O.within 1) phase.OpenRoot state.old state.new
+        out.old out.new result }
 {
     let path = path_of(state.alloc, &[Known::PairtreeRoot])?;
     let listing = out.list(&path)?;
@@ -43,9 +42,8 @@ pub fn open_root<O: Outside>(state: &mut State, out: &mut O) -> Result<Phase, Ha
 pub fn walk<O: Outside>(state: &mut State, out: &mut O) -> Result<Phase, Halt>
     requires may { MayEnter (O.world out.old).source state.old.trail }
     requires few { state.old.counts.skipped < 2 ^ 40 }
-    ensures turn { Turned phase.Walk state.old state.new
-        (O.world out.old) (O.world out.new) result }
-    ensures calls { O.within 1 out.old out.new }
+    ensures turn { TakesTurn O.world (O.within 1) phase.Walk state.old state.new
+        out.old out.new result }
 {
     match state.trail.current() {
         Some((name, kind)) => {
@@ -68,12 +66,10 @@ pub fn walk<O: Outside>(state: &mut State, out: &mut O) -> Result<Phase, Halt>
 
 // Enters the shorty at the trail's place, or tells why not.
 fn meet_shorty<O: Outside>(state: &mut State, out: &mut O) -> Result<Phase, Halt>
-    requires shorty { IsAtShorty state.old.trail }
     requires may { MayEnter (O.world out.old).source state.old.trail }
-    requires few { state.old.counts.skipped < 2 ^ 40 }
-    ensures turn { Turned phase.Walk state.old state.new
-        (O.world out.old) (O.world out.new) result }
-    ensures calls { O.within 1 out.old out.new }
+    requires passes { CanPassShorty state.old }
+    ensures turn { TakesTurn O.world (O.within 1) phase.Walk state.old state.new
+        out.old out.new result }
 {
     let site = state.trail.path()?;
     if is_last(&site) {
@@ -88,11 +84,9 @@ fn meet_shorty<O: Outside>(state: &mut State, out: &mut O) -> Result<Phase, Halt
 // Passes over the shorty at the trail's place, and tells so in the first share.
 fn pass_shorty<O: Outside>(state: &mut State, cause: Cause, out: &mut O) -> Result<Phase, Halt>
     requires line { PassesShorty state.old cause }
-    requires shorty { IsAtShorty state.old.trail }
-    requires few { state.old.counts.skipped < 2 ^ 40 }
-    ensures turn { Turned phase.Walk state.old state.new
-        (O.world out.old) (O.world out.new) result }
-    ensures calls { O.within 0 out.old out.new }
+    requires passes { CanPassShorty state.old }
+    ensures turn { TakesTurn O.world (O.within 0) phase.Walk state.old state.new
+        out.old out.new result }
 {
     if !state.job.share.is_first() {
         state.trail.advance();
@@ -109,9 +103,8 @@ fn enter_site<O: Outside>(state: &mut State, out: &mut O) -> Result<Phase, Halt>
     requires line { EntersSite state.old }
     requires may { MayEnter (O.world out.old).source state.old.trail }
     requires shorty { IsAtShorty state.old.trail }
-    ensures turn { Turned phase.Walk state.old state.new
-        (O.world out.old) (O.world out.new) result }
-    ensures calls { O.within 1 out.old out.new }
+    ensures turn { TakesTurn O.world (O.within 1) phase.Walk state.old state.new
+        out.old out.new result }
 {
     let path = listed_path(state)?;
     let listing = out.list(&path)?;

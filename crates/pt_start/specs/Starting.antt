@@ -1,5 +1,5 @@
 -- What the start's functions ask and give.
-use Rattle.std.specs.Prelude.{◌≡◌, ℕ, ⊤, cond, List, ◌++◌, Option, None, Some, slice_get}
+use Rattle.std.specs.Prelude.{◌≡◌, ◌<◌, ℕ, ⊤, cond, List, ◌++◌, Option, None, Some, slice_get}
 use Rattle.std.specs.Str.{bytes_eq}
 use Rattle.pt_name.specs.Prefix.{prefix_refusal}
 use Rattle.pt_name.specs.Tuples.{Tuples}
@@ -18,11 +18,21 @@ use Rattle.pt_plan.specs.declared.halt.Halt.TheVariants as halt
 unfoldable pub IsRootItem : Tuples → ℕ → Item → Type 0
 IsRootItem tuples number item = slice_get (root_script tuples) number ≡ Some item
 
+-- and there is one of this number
+pub record IsItemAt (tuples : Tuples) (number : ℕ) (item : Item) : Type 0 where
+  pub few : number < 6
+  pub is : IsRootItem tuples number item
+
 -- the file of this number, at this path of the destination, is to hold these bytes
 unfoldable pub IsRootFile : Tuples → ℕ → Path → List ℕ → Type 0
 IsRootFile tuples number whole bytes = (path : Path)
     × ((whole ≡ storage_root ++ path)
     × (slice_get (root_files_of tuples) number ≡ Some (path, bytes)))
+
+-- and there is one of this number
+pub record IsFileAt (tuples : Tuples) (number : ℕ) (whole : Path) (bytes : List ℕ) : Type 0 where
+  pub few : number < 3
+  pub is : IsRootFile tuples number whole bytes
 
 -- why reading the prefix failed
 abbrev pub PrefixFails : List ℕ → Halt → Type 0

@@ -1,6 +1,6 @@
 #![tactic(auto, using(crate::proofs::Starting::starting))]
 //! The destination has to hold a storage root of this program and layout, or none, which is then made.
-ghost use Rattle.std.specs.Prelude.{◌≡◌, ◌<◌, IfOk, IfErr};
+ghost use Rattle.std.specs.Prelude.{◌≡◌, ◌<◌, IfOk};
 ghost use Rattle.pt_name.specs.Tuples.{Tuples};
 ghost use Rattle.pt_object.specs.Script.{MakeFile, MakeFolder};
 ghost use Rattle.pt_object.specs.Scripts.{staging as staging_path};
@@ -9,8 +9,8 @@ ghost use Rattle.pt_plan.specs.Roots.{storage_root};
 ghost use Rattle.pt_plan.specs.TurnStart.{after_file as after_file_of, after_item as after_item_of};
 ghost use Rattle.pt_plan.specs.declared.phase.Phase.TheVariants as phase;
 ghost use Rattle.pt_tree.specs.Dest.{MayMake, MayMove};
-ghost use Rattle.pt_state.specs.Outside.{IsNotOfLog, Turned};
-ghost use Rattle.pt_start.specs.Starting.{IsRootFile, IsRootItem};
+ghost use Rattle.pt_state.specs.Outside.{TakesTurn};
+ghost use Rattle.pt_start.specs.Starting.{IsFileAt, IsItemAt, IsRootItem};
 
 use crate::store::is_file;
 use pt_object::root_files;
@@ -25,10 +25,8 @@ use std::alloc::Global;
 /// Asks whether `staging` is there.
 #[tactic(auto, using(crate::proofs::Starting::staging_rows))]
 pub fn staging<O: Outside>(state: &State, out: &mut O) -> Result<Phase, Halt>
-    ensures turn { Turned phase.Staging state.now state.now
-        (O.world out.old) (O.world out.new) result }
-    ensures other { IfErr result IsNotOfLog }
-    ensures calls { O.within 0 out.old out.new }
+    ensures turn { TakesTurn O.world (O.within 0) phase.Staging state.now state.now
+        out.old out.new result }
 {
     let path = path_of(state.alloc, &[Known::Staging])?;
     match out.kind(&path)? {
@@ -39,10 +37,8 @@ pub fn staging<O: Outside>(state: &State, out: &mut O) -> Result<Phase, Halt>
 
 /// Asks whether the storage root is there.
 pub fn root<O: Outside>(state: &State, out: &mut O) -> Result<Phase, Halt>
-    ensures turn { Turned phase.Root state.now state.now
-        (O.world out.old) (O.world out.new) result }
-    ensures other { IfErr result IsNotOfLog }
-    ensures calls { O.within 0 out.old out.new }
+    ensures turn { TakesTurn O.world (O.within 0) phase.Root state.now state.now
+        out.old out.new result }
 {
     let path = path_of(state.alloc, &[Known::StorageRoot])?;
     match out.kind(&path)? {
@@ -57,10 +53,8 @@ pub fn root<O: Outside>(state: &State, out: &mut O) -> Result<Phase, Halt>
 pub fn make_root<O: Outside>(state: &State, item: u8, out: &mut O) -> Result<Phase, Halt>
     requires may { MayMakeRootItem (O.world out.old).dest state.now.job.layout item }
     requires item { item < 6 }
-    ensures turn { Turned (phase.RootMake item) state.now state.now
-        (O.world out.old) (O.world out.new) result }
-    ensures other { IfErr result IsNotOfLog }
-    ensures calls { O.within 0 out.old out.new }
+    ensures turn { TakesTurn O.world (O.within 0) (phase.RootMake item) state.now state.now
+        out.old out.new result }
 {
     if item < 3 {
         let path = root_folder(state.alloc, item)?;
@@ -81,12 +75,9 @@ fn make_folder<O: Outside>(
     out: &mut O,
 ) -> Result<Phase, Halt>
     requires may { MayMake (O.world out.old).dest path.now }
-    requires item { item < 6 }
-    requires here { IsRootItem state.now.job.layout item (MakeFolder path.now) }
-    ensures turn { Turned (phase.RootMake item) state.now state.now
-        (O.world out.old) (O.world out.new) result }
-    ensures other { IfErr result IsNotOfLog }
-    ensures calls { O.within 0 out.old out.new }
+    requires here { IsItemAt state.now.job.layout item (MakeFolder path.now) }
+    ensures turn { TakesTurn O.world (O.within 0) (phase.RootMake item) state.now state.now
+        out.old out.new result }
 {
     out.mkdir(path)?;
     Ok(after_item(item))
@@ -100,12 +91,9 @@ fn make_file<O: Outside>(
     out: &mut O,
 ) -> Result<Phase, Halt>
     requires may { MayMake (O.world out.old).dest path.now }
-    requires item { item < 6 }
-    requires here { IsRootItem state.now.job.layout item (MakeFile path.now bytes.now) }
-    ensures turn { Turned (phase.RootMake item) state.now state.now
-        (O.world out.old) (O.world out.new) result }
-    ensures other { IfErr result IsNotOfLog }
-    ensures calls { O.within 0 out.old out.new }
+    requires here { IsItemAt state.now.job.layout item (MakeFile path.now bytes.now) }
+    ensures turn { TakesTurn O.world (O.within 0) (phase.RootMake item) state.now state.now
+        out.old out.new result }
 {
     put_file(out, path, bytes)?;
     Ok(after_item(item))
@@ -143,10 +131,8 @@ fn after_item(item: u8) -> Phase
 /// Renames `staging` to the storage root.
 pub fn rename_root<O: Outside>(state: &State, out: &mut O) -> Result<Phase, Halt>
     requires { MayMove (O.world out.old).dest staging_path storage_root }
-    ensures turn { Turned phase.RootRename state.now state.now
-        (O.world out.old) (O.world out.new) result }
-    ensures other { IfErr result IsNotOfLog }
-    ensures calls { O.within 0 out.old out.new }
+    ensures turn { TakesTurn O.world (O.within 0) phase.RootRename state.now state.now
+        out.old out.new result }
 {
     let from = path_of(state.alloc, &[Known::Staging])?;
     let to = path_of(state.alloc, &[Known::StorageRoot])?;
@@ -160,12 +146,9 @@ fn move_root<O: Outside>(
     out: &mut O,
 ) -> Result<Phase, Halt>
     requires may { MayMove (O.world out.old).dest from.now to.now }
-    requires from { from.now ≡ staging_path }
-    requires to { to.now ≡ storage_root }
-    ensures turn { Turned phase.RootRename state.now state.now
-        (O.world out.old) (O.world out.new) result }
-    ensures other { IfErr result IsNotOfLog }
-    ensures calls { O.within 0 out.old out.new }
+    requires paths { (from.now ≡ staging_path) × (to.now ≡ storage_root) }
+    ensures turn { TakesTurn O.world (O.within 0) phase.RootRename state.now state.now
+        out.old out.new result }
 {
     out.rename(from, to)?;
     Ok(Phase::OpenRoot)
@@ -174,10 +157,8 @@ fn move_root<O: Outside>(
 /// Compares one of the three files of the storage root that stands with what this program writes.
 pub fn check_root<O: Outside>(state: &mut State, file: usize, out: &mut O) -> Result<Phase, Halt>
     requires { file < 3 }
-    ensures turn { Turned (phase.RootCheck file) state.old state.new
-        (O.world out.old) (O.world out.new) result }
-    ensures other { IfErr result IsNotOfLog }
-    ensures calls { O.within 0 out.old out.new }
+    ensures turn { TakesTurn O.world (O.within 0) (phase.RootCheck file) state.old state.new
+        out.old out.new result }
 {
     let files = root_files(state.alloc, state.job.layout)?;
     let Some((path, bytes)) = files.get(file) else {
@@ -194,12 +175,9 @@ fn compare<O: Outside>(
     bytes: &[u8],
     out: &mut O,
 ) -> Result<Phase, Halt>
-    requires file { file < 3 }
-    requires here { IsRootFile state.old.job.layout file path.now bytes.now }
-    ensures turn { Turned (phase.RootCheck file) state.old state.new
-        (O.world out.old) (O.world out.new) result }
-    ensures other { IfErr result IsNotOfLog }
-    ensures calls { O.within 0 out.old out.new }
+    requires here { IsFileAt state.old.job.layout file path.now bytes.now }
+    ensures turn { TakesTurn O.world (O.within 0) (phase.RootCheck file) state.old state.new
+        out.old out.new result }
 {
     let here = out.kind(path)?;
     if !is_file(here) {

@@ -7,7 +7,7 @@ ghost use Rattle.pt_plan.specs.Permits.{MayOpenPrefix};
 ghost use Rattle.pt_plan.specs.TurnStart.{is_dir_kind, is_file_kind, kind_in as kind_in_of, lists_store};
 ghost use Rattle.pt_plan.specs.declared.phase.Phase.TheVariants as phase;
 ghost use Rattle.pt_tree.specs.Source.{CanList};
-ghost use Rattle.pt_state.specs.Outside.{IsNotOfLog, Turned};
+ghost use Rattle.pt_state.specs.Outside.{TakesTurn};
 ghost use Rattle.pt_start.specs.Starting.{PrefixFails, kind_if_named};
 
 use pt_name::{PrefixFault, read_prefix};
@@ -21,10 +21,8 @@ use std::alloc::Global;
 /// Lists the top.
 pub fn begin<O: Outside>(state: &State, out: &mut O) -> Result<Phase, Halt>
     requires { CanList (O.world out.old).source [] }
-    ensures turn { Turned phase.Begin state.now state.now
-        (O.world out.old) (O.world out.new) result }
-    ensures other { IfErr result IsNotOfLog }
-    ensures calls { O.within 1 out.old out.new }
+    ensures turn { TakesTurn O.world (O.within 1) phase.Begin state.now state.now
+        out.old out.new result }
 {
     let top = NamePath::new(state.alloc);
     let listing = out.list(&top)?;
@@ -86,10 +84,8 @@ fn kind_at(listing: &Listing, i: usize, name: &str) -> Option<Kind>
 /// Reads the prefix file, if it is there.
 pub fn prefix<O: Outside>(state: &mut State, here: Option<Kind>, out: &mut O) -> Result<Phase, Halt>
     requires { MayOpenPrefix (O.world out.old).source here }
-    ensures turn { Turned (phase.Prefix here) state.old state.new
-        (O.world out.old) (O.world out.new) result }
-    ensures other { IfErr result IsNotOfLog }
-    ensures calls { O.within 2 out.old out.new }
+    ensures turn { TakesTurn O.world (O.within 2) (phase.Prefix here) state.old state.new
+        out.old out.new result }
 {
     match here {
         None => return Ok(Phase::Staging),
@@ -104,9 +100,8 @@ pub fn prefix<O: Outside>(state: &mut State, here: Option<Kind>, out: &mut O) ->
 
 // The prefix in the prefix file's first block.
 fn prefix_of(alloc: Global, block: &Block) -> Result<String, Halt>
-    ensures good { IfOk result (λ prefix. prefix_refusal block.now.items ≡ None) }
-    ensures prefix { IfOk result
-        (λ prefix. string_bytes prefix ≡ without_line_ends block.now.items) }
+    ensures ok { IfOk result (λ prefix. (prefix_refusal block.now.items ≡ None)
+        × (string_bytes prefix ≡ without_line_ends block.now.items)) }
     ensures err { IfErr result (PrefixFails block.now.items) }
 {
     match read_prefix(alloc, block.as_slice()) {

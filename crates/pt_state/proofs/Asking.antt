@@ -6,7 +6,7 @@ use Rattle.std.specs.Option.{option_map}
 use Rattle.pt_object.specs.Script.{MakeFolder}
 use Rattle.pt_plan.specs.Halts.{dest_halt, log_halt, source_halt}
 use Rattle.pt_plan.specs.Lines.{Line, line_text}
-use Rattle.pt_plan.specs.Turn.{Did, HasFailed, LeavesSome, Stays}
+use Rattle.pt_plan.specs.Turn.{Did, HasFailed, IsNotOfLog, LeavesSome, Stays}
 use Rattle.pt_plan.specs.World.{Adds, Answers, Asked, Change, Changes, Creates, Failures, Finds, Finishes, Lists, Makes, OfPiece, Opens, Peeks, Puts, Reads, Renames, Untouched, asks, does, source_tree, tells}
 use Rattle.pt_plan.specs.declared.halt.Halt.{Halt}
 use Rattle.pt_tree.specs.Dest.{Writing, CanPeek, IsKindAt, IsPeeked, LeavesPart, after_append, after_create, after_finish, after_mkdir, after_rename}
@@ -56,9 +56,13 @@ source_counted : (f : TreeFault) (n n' d l : ℕ) → IsCounted {T = Unit {0}} n
 source_counted tree.Device n n' d l is = (is, refl, refl)
 source_counted tree.Memory n n' d l is = ap (λ (k : ℕ). failures k d l) is
 
+source_not_log : (f : TreeFault) → IsNotOfLog (source_halt f)
+source_not_log tree.Device = tt
+source_not_log tree.Memory = tt
+
 pub stays_source : (r r' : Option Reading) (w : Option Writing) (g : Option (List ℕ)) (n n' d l : ℕ) (f : TreeFault) (h : Halt) → h ≡ source_halt f → r' ≡ r → IsCounted {T = Unit {0}} n n' (Err f) → Stays h (world r w g n d l) (world r' w g n' d l)
 unfolding Stays
-stays_source r r' w g n n' d l f h is same count = (ap source_tree same, refl, refl, subst (λ (x : Halt). HasFailed x (failures n d l) (failures n' d l)) (sym is) (source_counted f n n' d l count))
+stays_source r r' w g n n' d l f h is same count = (ap source_tree same, refl, refl, subst (λ (x : Halt). HasFailed x (failures n d l) (failures n' d l)) (sym is) (source_counted f n n' d l count), subst IsNotOfLog (sym is) (source_not_log f))
 
 -- ---- the destination
 
@@ -109,14 +113,18 @@ dest_counted : (f : TreeFault) (n d d' l : ℕ) → IsCounted {T = Unit {0}} d d
 dest_counted tree.Device n d d' l is = (refl, is, refl)
 dest_counted tree.Memory n d d' l is = ap (λ (k : ℕ). failures n k l) is
 
+dest_not_log : (f : TreeFault) → IsNotOfLog (dest_halt f)
+dest_not_log tree.Device = tt
+dest_not_log tree.Memory = tt
+
 pub stays_dest : (r : Option Reading) (w w' : Option Writing) (g : Option (List ℕ)) (n d d' l : ℕ) (f : TreeFault) (h : Halt) → h ≡ dest_halt f → w' ≡ w → IsCounted {T = Unit {0}} d d' (Err f) → Stays h (world r w g n d l) (world r w' g n d' l)
 unfolding Stays
-stays_dest r w w' g n d d' l f h is same count = (refl, same, refl, subst (λ (x : Halt). HasFailed x (failures n d l) (failures n d' l)) (sym is) (dest_counted f n d d' l count))
+stays_dest r w w' g n d d' l f h is same count = (refl, same, refl, subst (λ (x : Halt). HasFailed x (failures n d l) (failures n d' l)) (sym is) (dest_counted f n d d' l count), subst IsNotOfLog (sym is) (dest_not_log f))
 
 pub leaves_piece : (r : Option Reading) (w w' : Option Writing) (g : Option (List ℕ)) (n d d' l : ℕ) (piece : List ℕ) (f : TreeFault) (h : Halt) → h ≡ dest_halt f → LeavesPart w w' piece → IsCounted {T = Unit {0}} d d' (Err f) → LeavesSome (does (Adds piece)) h (world r w g n d l) (world r w' g n d' l)
 unfolding LeavesSome
 leaves_piece r w w' g n d d' l piece f h is left count =
-    (record { read = tt; found = tt; source = refl; dest = OfPiece piece left.count left.left; log = refl }, subst (λ (x : Halt). HasFailed x (failures n d l) (failures n d' l)) (sym is) (dest_counted f n d d' l count))
+    (record { read = tt; found = tt; source = refl; dest = OfPiece piece left.count left.left; log = refl }, subst (λ (x : Halt). HasFailed x (failures n d l) (failures n d' l)) (sym is) (dest_counted f n d d' l count), subst IsNotOfLog (sym is) (dest_not_log f))
 
 -- ---- the log
 
@@ -131,6 +139,6 @@ log_counted tree.Memory n d l l' is = ap (λ (k : ℕ). failures n d k) is
 pub leaves_front : (r : Option Reading) (w : Option Writing) (g g' : Option (List ℕ)) (n d l l' : ℕ) (line : Line) (text : List ℕ) (f : TreeFault) (h : Halt) → text ≡ line_text line → h ≡ log_halt f → AppendsFront g g' text → IsCounted {T = Unit {0}} l l' (Err f) → LeavesSome (tells line) h (world r w g n d l) (world r w g' n d l')
 unfolding LeavesSome
 leaves_front r w g g' n d l l' line text f h is why front count =
-    (record { read = tt; found = tt; source = refl; dest = Untouched _ refl; log = subst (λ (t : List ℕ). AppendsFront g g' t) is front }, subst (λ (x : Halt). HasFailed x (failures n d l) (failures n d l')) (sym why) (log_counted f n d l l' count))
+    (record { read = tt; found = tt; source = refl; dest = Untouched _ refl; log = subst (λ (t : List ℕ). AppendsFront g g' t) is front }, subst (λ (x : Halt). HasFailed x (failures n d l) (failures n d l')) (sym why) (log_counted f n d l l' count), tt)
 
 pub ruleset answering = (did_list, did_open, did_next, stays_source, did_kind, did_peek, did_mkdir, did_create, did_append, did_finish, did_rename, stays_dest, leaves_piece, did_put, leaves_front)

@@ -37,6 +37,6 @@ appends_nothing (Some xs) = sym (append-nil xs)
 -- memory was short before anything was put
 pub front_none : (line : Line) (w : World) (why : Halt) → why ≡ halt.Memory → LeavesSome (tells line) why w w
 unfolding LeavesSome
-front_none line w why is = (record { read = tt; found = tt; source = refl; dest = Untouched _ refl; log = (0, appends_nothing w.log) }, subst (λ (x : Halt). HasFailed x w.failures w.failures) (sym is) refl)
+front_none line w why is = (record { read = tt; found = tt; source = refl; dest = Untouched _ refl; log = (0, appends_nothing w.log) }, subst (λ (x : Halt). HasFailed x w.failures w.failures) (sym is) refl, tt)
 
 pub ruleset texts = (is_tree, no_float, text_is, front_none)

@@ -37,16 +37,16 @@ asked_tree (OpensAndReads path block) r r' is = ap source_tree is.1 ∙ read_on 
 -- then memory was short
 pub asked_stays : (asked : Asked) (a b : World) → Did (asks asked) a b → Stays halt.Memory a b
 unfolding Did Stays Changes Puts
-asked_stays asked a b did = (asked_tree asked a.source b.source did.0.source, did.0.dest, did.0.log, did.1)
+asked_stays asked a b did = (asked_tree asked a.source b.source did.0.source, did.0.dest, did.0.log, did.1, tt)
 
 pub looked_stays : (p : Path) (here : Option Kind) (a b : World) → Did (does (Finds p here)) a b → Stays halt.Memory a b
 unfolding Did Stays Answers Changes Puts
-looked_stays p here a b did = (ap source_tree did.0.source, did.0.dest.1, did.0.log, did.1)
+looked_stays p here a b did = (ap source_tree did.0.source, did.0.dest.1, did.0.log, did.1, tt)
 
 -- then a further call failed, and nothing was changed
 stays_then : (f : Halt) (a b c : World) → Stays halt.Memory a b → Stays f b c → Stays f a c
 unfolding Stays
-stays_then f a b c first next = (next.0 ∙ first.0, next.1 ∙ first.1, next.2 ∙ first.2, subst (λ (x : Failures). HasFailed f x c.failures) first.3 next.3)
+stays_then f a b c first next = (next.0 ∙ first.0, next.1 ∙ first.1, next.2 ∙ first.2, subst (λ (x : Failures). HasFailed f x c.failures) first.3 next.3, next.4)
 
 pub asked_then : (asked : Asked) (f : Halt) (a b c : World) → Did (asks asked) a b → Stays f b c → Stays f a c
 asked_then asked f a b c first next = stays_then f a b c (asked_stays asked a b first) next
@@ -100,17 +100,18 @@ then_leaves asked change f a b c first next = (
     log = next.0.log ∙ first.0.log;
   },
   subst (λ (x : Failures). HasFailed f x c.failures) first.1 next.1,
+  next.2,
 )
 
 -- a call that changes nothing failed: nothing is left of the change
 pub leaves_none : (change : Change) (f : Halt) (a b : World) → Stays f a b → LeavesSome (does change) f a b
 unfolding Stays LeavesSome
-leaves_none change f a b stays = (record { read = tt; found = tt; source = stays.0; dest = Untouched change (ap dest_tree stays.1); log = stays.2 }, stays.3)
+leaves_none change f a b stays = (record { read = tt; found = tt; source = stays.0; dest = Untouched change (ap dest_tree stays.1); log = stays.2 }, stays.3, stays.4)
 
 -- memory was short before anything was called
 pub leaves_short : (change : Change) (why : Halt) (w : World) → why ≡ halt.Memory → LeavesSome (does change) why w w
 unfolding Stays
-leaves_short change why w is = leaves_none change why w w (subst (λ (x : Halt). Stays x w w) (sym is) (refl, refl, refl, refl))
+leaves_short change why w is = leaves_none change why w w (subst (λ (x : Halt). Stays x w w) (sym is) (refl, refl, refl, refl, tt))
 
 -- ---- files of the source
 
@@ -200,6 +201,7 @@ leaves_of_append a b c p bytes f first next = (
     log = next.0.log ∙ first.0.log;
   },
   subst (λ (x : Failures). HasFailed f x c.failures) first.1 next.1,
+  next.2,
 )
 
 pub leaves_unfinished : (a b c d : World) (p : Path) (bytes : List ℕ) (f : Halt) → Did (does (Creates p)) a b → Did (does (Adds bytes)) b c → Stays f c d → LeavesSome (does (Makes (MakeFile p bytes))) f a d
@@ -214,6 +216,7 @@ leaves_unfinished a b c d p bytes f first next last =
         log = last.2 ∙ next.0.log ∙ first.0.log;
       },
       subst (λ (x : Failures). HasFailed f x d.failures) (next.1 ∙ first.1) last.3,
+      last.4,
     )
 
 pub ruleset together = (can_read_opened, opens_and_reads, asked_then, can_write_created, can_write_added, makes_file, leaves_none, leaves_of_append, leaves_unfinished)

@@ -16,7 +16,7 @@ use Rattle.pt_plan.specs.declared.halt.Halt.TheVariants as halt
 use Rattle.pt_plan.specs.declared.phase.Phase.{Phase}
 use Rattle.pt_walk.specs.declared.frame.Frame.{Frame}
 use Rattle.pt_state.proofs.Together.{asked_stays}
-use Rattle.pt_state.specs.Outside.{Turned}
+use Rattle.pt_state.specs.Outside.{TakesTurn, TakesTurnAt, Turned}
 use Rattle.pt_state.specs.States.{counts_of, held_of, job_of, kept_of}
 use Rattle.pt_state.specs.declared.state.State.{State}
 
@@ -77,7 +77,7 @@ stayed here s s' w w' f (Err h) is stays keeps = (keeps.job, λ fed was. (fed, (
 -- memory was short before anything was called
 pub short : (here : Phase) (s s' : State) (w : World) (result : Answer) → IsErrAnd result (λ h. h ≡ halt.Memory) → KeepsAll s s' → Turned here s s' w w result
 unfolding Stays
-short here s s' w result is keeps = stayed here s s' w w halt.Memory result is (refl, refl, refl, refl) keeps
+short here s s' w result is keeps = stayed here s s' w w halt.Memory result is (refl, refl, refl, refl, tt) keeps
 
 -- or after the source was asked
 pub short_asked : (here : Phase) (s s' : State) (w w' : World) (asked : Asked) (result : Answer) → IsErrAnd result (λ h. h ≡ halt.Memory) → Did (asks asked) w w' → KeepsAll s s' → Turned here s s' w w' result
@@ -131,4 +131,14 @@ left_told here s s' a b calls answer f held (Ok x) is follows some keeps = absur
 left_told here s s' a b calls answer f held (Err h) is follows some keeps =
     (keeps.job, λ fed was. (fed, (tt, subst (λ (h : Halt). Turn (job_of s.job) here (kept_of s fed) (kept_of s' fed) a b (Err h)) (sym is) (FailsLater (string_bytes s.prefix) (held fed) calls answer s.rows f (follows fed) some (inl refl) (halted_as s s' fed fed keeps)))))
 
-pub ruleset turns = (keeps_all, stayed, short)
+-- ---- turns over all devices as one
+
+-- at a phase of which what is asked holds
+pub taken_at : {O : Type 0} (world : O → World) (within within' : O → O → Type 0) (At : Phase → Type 0) (here : Phase) (s s' : State) (old new : O) (answer : Answer) → TakesTurnAt world within At s s' old new answer → At here → within' old new → TakesTurn world within' here s s' old new answer
+taken_at world within within' At here s s' old new answer takes at few = record { turn = takes.turn here at; few = few }
+
+-- at each phase of which more holds
+pub taken_where : {O : Type 0} (world : O → World) (within within' : O → O → Type 0) (At At' : Phase → Type 0) (s s' : State) (old new : O) (answer : Answer) → TakesTurnAt world within At s s' old new answer → ((here : Phase) → At' here → At here) → within' old new → TakesTurnAt world within' At' s s' old new answer
+taken_where world within within' At At' s s' old new answer takes at few = record { turn = λ here more. takes.turn here (at here more); few = few }
+
+pub ruleset turns = (keeps_all, stayed, short, taken_at, taken_where)

@@ -1,6 +1,6 @@
 -- The lines of a log, as they are put and counted.
 use Rattle.std.specs.Prelude.{◌≡◌, ◌+◌}
-use Rattle.pt_plan.specs.Lines.{Line, line_tree}
+use Rattle.pt_plan.specs.Lines.{Line, Done, Present, Skipped, End, line_tree}
 use Rattle.serde_json.specs.Data.{Data}
 use Rattle.pt_state.specs.declared.job.Report.{Report}
 
@@ -19,3 +19,10 @@ with_present counts = record counts { present = counts.present + 1 }
 -- one skip line more
 abbrev pub with_skipped : Report → Report
 with_skipped counts = record counts { skipped = counts.skipped + 1 }
+
+-- one line more of its kind; the end line isn't counted
+abbrev pub with_line : Line → Report → Report
+with_line (Done at bytes empty files id to) counts = with_done counts
+with_line (Present at id to) counts = with_present counts
+with_line (Skipped at why) counts = with_skipped counts
+with_line (End done present skipped) counts = counts

@@ -1,17 +1,22 @@
 -- One turn, as the functions of a run make it: that it is a turn of the run's definitions, over the world of its devices.
-use Rattle.std.specs.Prelude.{◌≡◌, ℕ, List, Option, Ok, Err, ⊤}
+use Rattle.std.specs.Prelude.{◌≡◌, ℕ, List, Option, Result, Ok, Err, IfErr, IfOk, OnErr, OnOk, ⊤}
 use Rattle.pt_object.specs.Hasher.{HasBeenFed}
 use Rattle.pt_object.specs.declared.algorithm.Algorithm.{Algorithm}
 use Rattle.pt_object.specs.declared.hasher.Hasher.{Hasher}
 use Rattle.pt_tree.specs.Dest.{Writing}
+use Rattle.pt_tree.specs.Listing.{Item as Entry}
+use Rattle.pt_tree.specs.Path.{Path}
 use Rattle.pt_tree.specs.Source.{Reading}
+use Rattle.pt_tree.specs.declared.kind.Kind.{Kind}
 use Rattle.pt_plan.specs.Answer.{Answer}
-use Rattle.pt_plan.specs.Turn.{Turn}
-use Rattle.pt_plan.specs.World.{World}
+use Rattle.pt_plan.specs.Lines.{Line}
+use Rattle.pt_plan.specs.Turn.{Did, LeavesSome, Stays, Turn}
+use Rattle.pt_plan.specs.World.{Calls, Finds, Lists, World, asks, does, tells}
 use Rattle.pt_plan.specs.declared.halt.Halt.{Halt}
-use Rattle.pt_plan.specs.declared.halt.Halt.TheVariants as halt
 use Rattle.pt_plan.specs.declared.phase.Phase.{Phase}
+use Rattle.pt_state.specs.Lines.{with_line}
 use Rattle.pt_state.specs.States.{job_of, kept_of}
+use Rattle.pt_state.specs.declared.job.Report.{Report}
 use Rattle.pt_state.specs.declared.state.State.{State}
 
 -- the world of devices that tell this and failed so often
@@ -33,7 +38,59 @@ Turned here s s' old new answer =
     × (FedAfter answer s.job.algorithm s'.hasher fed'
     × Turn (job_of s.job) here (kept_of s fed) (kept_of s' fed') old new answer))
 
--- it isn't the log that failed
-abbrev pub IsNotOfLog : Halt → Type 0
-IsNotOfLog halt.Log = ⊥
-IsNotOfLog _ = ⊤
+-- ---- what the functions of a run promise of the devices as one
+
+-- a call: it did this, or failed and changed nothing; the source was called no more often than that
+pub record Called {O T : Type 0} (world : O → World) (within : O → O → Type 0) (calls : Calls) (old new : O)
+    (result : Result T Halt) : Type 0 where
+  pub did : OnOk result (Did calls (world old) (world new))
+  pub failed : IfErr result (λ why. Stays why (world old) (world new))
+  pub few : within old new
+
+-- a listing: so it is with these entries
+pub record Listed {O : Type 0} (world : O → World) (within : O → O → Type 0) (path : Path) (old new : O)
+    (result : Result (List Entry) Halt) : Type 0 where
+  pub did : IfOk result (λ entries. Did (asks (Lists path entries)) (world old) (world new))
+  pub failed : IfErr result (λ why. Stays why (world old) (world new))
+  pub few : within old new
+
+-- a look at a path: so it is with what stands there
+pub record Found {O : Type 0} (world : O → World) (within : O → O → Type 0) (path : Path) (old new : O)
+    (result : Result (Option Kind) Halt) : Type 0 where
+  pub did : IfOk result (λ here. Did (does (Finds path here)) (world old) (world new))
+  pub failed : IfErr result (λ why. Stays why (world old) (world new))
+  pub few : within old new
+
+-- a change: it did this, or failed and left a part
+pub record Wrote {O T : Type 0} (world : O → World) (within : O → O → Type 0) (calls : Calls) (old new : O)
+    (result : Result T Halt) : Type 0 where
+  pub did : OnOk result (Did calls (world old) (world new))
+  pub left : IfErr result (λ why. LeavesSome calls why (world old) (world new))
+  pub few : within old new
+
+-- a line: it was put and counted, or a front of it was put, and it isn't counted
+pub record Told {O T : Type 0} (world : O → World) (within : O → O → Type 0) (line : Line) (c c' : Report)
+    (old new : O) (result : Result T Halt) : Type 0 where
+  pub did : OnOk result (Did (tells line) (world old) (world new))
+  pub counted : OnOk result (c' ≡ with_line line c)
+  pub left : IfErr result (λ why. LeavesSome (tells line) why (world old) (world new))
+  pub same : OnErr result (c' ≡ c)
+  pub few : within old new
+
+-- a turn at this phase
+pub record TakesTurn {O : Type 0} (world : O → World) (within : O → O → Type 0) (here : Phase) (s s' : State)
+    (old new : O) (answer : Answer) : Type 0 where
+  pub turn : Turned here s s' (world old) (world new) answer
+  pub few : within old new
+
+-- a turn at each phase of which this holds
+pub record TakesTurnAt {O : Type 0} (world : O → World) (within : O → O → Type 0) (At : Phase → Type 0)
+    (s s' : State) (old new : O) (answer : Answer) : Type 0 where
+  pub turn : (here : Phase) → At here → Turned here s s' (world old) (world new) answer
+  pub few : within old new
+
+-- the rest of a turn at this phase, after these calls
+pub record EndsTurn {O : Type 0} (world : O → World) (within : O → O → Type 0) (calls : Calls) (here : Phase)
+    (s s' : State) (old new : O) (answer : Answer) : Type 0 where
+  pub turn : (before : World) → Did calls before (world old) → Turned here s s' before (world new) answer
+  pub few : within old new

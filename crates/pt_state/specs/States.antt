@@ -1,6 +1,10 @@
 -- What a run holds between two turns, as the definitions of a run see it.
-use Rattle.std.specs.Prelude.{ℕ, List}
+use Rattle.std.specs.Prelude.{◌≡◌, ℕ, List, []}
 use Rattle.std.specs.String.{string_bytes}
+use Rattle.pt_object.specs.declared.contents.Content.{Content}
+use Rattle.pt_object.specs.declared.rows.Row.{Row}
+use Rattle.pt_walk.specs.Trail.{sought}
+use Rattle.pt_walk.specs.declared.frame.Frame.{Frame}
 use Rattle.pt_plan.specs.Job.{Job}
 use Rattle.pt_plan.specs.Run.{Counts, Held, Kept}
 use Rattle.pt_state.specs.declared.job.Job as own
@@ -30,3 +34,9 @@ held_of s fed = record { trail = s.trail; rows = s.rows; contents = s.contents; 
 -- all that it keeps beside its phase
 abbrev pub kept_of : State → List ℕ → Kept
 kept_of s fed = record { prefix = string_bytes s.prefix; held = held_of s fed; counts = counts_of s.counts }
+
+-- the trail is at the start of its site again, and nothing of an object is held
+pub record IsBack (before after : List Frame) (rows : List Row) (contents : List Content) : Type 0 where
+  pub trail : after ≡ sought 0 before
+  pub no_rows : rows ≡ []
+  pub no_contents : contents ≡ []

@@ -1,16 +1,17 @@
 #![tactic(auto, using(crate::proofs::LineTexts::texts))]
 //! The lines of a run's log: each one compact JSON object with its keys in byte order, and LF. A line is counted where it
 //! was put whole.
-ghost use Rattle.std.specs.Prelude.{◌≡◌, ◌<◌, ◌^◌, IfErr, IfOk, OnOk, OnErr};
-ghost use Rattle.serde_json.specs.Data.{number, put as put_member, string, unsigned};
-ghost use Rattle.serde_json.specs.View.{members_view, view};
+ghost use Rattle.std.specs.Prelude.{◌≡◌, ◌<◌, ◌^◌, IfErr, IfOk, OnOk};
+ghost use Rattle.serde_json.specs.View.{view};
 ghost use Rattle.pt_plan.specs.Lines.{Line, Done as DoneLine, Present as PresentLine, Skipped as SkippedLine, End as EndLine};
 ghost use Rattle.pt_plan.specs.Turn.{Did, LeavesSome};
 ghost use Rattle.pt_plan.specs.World.{tells};
-ghost use Rattle.pt_state.specs.Lines.{IsTreeOf, with_done, with_present, with_skipped};
+ghost use Rattle.pt_state.specs.Lines.{IsTreeOf};
+ghost use Rattle.pt_state.specs.Outside.{Told, Wrote};
 
 use crate::paths::text_of;
 use crate::{Outside, Report};
+use pt_object::members::{put_number, put_text};
 use pt_plan::{Halt, Identifier};
 use pt_tree::{MemoryFault, NamePath};
 use pt_walk::Cause;
@@ -42,15 +43,9 @@ pub fn put_done<O: Outside>(
     counts: &mut Report,
 ) -> Result<(), Halt>
     requires { counts.old.done < 2 ^ 40 }
-    ensures ok { OnOk result (counts.new ≡ with_done counts.old) }
-    ensures err { OnErr result (counts.new ≡ counts.old) }
-    ensures line { OnOk result (Did (tells (DoneLine object.now.at.now object.now.bytes
-        object.now.empty object.now.files object.now.id.now object.now.to.now))
-        (O.world out.old) (O.world out.new)) }
-    ensures front { IfErr result (λ why. LeavesSome (tells (DoneLine object.now.at.now
-        object.now.bytes object.now.empty object.now.files object.now.id.now object.now.to.now))
-        why (O.world out.old) (O.world out.new)) }
-    ensures calls { O.within 0 out.old out.new }
+    ensures { Told O.world (O.within 0) (DoneLine object.now.at.now object.now.bytes
+        object.now.empty object.now.files object.now.id.now object.now.to.now)
+        counts.old counts.new out.old out.new result }
 {
     let value = done_line(alloc, object)?;
     put(alloc, out, &value)?;
@@ -85,13 +80,8 @@ pub fn put_present<O: Outside>(
     counts: &mut Report,
 ) -> Result<(), Halt>
     requires { counts.old.present < 2 ^ 40 }
-    ensures ok { OnOk result (counts.new ≡ with_present counts.old) }
-    ensures err { OnErr result (counts.new ≡ counts.old) }
-    ensures line { OnOk result (Did (tells (PresentLine at.now id.now to.now))
-        (O.world out.old) (O.world out.new)) }
-    ensures front { IfErr result (λ why. LeavesSome (tells (PresentLine at.now id.now to.now)) why
-        (O.world out.old) (O.world out.new)) }
-    ensures calls { O.within 0 out.old out.new }
+    ensures { Told O.world (O.within 0) (PresentLine at.now id.now to.now)
+        counts.old counts.new out.old out.new result }
 {
     let value = present_line(alloc, at, id, to)?;
     put(alloc, out, &value)?;
@@ -126,13 +116,8 @@ pub fn put_skip<O: Outside>(
     counts: &mut Report,
 ) -> Result<(), Halt>
     requires { counts.old.skipped < 2 ^ 40 }
-    ensures ok { OnOk result (counts.new ≡ with_skipped counts.old) }
-    ensures err { OnErr result (counts.new ≡ counts.old) }
-    ensures line { OnOk result (Did (tells (SkippedLine at.now cause))
-        (O.world out.old) (O.world out.new)) }
-    ensures front { IfErr result (λ why. LeavesSome (tells (SkippedLine at.now cause)) why
-        (O.world out.old) (O.world out.new)) }
-    ensures calls { O.within 0 out.old out.new }
+    ensures { Told O.world (O.within 0) (SkippedLine at.now cause)
+        counts.old counts.new out.old out.new result }
 {
     let value = skip_line(alloc, at, cause)?;
     put(alloc, out, &value)?;
@@ -153,11 +138,8 @@ fn skip_line(alloc: Global, at: &NamePath, cause: Cause) -> Result<Value, Memory
 
 /// Tells that the run is done.
 pub fn put_end<O: Outside>(alloc: Global, out: &mut O, counts: &Report) -> Result<(), Halt>
-    ensures line { OnOk result (Did (tells (EndLine counts.now.done counts.now.present
-        counts.now.skipped)) (O.world out.old) (O.world out.new)) }
-    ensures front { IfErr result (λ why. LeavesSome (tells (EndLine counts.now.done
-        counts.now.present counts.now.skipped)) why (O.world out.old) (O.world out.new)) }
-    ensures calls { O.within 0 out.old out.new }
+    ensures { Wrote O.world (O.within 0) (tells (EndLine counts.now.done counts.now.present
+        counts.now.skipped)) out.old out.new result }
 {
     let value = end_line(alloc, counts)?;
     put(alloc, out, &value)
@@ -187,31 +169,4 @@ fn put<O: Outside>(alloc: Global, out: &mut O, value: &Value) -> Result<(), Halt
     let mut text = value.to_string(alloc)?;
     text.push_str("\n")?;
     out.put(text.as_bytes())
-}
-
-// Puts a text at a key.
-fn put_text(
-    members: &mut Map<String, Value>,
-    alloc: Global,
-    key: &str,
-    text: &str,
-) -> Result<(), AllocError>
-    ensures { OnOk result (members_view members.new.entries
-        ≡ put_member key.now (string text.now) (members_view members.old.entries)) }
-{
-    let text = String::from_str(alloc, text)?;
-    serde_json::put(members, alloc, key, Value::from(text))
-}
-
-// Puts a number at a key.
-fn put_number(
-    members: &mut Map<String, Value>,
-    alloc: Global,
-    key: &str,
-    n: u64,
-) -> Result<(), AllocError>
-    ensures { OnOk result (members_view members.new.entries
-        ≡ put_member key.now (number (unsigned n)) (members_view members.old.entries)) }
-{
-    serde_json::put(members, alloc, key, Value::from(n))
 }

@@ -1,17 +1,17 @@
 #![tactic(auto, using(crate::proofs::Asking::answering, crate::proofs::Asking::counting))]
 //! What stands outside a run: its three devices as one, each call of which answers why the run halts.
 ghost use Rattle.std.proofs.Common.{◌∙◌, refl};
-ghost use Rattle.std.specs.Prelude.{◌≡◌, ◌+◌, ◌≤◌, ℕ, true, Some, IfOk, IfErr, OnOk};
+ghost use Rattle.std.specs.Prelude.{◌≡◌, ◌+◌, ◌≤◌, ℕ, true, Some, IfErr, OnOk};
 ghost use Rattle.pt_object.specs.Script.{MakeFolder};
 ghost use Rattle.pt_plan.specs.Lines.{Line, line_text};
-ghost use Rattle.pt_plan.specs.Turn.{Did, LeavesSome, Stays};
-ghost use Rattle.pt_plan.specs.World.{World, Adds, Creates, Finds, Finishes, Lists, Makes, Opens, Peeks, Reads, Renames, asks, does, tells};
+ghost use Rattle.pt_plan.specs.Turn.{Did, LeavesSome};
+ghost use Rattle.pt_plan.specs.World.{World, Adds, Creates, Finishes, Makes, Opens, Peeks, Reads, Renames, asks, does, tells};
 ghost use Rattle.pt_tree.specs.Dest.{Writing, CanPeek, CanWrite, MayMake, MayMove};
 ghost use Rattle.pt_tree.specs.Forest.{is_proper};
 ghost use Rattle.pt_tree.specs.Source.{Reading, CanList, CanOpen, CanRead};
 ghost use Rattle.pt_tree.specs.Tree.{IsTree};
 ghost use Rattle.pt_state.specs.Counting.{AtMostCalls, calls_after, calls_more, calls_most, calls_none, calls_still};
-ghost use Rattle.pt_state.specs.Outside.{IsNotOfLog, world as world_of};
+ghost use Rattle.pt_state.specs.Outside.{Called, Found, Listed, Wrote, world as world_of};
 
 use pt_plan::Halt;
 use pt_tree::{Block, Dest, Kind, Listing, Log, NamePath, Source};
@@ -30,88 +30,54 @@ pub trait Outside {
     /// Lists a directory of the source.
     fn list(&mut self, path: &NamePath) -> Result<Listing, Halt>
         requires { CanList (world self.old).source path.now }
-        ensures ok { IfOk result (λ entries. Did (asks (Lists path.now entries))
-            (world self.old) (world self.new)) }
-        ensures err { IfErr result (λ why. Stays why (world self.old) (world self.new)) }
-        ensures other { IfErr result IsNotOfLog }
-        ensures calls { within 1 self.old self.new };
+        ensures { Listed world (within 1) path.now self.old self.new result };
 
     /// Opens a file of the source.
     fn open(&mut self, path: &NamePath) -> Result<(), Halt>
         requires { CanOpen (world self.old).source path.now }
-        ensures ok { OnOk result (Did (asks (Opens path.now)) (world self.old) (world self.new)) }
-        ensures err { IfErr result (λ why. Stays why (world self.old) (world self.new)) }
-        ensures other { IfErr result IsNotOfLog }
-        ensures calls { within 1 self.old self.new };
+        ensures { Called world (within 1) (asks (Opens path.now)) self.old self.new result };
 
     /// Reads the next block of the open file of the source.
     fn next(&mut self, block: &mut Block) -> Result<(), Halt>
         requires { CanRead (world self.old).source }
-        ensures ok { OnOk result (Did (asks (Reads block.new.items))
-            (world self.old) (world self.new)) }
-        ensures err { IfErr result (λ why. Stays why (world self.old) (world self.new)) }
-        ensures other { IfErr result IsNotOfLog }
-        ensures calls { within 1 self.old self.new };
+        ensures { Called world (within 1) (asks (Reads block.new.items)) self.old self.new result };
 
     /// Asks what stands at a path of the destination.
     fn kind(&mut self, path: &NamePath) -> Result<Option<Kind>, Halt>
-        ensures ok { IfOk result (λ here. Did (does (Finds path.now here))
-            (world self.old) (world self.new)) }
-        ensures err { IfErr result (λ why. Stays why (world self.old) (world self.new)) }
-        ensures other { IfErr result IsNotOfLog }
-        ensures calls { within 0 self.old self.new };
+        ensures { Found world (within 0) path.now self.old self.new result };
 
     /// Reads the first block of a file of the destination.
     fn peek(&mut self, path: &NamePath, block: &mut Block) -> Result<(), Halt>
         requires { CanPeek (world self.old).dest path.now }
-        ensures ok { OnOk result (Did (does (Peeks path.now block.new.items))
-            (world self.old) (world self.new)) }
-        ensures err { IfErr result (λ why. Stays why (world self.old) (world self.new)) }
-        ensures other { IfErr result IsNotOfLog }
-        ensures calls { within 0 self.old self.new };
+        ensures { Called world (within 0) (does (Peeks path.now block.new.items))
+            self.old self.new result };
 
     /// Makes a directory in the destination.
     fn mkdir(&mut self, path: &NamePath) -> Result<(), Halt>
         requires { MayMake (world self.old).dest path.now }
-        ensures ok { OnOk result (Did (does (Makes (MakeFolder path.now)))
-            (world self.old) (world self.new)) }
-        ensures err { IfErr result (λ why. Stays why (world self.old) (world self.new)) }
-        ensures other { IfErr result IsNotOfLog }
-        ensures calls { within 0 self.old self.new };
+        ensures { Called world (within 0) (does (Makes (MakeFolder path.now)))
+            self.old self.new result };
 
     /// Makes an empty file in the destination, which is then the open one.
     fn create(&mut self, path: &NamePath) -> Result<(), Halt>
         requires { MayMake (world self.old).dest path.now }
-        ensures ok { OnOk result (Did (does (Creates path.now)) (world self.old) (world self.new)) }
-        ensures err { IfErr result (λ why. Stays why (world self.old) (world self.new)) }
-        ensures other { IfErr result IsNotOfLog }
-        ensures calls { within 0 self.old self.new };
+        ensures { Called world (within 0) (does (Creates path.now)) self.old self.new result };
 
     /// Adds a piece to the destination's open file.
     fn append(&mut self, piece: &[u8]) -> Result<(), Halt>
         requires { CanWrite (world self.old).dest }
-        ensures ok { OnOk result (Did (does (Adds piece.now)) (world self.old) (world self.new)) }
-        ensures err { IfErr result (λ why. LeavesSome (does (Adds piece.now)) why
-            (world self.old) (world self.new)) }
-        ensures other { IfErr result IsNotOfLog }
-        ensures calls { within 0 self.old self.new };
+        ensures { Wrote world (within 0) (does (Adds piece.now)) self.old self.new result };
 
     /// Closes the destination's open file.
     fn finish(&mut self) -> Result<(), Halt>
         requires { CanWrite (world self.old).dest }
-        ensures ok { OnOk result (Did (does Finishes) (world self.old) (world self.new)) }
-        ensures err { IfErr result (λ why. Stays why (world self.old) (world self.new)) }
-        ensures other { IfErr result IsNotOfLog }
-        ensures calls { within 0 self.old self.new };
+        ensures { Called world (within 0) (does Finishes) self.old self.new result };
 
     /// Moves what stands at a path of the destination to another.
     fn rename(&mut self, from: &NamePath, to: &NamePath) -> Result<(), Halt>
         requires { MayMove (world self.old).dest from.now to.now }
-        ensures ok { OnOk result (Did (does (Renames from.now to.now))
-            (world self.old) (world self.new)) }
-        ensures err { IfErr result (λ why. Stays why (world self.old) (world self.new)) }
-        ensures other { IfErr result IsNotOfLog }
-        ensures calls { within 0 self.old self.new };
+        ensures { Called world (within 0) (does (Renames from.now to.now))
+            self.old self.new result };
 
     /// Puts the text of a line at the end of the log.
     fn put(&mut self, text: &[u8]) -> Result<(), Halt>

@@ -1,6 +1,7 @@
 pub mod Joining
 mod Texts
 pub mod AtPaths
+pub mod Below
 pub mod Canonical
 pub mod Finding
 pub mod Held

@@ -1,6 +1,6 @@
 -- The names that a directory's entries may have.
-use Rattle.std.specs.Prelude.{ℕ, Bool, ◌||◌, ◌==◌, cond, nat_lt, List, [], ◌∷◌, length, Option, None, Some, is_none}
-use Rattle.std.specs.List.{list_any}
+use Rattle.std.specs.Prelude.{◌≡◌, ℕ, Bool, true, ◌||◌, ◌==◌, cond, nat_lt, List, [], ◌∷◌, length, Option, None, Some, is_none}
+use Rattle.std.specs.List.{All, list_any}
 use Rattle.std.specs.Str.{bytes_eq, is_utf8}
 use Rattle.pt_tree.specs.declared.name.NameFault.{NameFault}
 use Rattle.pt_tree.specs.declared.name.NameFault.TheVariants as fault
@@ -21,6 +21,10 @@ name_refusal bytes =
 -- 1 to 255 bytes of UTF-8 without `/` and NUL, neither `.` nor `..`
 abbrev pub is_name : List ℕ → Bool
 is_name bytes = is_none (name_refusal bytes)
+
+-- each of these may be a name
+abbrev pub AreNames : List (List ℕ) → Type 0
+AreNames names = All (λ n. is_name n ≡ true) names
 
 abbrev pub name_number : NameFault → ℕ
 name_number fault.Empty = 1

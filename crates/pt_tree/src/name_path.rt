@@ -4,6 +4,7 @@ ghost use Rattle.std.specs.Cmp.{partial_equiv_from_equiv};
 ghost use Rattle.std.specs.Cmp.Lexicographic.{nat_list_eq_equiv, lists_equiv};
 ghost use Rattle.std.specs.Option.{option_copied};
 ghost use Rattle.std.specs.Option.{option_map};
+ghost use Rattle.pt_tree.specs.Name.{AreNames};
 ghost use Rattle.pt_tree.specs.Path.{joined, rest_below, same_path, split_path, split_lent};
 
 use crate::{MemoryFault, Name};
@@ -107,6 +108,7 @@ impl NamePath {
     pub fn join(&self) -> Result<Vec<u8>, MemoryFault>
         ensures names { IfOk result (λ text. text.items ≡ joined self.now) }
         ensures utf8 { IfOk result (λ text. IsTrue (is_utf8 text.items)) }
+        ensures named { OnOk result (AreNames self.now) }
     {
         let mut text = Vec::with_capacity(*self.names.allocator(), self.text_len())?;
         for (i, name) in self.names.iter().enumerate() {

@@ -3,10 +3,10 @@ use Rattle.std.proofs.Common.{◌≡◌, ℕ, Bool, true, false, List, [], ◌�
 use Rattle.std.specs.Prelude.{Option, None, Some, IsSome, is_some, ◌||◌}
 use Rattle.std.proofs.lemmas.Bool.{false≢true, true≢false}
 use Rattle.pt_object.proofs.Ways.{is_same, leads, leads-itself, leads-on, leads-push, parent-push}
-use Rattle.pt_plan.proofs.Levels.{leads_through, whole_of}
-use Rattle.pt_plan.proofs.NextObject.{rest_of}
+use Rattle.pt_plan.proofs.Levels.{leads_through}
 use Rattle.pt_tree.specs.Path.{Path, parent, rest_below, same_path}
 use Rattle.pt_tree.specs.Tree.{CanMake, CanMove, Entry, Folder, IsTree, Tree, added, edited_by, moved, moved_at, put}
+use Rattle.pt_tree.proofs.Below.{rest_of, whole_of}
 
 -- ---- something is made
 

@@ -8,10 +8,10 @@ use Rattle.std.proofs.lemmas.List.{length-append}
 use Rattle.pt_object.proofs.Ways.{path_itself}
 use Rattle.pt_tree.specs.Path.{Path, rest_below}
 use Rattle.pt_tree.specs.Tree.{Entry, Folder, IsTree, Tree}
+use Rattle.pt_tree.proofs.Below.{gap_below, whole_of}
 use Rattle.pt_plan.proofs.Folders.{each_same, is_above, is_one}
 use Rattle.pt_plan.proofs.FreeWays.{way_with_objects}
-use Rattle.pt_plan.proofs.Levels.{level, whole_of}
-use Rattle.pt_plan.proofs.MovedIn.{gap_below}
+use Rattle.pt_plan.proofs.Levels.{level}
 use Rattle.pt_plan.specs.Carried.{Carried, entry_of_objects, folder_where, is_folder_or_free, is_on_the_way, is_way_free, place_of_carried, with_objects}
 use Rattle.pt_plan.specs.Job.{Job}
 use Rattle.pt_plan.specs.Roots.{root_in, storage_root}

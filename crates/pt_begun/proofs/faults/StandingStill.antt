@@ -13,8 +13,8 @@ use Rattle.pt_object.specs.Scripts.{object_items, root_items, staging}
 use Rattle.pt_tree.specs.Dest.{Writing}
 use Rattle.pt_tree.specs.Path.{Path, rest_below, same_path}
 use Rattle.pt_tree.specs.Tree.{Entry, IsTree, Tree}
+use Rattle.pt_tree.proofs.Below.{whole_of}
 use Rattle.pt_plan.proofs.CarriedFiles.{all_take}
-use Rattle.pt_plan.proofs.Levels.{whole_of}
 use Rattle.pt_plan.proofs.MovedIn.{roots_have_no_gaps}
 use Rattle.pt_plan.proofs.LaterTrees.{made_beside, prefix_beside}
 use Rattle.pt_plan.proofs.StagingKeeps.{in_staging, items_in}

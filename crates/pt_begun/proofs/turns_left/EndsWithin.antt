@@ -49,7 +49,7 @@ without_turn _ _ _ _ (past, is) = (past, record { layout = is.layout; held = is.
 
 no_turn : (job : Job) (here : Phase) (kept : Kept) (world : World) → Turn job here (turning kept) (turning kept) world world (Err halt.Memory)
 unfolding Stays
-no_turn _ _ _ _ = FailsAtFirst halt.Memory (refl, refl, refl, refl) (record { prefix = refl; trail = refl; rows_are = refl; contents = refl; counts = refl })
+no_turn _ _ _ _ = FailsAtFirst halt.Memory (refl, refl, refl, refl, tt) (record { prefix = refl; trail = refl; rows_are = refl; contents = refl; counts = refl })
 
 stops_begun : (job : Job) (start : Start) (world : World) (run : Run) → Begun job start world run → Begun job start world (record { phase = phase.Ended; kept = run.kept })
 stops_begun job start world run begun = without_turn job start world run.kept (turn_ends_begun job start world world run (turning run.kept) halt.Memory begun (no_turn job run.phase run.kept world))

@@ -5,5 +5,10 @@ use Rattle.pt_move.proofs.turning.turn.Goals as goal
 pub turn_at-requires-clause-stands : goal.turn_at-requires-clause-stands
 turn_at-requires-clause-stands g c = stands_on c.args.phase c.args.state.now _ c.requires.stands
 
-pub returns-clause-turn : goal.returns-clause-turn
-returns-clause-turn g c = counted_turn _ c.args.state.now _ _ _ _ _ c.turn_at.ensures.turn refl refl (λ fed. refl)
+pub returns : goal.returns
+returns g c = record {
+  turn = record {
+    turn = counted_turn _ c.args.state.now _ _ _ _ _ c.turn_at.ensures.turn.turn refl refl (λ fed. refl);
+    few = c.turn_at.ensures.turn.few;
+  };
+}

@@ -1,5 +1,10 @@
 use Rattle.pt_scan.proofs.FileTurns.{turned_read}
 use Rattle.pt_scan.proofs.reading.read.Goals as goal
 
-pub returns-clause-turn : goal.returns-clause-turn
-returns-clause-turn g c = turned_read _ _ _ _ _ _ _ (c.take_block.ensures.turn _ c.in_ok-next.ensures.ok)
+pub returns : goal.returns
+returns g c = record {
+  turn = record {
+    turn = turned_read _ _ _ _ _ _ _ (c.take_block.ensures.turn.turn _ c.in_ok-next.ensures.did);
+    few = g.met.O.Outside.still _ _ _ _ c.next.ensures.few c.take_block.ensures.turn.few;
+  };
+}

@@ -1,5 +1,11 @@
+use Rattle.std.proofs.Common.{rules}
 use Rattle.pt_scan.proofs.ScanTurns.{meets_other}
 use Rattle.pt_scan.proofs.scanning.scan.Goals as goal
 
-pub returns-in-Other-clause-turn : goal.returns-in-Other-clause-turn
-returns-in-Other-clause-turn g c = c.pass_object.ensures.turn _ (meets_other _ c.args.object c.in-Some.name.now c.in-Some.kind c.in-Some.ensures c.in-Other.is)
+pub returns-in-Other : goal.returns-in-Other
+returns-in-Other g c = record {
+  turn = record {
+    turn = c.pass_object.ensures.turn.turn _ (meets_other _ c.args.object c.in-Some.name.now c.in-Some.kind c.in-Some.ensures c.in-Other.is);
+    few = search (rules, g.met.O.Outside.most);
+  };
+}

@@ -1,12 +1,18 @@
-use Rattle.std.proofs.Common.{◌≡◌, ◌<◌, ◌⊎◌, ◌∷◌, [], ◌++◌, inl, inr, true, ◌∙◌, ap, arith}
+use Rattle.std.proofs.Common.{◌≡◌, ◌<◌, ◌⊎◌, ◌∷◌, [], ◌++◌, inl, inr, true, ◌∙◌, ap, arith, sym}
 use Rattle.std.specs.Str.{is_utf8}
+use Rattle.std.proofs.lemmas.List.Elements.{All-more}
+use Rattle.pt_tree.specs.Name.{is_name}
 use Rattle.pt_tree.proofs.Joining.{joined_more}
 use Rattle.pt_tree.proofs.Texts.{is_utf8-append, is_utf8-empty, is_utf8-slash, is_utf8-name}
 use Rattle.pt_tree.proofs.name_path.NamePath.join.Goals as goal
 use Rattle.pt_tree.proofs.name_path.NamePath.join.Goals.{then-i-gt0+in_ok-push, else-i-gt0}
 
 pub loop-i-init : goal.loop-i-init
-loop-i-init c = (c.in_ok-text.ensures.items, ap is_utf8 c.in_ok-text.ensures.items ∙ is_utf8-empty)
+loop-i-init c = (
+  c.in_ok-text.ensures.items,
+  ap is_utf8 c.in_ok-text.ensures.items ∙ is_utf8-empty,
+  λ k d below. absurd (omega arith),
+)
 
 pub loop-i-preserved : goal.loop-i-preserved
 loop-i-preserved c =
@@ -26,4 +32,6 @@ loop-i-preserved c =
     let items = c.in_ok-extend_from_slice.ensures.items ∙ ap (λ l. before ++ l) c.bytes.ensures.bytes in (
       items ∙ joined_more _ c.loop-i.i name text before (omega arith) c.name-item.is c.loop-i.invariant.0 how,
       ap is_utf8 items ∙ is_utf8-append before name is_text (is_utf8-name name c.bytes.ensures.name),
+      All-more (λ n. is_name n ≡ true) _ c.loop-i.i name (omega arith) c.loop-i.invariant.2
+          (ap is_name (sym c.name-item.is) ∙ c.bytes.ensures.name),
     )

@@ -1,0 +1,20 @@
+use Rattle.std.proofs.Common.{rules}
+use Rattle.pt_state.proofs.Turns.{turns}
+use Rattle.pt_scan.proofs.Judged.{judging}
+use Rattle.pt_scan.proofs.judging.find_place.Goals as goal
+
+pub returns-in_err-put_present-in-Some : goal.returns-in_err-put_present-in-Some
+returns-in_err-put_present-in-Some g c = record {
+  turn = record {
+    turn = search (rules, judging, turns);
+    few = g.met.O.Outside.still _ _ _ _ c.kind.ensures.few c.put_present.ensures.few;
+  };
+}
+
+pub returns-in_ok-put_present-in-Some : goal.returns-in_ok-put_present-in-Some
+returns-in_ok-put_present-in-Some g c = record {
+  turn = record {
+    turn = search (rules, judging, turns);
+    few = g.met.O.Outside.still _ _ _ _ c.kind.ensures.few c.put_present.ensures.few;
+  };
+}
