@@ -59,7 +59,7 @@ static DIGESTS: [&str; 2] = ["sha512", "sha256"];
 static TIMES: [&str; 3] = ["auto", "always", "never"];
 
 // The program's version, and the line of the toolchain that proves it.
-const VERSION: &str = "0.1.0\nrattle-kit-13b logic dac8208d650f15bf";
+const VERSION: &str = "0.1.0\nrattle-kit-13f logic dac8208d650f15bf";
 
 const LOG_AND_STATUS: &str =
     r#"The log goes to standard output: a line of JSON for each object, and for each place that isn't carried.

@@ -7,7 +7,6 @@ use Rattle.pt_begun.specs.Begun.{TellsAsBefore}
 use Rattle.pt_object.specs.Holding.{IsFree}
 use Rattle.pt_object.specs.Scripts.{staging}
 use Rattle.pt_plan.proofs.LaterTrees.{rerun_leaves_the_same}
-use Rattle.pt_plan.proofs.Levels.{whole_of}
 use Rattle.pt_plan.specs.Carried.{after_all}
 use Rattle.pt_plan.specs.Job.{Job as Plan}
 use Rattle.pt_plan.specs.RerunLaws.{RerunEnds}
@@ -20,6 +19,7 @@ use Rattle.pt_tree.specs.Dest.{Writing}
 use Rattle.pt_tree.specs.Forest.{Forest}
 use Rattle.pt_tree.specs.Path.{Path, rest_below}
 use Rattle.pt_tree.specs.Tree.{IsTree, Tree, without, without_at}
+use Rattle.pt_tree.proofs.Below.{whole_of}
 use Rattle.pt_move.specs.Lines.{HasToldAll, HasToldFront}
 use Rattle.pt_move.specs.Migrates.{Migrates}
 use Rattle.pt_move.specs.Outcome.{EndsWhole, FaultLeaves}

@@ -1,5 +1,6 @@
+mod Back
 mod Blocks
-mod DestTold
+pub mod DestTold
 mod Forward
 mod Kept
 mod Listings
@@ -9,13 +10,13 @@ mod MoveTold
 mod Moved
 mod Names
 mod Orders
-mod PeekTold
+pub mod PeekTold
 mod Seen
 mod SourceTold
 mod Texts
 mod Trees
 mod Turns
 mod Shown
-mod Unsynced
+mod StuckTold
 mod Untold
 mod WriteTold

@@ -28,6 +28,11 @@ abbrev pub IsAnswer : {T : Type 0} → Result T Error → Result T TreeFault →
 IsAnswer (Ok x) result = result ≡ Ok x
 IsAnswer (Err e) result = result ≡ Err (fault_of e)
 
+-- an answer to a sync, as a folder gives it: whatever the error, the device failed
+abbrev pub IsSyncAnswer : Result (Unit {0}) Error → Result (Unit {0}) TreeFault → Type 0
+IsSyncAnswer (Ok x) result = result ≡ Ok x
+IsSyncAnswer (Err e) result = result ≡ Err Device
+
 -- a failure of the device has this cause; memory may be wanting at any growth
 abbrev pub IsDueTo : TreeFault → Type 0 → Type 0
 IsDueTo Device cause = cause

@@ -103,6 +103,13 @@ PeekLaw {S} {F} {R} kept left opens =
     → opens old (entry_text folder p) reply new
     → Opened left (kept old folder) (kept new folder) p reply
 
+-- what is opened for reading, by any path at all, changes nothing
+abbrev pub StillLaw : {S F R : Type 0} → (S → List ℕ → Kept F)
+    → (S → List ℕ → Result R Error → S → Type 0) → Type 0
+StillLaw {S} {F} {R} kept opens =
+    (old new : S) (folder text : List ℕ) (reply : Result R Error)
+    → opens old text reply new → kept new folder ≡ kept old folder
+
 -- what is kept is a tree
 abbrev pub TreeLaw : {S F : Type 0} → (S → List ℕ → Kept F) → Type 0
 TreeLaw {S} {F} kept = (s : S) (folder : List ℕ) (t : Tree) → (kept s folder).tree ≡ Some t → IsTree t

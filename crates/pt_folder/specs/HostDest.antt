@@ -1,12 +1,13 @@
 -- What a folder as a destination tells, and what its calls ask of the system and leave.
-use Rattle.std.specs.Prelude.{◌≡◌, ℕ, List, Option, Result, Err, IfSome}
+use Rattle.std.specs.Prelude.{◌≡◌, ◌⊎◌, ℕ, List, Option, None, Result, Err, IfSome, IsSome}
 use Rattle.std.specs.declared.io.Error.{Error}
 use Rattle.pt_tree.specs.Dest.{Writing}
 use Rattle.pt_tree.specs.Failures.{IsCounted}
 use Rattle.pt_tree.specs.Path.{Path}
 use Rattle.pt_tree.specs.declared.faults.TreeFault.{TreeFault}
+use Rattle.pt_tree.specs.declared.faults.TreeFault.TheVariants.{Device}
 use Rattle.pt_folder.specs.Calls.{AsksOnce, IsAnswer, MakesOnce}
-use Rattle.pt_folder.specs.DestHeld.{told_of, unless_synced}
+use Rattle.pt_folder.specs.DestHeld.{told_with}
 use Rattle.pt_folder.specs.Failure.{FailsToPeek, KeepsCall, KeepsMaking}
 use Rattle.pt_folder.specs.Folder.{entry_text}
 use Rattle.pt_folder.specs.Moving.{IsOfMove, MovesOnce}
@@ -14,6 +15,7 @@ use Rattle.pt_folder.specs.Runs.{PeeksAt}
 use Rattle.pt_folder.specs.Settings.{IsSetAs}
 use Rattle.pt_folder.specs.Writing.{FailsToAdd, ClosesBy, IsOfWriting, MakesAt, WritesTo}
 use Rattle.pt_folder.specs.declared.dest.HostDest.{HostDest}
+use Rattle.pt_folder.specs.declared.stuck.Stuck.{Stuck}
 use Rattle.pt_folder.specs.declared.system.Handle.{Ghosts as OfHandle}
 use Rattle.pt_folder.specs.declared.system.Input.{Ghosts as OfInput}
 use Rattle.pt_folder.specs.declared.system.System.{Ghosts as OfSystem}
@@ -21,24 +23,39 @@ use Rattle.pt_tree.specs.declared.kind.Kind.{Kind}
 
 module _ {S F D : Type 0} {sys : OfSystem S F D} {handle : OfHandle F} {file : OfInput F}
     {dir : OfInput D} where
-  -- the tree that the system keeps there, where files aren't put onto the disk, and the path of the open file
+  -- the tree that the system keeps there, and the path of the open file; where something is stuck, as they were before
   abbrev pub told : HostDest S F D sys handle file dir → Option Writing
-  told d = told_of (unless_synced d.synced (sys.kept d.system d.folder.path.now)) d.writing
+  told d = told_with (sys.kept d.system d.folder.path.now) d.stuck d.writing
 
   -- the same folder, with the same settings
   abbrev pub IsSame : (old new : HostDest S F D sys handle file dir) → Type 0
   IsSame old new = (new.folder ≡ old.folder) × IsSetAs old.longest old.synced new.longest new.synced
 
-  -- a call on the same folder, whose failure is counted
+  -- a call on the same folder, whose failure is counted and which leaves this stuck
   pub record IsCall {T : Type 0} (old new : HostDest S F D sys handle file dir)
-      (result : Result T TreeFault) : Type 0 where
+      (left : Option Stuck) (result : Result T TreeFault) : Type 0 where
     pub keeps : IsSame old new
     pub failures : IsCounted old.failures new.failures result
+    pub stuck : new.stuck ≡ left
+
+  -- the same failures: the last one, and how many
+  abbrev pub HasFailedAs : (old new : HostDest S F D sys handle file dir) → Type 0
+  HasFailedAs old new = (new.last ≡ old.last) × (new.failures ≡ old.failures)
+
+  -- where something is stuck the call is refused, and nothing is asked or changed; where nothing is, this holds
+  abbrev pub UnlessStuck : {T : Type 0} → (old new : HostDest S F D sys handle file dir)
+      → Result T TreeFault → Type 0 → Type 0
+  UnlessStuck old new result asks =
+      (IsSome old.stuck × (new.system ≡ old.system) × (new.writing ≡ old.writing)
+      × (new.stuck ≡ old.stuck) × (result ≡ Err Device))
+      ⊎ ((old.stuck ≡ None) × asks)
 
   -- the system is asked once to look at an entry, and its answer leads to this
   abbrev pub Looks : {T : Type 0} → (Result Kind Error → Result T TreeFault → Type 0)
       → (old new : HostDest S F D sys handle file dir) → Path → Result T TreeFault → Type 0
-  Looks leads old new p result = AsksOnce sys.looks leads old.folder.path.now p old.system new.system result
+  Looks leads old new p result =
+      UnlessStuck old new result
+      (AsksOnce sys.looks leads old.folder.path.now p old.system new.system result)
 
   -- what is kept, where memory allowed it, of a failed look
   abbrev pub KeepsLook : (old new : HostDest S F D sys handle file dir) → Path → Type 0
@@ -50,8 +67,9 @@ module _ {S F D : Type 0} {sys : OfSystem S F D} {handle : OfHandle F} {file : O
   abbrev pub Peeks : (old new : HostDest S F D sys handle file dir) → Path → List ℕ
       → Result (Unit {0}) TreeFault → Type 0
   Peeks old new p block result =
-      AsksOnce sys.opens (PeeksAt file.left file.reads block)
-      old.folder.path.now p old.system new.system result
+      UnlessStuck old new result
+      (AsksOnce sys.opens (PeeksAt file.left file.reads block)
+      old.folder.path.now p old.system new.system result)
 
   -- what is kept, where memory allowed it, of first bytes that aren't had
   abbrev pub KeepsPeek : (old new : HostDest S F D sys handle file dir) → Path → Type 0
@@ -65,7 +83,8 @@ module _ {S F D : Type 0} {sys : OfSystem S F D} {handle : OfHandle F} {file : O
   abbrev pub MakesDir : (old new : HostDest S F D sys handle file dir) → Path
       → Result (Unit {0}) TreeFault → Type 0
   MakesDir old new p result =
-      MakesOnce old.longest sys.makes_dir IsAnswer old.folder.path.now p old.system new.system result
+      UnlessStuck old new result
+      (MakesOnce old.longest sys.makes_dir IsAnswer old.folder.path.now p old.system new.system result)
 
   -- what is kept, where memory allowed it, of a directory that isn't made
   abbrev pub KeepsDir : (old new : HostDest S F D sys handle file dir) → Path → Type 0
@@ -77,8 +96,9 @@ module _ {S F D : Type 0} {sys : OfSystem S F D} {handle : OfHandle F} {file : O
   abbrev pub MakesFile : (old new : HostDest S F D sys handle file dir) → Path
       → Result (Unit {0}) TreeFault → Type 0
   MakesFile old new p result =
-      MakesOnce old.longest sys.makes_file (MakesAt p old.writing new.writing)
-      old.folder.path.now p old.system new.system result
+      UnlessStuck old new result
+      (MakesOnce old.longest sys.makes_file (MakesAt p old.writing new.writing)
+      old.folder.path.now p old.system new.system result)
 
   -- what is kept, where memory allowed it, of a file that isn't made
   abbrev pub KeepsFile : (old new : HostDest S F D sys handle file dir) → Path → Type 0
@@ -89,7 +109,9 @@ module _ {S F D : Type 0} {sys : OfSystem S F D} {handle : OfHandle F} {file : O
   -- the writes that the open file is asked for, and so they were answered; where none is open, that is a failure
   abbrev pub Writes : (old new : HostDest S F D sys handle file dir) → List ℕ
       → Result (Unit {0}) TreeFault → Type 0
-  Writes old new piece result = WritesTo sys.writes old.system old.writing new.system new.writing piece result
+  Writes old new piece result =
+      UnlessStuck old new result
+      (WritesTo sys.writes old.system old.writing new.system new.writing piece result)
 
   -- what is kept, where memory allowed it, of a failed write
   abbrev pub KeepsWrite : (old new : HostDest S F D sys handle file dir) → List ℕ → Type 0
@@ -98,7 +120,9 @@ module _ {S F D : Type 0} {sys : OfSystem S F D} {handle : OfHandle F} {file : O
 
   -- the open file is closed, put onto the disk before where that is asked for; where none is open, that is a failure
   abbrev pub Closes : HostDest S F D sys handle file dir → Result (Unit {0}) TreeFault → Type 0
-  Closes old result = ClosesBy handle.syncs old.synced old.writing result
+  Closes old result =
+      (IsSome old.stuck × (result ≡ Err Device))
+      ⊎ ((old.stuck ≡ None) × ClosesBy handle.syncs old.synced old.writing result)
 
   -- what is kept, where memory allowed it, of a file that isn't put onto the disk
   abbrev pub KeepsClose : (old new : HostDest S F D sys handle file dir) → Type 0
@@ -111,8 +135,9 @@ module _ {S F D : Type 0} {sys : OfSystem S F D} {handle : OfHandle F} {file : O
   abbrev pub Moves : (old new : HostDest S F D sys handle file dir) → Path → Path
       → Result (Unit {0}) TreeFault → Type 0
   Moves old new from to result =
-      MovesOnce sys.renames sys.opens handle.syncs old.synced old.folder.path.now from to old.system
-      new.system result
+      UnlessStuck old new result
+      (MovesOnce sys.renames sys.opens handle.syncs old.synced old.folder.path.now from to old.system
+      new.system new.stuck result)
 
   -- what is kept, where memory allowed it, of a failed move
   abbrev pub KeepsMove : (old new : HostDest S F D sys handle file dir) → Path → Path → Type 0

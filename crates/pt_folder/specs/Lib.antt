@@ -3,6 +3,7 @@ pub mod Calls
 pub mod DestHeld
 pub mod DestLaws
 pub mod Devices
+pub mod EntryCodes
 pub mod Failure
 pub mod Folder
 pub mod HostDest
@@ -13,11 +14,11 @@ pub mod Moving
 pub mod Names
 pub mod Opening
 pub mod Reading
-pub mod Rehearsal
 pub mod Runs
 pub mod Seeing
 pub mod Settings
 pub mod SourceHeld
 pub mod SourceLaws
+pub mod Stuck
 pub mod Untold
 pub mod Writing

@@ -1,13 +1,17 @@
 -- How something is moved in a folder.
-use Rattle.std.specs.Prelude.{◌≡◌, ◌≢◌, ◌⊎◌, ℕ, Bool, true, false, List, [], ◌∷◌, ◌++◌, length, Result, Ok, Err, MatchResult}
+use Rattle.std.specs.Prelude.{◌≡◌, ◌≢◌, ◌⊎◌, ℕ, Bool, true, false, List, [], ◌∷◌, ◌++◌, length, Option, None, Result, Ok, Err, MatchResult}
 use Rattle.std.specs.declared.io.Error.{Error}
 use Rattle.pt_tree.specs.declared.faults.TreeFault.{TreeFault}
+use Rattle.pt_tree.specs.declared.faults.TreeFault.TheVariants.{Device}
 use Rattle.pt_tree.specs.Path.{Path}
-use Rattle.pt_folder.specs.Calls.{IsAnswer, IsRefused, fault_of}
+use Rattle.pt_folder.specs.Calls.{IsRefused, IsSyncAnswer, fault_of}
 use Rattle.pt_folder.specs.Failure.{IsOfCall, IsUnasked}
 use Rattle.pt_folder.specs.Folder.{entry_text}
 use Rattle.pt_folder.specs.Laws.{IsPath}
+use Rattle.pt_folder.specs.Stuck.{stuck_after}
 use Rattle.pt_folder.specs.declared.failure.Failure.{Failure}
+use Rattle.pt_folder.specs.declared.stuck.Stuck.{Stuck}
+use Rattle.pt_folder.specs.declared.stuck.Stuck.TheVariants as stuck
 
 -- the path of the directory that holds a directory
 abbrev pub holder_text : List ℕ → List ℕ
@@ -20,7 +24,7 @@ abbrev pub IsSynced : {S F : Type 0} → (S → List ℕ → Result F Error → 
 IsSynced {S} {F} opens syncs path old new result = (reply : Result F Error)
     × opens old path reply new
     × MatchResult reply (λ file. (answer : Result (Unit {0}) Error) × (after : F)
-    × syncs file answer after × IsAnswer answer result) (λ e. result ≡ Err (fault_of e))
+    × syncs file answer after × IsSyncAnswer answer result) (λ e. result ≡ Err Device)
 
 -- it could not be opened, or not be put onto the disk
 abbrev pub FailsToSync : {S F : Type 0} → (S → List ℕ → Result F Error → S → Type 0)
@@ -36,12 +40,14 @@ abbrev pub AfterMove : {S F : Type 0} → (S → List ℕ → Result F Error →
 AfterMove opens syncs false to old new result = (new ≡ old) × (result ≡ Ok tt)
 AfterMove opens syncs true to old new result = IsSynced opens syncs (holder_text to) old new result
 
--- the move was asked for, and by its reply this came after it
+-- the move was asked for, and by its reply this came after it; where it stands and its directory couldn't be put onto
+-- the disk, it is stuck
 pub record IsMovedBy {S F : Type 0}
     (renames : S → List ℕ → List ℕ → Result (Unit {0}) Error → S → Type 0)
     (opens : S → List ℕ → Result F Error → S → Type 0)
     (syncs : F → Result (Unit {0}) Error → F → Type 0) (synced : Bool) (folder : List ℕ)
-    (from to : Path) (old new : S) (result : Result (Unit {0}) TreeFault) : Type 0 where
+    (from to : Path) (old new : S) (left : Option Stuck) (result : Result (Unit {0}) TreeFault)
+    : Type 0 where
   pub reply : Result (Unit {0}) Error
   pub mid : S
   pub filled : length folder ≢ 0
@@ -50,15 +56,16 @@ pub record IsMovedBy {S F : Type 0}
   pub gives : MatchResult reply
       (λ _. AfterMove opens syncs synced (entry_text folder to) mid new result)
       (λ e. (new ≡ mid) × (result ≡ Err (fault_of e)))
+  pub left_stuck : left ≡ stuck_after reply (stuck.Moved from to) result
 
 -- nothing is asked, and the path was refused; or the move is asked for once
 abbrev pub MovesOnce : {S F : Type 0} → (S → List ℕ → List ℕ → Result (Unit {0}) Error → S → Type 0)
     → (S → List ℕ → Result F Error → S → Type 0)
     → (F → Result (Unit {0}) Error → F → Type 0) → Bool → List ℕ → Path → Path → S → S
-    → Result (Unit {0}) TreeFault → Type 0
-MovesOnce renames opens syncs synced folder from to old new result =
-    ((new ≡ old) × IsRefused folder result)
-    ⊎ IsMovedBy renames opens syncs synced folder from to old new result
+    → Option Stuck → Result (Unit {0}) TreeFault → Type 0
+MovesOnce renames opens syncs synced folder from to old new left result =
+    ((new ≡ old) × (left ≡ None) × IsRefused folder result)
+    ⊎ IsMovedBy renames opens syncs synced folder from to old new left result
 
 -- what a failure that is kept was of: no call, the move, or putting the directory onto the disk
 abbrev pub IsOfMove : {S F : Type 0} → (S → List ℕ → List ℕ → Result (Unit {0}) Error → S → Type 0)

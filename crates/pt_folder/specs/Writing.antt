@@ -5,7 +5,7 @@ use Rattle.pt_tree.specs.Path.{Path, rest_below}
 use Rattle.pt_tree.specs.declared.faults.TreeFault.{TreeFault}
 use Rattle.pt_tree.specs.declared.faults.TreeFault.TheVariants.{Device}
 use Rattle.pt_folder.specs.declared.writing.Writing.{Writing}
-use Rattle.pt_folder.specs.Calls.{IsAnswer, fault_of}
+use Rattle.pt_folder.specs.Calls.{IsSyncAnswer, fault_of}
 use Rattle.pt_folder.specs.Failure.{IsAt, IsOfCall}
 use Rattle.pt_folder.specs.Folder.{entry_text}
 use Rattle.pt_folder.specs.declared.failure.Failure.{Failure}
@@ -49,7 +49,7 @@ abbrev pub FinishesBy : {F : Type 0} → (F → Result (Unit {0}) Error → F �
     → Result (Unit {0}) TreeFault → Type 0
 FinishesBy syncs false file result = result ≡ Ok tt
 FinishesBy {F} syncs true file result = (answer : Result (Unit {0}) Error) × (after : F)
-    × syncs file answer after × IsAnswer answer result
+    × syncs file answer after × IsSyncAnswer answer result
 
 -- the same of the open file, if there is one; closing none is a failure
 abbrev pub ClosesBy : {F : Type 0} → (F → Result (Unit {0}) Error → F → Type 0) → Bool

@@ -1,26 +1,30 @@
 ghost use Rattle.std.proofs.Common.{◌∙◌, refl};
-ghost use Rattle.std.specs.Prelude.{◌≡◌, ◌≤◌, length, [], None, Err, IfOk, IfNone, IfSome, OnOk, OnErr, false, string_bytes};
-ghost use Rattle.std.specs.Option.{option_map};
+ghost use Rattle.std.specs.Prelude.{◌≡◌, ◌≤◌, length, [], None, Err, IfOk, IfNone, IfSome, OnOk, OnErr, false, string_bytes, true};
+ghost use Rattle.std.specs.Option.{ForNone, ForSome, option_map};
 ghost use Rattle.pt_tree.specs.declared.faults.TreeFault.TheVariants.{Device};
 ghost use Rattle.pt_folder.specs.Folder.{entry_text};
 ghost use Rattle.pt_folder.specs.Calls.{AsksOnce, CannotMake, IsThere, LeadsToKind};
 ghost use Rattle.pt_folder.specs.Failure.{FailsToPeek, IsOfCall, KeepsCall, OnDevice};
 ghost use Rattle.pt_folder.specs.Moving.{FailsToSync, IsOfMove, IsSynced, MovesOnce, holder_text};
-ghost use Rattle.pt_folder.specs.DestHeld.{IsPlaced, unless_synced};
+ghost use Rattle.pt_folder.specs.DestHeld.{IsBack, IsPlaced};
 ghost use Rattle.pt_folder.specs.Runs.{PeeksAt};
 ghost use Rattle.pt_folder.specs.Settings.{greatest_length};
+ghost use Rattle.pt_folder.specs.Stuck.{move_to_sync};
 ghost use Rattle.pt_folder.specs.Writing.{IsMadeAt, open_unless_within};
 
 use crate::bytes::read_block;
-use crate::failure::{Failure, heard};
+use crate::failure::{Failure, heard, unsynced};
 use crate::folder::{Folder, counted, is_there, kind_at, make_dir};
+use crate::stuck::Stuck;
 use crate::system::{Handle, System};
 use crate::writing::{Writing, add, close, close_within, create};
-use pt_tree::{Block, Dest, Kind, NamePath, TreeFault};
+use pt_tree::{Block, Dest, Kind, MemoryFault, NamePath, TreeFault};
 use std::alloc::{AllocError, Global};
 
-/// A folder of the system as a destination. It tells the tree that the system keeps there, where it keeps one, and where files
-/// aren't put onto the disk: a move stands though its directory then couldn't be put there.
+/// A folder of the system as a destination. It tells the tree that the system keeps there, where it keeps one.
+///
+/// Where files are put onto the disk, a call may fail though the system did its part: the file is closed, or the entry moved.
+/// Then that is stuck: what was told before is told on, and each further call is refused.
 #[derive(Drop)]
 pub struct HostDest<'a, S: System> {
     system: S,
@@ -28,14 +32,18 @@ pub struct HostDest<'a, S: System> {
     longest: usize,
     synced: bool,
     writing: Option<Writing<S::File>>,
+    stuck: Option<Stuck>,
     at: String,
     last: Option<Failure>,
     failures: u64,
-    ghost placed: { IsPlaced (unless_synced synced (S.kept system folder.path.now)) writing },
+    ghost placed: { ForNone stuck (IsPlaced (S.kept system folder.path.now) writing) },
+    ghost wanted: { ForSome stuck (λ _. synced ≡ true) },
+    ghost back: { ∥ ForSome stuck (IsBack (S.kept system folder.path.now)) ∥₁ },
+    ghost risen: { ForSome stuck (λ _. 1 ≤ failures) },
 }
 
 impl<'a, S: System> HostDest<'a, S> {
-    ghost use Rattle.pt_folder.specs.HostDest.{IsCall};
+    ghost use Rattle.pt_folder.specs.HostDest.{HasFailedAs, IsCall};
 
     /// A destination over the folder at a path of a system, as the runtime's. It calls nothing and takes no memory.
     pub fn new(system: S, alloc: Global, path: &'a str) -> HostDest<'a, S>
@@ -46,6 +54,7 @@ impl<'a, S: System> HostDest<'a, S> {
         ensures last { result.last ≡ None }
         ensures longest { result.longest ≡ greatest_length }
         ensures synced { result.synced ≡ false }
+        ensures stuck { result.stuck ≡ None }
     {
         HostDest {
             system,
@@ -53,6 +62,7 @@ impl<'a, S: System> HostDest<'a, S> {
             longest: usize::MAX,
             synced: false,
             writing: None,
+            stuck: None,
             at: String::new(alloc),
             last: None,
             failures: 0,
@@ -63,30 +73,31 @@ impl<'a, S: System> HostDest<'a, S> {
     pub fn with_longest(mut self, longest: usize) -> HostDest<'a, S>
         ensures longest { result.longest ≡ longest }
         ensures writing { result.writing ≡ self.entry.writing }
+        ensures stuck { result.stuck ≡ self.entry.stuck }
         ensures system { result.system ≡ self.entry.system }
         ensures folder { result.folder ≡ self.entry.folder }
         ensures synced { result.synced ≡ self.entry.synced }
         ensures at { result.at ≡ self.entry.at }
-        ensures last { result.last ≡ self.entry.last }
-        ensures failures { result.failures ≡ self.entry.failures }
+        ensures failures { HasFailedAs self.entry result }
     {
         self.longest = longest;
         self
     }
 
-    /// The same destination, with no open file, whose files are put onto the disk before they are closed, and so is, after
-    /// a rename, the directory that holds what was moved.
+    /// The same destination, with no open file and nothing stuck, whose files are put onto the disk before they are closed, and
+    /// so is, after a rename, the directory that holds what was moved.
     pub fn with_sync(mut self, synced: bool) -> HostDest<'a, S>
         ensures synced { result.synced ≡ synced }
         ensures writing { result.writing ≡ None }
+        ensures stuck { result.stuck ≡ None }
         ensures system { result.system ≡ self.entry.system }
         ensures folder { result.folder ≡ self.entry.folder }
         ensures longest { result.longest ≡ self.entry.longest }
         ensures at { result.at ≡ self.entry.at }
-        ensures last { result.last ≡ self.entry.last }
-        ensures failures { result.failures ≡ self.entry.failures }
+        ensures failures { HasFailedAs self.entry result }
     {
         self.writing = None;
+        self.stuck = None;
         self.synced = synced;
         self
     }
@@ -121,7 +132,7 @@ impl<'a, S: System> HostDest<'a, S> {
             (CannotMake self.old.longest self.old.folder.path.now path.now) }
         ensures system { self.new.system ≡ self.old.system }
         ensures writing { self.new.writing ≡ self.old.writing }
-        ensures call { IsCall self.old self.new result }
+        ensures call { IsCall self.old self.new self.old.stuck result }
     {
         let text = self.folder.text_to_make(path, self.longest, &mut self.last);
         counted(&mut self.failures, text.map(|_| ()))
@@ -131,14 +142,17 @@ impl<'a, S: System> HostDest<'a, S> {
 impl<'a, S: System> HostDest<'a, S> {
     ghost use Rattle.pt_folder.specs.HostDest.{IsCall, KeepsLook, KeepsPeek, Looks, Peeks};
 
-    /// Whether the folder itself is there: `Device` where the system doesn't find it, or finds no directory, `Memory` where a
-    /// growth was refused.
+    /// Whether the folder itself is there: `Device` where the system doesn't find it, or finds no directory, or where something
+    /// is stuck, `Memory` where a growth was refused.
     pub fn look_at_folder(&mut self) -> Result<(), TreeFault>
         ensures asked { Looks IsThere self.old self.new [] result }
         ensures kept { OnDevice result (KeepsLook self.old self.new []) }
         ensures writing { self.new.writing ≡ self.old.writing }
-        ensures call { IsCall self.old self.new result }
+        ensures call { IsCall self.old self.new self.old.stuck result }
     {
+        if self.stuck.is_some() {
+            return self.refuse();
+        }
         let top = NamePath::new(self.folder.alloc);
         let there = is_there(&mut self.system, &self.folder, &top, &mut self.last);
         counted(&mut self.failures, there)
@@ -151,16 +165,38 @@ impl<'a, S: System> HostDest<'a, S> {
         ensures asked { Peeks self.old self.new path.now block.new.items result }
         ensures kept { OnDevice result (KeepsPeek self.old self.new path.now) }
         ensures writing { self.new.writing ≡ self.old.writing }
-        ensures call { IsCall self.old self.new result }
+        ensures call { IsCall self.old self.new self.old.stuck result }
     {
+        if self.stuck.is_some() {
+            block.clear();
+            return self.refuse();
+        }
         let peeked = peek(&mut self.system, &self.folder, path, block, &mut self.last);
         counted(&mut self.failures, peeked)
     }
 }
 
+impl<'a, S: System> HostDest<'a, S> {
+    ghost use Rattle.pt_folder.specs.HostDest.{IsCall};
+
+    /// Refuses a call, as one that was asked of another device over this one, or where something is stuck: `Device` always. It
+    /// counts as a failure, without a path; the system isn't asked.
+    pub fn refuse<T>(&mut self) -> Result<T, TreeFault>
+        ensures refused { result ≡ Err Device }
+        ensures system { self.new.system ≡ self.old.system }
+        ensures writing { self.new.writing ≡ self.old.writing }
+        ensures last { self.new.last ≡ None }
+        ensures call { IsCall self.old self.new self.old.stuck result }
+    {
+        self.last = None;
+        counted(&mut self.failures, Err(TreeFault::Device))
+    }
+}
+
 impl<'a, S: System> Dest for HostDest<'a, S> {
     ghost use Rattle.pt_tree.specs.Dest.{CanPeek, CanWrite, IsKindAt, IsPeeked, LeavesPart, MayMake, MayMove, after_mkdir, after_create, after_append, after_finish, after_rename};
-    ghost use Rattle.pt_folder.specs.DestHeld.{tree_held, tree_unless};
+    ghost use Rattle.pt_folder.specs.DestHeld.{tree_with};
+    ghost use Rattle.pt_folder.specs.Stuck.{open_if_stuck, stuck_by_finish};
     ghost use Rattle.pt_folder.specs.HostDest.{Closes, IsCall, IsSame, KeepsClose, KeepsDir, KeepsFile, KeepsLook, KeepsMove, KeepsPeek, KeepsWrite, Looks, MakesDir, MakesFile, Moves, Peeks, Writes, told};
 
     ghost told = { told };
@@ -174,9 +210,8 @@ impl<'a, S: System> Dest for HostDest<'a, S> {
     ghost keeps_on = { λ _ _ _ p q. (q.0 ∙ p.0, (q.1.0 ∙ p.1.0, q.1.1 ∙ p.1.1)) };
 
     ghost is_tree = { λ d state is.
-        let kept = S.kept d.system d.folder.path.now in
-        tree_held (unless_synced d.synced kept) d.writing state
-        (tree_unless d.synced kept (S.tree_law d.system d.folder.path.now)) is };
+        tree_with (S.kept d.system d.folder.path.now) d.stuck d.writing state
+        (S.tree_law d.system d.folder.path.now) d.back is };
 
     fn failures(&self) -> u64 {
         self.failures
@@ -190,8 +225,11 @@ impl<'a, S: System> Dest for HostDest<'a, S> {
         ensures kept { OnDevice result (KeepsLook self.old self.new path.now) }
         ensures at { OnOk result (string_bytes self.new.at
             ≡ entry_text self.old.folder.path.now path.now) }
-        ensures call { IsCall self.old self.new result }
+        ensures call { IsCall self.old self.new self.old.stuck result }
     {
+        if self.stuck.is_some() {
+            return self.refuse();
+        }
         let kind = kind_at(
             &mut self.system,
             &self.folder,
@@ -210,7 +248,7 @@ impl<'a, S: System> Dest for HostDest<'a, S> {
         ensures writing { self.new.writing ≡ self.old.writing }
         ensures asked { Peeks self.old self.new path.now block.new.items result }
         ensures kept { OnDevice result (KeepsPeek self.old self.new path.now) }
-        ensures call { IsCall self.old self.new result }
+        ensures call { IsCall self.old self.new self.old.stuck result }
     {
         self.first_bytes(path, block)
     }
@@ -223,8 +261,11 @@ impl<'a, S: System> Dest for HostDest<'a, S> {
         ensures writing { self.new.writing ≡ self.old.writing }
         ensures asked { MakesDir self.old self.new path.now result }
         ensures kept { OnDevice result (KeepsDir self.old self.new path.now) }
-        ensures call { IsCall self.old self.new result }
+        ensures call { IsCall self.old self.new self.old.stuck result }
     {
+        if self.stuck.is_some() {
+            return self.refuse();
+        }
         let made = make_dir(
             &mut self.system,
             &self.folder,
@@ -244,8 +285,11 @@ impl<'a, S: System> Dest for HostDest<'a, S> {
         ensures writing { OnErr result (self.new.writing ≡ self.old.writing) }
         ensures asked { MakesFile self.old self.new path.now result }
         ensures kept { OnDevice result (KeepsFile self.old self.new path.now) }
-        ensures call { IsCall self.old self.new result }
+        ensures call { IsCall self.old self.new self.old.stuck result }
     {
+        if self.stuck.is_some() {
+            return self.refuse();
+        }
         let made = create(
             &mut self.system,
             &self.folder,
@@ -265,8 +309,11 @@ impl<'a, S: System> Dest for HostDest<'a, S> {
         ensures closed { IfNone self.old.writing (result ≡ Err Device) }
         ensures writes { Writes self.old self.new piece.now result }
         ensures kept { OnDevice result (KeepsWrite self.old self.new piece.now) }
-        ensures call { IsCall self.old self.new result }
+        ensures call { IsCall self.old self.new self.old.stuck result }
     {
+        if self.stuck.is_some() {
+            return self.refuse();
+        }
         let added = add(
             &mut self.system,
             &mut self.writing,
@@ -283,11 +330,21 @@ impl<'a, S: System> Dest for HostDest<'a, S> {
         ensures same { OnErr result (told self.new ≡ told self.old) }
         ensures closed { Closes self.old result }
         ensures kept { OnDevice result (KeepsClose self.old self.new) }
-        ensures writing { self.new.writing ≡ None }
+        ensures writing { self.new.writing ≡ open_if_stuck self.old.stuck self.old.writing }
         ensures system { self.new.system ≡ self.old.system }
-        ensures call { IsCall self.old self.new result }
+        ensures call { IsCall self.old self.new
+            (stuck_by_finish self.old.stuck self.old.writing result) result }
     {
-        let closed = close(&mut self.writing, self.synced, &self.folder, &mut self.last);
+        if self.stuck.is_some() {
+            return self.refuse();
+        }
+        let closed = close(
+            &mut self.writing,
+            &mut self.stuck,
+            self.synced,
+            &self.folder,
+            &mut self.last,
+        );
         counted(&mut self.failures, closed)
     }
 
@@ -301,12 +358,16 @@ impl<'a, S: System> Dest for HostDest<'a, S> {
             ≡ open_unless_within from.now self.old.writing) }
         ensures asked { Moves self.old self.new from.now to.now result }
         ensures kept { OnDevice result (KeepsMove self.old self.new from.now to.now) }
-        ensures call { IsCall self.old self.new result }
+        ensures call { IsCall self.old self.new self.new.stuck result }
     {
+        if self.stuck.is_some() {
+            return self.refuse();
+        }
         let moved = moved(
             &mut self.system,
             &self.folder,
             &mut self.writing,
+            &mut self.stuck,
             self.synced,
             from,
             to,
@@ -316,34 +377,50 @@ impl<'a, S: System> Dest for HostDest<'a, S> {
     }
 }
 
-// Moves what stands at the first path to the second, and closes the file that is open there or below.
+// Moves what stands at the first path to the second, and closes the file that is open there or below. The move is stuck
+// where its directory couldn't be put onto the disk.
 fn moved<S: System>(
     system: &mut S,
     folder: &Folder<'_>,
     writing: &mut Option<Writing<S::File>>,
+    stuck: &mut Option<Stuck>,
     synced: bool,
     from: &NamePath,
     to: &NamePath,
     last: &mut Option<Failure>,
 ) -> Result<(), TreeFault>
+    requires free { stuck.old ≡ None }
     ensures same { OnErr result (writing.new ≡ writing.old) }
     ensures left { OnOk result (writing.new ≡ open_unless_within from.now writing.old) }
     ensures asked { MovesOnce S.renames S.opens S.File.Handle.syncs synced folder.now.path.now
-        from.now to.now system.old system.new result }
+        from.now to.now system.old system.new stuck.new result }
     ensures kept { OnDevice result (IfSome last.new (IsOfMove S.renames S.opens S.File.Handle.syncs
         folder.now.path.now from.now to.now system.old system.new)) }
 {
     let old = folder.text(from, last)?;
     let new = folder.text(to, last)?;
     let above = holder(folder.alloc, new.as_str())?;
+    let to_sync = move_to_sync(synced, from, to)?;
     if let Err(error) = system.move_to(old.as_str(), new.as_str()) {
         return Err(heard(last, folder.alloc, new.as_str(), error));
     }
     if synced {
+        *stuck = to_sync;
         sync_dir(system, folder.alloc, above.as_str(), last)?;
+        *stuck = None;
     }
     close_within(writing, from);
     Ok(())
+}
+
+// What a move is whose directory isn't put onto the disk yet; None where that isn't asked for.
+fn move_to_sync(synced: bool, from: &NamePath, to: &NamePath) -> Result<Option<Stuck>, MemoryFault>
+    ensures { IfOk result (λ stuck. stuck ≡ move_to_sync synced from.now to.now) }
+{
+    if !synced {
+        return Ok(None);
+    }
+    Ok(Some(Stuck::Moved(from.copy()?, to.copy()?)))
 }
 
 // The path of the directory that holds an entry, by the entry's own path.
@@ -369,9 +446,9 @@ fn sync_dir<S: System>(
     match system.open_to_read(path) {
         Ok(mut dir) => match dir.sync() {
             Ok(()) => Ok(()),
-            Err(error) => Err(heard(last, alloc, path, error)),
+            Err(error) => Err(unsynced(last, alloc, path, error)),
         },
-        Err(error) => Err(heard(last, alloc, path, error)),
+        Err(error) => Err(unsynced(last, alloc, path, error)),
     }
 }
 

@@ -1,6 +1,7 @@
 //! The last failure of a folder: the path of the call that failed, and why.
 ghost use Rattle.std.specs.Prelude.{◌≡◌, IfSome, string_bytes};
 ghost use Rattle.std.specs.IoError.{error_kind};
+ghost use Rattle.pt_tree.specs.declared.faults.TreeFault.TheVariants.{Device};
 ghost use Rattle.pt_folder.specs.Folder.{fault_of_kind};
 ghost use Rattle.pt_folder.specs.Failure.{IsAt};
 
@@ -95,4 +96,19 @@ pub fn heard(last: &mut Option<Failure>, alloc: Global, path: &str, error: io::E
 {
     keep(last, alloc, path, Cause::System(error));
     fault_of(error)
+}
+
+/// Keeps the system's error at a path where a sync failed, and gives what that is answered: `Device`, whatever the error. The
+/// system has done its part by then, and no growth of ours was refused.
+pub fn unsynced(
+    last: &mut Option<Failure>,
+    alloc: Global,
+    path: &str,
+    error: io::Error,
+) -> TreeFault
+    ensures fault { result ≡ Device }
+    ensures kept { IfSome last.new (IsAt path.now (Cause.System error)) }
+{
+    keep(last, alloc, path, Cause::System(error));
+    TreeFault::Device
 }

@@ -7,15 +7,14 @@ mod failure;
 mod folder;
 mod listing;
 mod reading;
-mod rehearsal;
 mod runtime;
 mod source;
+mod stuck;
 mod system;
 mod writing;
 
 pub use dest::HostDest;
 pub use failure::{Cause, Failure};
-pub use rehearsal::Rehearsal;
 pub use runtime::HostFile;
 pub use source::HostSource;
 pub use system::{Handle, Input, System};

@@ -1,5 +1,5 @@
 //! The runtime's own files as a system. It keeps nothing: what becomes of the folders isn't told.
-ghost use Rattle.std.specs.Prelude.{⊤, ◌≡◌};
+ghost use Rattle.std.specs.Prelude.{⊤, ◌≡◌, refl};
 ghost use Rattle.std.specs.Fs.{file_type as type_of};
 ghost use Rattle.pt_folder.specs.Calls.{for_making, for_reading};
 ghost use Rattle.pt_folder.specs.Folder.{IsKind};
@@ -87,6 +87,8 @@ impl<'a, R: Files> System for &'a R {
     ghost kind_law = { λ old new folder p reply named by. untold_kind p reply };
 
     ghost peek_law = { λ old new folder p reply named by. untold_peek unknown p reply };
+
+    ghost still_law = { λ old new folder text reply by. refl };
 
     ghost dir_law = { λ old new folder p reply named can by. untold_dir _ p reply };
 

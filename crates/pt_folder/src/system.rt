@@ -8,7 +8,7 @@ ghost use Rattle.std.specs.Io.{ReadsAtMost, WritesAtMost};
 ghost use Rattle.pt_tree.specs.Forest.{Forest};
 ghost use Rattle.pt_tree.specs.declared.kind.Kind.{Kind};
 ghost use Rattle.pt_folder.specs.Laws.{Gives, GoesRight};
-ghost use Rattle.pt_folder.specs.DestLaws.{DirLaw, FileLaw, Kept, KindLaw, MoveLaw, PeekLaw, TreeLaw, WriteLaw};
+ghost use Rattle.pt_folder.specs.DestLaws.{DirLaw, FileLaw, Kept, KindLaw, MoveLaw, PeekLaw, StillLaw, TreeLaw, WriteLaw};
 ghost use Rattle.pt_folder.specs.SourceLaws.{LookLaw, NamesLaw, OpenLaw, ProperLaw};
 
 use pt_tree::Kind;
@@ -131,6 +131,9 @@ pub trait System {
 
     /// A file of a folder that is written, opened for reading.
     ghost peek_law: { PeekLaw kept Self.File.Input.left opens };
+
+    /// Anything is opened for reading, by whatever path.
+    ghost still_law: { StillLaw kept opens };
 
     /// A directory is made.
     ghost dir_law: { DirLaw kept makes_dir };

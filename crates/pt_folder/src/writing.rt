@@ -4,11 +4,13 @@ ghost use Rattle.pt_tree.specs.declared.faults.TreeFault.TheVariants.{Device};
 ghost use Rattle.pt_folder.specs.Folder.{entry_text};
 ghost use Rattle.pt_folder.specs.Calls.{MakesOnce};
 ghost use Rattle.pt_folder.specs.Failure.{KeepsMaking, OnDevice};
+ghost use Rattle.pt_folder.specs.Stuck.{stuck_by_close};
 ghost use Rattle.pt_folder.specs.Writing.{ClosesBy, FailsToAdd, IsMadeAt, IsOfWriting, MakesAt, WritesTo, open_unless_within};
 
 use crate::bytes::write_out;
 use crate::failure::{Cause, Failure, heard, keep};
 use crate::folder::{Folder, heard_at};
+use crate::stuck::Stuck;
 use crate::system::{Handle, System};
 use pt_tree::{NamePath, TreeFault};
 
@@ -74,9 +76,11 @@ pub(crate) fn add<S: System>(
     }
 }
 
-// Closes the open file, which is put onto the disk first where that is asked for; where none is open, it is a failure.
+// Closes the open file, which is put onto the disk first where that is asked for: where that isn't possible, it is stuck. Where
+// none is open, it is a failure.
 pub(crate) fn close<F: Handle + Drop>(
     writing: &mut Option<Writing<F>>,
+    stuck: &mut Option<Stuck>,
     synced: bool,
     folder: &Folder<'_>,
     last: &mut Option<Failure>,
@@ -85,6 +89,7 @@ pub(crate) fn close<F: Handle + Drop>(
     ensures kept { OnDevice result (IfSome last.new (IsOfWriting folder.now.path.now
         (λ w e. (after : F) × F.syncs w (Err e) after) writing.old)) }
     ensures writing { writing.new ≡ None }
+    ensures stuck { stuck.new ≡ stuck_by_close stuck.old writing.old result }
 {
     let Some(mut open) = writing.take() else {
         keep(last, folder.alloc, "", Cause::Closed);
@@ -95,7 +100,11 @@ pub(crate) fn close<F: Handle + Drop>(
     }
     match open.file.sync() {
         Ok(()) => Ok(()),
-        Err(error) => Err(heard_at(last, folder, &open.path, error)),
+        Err(error) => {
+            heard_at(last, folder, &open.path, error);
+            *stuck = Some(Stuck::Closed(open.path));
+            Err(TreeFault::Device)
+        }
     }
 }
 

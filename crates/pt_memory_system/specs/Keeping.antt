@@ -69,6 +69,9 @@ opens_in_dest old new folder p reply named by = record {
       (by.dest p named (ap (λ (l : List ℕ). entry_text l p) (sym told.0))));
 }
 
+pub opens_and_stays : dest.StillLaw kept_in Opens
+opens_and_stays old new folder text reply by = ap (λ (s : MemorySystem). kept_in s folder) by.same
+
 -- the written folder with another tree, or as it was
 becomes : (old new : MemorySystem) (folder : List ℕ) (change : Tree → Tree) → Stays old new
     → (old.written.now ≡ folder → dest_tree new.dest ≡ change (dest_tree old.dest))

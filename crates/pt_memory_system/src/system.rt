@@ -11,7 +11,7 @@ use pt_folder::System;
 use pt_memory::{MemDest, MemSource};
 use pt_tree::{Dest, Kind, NamePath, TreeFault};
 use std::alloc::Global;
-use std::io;
+use std::{io, mem};
 
 /// A system in memory: the folder at one path is only read, and the folder at another is written. Nothing is elsewhere.
 #[derive(Drop)]
@@ -65,6 +65,22 @@ impl<'a> MemorySystem<'a> {
         ensures { result ≡ (self.entry.source, self.entry.dest) }
     {
         (self.source, self.dest)
+    }
+
+    /// Takes the system, and leaves one of empty folders at the same paths.
+    pub fn take(&mut self) -> MemorySystem<'a>
+        ensures { result ≡ self.old }
+    {
+        let mut taken = MemorySystem {
+            alloc: self.alloc,
+            faults: self.faults,
+            read: self.read,
+            source: MemSource::new(self.alloc),
+            written: self.written,
+            dest: MemDest::new(self.alloc),
+        };
+        mem::swap(self, &mut taken);
+        taken
     }
 
     fn look_in_source(&self, text: &str) -> io::Result<Kind>
@@ -125,7 +141,7 @@ impl<'a> MemorySystem<'a> {
 }
 
 impl<'a> System for MemorySystem<'a> {
-    ghost use Rattle.pt_memory_system.specs.Keeping.{looks_in_dest, looks_in_source, makes_dirs, makes_files, moves, opens_dirs, opens_in_dest, opens_in_source, propers, trees, writes};
+    ghost use Rattle.pt_memory_system.specs.Keeping.{looks_in_dest, looks_in_source, makes_dirs, makes_files, moves, opens_and_stays, opens_dirs, opens_in_dest, opens_in_source, propers, trees, writes};
     ghost use Rattle.pt_memory_system.specs.System.{Looks, MakesDir, MakesFile, Moves, Opens, OpensDir, Writes, forest_in, kept_in};
 
     type File = MemFile<'a>;
@@ -161,6 +177,8 @@ impl<'a> System for MemorySystem<'a> {
     ghost kind_law = { looks_in_dest };
 
     ghost peek_law = { opens_in_dest };
+
+    ghost still_law = { opens_and_stays };
 
     ghost dir_law = { makes_dirs };
 

@@ -1,1 +1,4 @@
 mod Begun
+mod Rehearsed
+mod RehearsalTold
+mod Unstuck

@@ -1,11 +1,13 @@
 -- Which run was made, over what, and what it came to.
-use Rattle.std.specs.Prelude.{◌≡◌, ◌≢◌, ◌⊎◌, ⊤, ℕ, Bool, true, false, List, Option, Some, None, Result, Ok, Err}
+use Rattle.std.specs.Prelude.{◌≡◌, ◌≢◌, ◌⊎◌, ⊤, ℕ, Bool, true, false, List, Option, Some, None, is_some, Result, Ok, Err}
 use Rattle.std.specs.IoError.{error_kind}
+use Rattle.std.specs.Option.{ForSome}
 use Rattle.std.specs.declared.io.Error.{Error}
 use Rattle.std.specs.declared.io.ErrorKind.TheVariants.{InvalidInput}
-use Rattle.pt_folder.specs.DestHeld.{told_of as dest_told, unless_synced}
+use Rattle.pt_folder.specs.DestHeld.{told_with as dest_told}
 use Rattle.pt_folder.specs.DestLaws.{Kept}
 use Rattle.pt_folder.specs.SourceHeld.{told_of as source_told}
+use Rattle.pt_folder.specs.declared.stuck.Stuck.{Stuck}
 use Rattle.pt_folder.specs.declared.writing.Writing.{Writing as Open}
 use Rattle.pt_ignore.specs.Ignoring.{told_without}
 use Rattle.pt_guard.specs.Guard.{Begins}
@@ -16,23 +18,33 @@ use Rattle.pt_guard.specs.declared.places.Hold.{Hold}
 use Rattle.pt_move.specs.Migrates.{Migrates}
 use Rattle.pt_move.specs.declared.fault.Fault.{Fault}
 use Rattle.pt_plan.specs.World.{Failures, World}
+use Rattle.pt_state.specs.declared.job.Job.{Job}
 use Rattle.pt_state.specs.declared.job.Report.{Report}
+use Rattle.pt_tree.specs.Dest.{Writing}
 use Rattle.pt_tree.specs.Forest.{Forest}
 use Rattle.pt_run.specs.Ends.{guard_status, run_status}
 use Rattle.pt_run.specs.declared.host.Ground.{Ground}
 use Rattle.pt_run.specs.declared.migration.Wanted.{Wanted}
 
--- a rehearsal sees no destination that tells
-abbrev pub seen : Bool → World → World
-seen true world = record world { dest = None }
-seen false world = world
+-- the world of a rehearsal, whose destination tells this; that of a run is its own
+abbrev pub seen : Bool → Option Writing → World → World
+seen true plays world = record world { dest = plays }
+seen false plays world = world
 
 -- a run as it is wanted, or a rehearsal of it, was made from one world to another, with what `migrate` promises of
--- it, and this is its status
-abbrev pub IsMade : Wanted → World → World → ℕ → Type 0
-IsMade wanted old new status =
-    (ran : Result Report Fault) × Migrates wanted.job (seen wanted.rehearse old)
-    (seen wanted.rehearse new) ran × (status ≡ run_status ran)
+-- it. The destination of a rehearsal tells at first what the folder told, with no file open, and at the end the tree
+-- that it plays, if the folder told one
+pub record IsRun (job : Job) (rehearse : Bool) (was : Option Writing) (old new : World)
+    (ran : Result Report Fault) : Type 0 where
+  pub plays : Option Writing
+  pub tells : is_some plays ≡ is_some was
+  pub promises : Migrates job (seen rehearse was old) (seen rehearse plays new) ran
+
+-- and this is its status
+abbrev pub IsMade : Wanted → Option Writing → World → World → ℕ → Type 0
+IsMade wanted was old new status =
+    (ran : Result Report Fault) × IsRun wanted.job wanted.rehearse was old new ran
+    × (status ≡ run_status ran)
 
 -- the paths of a run's two folders, the names of the entries that are left out of the store, and whether files are
 -- put onto the disk
@@ -42,14 +54,14 @@ pub record Between : Type 0 where
   pub ignored : List (List ℕ)
   pub synced : Bool
 
--- what the devices of a run tell: over the trees that the systems keep at these folders, with this open for reading
--- and this for writing, and what the output holds
+-- what the devices of a run tell: over the trees that the systems keep at these folders, with this open for reading,
+-- and this stuck and open for writing, and what the output holds
 abbrev pub world_of : {S D W F : Type 0} → (S → List ℕ → Option Forest) → (D → List ℕ → Kept F)
-    → (W → Option (List ℕ)) → Between → Ground S D W → Option (List ℕ) → Option (Open F) → Failures
-    → World
-world_of forest kept contents at ground reading writing failures = record {
+    → (W → Option (List ℕ)) → Between → Ground S D W → Option (List ℕ) → Option Stuck
+    → Option (Open F) → Failures → World
+world_of forest kept contents at ground reading stuck writing failures = record {
   source = told_without at.ignored (source_told (forest ground.store at.store) reading);
-  dest = dest_told (unless_synced at.synced (kept ground.folder at.folder)) writing;
+  dest = dest_told (kept ground.folder at.folder) stuck writing;
   log = contents ground.output;
   failures = failures;
 }
@@ -59,15 +71,22 @@ abbrev pub LeavesKept : {F : Type 0} → Bool → Kept F → Kept F → Type 0
 LeavesKept true old new = new ≡ old
 LeavesKept false old new = ⊤
 
--- a run was made between these folders, from this world to what its devices then tell over these systems and this output, with this status; a
--- rehearsal left of the folder what the system kept
+-- something is stuck only where files are put onto the disk, and, if nothing had failed before, after a fault
+abbrev pub IsStuckBy : Bool → ℕ → ℕ → Option Stuck → Type 0
+IsStuckBy synced failures status stuck =
+    ForSome stuck (λ _. (synced ≡ true) × (failures ≡ 0 → status ≡ 3))
+
+-- a run was made between these folders, from this world to what its devices then tell over these systems and this
+-- output, with this status and this stuck; a rehearsal left of the folder what the system kept
 abbrev pub RunsFrom : {S D W F : Type 0} → (S → List ℕ → Option Forest) → (D → List ℕ → Kept F)
     → (W → Option (List ℕ)) → Wanted → Between → World → Kept F
     → Ground S D W → ℕ → Type 0
 RunsFrom {S} {D} {W} {F} forest kept contents wanted at old was ground status =
-    (reading : Option (List ℕ)) × (writing : Option (Open F)) × (failures : Failures)
-    × IsMade wanted old (world_of forest kept contents at ground reading writing failures) status
+    (reading : Option (List ℕ)) × (stuck : Option Stuck) × (writing : Option (Open F))
+    × (failures : Failures) × IsMade wanted (dest_told was None None) old
+    (world_of forest kept contents at ground reading stuck writing failures) status
     × LeavesKept wanted.rehearse was (kept ground.folder at.folder)
+    × IsStuckBy at.synced old.failures.dest status stuck
 
 -- no device failed yet
 abbrev pub none_failed : Failures
@@ -83,7 +102,7 @@ abbrev pub RunsOver : {S D W F : Type 0} → (S → List ℕ → Option Forest) 
     → (W → Option (List ℕ)) → Wanted → List ℕ → List ℕ → Ground S D W → Ground S D W → ℕ → Type 0
 RunsOver {S} {D} {W} {F} forest kept contents wanted store folder old new status =
     RunsFrom forest kept contents wanted (between wanted store folder)
-    (world_of forest kept contents (between wanted store folder) old None None none_failed)
+    (world_of forest kept contents (between wanted store folder) old None None None none_failed)
     (kept old.folder folder) new status
 
 -- ---- the log's file

@@ -38,7 +38,7 @@ pub(crate) fn equipped<'a, S: System, D: System, W: Write, F: Syncs + Drop>(
         × (result.dest.folder.path.now ≡ folder.now) }
     ensures unwritten { (result.dest.writing ≡ None) × (result.dest.failures ≡ 0) }
     ensures longest { result.dest.longest + spare_of wanted.now.job.layout ≡ 4095 }
-    ensures synced { result.dest.synced ≡ wanted.now.sync }
+    ensures synced { (result.dest.synced ≡ wanted.now.sync) × (result.dest.stuck ≡ None) }
     ensures log { (result.log.writer ≡ ground.output) × (result.log.failures ≡ 0) }
     ensures log_synced { result.log.file ≡ file }
 {

@@ -6,6 +6,7 @@ mod auditing;
 mod devices;
 mod expected;
 mod host;
+pub mod laws;
 mod log;
 mod migration;
 mod prefix;

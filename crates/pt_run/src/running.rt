@@ -1,12 +1,11 @@
 //! A run over its devices, and what it came to.
-ghost use Rattle.std.specs.Prelude.{◌≡◌, ℕ};
-ghost use Rattle.pt_folder.specs.DestHeld.{told_of as dest_told, unless_synced};
+ghost use Rattle.std.specs.Prelude.{◌≡◌, ℕ, None};
+ghost use Rattle.pt_folder.specs.DestHeld.{told_with as dest_told};
 ghost use Rattle.pt_folder.specs.Reading.{unread_open};
 ghost use Rattle.pt_folder.specs.SourceHeld.{told_of as source_told};
 ghost use Rattle.pt_ignore.specs.Ignoring.{told_without};
-ghost use Rattle.pt_move.specs.Migrates.{Migrates};
 ghost use Rattle.pt_run.specs.Ends.{run_status};
-ghost use Rattle.pt_run.specs.Made.{LeavesKept, RunsFrom, seen};
+ghost use Rattle.pt_run.specs.Made.{IsRun, IsStuckBy, LeavesKept, RunsFrom};
 ghost use Rattle.pt_state.specs.Outside.{world};
 
 use crate::devices::Devices;
@@ -16,9 +15,10 @@ use crate::tally::{TalliedLog, Tally};
 use crate::terminal::Terminals;
 use crate::watch::{Watched, Watching, Words};
 use crate::{Wanted, reason};
-use pt_folder::{HostDest, HostSource, Rehearsal, System};
+use pt_folder::{HostDest, HostSource, System};
 use pt_ignore::Ignoring;
 use pt_move::{Fault, Job, Report};
+use pt_rehearsal::Rehearsal;
 use pt_tree::{Log, Source};
 use std::alloc::{AllocGlobal, Global};
 use std::io::Write;
@@ -60,9 +60,8 @@ where
         (world (told_without wanted.ignored (source_told
         (S.forest devices.entry.source.system devices.entry.source.folder.path.now)
         (unread_open S.File.Input.bytes devices.entry.source.reading)))
-        (dest_told (unless_synced devices.entry.dest.synced
-        (D.kept devices.entry.dest.system devices.entry.dest.folder.path.now))
-        devices.entry.dest.writing)
+        (dest_told (D.kept devices.entry.dest.system devices.entry.dest.folder.path.now)
+        devices.entry.dest.stuck devices.entry.dest.writing)
         (W.contents devices.entry.log.writer)
         devices.entry.source.failures devices.entry.dest.failures devices.entry.log.failures)
         (D.kept devices.entry.dest.system devices.entry.dest.folder.path.now)
@@ -119,20 +118,22 @@ fn made<'a, S: Source, D: System, L: Log>(
     rehearse: bool,
     job: Job,
 ) -> Ran<'a, D>
-    ensures promises { Migrates job
-        (seen rehearse (world (S.told source.old)
-        (dest_told (unless_synced dest.entry.synced
-        (D.kept dest.entry.system dest.entry.folder.path.now)) dest.entry.writing)
-        (L.told log.old) (S.failed source.old) dest.entry.failures (L.failed log.old)))
-        (seen rehearse (world (S.told source.new)
-        (dest_told (unless_synced result.dest.synced
-        (D.kept result.dest.system result.dest.folder.path.now)) result.dest.writing)
-        (L.told log.new) (S.failed source.new) result.dest.failures (L.failed log.new)))
+    ensures promises { IsRun job rehearse
+        (dest_told (D.kept dest.entry.system dest.entry.folder.path.now) None None)
+        (world (S.told source.old)
+        (dest_told (D.kept dest.entry.system dest.entry.folder.path.now)
+        dest.entry.stuck dest.entry.writing)
+        (L.told log.old) (S.failed source.old) dest.entry.failures (L.failed log.old))
+        (world (S.told source.new)
+        (dest_told (D.kept result.dest.system dest.entry.folder.path.now)
+        result.dest.stuck result.dest.writing)
+        (L.told log.new) (S.failed source.new) result.dest.failures (L.failed log.new))
         result.ran }
     ensures source { S.keeps source.old source.new }
     ensures log { L.keeps log.old log.new }
-    ensures dest { (result.dest.folder ≡ dest.entry.folder)
-        × (result.dest.synced ≡ dest.entry.synced) }
+    ensures dest { result.dest.folder ≡ dest.entry.folder }
+    ensures stuck { IsStuckBy dest.entry.synced dest.entry.failures (run_status result.ran)
+        result.dest.stuck }
     ensures rehearsed { LeavesKept rehearse
         (D.kept dest.entry.system dest.entry.folder.path.now)
         (D.kept result.dest.system dest.entry.folder.path.now) }

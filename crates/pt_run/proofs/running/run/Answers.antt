@@ -1,3 +1,4 @@
+use Rattle.std.proofs.Common.{◌∙◌}
 use Rattle.pt_folder.specs.Reading.{unread_open}
 use Rattle.pt_run.proofs.running.run.Goals as goal
 
@@ -7,6 +8,7 @@ returns g c =
     let dest = c.made-ran.result.dest in
     let made = c.made-ran.ensures in (
       unread_open g.S.File.Input.bytes source.reading,
+      dest.stuck,
       dest.writing,
       record { source = source.failures; dest = dest.failures; log = c.made-ran.new.log.log.failures },
       (
@@ -22,8 +24,9 @@ returns g c =
           ← c.new-ignoring.ensures.names,
           ← c.new-source.ensures,
           ← c.new-log.ensures,
-        ) (rw (made.source.1, made.source.0, made.dest.0, made.dest.1) at made.promises),
+        ) (rw (made.source.1, made.source.0) at made.promises),
         c.told-status.ensures,
       ),
       rw (c.into_system-2.ensures) made.rehearsed,
+      λ s is. let stuck = made.stuck s is in (stuck.0, λ none. c.told-status.ensures ∙ stuck.1 none),
     )

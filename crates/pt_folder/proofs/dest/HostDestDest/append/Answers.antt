@@ -1,31 +1,43 @@
-use Rattle.pt_folder.specs.DestHeld.{seen}
+use Rattle.std.proofs.Common.{◌∙◌, sym}
+use Rattle.pt_folder.proofs.StuckTold.{none_back, none_risen, none_stuck, part_refused, told_same}
 use Rattle.pt_folder.proofs.WriteTold.{append_placed, append_tells, at_err, at_ok}
-use Rattle.pt_folder.proofs.Unsynced.{write_unless}
 use Rattle.pt_folder.proofs.dest.HostDestDest.append.Goals as goal
+
+pub returns-then-is_some-clause-part : goal.returns-then-is_some-clause-part
+returns-then-is_some-clause-part g c =
+    let old = c.args.self.now in
+    let new = c.refuse.new.self in
+    let refused = c.refuse.ensures in
+    part_refused old new c.args.piece.now c.refuse.result (told_same old new refused.call.keeps.0 refused.system refused.writing refused.call.stuck)
 
 pub invariant_of-self : goal.invariant_of-self
 invariant_of-self g c =
     let self = c.args.self.now in
-    let kept = seen self.synced g.S.System.kept in
+    let kept = g.S.System.kept in
     let folder = self.folder.path.now in
-    let call = c.add-added in
-    let law = write_unless g.S.System.kept self.synced g.S.System.writes g.met.S.System.write_law in
-    record { placed = append_placed kept folder g.S.System.writes law self.system call.new.system c.args.piece.now self.writing call.new.writing call.result call.ensures.writes self.placed }
+    let none = none_stuck self.stuck (sym c.is_some.ensures ∙ c.if-is_some.false) in
+    let added = c.add-added in
+    record {
+      placed = λ free. append_placed kept folder g.S.System.writes g.met.S.System.write_law self.system added.new.system c.args.piece.now self.writing added.new.writing added.result added.ensures.writes (self.placed none);
+      wanted = self.wanted;
+      back = ∣ none_back (kept added.new.system folder) self.stuck none ∣₁;
+      risen = none_risen c.counted.new.failures self.stuck none;
+    }
 
 pub returns-clause-added : goal.returns-clause-added
 returns-clause-added g c =
     let self = c.args.self.now in
-    let kept = seen self.synced g.S.System.kept in
+    let kept = g.S.System.kept in
     let folder = self.folder.path.now in
-    let call = c.add-added in
-    let law = write_unless g.S.System.kept self.synced g.S.System.writes g.met.S.System.write_law in
-    rw c.counted.ensures.same (at_ok call.result _ _ (append_tells kept folder g.S.System.writes law self.system call.new.system c.args.piece.now self.writing call.new.writing call.result call.ensures.writes self.placed))
+    let none = none_stuck self.stuck (sym c.is_some.ensures ∙ c.if-is_some.false) in
+    let added = c.add-added in
+    rw (c.counted.ensures.same, none) (at_ok added.result _ _ (append_tells kept folder g.S.System.writes g.met.S.System.write_law self.system added.new.system c.args.piece.now self.writing added.new.writing added.result added.ensures.writes (self.placed none)))
 
 pub returns-clause-part : goal.returns-clause-part
 returns-clause-part g c =
     let self = c.args.self.now in
-    let kept = seen self.synced g.S.System.kept in
+    let kept = g.S.System.kept in
     let folder = self.folder.path.now in
-    let call = c.add-added in
-    let law = write_unless g.S.System.kept self.synced g.S.System.writes g.met.S.System.write_law in
-    rw c.counted.ensures.same (at_err call.result _ _ (append_tells kept folder g.S.System.writes law self.system call.new.system c.args.piece.now self.writing call.new.writing call.result call.ensures.writes self.placed))
+    let none = none_stuck self.stuck (sym c.is_some.ensures ∙ c.if-is_some.false) in
+    let added = c.add-added in
+    rw (c.counted.ensures.same, none) (at_err added.result _ _ (append_tells kept folder g.S.System.writes g.met.S.System.write_law self.system added.new.system c.args.piece.now self.writing added.new.writing added.result added.ensures.writes (self.placed none)))

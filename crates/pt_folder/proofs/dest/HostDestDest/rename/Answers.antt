@@ -1,31 +1,45 @@
-use Rattle.pt_folder.specs.DestHeld.{seen}
-use Rattle.pt_folder.proofs.DestTold.{may_move}
-use Rattle.pt_folder.proofs.MoveTold.{rename_gives, rename_moved, rename_placed, rename_same}
+use Rattle.std.proofs.Common.{◌∙◌, sym}
+use Rattle.pt_folder.proofs.MoveTold.{rename_back, rename_device, rename_gives, rename_moved, rename_placed, rename_same, rename_wanted}
+use Rattle.pt_folder.proofs.StuckTold.{device_risen, may_move_free, none_stuck}
 use Rattle.pt_folder.proofs.dest.HostDestDest.rename.Goals as goal
 
 pub invariant_of-self : goal.invariant_of-self
 invariant_of-self g c =
     let self = c.args.self.now in
-    let kept = seen self.synced g.S.System.kept in
+    let kept = g.S.System.kept in
     let folder = self.folder.path.now in
-    let call = c.moved-moved in
-    let gives = rename_gives g.S.System.kept folder self.system call.new.system c.args.from.now c.args.to.now self.synced g.S.System.renames g.S.System.opens g.S.File.Handle.syncs g.met.S.System.move_law call.result (may_move self.writing (kept self.system folder).tree c.args.from.now c.args.to.now c.requires) call.ensures.asked in
-    record { placed = rename_placed kept folder self.system call.new.system c.args.from.now c.args.to.now self.writing call.new.writing call.result gives call.ensures.left call.ensures.same self.placed }
+    let none = none_stuck self.stuck (sym c.is_some.ensures ∙ c.if-is_some.false) in
+    let moved = c.moved-moved in
+    let can = may_move_free (kept self.system folder) self.stuck self.writing none c.args.from.now c.args.to.now c.requires in
+    let law = g.met.S.System.tree_law self.system folder in
+    let gives = rename_gives kept folder self.system moved.new.system c.args.from.now c.args.to.now self.synced g.S.System.renames g.S.System.opens g.S.File.Handle.syncs g.met.S.System.move_law g.met.S.System.still_law moved.new.stuck moved.result can moved.ensures.asked in
+    record {
+      placed = rename_placed kept folder self.system moved.new.system c.args.from.now c.args.to.now self.writing moved.new.writing moved.new.stuck moved.result gives moved.ensures.left moved.ensures.same (self.placed none);
+      wanted = rename_wanted kept folder self.system moved.new.system c.args.from.now c.args.to.now g.S.System.renames g.S.System.opens g.S.File.Handle.syncs self.synced moved.new.stuck moved.result moved.ensures.asked;
+      back = ∣ rename_back kept folder self.system moved.new.system c.args.from.now c.args.to.now self.writing moved.new.writing moved.new.stuck law can moved.result gives ∣₁;
+      risen = device_risen self.failures c.counted.new.failures moved.new.stuck moved.result c.counted.ensures.counted (rename_device kept folder self.system moved.new.system c.args.from.now c.args.to.now g.S.System.renames g.S.System.opens g.S.File.Handle.syncs self.synced moved.new.stuck moved.result moved.ensures.asked);
+    }
 
 pub returns-clause-moved : goal.returns-clause-moved
 returns-clause-moved g c =
     let self = c.args.self.now in
-    let kept = seen self.synced g.S.System.kept in
+    let kept = g.S.System.kept in
     let folder = self.folder.path.now in
-    let call = c.moved-moved in
-    let gives = rename_gives g.S.System.kept folder self.system call.new.system c.args.from.now c.args.to.now self.synced g.S.System.renames g.S.System.opens g.S.File.Handle.syncs g.met.S.System.move_law call.result (may_move self.writing (kept self.system folder).tree c.args.from.now c.args.to.now c.requires) call.ensures.asked in
-    rw c.counted.ensures.same (rename_moved kept folder self.system call.new.system c.args.from.now c.args.to.now self.writing call.new.writing call.result gives call.ensures.left)
+    let none = none_stuck self.stuck (sym c.is_some.ensures ∙ c.if-is_some.false) in
+    let moved = c.moved-moved in
+    let can = may_move_free (kept self.system folder) self.stuck self.writing none c.args.from.now c.args.to.now c.requires in
+    let law = g.met.S.System.tree_law self.system folder in
+    let gives = rename_gives kept folder self.system moved.new.system c.args.from.now c.args.to.now self.synced g.S.System.renames g.S.System.opens g.S.File.Handle.syncs g.met.S.System.move_law g.met.S.System.still_law moved.new.stuck moved.result can moved.ensures.asked in
+    rw (c.counted.ensures.same, none) (rename_moved kept folder self.system moved.new.system c.args.from.now c.args.to.now self.writing moved.new.writing moved.new.stuck moved.result gives moved.ensures.left)
 
 pub returns-clause-same : goal.returns-clause-same
 returns-clause-same g c =
     let self = c.args.self.now in
-    let kept = seen self.synced g.S.System.kept in
+    let kept = g.S.System.kept in
     let folder = self.folder.path.now in
-    let call = c.moved-moved in
-    let gives = rename_gives g.S.System.kept folder self.system call.new.system c.args.from.now c.args.to.now self.synced g.S.System.renames g.S.System.opens g.S.File.Handle.syncs g.met.S.System.move_law call.result (may_move self.writing (kept self.system folder).tree c.args.from.now c.args.to.now c.requires) call.ensures.asked in
-    rw c.counted.ensures.same (rename_same kept folder self.system call.new.system c.args.from.now c.args.to.now self.writing call.new.writing call.result gives call.ensures.same)
+    let none = none_stuck self.stuck (sym c.is_some.ensures ∙ c.if-is_some.false) in
+    let moved = c.moved-moved in
+    let can = may_move_free (kept self.system folder) self.stuck self.writing none c.args.from.now c.args.to.now c.requires in
+    let law = g.met.S.System.tree_law self.system folder in
+    let gives = rename_gives kept folder self.system moved.new.system c.args.from.now c.args.to.now self.synced g.S.System.renames g.S.System.opens g.S.File.Handle.syncs g.met.S.System.move_law g.met.S.System.still_law moved.new.stuck moved.result can moved.ensures.asked in
+    rw (c.counted.ensures.same, none) (rename_same kept folder self.system moved.new.system c.args.from.now c.args.to.now self.writing moved.new.writing moved.new.stuck law can moved.result gives moved.ensures.same)

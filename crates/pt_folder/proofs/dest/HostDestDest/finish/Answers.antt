@@ -1,0 +1,10 @@
+use Rattle.std.proofs.Common.{◌∙◌, sym}
+use Rattle.pt_folder.proofs.StuckTold.{finish_wanted, none_stuck}
+use Rattle.pt_folder.proofs.dest.HostDestDest.finish.Goals as goal
+
+pub invariant_of-self-clause-wanted : goal.invariant_of-self-clause-wanted
+invariant_of-self-clause-wanted g c =
+    let self = c.args.self.now in
+    let none = none_stuck self.stuck (sym c.is_some.ensures ∙ c.if-is_some.false) in
+    let closed = c.close-closed in
+    finish_wanted g.S.File.Handle.syncs self.synced self.writing closed.result self.stuck closed.new.stuck none closed.ensures.stuck closed.ensures.closed

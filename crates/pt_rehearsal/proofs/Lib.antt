@@ -1,0 +1,6 @@
+mod Changes
+mod Fitted
+mod Moves
+pub mod Staying
+mod Steps
+mod TextSets

@@ -1,0 +1,68 @@
+-- What a rehearsal tells, and what its calls ask of the system and leave.
+use Rattle.std.specs.Prelude.{◌≡◌, ◌⊎◌, ⊤, ℕ, List, Option, Some, Result, Ok, Err}
+use Rattle.pt_tree.specs.Dest.{Writing}
+use Rattle.pt_tree.specs.Failures.{IsCounted}
+use Rattle.pt_tree.specs.Path.{Path}
+use Rattle.pt_tree.specs.declared.faults.TreeFault.{TreeFault}
+use Rattle.pt_tree.specs.declared.faults.TreeFault.TheVariants.{Device, Memory}
+use Rattle.pt_tree.specs.declared.kind.Kind.{Kind}
+use Rattle.pt_tree.specs.declared.kind.Kind.TheVariants.{Dir}
+use Rattle.pt_folder.specs.Calls.{LeadsToKind}
+use Rattle.pt_folder.specs.HostDest.{Looks, Peeks, told as told_by}
+use Rattle.pt_folder.specs.declared.system.Handle.{Ghosts as OfHandle}
+use Rattle.pt_folder.specs.declared.system.Input.{Ghosts as OfInput}
+use Rattle.pt_folder.specs.declared.system.System.{Ghosts as OfSystem}
+use Rattle.pt_rehearsal.specs.Fitting.{told_over}
+use Rattle.pt_rehearsal.specs.Seeing.{seen_at, view}
+use Rattle.pt_rehearsal.specs.Stays.{Stays}
+use Rattle.pt_rehearsal.specs.declared.rehearsal.Rehearsal.{Rehearsal}
+use Rattle.pt_rehearsal.specs.declared.remembered.Seen.{Seen}
+use Rattle.pt_rehearsal.specs.declared.remembered.Seen.TheVariants as seen
+
+-- the answer to a look, where the system isn't asked: a directory that is remembered, and a refusal of what isn't; memory
+-- may be wanting for the path's text
+abbrev pub IsFromMemory : Seen → Result (Option Kind) TreeFault → Type 0
+IsFromMemory seen.Folder (Ok kind) = kind ≡ Some Dir
+IsFromMemory seen.Hidden (Ok kind) = ⊥
+IsFromMemory seen.Standing (Ok kind) = ⊥
+IsFromMemory seen.Folder (Err Device) = ⊥
+IsFromMemory seen.Hidden (Err Device) = ⊤
+IsFromMemory seen.Standing (Err Device) = ⊥
+IsFromMemory _ (Err Memory) = ⊤
+
+-- the answer to a wish for first bytes, where the system isn't asked: a refusal of what is remembered or hidden
+abbrev pub IsNotPeeked : Seen → Result (Unit {0}) TreeFault → Type 0
+IsNotPeeked _ (Ok x) = ⊥
+IsNotPeeked seen.Standing (Err Device) = ⊥
+IsNotPeeked seen.Folder (Err Device) = ⊤
+IsNotPeeked seen.Hidden (Err Device) = ⊤
+IsNotPeeked _ (Err Memory) = ⊤
+
+module _ {S F D : Type 0} {sys : OfSystem S F D} {handle : OfHandle F} {file : OfInput F}
+    {dir : OfInput D} where
+  -- the tree that the folder tells, with what would have been made and moved
+  abbrev pub told : Rehearsal S F D sys handle file dir → Option Writing
+  told r = told_over (told_by r.dest) r.played.steps
+
+  abbrev pub IsSame : (old new : Rehearsal S F D sys handle file dir) → Type 0
+  IsSame old new = Stays old.dest new.dest
+
+  -- a call changes nothing of that, and its failure is counted
+  pub record IsCall {T : Type 0} (old new : Rehearsal S F D sys handle file dir)
+      (result : Result T TreeFault) : Type 0 where
+    pub keeps : IsSame old new
+    pub failures : IsCounted old.dest.failures new.dest.failures result
+
+  -- the answer is from memory; or what stands there stands in the folder, and the system is asked once to look
+  abbrev pub LooksUnlessKnown : (old new : Rehearsal S F D sys handle file dir) → Path
+      → Result (Option Kind) TreeFault → Type 0
+  LooksUnlessKnown old new p result =
+      ((new.dest.system ≡ old.dest.system) × IsFromMemory (seen_at (view old.remembered) p) result)
+      ⊎ ((seen_at (view old.remembered) p ≡ seen.Standing) × Looks LeadsToKind old.dest new.dest p result)
+
+  -- the same of first bytes
+  abbrev pub PeeksUnlessKnown : (old new : Rehearsal S F D sys handle file dir) → Path → List ℕ
+      → Result (Unit {0}) TreeFault → Type 0
+  PeeksUnlessKnown old new p block result =
+      ((new.dest.system ≡ old.dest.system) × IsNotPeeked (seen_at (view old.remembered) p) result)
+      ⊎ ((seen_at (view old.remembered) p ≡ seen.Standing) × Peeks old.dest new.dest p block result)

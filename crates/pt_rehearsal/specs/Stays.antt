@@ -1,0 +1,31 @@
+-- What a rehearsal leaves of the folder that it looks at, and what it asks of the system.
+use Rattle.std.specs.Prelude.{◌≡◌, ◌≢◌, ◌⊎◌, [], length, OnOk, OnErr, Result}
+use Rattle.pt_tree.specs.Path.{Path}
+use Rattle.pt_tree.specs.declared.faults.TreeFault.{TreeFault}
+use Rattle.pt_folder.specs.Calls.{IsThere}
+use Rattle.pt_folder.specs.HostDest.{Looks}
+use Rattle.pt_folder.specs.Settings.{IsSetAs}
+use Rattle.pt_folder.specs.declared.dest.HostDest.{HostDest}
+use Rattle.pt_folder.specs.declared.system.Handle.{Ghosts as OfHandle}
+use Rattle.pt_folder.specs.declared.system.Input.{Ghosts as OfInput}
+use Rattle.pt_folder.specs.declared.system.System.{Ghosts as OfSystem}
+
+module _ {S F D : Type 0} {sys : OfSystem S F D} {handle : OfHandle F} {file : OfInput F}
+    {dir : OfInput D} where
+  -- the same folder, with the same settings and open file, and the same stuck, of which the system keeps what it kept
+  abbrev pub Stays : (old new : HostDest S F D sys handle file dir) → Type 0
+  Stays old new =
+      (new.folder ≡ old.folder)
+      × IsSetAs old.longest old.synced new.longest new.synced
+      × (new.writing ≡ old.writing)
+      × (new.stuck ≡ old.stuck)
+      × (sys.kept new.system old.folder.path.now ≡ sys.kept old.system old.folder.path.now)
+
+  -- nothing is asked, as of an entry that isn't right in the folder, or where it is refused; or the system is asked once to
+  -- look at the folder itself, and a failed look is the answer
+  abbrev pub LooksAtFolder : (old new : HostDest S F D sys handle file dir) → Path
+      → Result (Unit {0}) TreeFault → Type 0
+  LooksAtFolder old new p result =
+      ((new.system ≡ old.system) × OnOk result (length p ≢ 1))
+      ⊎ ((looked : Result (Unit {0}) TreeFault) × Looks IsThere old new [] looked
+      × OnErr looked (result ≡ looked))

@@ -1,0 +1,8 @@
+//! A run that is rehearsed over a folder: it looks there, changes nothing, and tells the tree that the run would leave.
+#![tactic(auto)]
+
+mod rehearsal;
+mod remembered;
+mod texts;
+
+pub use rehearsal::Rehearsal;

@@ -1,0 +1,240 @@
+ghost use Rattle.std.proofs.Common.{◌∙◌, refl, subst};
+ghost use Rattle.std.specs.Prelude.{◌≡◌, ◌⊎◌, ◌≤◌, [], None, Ok, OnErr, OnOk, IfOk, length};
+ghost use Rattle.std.specs.Option.{option_map};
+ghost use Rattle.pt_folder.specs.Calls.{CannotMake};
+ghost use Rattle.pt_folder.specs.DestHeld.{told_of};
+ghost use Rattle.pt_folder.specs.Failure.{OnDevice};
+ghost use Rattle.pt_folder.specs.Folder.{entry_text};
+ghost use Rattle.pt_folder.specs.HostDest.{told as told_by};
+ghost use Rattle.pt_rehearsal.specs.Fitting.{FitsTold};
+ghost use Rattle.pt_tree.specs.Failures.{IsCounted};
+ghost use Rattle.pt_rehearsal.specs.Stays.{LooksAtFolder, Stays};
+ghost use Rattle.pt_rehearsal.specs.Seeing.{Remembers, made_dir, made_file, moved_to, nothing, view};
+
+use crate::remembered::{Remembered, Seen};
+use pt_folder::{HostDest, Input, System};
+use pt_played::{Note, Played};
+use pt_tree::{Block, Dest, Kind, NamePath, TreeFault};
+use std::alloc::Global;
+
+/// A rehearsal over a folder as destination: it looks where the folder would be looked at, makes and changes nothing, and
+/// answers as the folder would after the calls that it was asked for. Where the folder tells its tree, it tells the tree that
+/// the folder would hold then.
+///
+/// It keeps no contents. It remembers a text for each directory that it would have made and for each place that it would have
+/// moved something to; of what lies in what was moved, and in the directory at the top that is being filled, it knows nothing
+/// but that it would have been made, and a call that asks for that is refused: `Device`, counted as a failure. So is a file
+/// that would be made elsewhere, and a move of anything but that directory. A run asks for none of these.
+#[derive(Drop)]
+pub struct Rehearsal<'a, S: System> {
+    dest: HostDest<'a, S>,
+    remembered: Remembered,
+    played: Played,
+    ghost fits: { ∥ FitsTold (told_by dest) (view remembered) played.steps ∥₁ },
+}
+
+impl<'a, S: System> Rehearsal<'a, S> {
+    ghost use Rattle.pt_rehearsal.specs.Rehearsal.{told};
+
+    /// A rehearsal over a folder, of which nothing is put onto the disk, that remembers nothing yet. It calls nothing and
+    /// takes no memory.
+    pub fn new(alloc: Global, dest: HostDest<'a, S>) -> Rehearsal<'a, S>
+        ensures system { result.dest.system ≡ dest.entry.system }
+        ensures folder { result.dest.folder ≡ dest.entry.folder }
+        ensures longest { result.dest.longest ≡ dest.entry.longest }
+        ensures failures { result.dest.failures ≡ dest.entry.failures }
+        ensures told { told result
+            ≡ told_of (S.kept dest.entry.system dest.entry.folder.path.now) None }
+        ensures stuck { result.dest.stuck ≡ None }
+        ensures remembered { view result.remembered ≡ nothing }
+    {
+        Rehearsal {
+            dest: dest.with_sync(false),
+            remembered: Remembered::new(alloc),
+            played: Played::new(),
+        }
+    }
+
+    /// The destination that it looks at.
+    pub fn dest(&self) -> &HostDest<'a, S>
+        ensures { result.now ≡ self.now.dest }
+    {
+        &self.dest
+    }
+
+    /// The destination that it looked at.
+    pub fn into_dest(self) -> HostDest<'a, S>
+        ensures { result ≡ self.entry.dest }
+    {
+        self.dest
+    }
+}
+
+impl<'a, S: System> Dest for Rehearsal<'a, S> {
+    ghost use Rattle.pt_tree.specs.Dest.{CanPeek, CanWrite, IsKindAt, IsPeeked, LeavesPart, MayMake, MayMove, after_mkdir, after_create, after_append, after_finish, after_rename};
+    ghost use Rattle.pt_rehearsal.specs.Rehearsal.{IsCall, IsSame, LooksUnlessKnown, PeeksUnlessKnown, told};
+    ghost use Rattle.pt_rehearsal.specs.Told.{tree_of_rehearsal};
+
+    ghost told = { told };
+
+    ghost failed = { λ d. d.dest.failures };
+
+    // Nothing is made or changed: the system keeps of the folder what it kept.
+    ghost keeps = { IsSame };
+
+    ghost is_kept = { λ _. (refl, (refl, refl), refl, refl, refl) };
+
+    ghost keeps_on = { λ _ b c p q. (
+      q.0 ∙ p.0,
+      (q.1.0 ∙ p.1.0, q.1.1 ∙ p.1.1),
+      q.2 ∙ p.2,
+      q.3 ∙ p.3,
+      subst (λ f. S.kept c.dest.system f.path.now ≡ S.kept b.dest.system f.path.now) p.0 q.4 ∙ p.4,
+    ) };
+
+    ghost is_tree = { λ d state is.
+        tree_of_rehearsal (told_by d.dest) (view d.remembered) d.played.steps state d.fits is };
+
+    fn failures(&self) -> u64 {
+        self.dest.failures()
+    }
+
+    fn kind(&mut self, path: &NamePath) -> Result<Option<Kind>, TreeFault>
+        ensures kind { IfOk result (λ kind. IsKindAt (told self.old) path.now kind) }
+        ensures same { told self.new ≡ told self.old }
+        ensures asked { LooksUnlessKnown self.old self.new path.now result }
+        ensures remembered { self.new.remembered ≡ self.old.remembered }
+        ensures call { IsCall self.old self.new result }
+    {
+        match self.remembered.seen(path)? {
+            Seen::Folder => Ok(Some(Kind::Dir)),
+            Seen::Hidden => self.dest.refuse(),
+            Seen::Standing => self.dest.kind(path),
+        }
+    }
+
+    fn peek(&mut self, path: &NamePath, block: &mut Block) -> Result<(), TreeFault>
+        requires { CanPeek (told self.old) path.now }
+        ensures block { OnOk result (IsPeeked (told self.old) path.now block.new.items) }
+        ensures empty { OnErr result (block.new.items ≡ []) }
+        ensures same { told self.new ≡ told self.old }
+        ensures asked { PeeksUnlessKnown self.old self.new path.now block.new.items result }
+        ensures remembered { self.new.remembered ≡ self.old.remembered }
+        ensures call { IsCall self.old self.new result }
+    {
+        block.clear();
+        match self.remembered.seen(path)? {
+            Seen::Folder | Seen::Hidden => self.dest.refuse(),
+            Seen::Standing => self.dest.peek(path, block),
+        }
+    }
+
+    fn mkdir(&mut self, path: &NamePath) -> Result<(), TreeFault>
+        requires { MayMake (told self.old) path.now }
+        ensures made { OnOk result (told self.new
+            ≡ option_map (after_mkdir path.now) (told self.old)) }
+        ensures same { OnErr result (told self.new ≡ told self.old) }
+        ensures fits { OnOk result (length (entry_text self.old.dest.folder.path.now path.now)
+            ≤ self.old.dest.longest) }
+        ensures asked { LooksAtFolder self.old.dest self.new.dest path.now result }
+        ensures refused { OnDevice result ((length path.now ≡ 1)
+            ⊎ (CannotMake self.old.dest.longest self.old.dest.folder.path.now path.now
+            ⊎ (made_dir (view self.old.remembered) path.now ≡ None))) }
+        ensures remembered { Remembers (made_dir (view self.old.remembered) path.now) result
+            (view self.old.remembered) (view self.new.remembered) }
+        ensures call { IsCall self.old self.new result }
+    {
+        may_make_dir(&mut self.dest, path)?;
+        if !self.remembered.make_dir(path)? {
+            return self.dest.refuse();
+        }
+        self.played = self.played.then(&Note::MadeDir(path));
+        Ok(())
+    }
+
+    fn create(&mut self, path: &NamePath) -> Result<(), TreeFault>
+        requires { MayMake (told self.old) path.now }
+        ensures made { OnOk result (told self.new
+            ≡ option_map (after_create path.now) (told self.old)) }
+        ensures same { OnErr result (told self.new ≡ told self.old) }
+        ensures system { self.new.dest.system ≡ self.old.dest.system }
+        ensures fits { OnOk result (length (entry_text self.old.dest.folder.path.now path.now)
+            ≤ self.old.dest.longest) }
+        ensures refused { OnDevice result
+            (CannotMake self.old.dest.longest self.old.dest.folder.path.now path.now
+            ⊎ (made_file (view self.old.remembered) path.now ≡ None)) }
+        ensures remembered { Remembers (made_file (view self.old.remembered) path.now) result
+            (view self.old.remembered) (view self.new.remembered) }
+        ensures call { IsCall self.old self.new result }
+    {
+        self.dest.may_make(path)?;
+        if !self.remembered.make_file(path)? {
+            return self.dest.refuse();
+        }
+        self.played = self.played.then(&Note::MadeFile(path));
+        Ok(())
+    }
+
+    fn append(&mut self, piece: &[u8]) -> Result<(), TreeFault>
+        requires { CanWrite (told self.old) }
+        ensures added { OnOk result (told self.new
+            ≡ option_map (after_append piece.now) (told self.old)) }
+        ensures part { OnErr result (LeavesPart (told self.old) (told self.new) piece.now) }
+        ensures dest { self.new.dest ≡ self.old.dest }
+        ensures remembered { self.new.remembered ≡ self.old.remembered }
+        ensures done { result ≡ Ok tt }
+        ensures call { IsCall self.old self.new result }
+    {
+        self.played = self.played.then(&Note::Added(piece));
+        Ok(())
+    }
+
+    fn finish(&mut self) -> Result<(), TreeFault>
+        requires { CanWrite (told self.old) }
+        ensures closed { OnOk result (told self.new ≡ option_map after_finish (told self.old)) }
+        ensures same { OnErr result (told self.new ≡ told self.old) }
+        ensures dest { self.new.dest ≡ self.old.dest }
+        ensures remembered { self.new.remembered ≡ self.old.remembered }
+        ensures done { result ≡ Ok tt }
+        ensures call { IsCall self.old self.new result }
+    {
+        self.played = self.played.then(&Note::Closed);
+        Ok(())
+    }
+
+    fn rename(&mut self, from: &NamePath, to: &NamePath) -> Result<(), TreeFault>
+        requires { MayMove (told self.old) from.now to.now }
+        ensures moved { OnOk result (told self.new
+            ≡ option_map (after_rename from.now to.now) (told self.old)) }
+        ensures same { OnErr result (told self.new ≡ told self.old) }
+        ensures system { self.new.dest.system ≡ self.old.dest.system }
+        ensures refused { OnDevice result
+            (moved_to (view self.old.remembered) from.now to.now ≡ None) }
+        ensures remembered { Remembers (moved_to (view self.old.remembered) from.now to.now) result
+            (view self.old.remembered) (view self.new.remembered) }
+        ensures call { IsCall self.old self.new result }
+    {
+        if !self.remembered.move_to(from, to)? {
+            return self.dest.refuse();
+        }
+        self.played = self.played.then(&Note::Moved(from, to));
+        Ok(())
+    }
+}
+
+// Whether a directory may be made, as far as the folder knows: its path isn't too long, and one at the top needs the folder.
+fn may_make_dir<S: System>(dest: &mut HostDest<'_, S>, path: &NamePath) -> Result<(), TreeFault>
+    ensures fits { OnOk result (length (entry_text dest.old.folder.path.now path.now)
+        ≤ dest.old.longest) }
+    ensures asked { LooksAtFolder dest.old dest.new path.now result }
+    ensures refused { OnDevice result ((length path.now ≡ 1)
+        ⊎ CannotMake dest.old.longest dest.old.folder.path.now path.now) }
+    ensures stays { Stays dest.old dest.new }
+    ensures failures { IsCounted dest.old.failures dest.new.failures result }
+{
+    dest.may_make(path)?;
+    if path.len() == 1 {
+        dest.look_at_folder()?;
+    }
+    Ok(())
+}

@@ -1,0 +1,262 @@
+//! What a rehearsal remembers of what it would have made: a text for each directory and each object, and no more.
+ghost use Rattle.std.specs.Prelude.{◌≡◌, ◌||◌, nat_lt, length, IfOk, OnErr, OnOk, true};
+ghost use Rattle.std.specs.Option.{option_map};
+ghost use Rattle.pt_tree.specs.Name.{AreNames};
+ghost use Rattle.pt_tree.specs.Path.{joined};
+ghost use Rattle.pt_rehearsal.specs.Seeing.{Becomes, inner_of, is_inside, is_itself, is_met, made_dir, made_file, made_inside, made_known, met_in, moved_known, moved_to, nothing, renamed_to, seen_at, view, with_folder, with_met};
+
+use crate::texts::put;
+use pt_tree::{MemoryFault, Name, NamePath};
+use std::alloc::Global;
+use std::collections::BTreeSet;
+
+/// What a rehearsal says of a path by what it remembers.
+#[derive(Clone, Copy, Drop)]
+pub(crate) enum Seen {
+    /// A directory would stand there.
+    Folder,
+    /// What would stand there isn't remembered.
+    Hidden,
+    /// What stands there would not have been touched.
+    Standing,
+}
+
+// A directory at the top, and the names that were made in it.
+#[derive(Drop)]
+struct Inner {
+    name: Name,
+    names: BTreeSet<Vec<u8>>,
+}
+
+/// What would have been made: the texts of directories, of those of two names and more and of those to which something was
+/// moved; the directory at the top that is being filled; the one that was moved to a place at the top; and the least number
+/// of names of a place below the top to which something was moved, whose inside isn't remembered.
+#[derive(Drop)]
+pub(crate) struct Remembered {
+    alloc: Global,
+    folders: BTreeSet<Vec<u8>>,
+    filling: Option<Inner>,
+    filled: Option<Inner>,
+    least: usize,
+}
+
+impl Remembered {
+    /// Nothing is remembered yet.
+    pub fn new(alloc: Global) -> Remembered
+        ensures { view result ≡ nothing }
+    {
+        Remembered {
+            alloc,
+            folders: BTreeSet::new(alloc),
+            filling: None,
+            filled: None,
+            least: usize::MAX,
+        }
+    }
+
+    /// What is said of a path; `Memory` where its text can't be made.
+    pub fn seen(&self, path: &NamePath) -> Result<Seen, MemoryFault>
+        ensures seen { IfOk result (λ seen. seen ≡ seen_at (view self.now) path.now) }
+        ensures named { OnOk result (AreNames path.now) }
+    {
+        let text = path.join()?;
+        let names = path.names();
+        if self.folders.contains(text.as_slice()) || is_itself(&self.filling, names) {
+            return Ok(Seen::Folder);
+        }
+        if is_inside(&self.filling, names)
+            || is_met(&self.filled, names)
+            || path.len() > self.least
+        {
+            return Ok(Seen::Hidden);
+        }
+        Ok(Seen::Standing)
+    }
+
+    /// A directory would have been made at a path. It answers whether that can be remembered: not where something would
+    /// stand, nor below what isn't remembered, nor a second one at the top beside one that is being filled. After `Memory`
+    /// nothing is changed.
+    pub fn make_dir(&mut self, path: &NamePath) -> Result<bool, MemoryFault>
+        ensures ok { IfOk result (λ can.
+            Becomes (made_dir (view self.old) path.now) can (view self.old) (view self.new)) }
+        ensures err { OnErr result (view self.new ≡ view self.old) }
+        ensures named { OnOk result (AreNames path.now) }
+    {
+        match self.seen(path)? {
+            Seen::Folder => Ok(false),
+            Seen::Hidden => self.make_inside(path.names()),
+            Seen::Standing => self.make_known(path),
+        }
+    }
+
+    /// A file would have been made at a path. It answers whether that can be remembered: in the directory that is being
+    /// filled alone. After `Memory` nothing is changed.
+    pub fn make_file(&mut self, path: &NamePath) -> Result<bool, MemoryFault>
+        ensures ok { IfOk result (λ can.
+            Becomes (made_file (view self.old) path.now) can (view self.old) (view self.new)) }
+        ensures err { OnErr result (view self.new ≡ view self.old) }
+        ensures named { OnOk result (AreNames path.now) }
+    {
+        match self.seen(path)? {
+            Seen::Hidden => self.make_inside(path.names()),
+            Seen::Folder | Seen::Standing => Ok(false),
+        }
+    }
+
+    /// What stands at `from` would have been moved. It answers whether that can be remembered: where `from` is the directory
+    /// that is being filled, nothing would stand at `to`, and, where `to` is at the top, none was moved there before. After
+    /// `Memory` nothing is changed.
+    pub fn move_to(&mut self, from: &NamePath, to: &NamePath) -> Result<bool, MemoryFault>
+        ensures ok { IfOk result (λ can.
+            Becomes (moved_to (view self.old) from.now to.now) can (view self.old) (view self.new)) }
+        ensures err { OnErr result (view self.new ≡ view self.old) }
+        ensures named { IfOk result (λ can. can ≡ true → AreNames to.now) }
+    {
+        if !is_itself(&self.filling, from.names()) {
+            return Ok(false);
+        }
+        match self.seen(to)? {
+            Seen::Standing => self.move_known(to),
+            Seen::Folder | Seen::Hidden => Ok(false),
+        }
+    }
+
+    // Something at a path in the directory that is being filled.
+    fn make_inside(&mut self, names: &[Name]) -> Result<bool, MemoryFault>
+        ensures ok { IfOk result (λ can.
+            Becomes (made_inside (view self.old) names.now) can (view self.old) (view self.new)) }
+        ensures err { OnErr result (view self.new ≡ view self.old) }
+    {
+        if !is_inside(&self.filling, names) {
+            return Ok(false);
+        }
+        self.meet(names)?;
+        Ok(true)
+    }
+
+    // A directory at a path of which nothing is remembered.
+    fn make_known(&mut self, path: &NamePath) -> Result<bool, MemoryFault>
+        ensures ok { IfOk result (λ can.
+            Becomes (made_known (view self.old) path.now) can (view self.old) (view self.new)) }
+        ensures err { OnErr result (view self.new ≡ view self.old) }
+    {
+        match path.names() {
+            [] => Ok(false),
+            [name] => {
+                if self.filling.is_some() {
+                    return Ok(false);
+                }
+                self.filling = Some(Inner {
+                    name: name.copy()?,
+                    names: BTreeSet::new(self.alloc),
+                });
+                Ok(true)
+            }
+            _ => {
+                self.note(path)?;
+                Ok(true)
+            }
+        }
+    }
+
+    // The directory that is being filled goes to a path of which nothing is remembered.
+    fn move_known(&mut self, to: &NamePath) -> Result<bool, MemoryFault>
+        ensures ok { IfOk result (λ can.
+            Becomes (moved_known (view self.old) to.now) can (view self.old) (view self.new)) }
+        ensures err { OnErr result (view self.new ≡ view self.old) }
+    {
+        match to.names() {
+            [] => Ok(false),
+            [name] => {
+                if self.filled.is_some() {
+                    return Ok(false);
+                }
+                let name = name.copy()?;
+                self.note(to)?;
+                self.filled = renamed(self.filling.take(), name);
+                Ok(true)
+            }
+            names => {
+                self.note(to)?;
+                self.filling = None;
+                if names.len() < self.least {
+                    self.least = names.len();
+                }
+                Ok(true)
+            }
+        }
+    }
+
+    // A directory stands at a path.
+    fn note(&mut self, path: &NamePath) -> Result<(), MemoryFault>
+        ensures ok { OnOk result (view self.new ≡ with_folder path.now (view self.old)) }
+        ensures err { OnErr result (view self.new ≡ view self.old) }
+    {
+        let text = path.join()?;
+        put(self.alloc, &mut self.folders, text.as_slice())
+    }
+
+    // Something stands at a path in the directory that is being filled.
+    fn meet(&mut self, names: &[Name]) -> Result<(), MemoryFault>
+        ensures ok { OnOk result (view self.new ≡ with_met names.now (view self.old)) }
+        ensures err { OnErr result (view self.new ≡ view self.old) }
+    {
+        match &mut self.filling {
+            Some(inner) => meet_in(self.alloc, inner, names),
+            None => Ok(()),
+        }
+    }
+}
+
+// Notes the name that a path has in a directory, if it is the directory's own entry.
+fn meet_in(alloc: Global, inner: &mut Inner, names: &[Name]) -> Result<(), MemoryFault>
+    ensures ok { OnOk result (inner_of inner.new ≡ met_in names.now (inner_of inner.old)) }
+    ensures err { OnErr result (inner_of inner.new ≡ inner_of inner.old) }
+{
+    match names {
+        [dir, name] if dir.bytes() == inner.name.bytes() => {
+            put(alloc, &mut inner.names, name.bytes())
+        }
+        _ => Ok(()),
+    }
+}
+
+// The directory under another name.
+fn renamed(inner: Option<Inner>, name: Name) -> Option<Inner>
+    ensures { option_map inner_of result ≡ renamed_to name (option_map inner_of inner) }
+{
+    let Inner { names, .. } = inner?;
+    Some(Inner { name, names })
+}
+
+// Whether a path is the directory.
+fn is_itself(inner: &Option<Inner>, names: &[Name]) -> bool
+    ensures { result ≡ is_itself (option_map inner_of inner.now) names.now }
+{
+    match (inner, names) {
+        (Some(inner), [name]) => name.bytes() == inner.name.bytes(),
+        _ => false,
+    }
+}
+
+// Whether a path is below the directory.
+fn is_inside(inner: &Option<Inner>, names: &[Name]) -> bool
+    ensures { result ≡ is_inside (option_map inner_of inner.now) names.now }
+{
+    match (inner, names) {
+        (Some(inner), [name, _, ..]) => name.bytes() == inner.name.bytes(),
+        _ => false,
+    }
+}
+
+// Whether a path is at or below something that was made in the directory.
+fn is_met(inner: &Option<Inner>, names: &[Name]) -> bool
+    ensures { result ≡ is_met (option_map inner_of inner.now) names.now }
+{
+    match (inner, names) {
+        (Some(inner), [name, below, ..]) => {
+            name.bytes() == inner.name.bytes() && inner.names.contains(below.bytes())
+        }
+        _ => false,
+    }
+}
