@@ -1,3 +1,4 @@
+pub mod Cut
 pub mod Described
 pub mod Folders
 pub mod Grown
@@ -9,4 +10,6 @@ pub mod Opened
 pub mod Passed
 pub mod Reading
 pub mod Roots
+pub mod Said
 pub mod Steps
+mod Tallied

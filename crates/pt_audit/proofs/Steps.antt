@@ -1,5 +1,5 @@
 -- The steps of the run that is compared.
-use Rattle.std.proofs.Common.{◌≡◌, ℕ, true, refl, subst, sym}
+use Rattle.std.proofs.Common.{◌≡◌, ◌∙◌, ℕ, true, refl, ap, subst, sym}
 use Rattle.std.specs.Option.{ForSome}
 use Rattle.std.specs.Prelude.{IsErrAnd, Option, Result, Ok, Err}
 use Rattle.pt_begun.specs.Begun.{IsWorld, start_of}
@@ -15,10 +15,11 @@ use Rattle.pt_move.specs.declared.mover.Turn.{Turn}
 use Rattle.pt_move.specs.declared.mover.Turn.TheVariants as turn
 use Rattle.pt_plan.specs.World.{World}
 use Rattle.pt_state.specs.declared.job.Job.{Job}
-use Rattle.pt_state.specs.declared.job.Report.{Report}
 use Rattle.pt_tree.specs.Forest.{is_proper}
 use Rattle.pt_tree.specs.Source.{Reading}
 use Rattle.pt_audit.specs.Auditing.{Audits, world_of}
+use Rattle.pt_audit.specs.Counting.{objects_in}
+use Rattle.pt_audit.proofs.Tallied.{ended_as}
 use Rattle.pt_audit.specs.declared.counts.Counts.{Counts}
 
 -- a world in which only a source tells, whose names rise
@@ -54,8 +55,13 @@ stays_kept (Err fault.Changed) a b keeps stays is_kept = stays
 
 module _ (job : Job) (first old new : World) (a b : Running) (so_far : SoFar job first old a) where
   -- the audit comes to its end
-  pub audits_whole : (t : Turn) (report : Report) (counts : Counts) → t ≡ turn.Finished → report ≡ b.state.counts → IsWell b → counts.skipped ≡ report.skipped → Stepped old new a b (Ok t) → Audits job first new (Ok counts)
-  audits_whole t report counts is same well skipped step = (report, migrates_whole job first old new a b so_far t report is same well step, skipped)
+  pub audits_whole : (t : Turn) (before counts : Counts) → t ≡ turn.Finished → counts ≡ record before { skipped = b.state.counts.skipped } → IsWell b → objects_in before ≡ a.state.counts.done → Stepped old new a b (Ok t) → Audits job first new (Ok counts)
+  audits_whole t before counts is counted well objects step = (
+    b.state.counts,
+    migrates_whole job first old new a b so_far t b.state.counts is refl well step,
+    ap objects_in counted ∙ objects ∙ sym (ended_as old new a b t is step.steps.leaves),
+    ap (λ (c : Counts). c.skipped) counted,
+  )
 
   -- or is halted
   pub audits_halted : (f : Fault) (result : Result Counts Fault) → IsErrAnd result (λ g. g ≡ f) → Stepped old new a b (Err f) → Audits job first new result

@@ -8,7 +8,7 @@ use Rattle.pt_tree.specs.Source.{Reading}
 use Rattle.pt_tree.specs.Tree.{IsTree}
 use Rattle.pt_tree.specs.Path.{Path}
 use Rattle.pt_audit.specs.Bytes.{CameNext, IsNotNext, TellsEnd, TellsRest}
-use Rattle.pt_audit.specs.Described.{DifferInMeta}
+use Rattle.pt_audit.specs.Described.{IsMade, IsOther}
 use Rattle.pt_audit.specs.Entries.{Noted, kind_noted}
 use Rattle.pt_audit.specs.Root.{is_reading, same_kind}
 use Rattle.pt_audit.specs.declared.comparing.Open.{Open}
@@ -80,8 +80,8 @@ IsEndOf before after path Tells = ((after ≡ before) × Tells true) ⊎ ((after
 -- of the version's inventory that is the one that was made, but for what it says of its version, the text that stands is held from then on
 abbrev pub IsEndOfVersion : Finding → Finding → Path → List ℕ → List ℕ → Option Reading → Type 0
 IsEndOfVersion before after path made held old =
-    ((after ≡ before) × TellsRest held old true × DifferInMeta held made)
-    ⊎ (after ≡ differs_in path)
+    ((after ≡ before) × TellsRest held old true × IsMade held made)
+    ⊎ ((after ≡ differs_in path) × IsOther made old)
 
 -- what is found with the end of the file at hand, by how it is compared; these inventories are held before and after
 abbrev pub FindsByEnd : Open → Finding → Finding → Path → List ℕ → List ℕ → List ℕ → Option Reading → Type 0

@@ -1,6 +1,7 @@
 pub mod Auditing
 pub mod Bytes
 pub mod Comparing
+pub mod Counting
 pub mod Described
 pub mod Difference
 pub mod Entries

@@ -1,6 +1,6 @@
 //! A whole audit.
 ghost use Rattle.std.specs.Prelude.{◌≡◌, IfOk};
-ghost use Rattle.pt_audit.specs.Auditing.{Audits, IsNext, counts_with, world_of};
+ghost use Rattle.pt_audit.specs.Auditing.{Audits, IsNext, world_of};
 ghost use Rattle.pt_audit.specs.Root.{KeepsRoot};
 ghost use Rattle.pt_audit.specs.Telling.{Grows, KeepsLog};
 
@@ -61,55 +61,35 @@ fn compared<S: Source, R: Root, L: Log>(
 {
     let mut mover = Mover::start(alloc, job);
     let mut counts = Counts::none();
-    while let Turn::More = mover.step(source, dest, lines)? {
-        lines.put_instead(next_line(alloc, &mover, dest.finding(), &mut counts));
+    loop {
+        let told = mover.report().done;
+        let counted = counts.with(dest.finding());
+        let Turn::More = mover.step(source, dest, lines)? else {
+            return Ok(counts.with_skipped(mover.report().skipped));
+        };
+        if mover.report().done > told {
+            counts = counted;
+        }
+        lines.put_instead(next_line(alloc, &mover, dest.finding(), counts));
     }
-    Ok(Counts {
-        skipped: mover.report().skipped,
-        ..counts
-    })
 }
 
-// The audit's line in place of the one that the next turn puts, where that tells of an object or of the end. An object is
-// counted with it, by what was found.
+// The audit's line in place of the one that the next turn puts, where that tells of an object, by what was found, or of the
+// end, with the counts.
 fn next_line(
     alloc: Global,
     mover: &Mover,
     finding: &Finding,
-    counts: &mut Counts,
+    counts: Counts,
 ) -> Result<Option<String>, MemoryFault>
-    ensures { IfOk result (IsNext mover.now finding.now counts.old counts.new) }
+    ensures { IfOk result (IsNext mover.now finding.now counts) }
 {
     match mover.next_line()? {
-        NextLine::Carried(object) => {
-            let line = object_line(alloc, &object, finding)?;
-            *counts = counted(*counts, finding);
-            Ok(Some(line))
-        }
+        NextLine::Carried(object) => Ok(Some(object_line(alloc, &object, finding)?)),
         NextLine::End => {
-            counts.skipped = mover.report().skipped;
-            Ok(Some(end_line(alloc, counts)?))
+            let counts = counts.with_skipped(mover.report().skipped);
+            Ok(Some(end_line(alloc, &counts)?))
         }
         NextLine::Other => Ok(None),
-    }
-}
-
-// With one line more, by what was found.
-fn counted(counts: Counts, finding: &Finding) -> Counts
-    ensures { result ≡ counts_with finding.now counts }
-{
-    match finding {
-        Finding::Same => Counts {
-            same: counts.same.saturating_add(1),
-            ..counts
-        },
-        Finding::Absent => Counts {
-            absent: counts.absent.saturating_add(1),
-            ..counts
-        },
-        Finding::Differs(_) => Counts {
-            differs: counts.differs.saturating_add(1),
-            ..counts
-        },
     }
 }

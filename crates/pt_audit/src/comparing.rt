@@ -1,11 +1,11 @@
 #![tactic(auto, using(crate::proofs::Reading::calls, crate::proofs::Kept::kept))]
 //! A destination that holds what a run makes against what stands, and makes nothing.
 ghost use Rattle.std.proofs.Common.{◌∙◌, refl};
-ghost use Rattle.std.specs.Prelude.{not, length, true, ◌==◌, ◌&&◌, ◌≡◌, [], IfOk, IfSome, OnErr, OnOk};
+ghost use Rattle.std.specs.Prelude.{not, length, true, ◌==◌, ◌&&◌, ◌≡◌, [], false, IfOk, IfSome, OnErr, OnOk};
 ghost use Rattle.std.specs.Option.{ForSome};
 ghost use Rattle.pt_tree.specs.Failures.{IsCounted};
 ghost use Rattle.pt_audit.specs.Comparing.{FindsByEnd, FindsByMove, FindsByPiece, found_at, found_by, is_reading_if, why_not as why_not_for};
-ghost use Rattle.pt_audit.specs.Described.{DifferInMeta};
+ghost use Rattle.pt_audit.specs.Described.{IsMade, IsOther};
 ghost use Rattle.pt_audit.specs.Difference.{is_same};
 ghost use Rattle.pt_audit.specs.Bytes.{TellsRest};
 ghost use Rattle.std.specs.String.{string_bytes};
@@ -17,7 +17,7 @@ ghost use Rattle.pt_audit.specs.Root.{AllStand, KeepsRoot, Reads, Stands, kind_a
 
 use crate::bytes::{are_the_rest, come_next, has_ended, rest_of};
 use crate::entries::{Entries, note};
-use crate::inventories::is_made;
+use crate::inventories::text_if_made;
 use crate::paths::{Part, below, is_named, joined, part_of};
 use crate::root::standing;
 use crate::{Difference, Finding, Root, Why};
@@ -171,7 +171,7 @@ impl<R: Root> Comparing<R> {
         self.place = place;
         self.finding = Finding::Absent;
         if let Some(kind) = here {
-            self.entries.add(path.copy()?, kind)?;
+            self.entries.add(path, kind)?;
             self.finding = Finding::Same;
         }
         Ok(())
@@ -349,20 +349,19 @@ impl<R: Root> Comparing<R> {
         ensures held { IfOk result (λ same. same ≡ true
             → TellsRest (string_bytes self.new.inventory) (R.told self.old.root) true) }
         ensures made { IfOk result (λ same. same ≡ true
-            → DifferInMeta (string_bytes self.new.inventory) made.now) }
+            → IsMade (string_bytes self.new.inventory) made.now) }
+        ensures other { IfOk result (λ same. same ≡ false
+            → IsOther made.now (R.told self.old.root)) }
     {
         let Some(stands) = rest_of(self.alloc, &mut self.root, &mut self.block)? else {
             return Ok(false);
         };
-        let (Ok(stands), Ok(made)) = (String::from_utf8(stands), str::from_utf8(made)) else {
+        let Some(stands) = text_if_made(self.alloc, stands, made)? else {
             return Ok(false);
         };
-        let same = is_made(self.alloc, stands.as_str(), made)?;
-        if same {
-            self.sidecar = sidecar(self.alloc, stands.as_str(), self.algorithm)?;
-            self.inventory = stands;
-        }
-        Ok(same)
+        self.sidecar = sidecar(self.alloc, stands.as_str(), self.algorithm)?;
+        self.inventory = stands;
+        Ok(true)
     }
 
     // What was made is moved to its place: what stands there beside it is more than the object has.
@@ -376,10 +375,10 @@ impl<R: Root> Comparing<R> {
         if !self.compares() {
             return Ok(());
         }
-        let Some(extra) = self.entries.first() else {
+        let Some(extra) = self.entries.first()? else {
             return Ok(());
         };
-        let path = below(self.alloc, extra, self.place.len())?;
+        let path = below(self.alloc, &extra, self.place.len())?;
         self.differs(path, Why::Extra);
         Ok(())
     }

@@ -1,5 +1,7 @@
 ghost use Rattle.std.specs.Prelude.{◌≡◌};
-ghost use Rattle.pt_audit.specs.Auditing.{no_counts};
+ghost use Rattle.pt_audit.specs.Counting.{counts_with, no_counts};
+
+use crate::Finding;
 
 /// How many lines of each kind an audit has.
 #[derive(Clone, Copy, Debug, PartialEq, Eq)]
@@ -25,5 +27,32 @@ impl Counts {
             differs: 0,
             skipped: 0,
         }
+    }
+
+    /// With one object more, by what was found.
+    pub fn with(self, finding: &Finding) -> Counts
+        ensures { result ≡ counts_with finding.now self }
+    {
+        match finding {
+            Finding::Same => Counts {
+                same: self.same.saturating_add(1),
+                ..self
+            },
+            Finding::Absent => Counts {
+                absent: self.absent.saturating_add(1),
+                ..self
+            },
+            Finding::Differs(_) => Counts {
+                differs: self.differs.saturating_add(1),
+                ..self
+            },
+        }
+    }
+
+    /// With so many sites and shorties passed over.
+    pub fn with_skipped(self, skipped: u64) -> Counts
+        ensures { result ≡ record self { skipped = skipped } }
+    {
+        Counts { skipped, ..self }
     }
 }

@@ -4,26 +4,28 @@ ghost use Rattle.std.specs.Global.{Vec};
 ghost use Rattle.pt_tree.specs.Path.{joined};
 ghost use Rattle.pt_tree.specs.declared.kind.Kind.{Kind};
 ghost use Rattle.pt_tree.specs.Forest.{Forest};
-ghost use Rattle.pt_audit.specs.Entries.{Noted, kind_if as kind_if_at, kind_noted, with_entry, without};
+ghost use Rattle.pt_audit.specs.Entries.{Noted, kind_noted, with_entry, without};
 ghost use Rattle.pt_audit.specs.Root.{AllStand, Lists, Stands};
 
+use crate::names::{names_of, text_of};
 use pt_tree::{Kind, Listing, MemoryFault, Name, NamePath};
 use std::alloc::Global;
 use std::collections::BTreeMap;
 use std::marker::Model;
 
-/// Entries by the texts of their paths, seen as their list.
+/// Entries by the texts of their paths, seen as the list of these and of the paths, which aren't held beside them.
 #[derive(Drop)]
 pub(crate) struct Entries {
-    by_text: BTreeMap<Vec<u8>, (NamePath, Kind)>,
+    alloc: Global,
+    by_text: BTreeMap<Vec<u8>, Kind>,
 }
 
 impl Model for Entries {
-    ghost use Rattle.pt_audit.specs.Entries.{Noted};
+    ghost use Rattle.pt_audit.specs.Entries.{Noted, noted_of};
 
     ghost Value = { Noted };
 
-    ghost view = { λ e. e.by_text.entries };
+    ghost view = { λ e. noted_of e.by_text.entries };
 }
 
 impl Entries {
@@ -32,23 +34,24 @@ impl Entries {
         ensures { result ≡ [] }
     {
         Entries {
+            alloc,
             by_text: BTreeMap::new(alloc),
         }
     }
 
     /// Notes an entry. After `Memory` they are as before.
-    pub(crate) fn add(&mut self, path: NamePath, kind: Kind) -> Result<(), MemoryFault>
-        ensures noted { OnOk result ((text : Vec ℕ) × (text.items ≡ joined path)
-            × (self.new ≡ with_entry text (path, kind) self.old)) }
+    pub(crate) fn add(&mut self, path: &NamePath, kind: Kind) -> Result<(), MemoryFault>
+        ensures noted { OnOk result ((text : Vec ℕ) × (text.items ≡ joined path.now)
+            × (self.new ≡ with_entry text (path.now, kind) self.old)) }
         ensures same { OnErr result (self.new ≡ self.old) }
-        ensures stand { (tree : Option Forest) → AllStand tree self.old → Stands tree (path, kind)
-            → AllStand tree self.new }
+        ensures stand { (tree : Option Forest) → AllStand tree self.old
+            → Stands tree (path.now, kind) → AllStand tree self.new }
     {
-        let text = path.join()?;
-        match self.by_text.insert(text, (path, kind)) {
-            Ok(_) => Ok(()),
-            Err(_) => Err(MemoryFault::Memory),
-        }
+        let text = text_of(self.alloc, path)?;
+        let Ok(_) = self.by_text.insert(text, kind) else {
+            return Err(MemoryFault::Memory);
+        };
+        Ok(())
     }
 
     /// Takes out the entry of a path, if there is one, and gives its kind.
@@ -60,30 +63,19 @@ impl Entries {
         ensures taken { (tree : Option Forest) → AllStand tree self.old
             → IfOk result (λ here. IfSome here (λ kind. Stands tree (path.now, kind))) }
     {
-        let text = path.join()?;
-        let found = self.by_text.remove(text.as_slice());
-        Ok(kind_if(path, found))
+        let text = text_of(self.alloc, path)?;
+        Ok(self.by_text.remove(text.as_slice()))
     }
 
-    /// The path of the first, by the order of their texts.
-    pub(crate) fn first(&self) -> Option<&NamePath>
-        ensures { MatchOption result (self.now ≡ []) (λ path. (text : Vec ℕ) × (kind : Kind)
-            × (later : Noted) × (self.now ≡ (text, (path.now, kind)) ∷ later)) }
+    /// The path of the first, by the order of their texts; None where there is none.
+    pub(crate) fn first(&self) -> Result<Option<NamePath>, MemoryFault>
+        ensures { IfOk result (λ first. MatchOption first (self.now ≡ []) (λ path. (text : Vec ℕ)
+            × (kind : Kind) × (later : Noted) × (self.now ≡ (text, (path, kind)) ∷ later))) }
     {
         match self.by_text.first_key_value() {
-            Some((_, (path, _))) => Some(path),
-            None => None,
+            Some((text, _)) => Ok(Some(names_of(self.alloc, text.as_slice())?)),
+            None => Ok(None),
         }
-    }
-}
-
-// The kind of what was found, if it has this path.
-fn kind_if(path: &NamePath, found: Option<(NamePath, Kind)>) -> Option<Kind>
-    ensures { result ≡ kind_if_at path.now found }
-{
-    match found {
-        Some((found, kind)) if found == *path => Some(kind),
-        _ => None,
     }
 }
 
@@ -118,5 +110,5 @@ fn note_entry(
 {
     let mut inner = path.copy()?;
     inner.push(name.copy()?)?;
-    entries.add(inner, kind)
+    entries.add(&inner, kind)
 }

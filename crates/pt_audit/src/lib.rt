@@ -11,6 +11,7 @@ mod host;
 mod inventories;
 mod lines;
 mod log;
+mod names;
 mod paths;
 mod root;
 

@@ -1,9 +1,8 @@
 #![tactic(auto, using(crate::proofs::LineTexts::texts))]
 //! The lines of an audit's log: each one compact JSON object with its keys in byte order, and LF.
-ghost use Rattle.std.specs.Prelude.{◌≡◌, ◌++◌, ◌∷◌, [], false, IfOk, OnOk};
+ghost use Rattle.std.specs.Prelude.{◌≡◌, ◌++◌, ◌∷◌, [], false, IfOk};
 ghost use Rattle.std.specs.String.{string_bytes};
-ghost use Rattle.serde_json.specs.Data.{number, put as put_member, string, unsigned};
-ghost use Rattle.serde_json.specs.View.{members_view, view};
+ghost use Rattle.serde_json.specs.View.{view};
 ghost use Rattle.serde_json.specs.Written.{compact_text, has_float};
 ghost use Rattle.pt_audit.specs.Lines.{line_by, line_text, line_tree};
 ghost use Rattle.pt_audit.specs.Lines as line;
@@ -11,10 +10,11 @@ ghost use Rattle.pt_audit.specs.Telling.{told_of};
 
 use crate::{Counts, Difference, Finding};
 use pt_move::Carried;
+use pt_object::members::{put_number, put_text};
 use pt_state::paths::text_of;
 use pt_tree::MemoryFault;
 use serde_json::{Map, Value};
-use std::alloc::{AllocError, Global};
+use std::alloc::Global;
 
 /// The line of an object, by what was found at its place.
 pub(crate) fn object_line(
@@ -104,31 +104,4 @@ fn text(alloc: Global, value: &Value) -> Result<String, MemoryFault>
     let mut text = value.to_string(alloc)?;
     text.push_str("\n")?;
     Ok(text)
-}
-
-/// Puts a text at a key.
-pub(crate) fn put_text(
-    members: &mut Map<String, Value>,
-    alloc: Global,
-    key: &str,
-    text: &str,
-) -> Result<(), AllocError>
-    ensures { OnOk result (members_view members.new.entries
-        ≡ put_member key.now (string text.now) (members_view members.old.entries)) }
-{
-    let text = String::from_str(alloc, text)?;
-    serde_json::put(members, alloc, key, Value::from(text))
-}
-
-// Puts a number at a key.
-fn put_number(
-    members: &mut Map<String, Value>,
-    alloc: Global,
-    key: &str,
-    n: u64,
-) -> Result<(), AllocError>
-    ensures { OnOk result (members_view members.new.entries
-        ≡ put_member key.now (number (unsigned n)) (members_view members.old.entries)) }
-{
-    serde_json::put(members, alloc, key, Value::from(n))
 }

@@ -8,6 +8,8 @@ use Rattle.pt_audit.specs.Telling.{KeepsLog}
 use Rattle.pt_move.proofs.Answering.{has_begun}
 use Rattle.pt_move.proofs.Migrating.{SoFar, so_far_on}
 use Rattle.pt_move.proofs.Ran.{smaller}
+use Rattle.pt_audit.proofs.Tallied.{tallied_more, tallied_none}
+use Rattle.pt_audit.proofs.auditing.compared.Goals.{else-report-told, then-report-told}
 use Rattle.pt_audit.proofs.auditing.compared.Goals as goal
 
 pub loop-mover-init : goal.loop-mover-init
@@ -16,6 +18,7 @@ loop-mover-init g c = (
   g.met.S.Source.is_kept c.args.source.now,
   (g.met.R.Source.is_kept c.args.dest.now.root, refl),
   log_same g.L.Log.told g.L.Log.keeps c.args.lines.now.log (g.met.L.Log.is_kept c.args.lines.now.log.now),
+  search rules,
 )
 
 pub step-requires : goal.step-requires
@@ -29,9 +32,9 @@ returns-in_err-step-clause-run g c =
 pub loop-mover-smaller : goal.loop-mover-smaller
 loop-mover-smaller g c = smaller _ _ _ _ c.in_ok-step.field-0 c.in-More.is c.in_ok-step.ensures.steps.leaves c.in_ok-step.ensures.steps.answer
 
-pub returns-clause-run : goal.returns-clause-run
-returns-clause-run g c =
-    audits_whole _ _ _ _ _ _ c.loop-mover.invariant.0 c.in_ok-step.field-0 c.report.result (record c.loop-mover.counts { skipped = c.report.result.skipped }) (search rules) (search rules) (search rules) (search rules)
+pub returns-in_default-clause-run : goal.returns-in_default-clause-run
+returns-in_default-clause-run g c =
+    audits_whole _ _ _ _ _ _ c.loop-mover.invariant.0 c.in_ok-step.field-0 c.loop-mover.counts c.with_skipped.result (search rules) (search rules) (search rules) c.loop-mover.invariant.4
     (record { keeps = c.in_ok-step.ensures.keeps; steps = c.in_ok-step.ensures.steps })
 
 pub loop-mover-preserved : goal.loop-mover-preserved
@@ -45,6 +48,13 @@ loop-mover-preserved g c =
       g.met.S.Source.keeps_on _ _ _ was.1 stays.source_stays,
       (g.met.R.Source.keeps_on _ _ _ was.2.0 stays.dest_stays.0, stays.dest_stays.1 ∙ was.2.1),
       subst (λ l. KeepsLog g.L.Log.told g.L.Log.keeps c.args.lines.now.log l) log (log_on g.L.Log.told g.L.Log.keeps c.args.lines.now.log c.loop-mover.lines.log c.step.new.log.log (λ x y z. g.met.L.Log.keeps_on x y z) was.3 stays.log_stays),
+      elim c.if-report-told.branch [
+        | then-report-told w ↦
+            tallied_more _ _ _ _ _ stays.steps.leaves _ was.4 _ _ c.report-told.ensures.counts c.report-in-loop-mover.ensures.counts
+            c.finding.result.now _ (search rules) w.if-report-told.true (w.counts-is ∙ c.with-counted.ensures)
+        | else-report-told w ↦
+            tallied_none _ _ _ _ _ stays.steps.leaves _ was.4 _ _ c.report-told.ensures.counts c.report-in-loop-mover.ensures.counts _ w.if-report-told.false w.counts-is
+      ],
     )
 
 -- ---- the devices, where a step halts it
@@ -70,13 +80,13 @@ returns-in_err-step-clause-log_stays g c =
 
 -- ---- and where it ends
 
-pub returns-clause-source_stays : goal.returns-clause-source_stays
-returns-clause-source_stays g c = g.met.S.Source.keeps_on _ _ _ c.loop-mover.invariant.1 c.in_ok-step.ensures.source_stays
+pub returns-in_default-clause-source_stays : goal.returns-in_default-clause-source_stays
+returns-in_default-clause-source_stays g c = g.met.S.Source.keeps_on _ _ _ c.loop-mover.invariant.1 c.in_ok-step.ensures.source_stays
 
-pub returns-clause-root_stays : goal.returns-clause-root_stays
-returns-clause-root_stays g c =
+pub returns-in_default-clause-root_stays : goal.returns-in_default-clause-root_stays
+returns-in_default-clause-root_stays g c =
     let stays = c.in_ok-step.ensures.dest_stays in
     (g.met.R.Source.keeps_on _ _ _ c.loop-mover.invariant.2.0 stays.0, stays.1 ∙ c.loop-mover.invariant.2.1)
 
-pub returns-clause-log_stays : goal.returns-clause-log_stays
-returns-clause-log_stays g c = log_on g.L.Log.told g.L.Log.keeps c.args.lines.now.log c.loop-mover.lines.log c.step.new.log.log (λ x y z. g.met.L.Log.keeps_on x y z) c.loop-mover.invariant.3 c.in_ok-step.ensures.log_stays
+pub returns-in_default-clause-log_stays : goal.returns-in_default-clause-log_stays
+returns-in_default-clause-log_stays g c = log_on g.L.Log.told g.L.Log.keeps c.args.lines.now.log c.loop-mover.lines.log c.step.new.log.log (λ x y z. g.met.L.Log.keeps_on x y z) c.loop-mover.invariant.3 c.in_ok-step.ensures.log_stays

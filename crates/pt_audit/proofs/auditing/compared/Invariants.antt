@@ -1,5 +1,6 @@
-use Rattle.std.proofs.Common.{◌-◌}
+use Rattle.std.proofs.Common.{◌≡◌, ◌-◌}
 use Rattle.pt_audit.specs.Auditing.{world_of}
+use Rattle.pt_audit.specs.Counting.{objects_in}
 use Rattle.pt_audit.specs.Root.{KeepsRoot}
 use Rattle.pt_audit.specs.Telling.{KeepsLog}
 use Rattle.pt_move.proofs.Migrating.{SoFar}
@@ -15,3 +16,4 @@ invariant-loop-mover g l =
     × g.S.Source.keeps l.fn.source l.source
     × KeepsRoot g.R.Source.told g.R.Source.keeps l.fn.dest.root l.dest.root
     × KeepsLog g.L.Log.told g.L.Log.keeps l.fn.lines.log l.lines.log
+    × (objects_in l.counts ≡ l.mover.state.counts.done)

@@ -11,6 +11,6 @@ invariant_of-self-in-Some g c =
     let all = subst (λ t. AllStand (tree_in t) c.forget.new.self.entries) same c.forget.new.self.stand in
     let here = subst (λ t. Stands (tree_in t) (c.args.path.now, c.in-Some.kind)) same (seen_kind (tree_in before) c.args.path.now c.in_ok-here.here c.in-Some.kind c.in_ok-here.ensures.kind c.in-Some.is) in
     record {
-      stand = c.add.ensures.stand (tree_in (g.R.Source.told c.standing.new.root)) all (subst (λ p. Stands (tree_in (g.R.Source.told c.standing.new.root)) (p, c.in-Some.kind)) (sym c.in_ok-copy.ensures) here);
+      stand = c.add.ensures.stand (tree_in (g.R.Source.told c.standing.new.root)) all here;
       reads = subst (λ t. is_reading_if c.forget.new.self.file t ≡ true) same c.forget.new.self.reads;
     }

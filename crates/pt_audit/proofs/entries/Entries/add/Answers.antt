@@ -1,13 +1,16 @@
-use Rattle.std.proofs.Common.{ap, subst, sym, ◌∙◌}
-use Rattle.std.specs.BTreeMap.{insert_entry}
-use Rattle.std.specs.Cmp.Lexicographic.{slice_cmp}
-use Rattle.std.specs.Ordering.{nat_cmp}
-use Rattle.pt_audit.specs.Root.{AllStand}
-use Rattle.pt_audit.proofs.Noted.{added_stand}
+use Rattle.std.proofs.Common.{ap, ◌∙◌}
+use Rattle.pt_audit.specs.Entries.{names_in, noted_of, with_entry}
+use Rattle.pt_audit.proofs.Cut.{names_back}
+use Rattle.pt_audit.proofs.Noted.{added_noted, added_stand}
 use Rattle.pt_audit.proofs.entries.Entries.add.Goals as goal
 
-pub returns-in-Ok-clause-noted : goal.returns-in-Ok-clause-noted
-returns-in-Ok-clause-noted c = (c.in_ok-text.text, c.in_ok-text.ensures.names, c.in-Ok.ensures.entries ∙ ap (λ es. insert_entry (λ a b. slice_cmp nat_cmp a.items b.items) es c.in_ok-text.text (c.args.path, c.args.kind)) c.self.view_is)
+pub returns-clause-noted : goal.returns-clause-noted
+returns-clause-noted c =
+    let names = ap names_in c.in_ok-text.ensures.text ∙ names_back c.args.path.now c.in_ok-text.ensures.named in (
+      c.in_ok-text.text,
+      c.in_ok-text.ensures.text,
+      ap noted_of c.in-Ok.ensures.entries ∙ added_noted c.in_ok-text.text c.args.path.now c.args.kind c.self.inside.by_text.entries names ∙ ap (with_entry c.in_ok-text.text (c.args.path.now, c.args.kind)) c.self.view_is,
+    )
 
-pub returns-in-Ok-clause-stand : goal.returns-in-Ok-clause-stand
-returns-in-Ok-clause-stand c = λ tree all here. added_stand tree (λ a b. slice_cmp nat_cmp a.items b.items) c.in_ok-text.text (c.args.path, c.args.kind) c.self.inside.by_text.entries c.insert.new.self.entries c.in-Ok.ensures.entries (subst (AllStand tree) (sym c.self.view_is) all) here
+pub returns-clause-stand : goal.returns-clause-stand
+returns-clause-stand c = λ tree all here. added_stand tree _ (returns-clause-noted c).0 (c.args.path.now, c.args.kind) c.args.self.now _ (returns-clause-noted c).2 all here
