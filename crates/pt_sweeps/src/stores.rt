@@ -3,7 +3,7 @@ use pt_memory::{MemDest, MemLog, MemSource};
 use pt_move::{Fault, Job, Report, migrate};
 use pt_name::{Layout, Share};
 use pt_object::{Algorithm, Meta};
-use pt_tree::{Name, NamePath};
+use pt_texts::store;
 use pt_walk::Limits;
 use std::alloc::Global;
 
@@ -47,55 +47,6 @@ pub const CASES: [Case; 4] = [
     },
 ];
 
-/// A path, from its text.
-pub fn path(alloc: Global, text: &str) -> Option<NamePath> {
-    let mut path = NamePath::new(alloc);
-    for name in text.split('/') {
-        path.push(Name::of(alloc, name.as_bytes()).ok()?).ok()?;
-    }
-    Some(path)
-}
-
-/// The store of a text.
-pub fn store(alloc: Global, entries: &str) -> Option<MemSource> {
-    let mut source = MemSource::new(alloc);
-    for entry in "pairtree_version0_1= pairtree_root/".split(' ') {
-        plant(alloc, &mut source, entry)?;
-    }
-    for entry in entries.split(' ') {
-        plant(alloc, &mut source, entry)?;
-    }
-    Some(source)
-}
-
-fn plant(alloc: Global, source: &mut MemSource, entry: &str) -> Option<()> {
-    if let Some((at, bytes)) = entry.split_once('=') {
-        let at = way(alloc, source, at)?;
-        source.plant_file(&at, bytes.as_bytes()).ok()
-    } else if let Some(at) = entry.strip_suffix('?') {
-        let at = way(alloc, source, at)?;
-        source.plant_other(&at).ok()
-    } else {
-        way(alloc, source, entry)?;
-        Some(())
-    }
-}
-
-// The path of an entry. Each directory that it names is planted where it isn't there.
-fn way(alloc: Global, source: &mut MemSource, text: &str) -> Option<NamePath> {
-    let mut at = NamePath::new(alloc);
-    if !text.starts_with("pairtree_") {
-        at.push(Name::of(alloc, b"pairtree_root").ok()?).ok()?;
-    }
-    for name in text.split('/') {
-        let _ = source.plant_dir(&at);
-        if !name.is_empty() {
-            at.push(Name::of(alloc, name.as_bytes()).ok()?).ok()?;
-        }
-    }
-    Some(at)
-}
-
 /// A run with the greatest limits and three tuples of three digits.
 pub fn run(
     alloc: Global,
@@ -127,7 +78,7 @@ pub fn before(alloc: Global, case: &Case) -> Option<MemDest> {
     if let Some(entries) = case.earlier {
         run(
             alloc,
-            &mut store(alloc, entries)?,
+            &mut store(alloc, entries).ok()?,
             &mut dest,
             &mut MemLog::new(alloc),
         )?
@@ -141,7 +92,7 @@ pub fn whole(alloc: Global, case: &Case) -> Option<MemDest> {
     let mut dest = before(alloc, case)?;
     run(
         alloc,
-        &mut store(alloc, case.entries)?,
+        &mut store(alloc, case.entries).ok()?,
         &mut dest,
         &mut MemLog::new(alloc),
     )?

@@ -1,7 +1,8 @@
 //! One device fails at each of its calls, or the log at each of its bytes.
-use crate::stores::{Case, before, path, run, store, whole};
+use crate::stores::{Case, before, run, whole};
 use pt_memory::{MemDest, MemLog};
 use pt_move::Fault;
+use pt_texts::{path, store};
 use std::alloc::Global;
 
 /// Which device fails.
@@ -69,7 +70,7 @@ enum Stop {
 }
 
 fn stopped(alloc: Global, case: &Case, ends: &Allowed, device: Device, at: u64) -> Option<Stop> {
-    let mut source = store(alloc, case.entries)?;
+    let mut source = store(alloc, case.entries).ok()?;
     let mut dest = before(alloc, case)?;
     let mut log = MemLog::new(alloc);
     match device {
@@ -79,7 +80,7 @@ fn stopped(alloc: Global, case: &Case, ends: &Allowed, device: Device, at: u64) 
     }
     let answer = run(alloc, &mut source, &mut dest, &mut log)?;
     dest.fuse(None);
-    let _ = dest.take_away(&path(alloc, "staging")?);
+    let _ = dest.take_away(&path(alloc, "staging").ok()?);
     let Err(fault) = answer else {
         return Some(Stop::Past);
     };
@@ -112,13 +113,13 @@ fn on_the_way(
     for place in case.places.split(' ').skip(done) {
         let tuple = place.split('/').next()?;
         let at = format!(in alloc; "ocfl/{tuple}").ok()?;
-        dest.take_away(&path(alloc, at.as_str())?).ok()?;
+        dest.take_away(&path(alloc, at.as_str()).ok()?).ok()?;
     }
     let mut at = String::from_str(alloc, "ocfl").ok()?;
     for tuple in next.split('/').take(tuples) {
         at.push('/').ok()?;
         at.push_str(tuple).ok()?;
-        dest.plant_dir(&path(alloc, at.as_str())?).ok()?;
+        dest.plant_dir(&path(alloc, at.as_str()).ok()?).ok()?;
     }
     Some(dest)
 }
@@ -132,7 +133,12 @@ fn again(
     first: &MemLog,
 ) -> Option<Stop> {
     let mut log = MemLog::new(alloc);
-    let answer = run(alloc, &mut store(alloc, case.entries)?, &mut dest, &mut log)?;
+    let answer = run(
+        alloc,
+        &mut store(alloc, case.entries).ok()?,
+        &mut dest,
+        &mut log,
+    )?;
     if answer.is_err() {
         return Some(Stop::Wrong("the second run ends in a fault"));
     }

@@ -1,0 +1,18 @@
+// What a fault leaves of the worked stores, computed from the definitions by the prover.
+ghost use Rattle.pt_move_tests.specs.WorkedFaults.{EmptyStoreTells, OneIdentifierCounts, OneObjectHasTuples, RerunCarriesTheObject, TwoTuplesStand};
+
+use std::test::Fail;
+
+fn faults()
+    ensures tuples { OneObjectHasTuples }
+    ensures stand { TwoTuplesStand }
+    ensures rerun { RerunCarriesTheObject }
+    ensures told { EmptyStoreTells }
+    ensures counts { OneIdentifierCounts }
+{}
+
+#[test]
+fn worked_faults_follow_from_the_definitions(_rt: HostRuntime) -> Result<(), Fail> {
+    faults();
+    Ok(())
+}

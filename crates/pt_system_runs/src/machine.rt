@@ -1,0 +1,189 @@
+//! A machine whose two folders are in memory, and runs by the program's own call on it.
+ghost use Rattle.std.specs.Prelude.{⊤};
+
+use pt_guard::{Folder, Hold, Places};
+use pt_ignore::Ignored;
+use pt_memory::{MemDest, MemSource};
+use pt_memory_system::{Faults, MemorySystem};
+use pt_move::Job;
+use pt_name::{Layout, Share};
+use pt_object::{Algorithm, Meta};
+use pt_run::{Ground, Host, Progress, Syncs, Wanted, migrate};
+use pt_walk::Limits;
+use std::alloc::{AllocGlobal, Global};
+use std::io::ErrorKind;
+use std::path::PathBuf;
+use std::{io, mem};
+
+// What a machine lends: the system of the store, that of the root, and what takes the log.
+type Lent<'a> = Ground<MemorySystem<'a>, MemorySystem<'a>, Vec<u8>>;
+
+// A machine of two systems in memory, which knows where no other folder is.
+#[derive(Drop)]
+struct Machine<'a> {
+    alloc: Global,
+    ground: Lent<'a>,
+}
+
+// The file that no output goes to.
+#[derive(Drop)]
+struct NoFile;
+
+impl Syncs for NoFile {
+    ghost syncs = { λ _ _ _. ⊤ };
+
+    fn sync(&mut self) -> io::Result<()> {
+        Ok(())
+    }
+}
+
+impl<'a> Places for Machine<'a> {
+    type Lock = u8;
+
+    ghost resolves = { λ _ _ _ _. ⊤ };
+
+    ghost identifies = { λ _ _ _ _. ⊤ };
+
+    ghost holds = { λ _ _ _ _. ⊤ };
+
+    ghost releases = { λ _ _ _. ⊤ };
+
+    fn resolve(&mut self, _: Global, _: &str) -> io::Result<PathBuf> {
+        Err(io::Error::from(ErrorKind::NotFound))
+    }
+
+    fn identify(&mut self, _: &str) -> io::Result<Folder> {
+        Err(io::Error::from(ErrorKind::NotFound))
+    }
+
+    fn hold(&mut self, _: &str) -> Hold<u8> {
+        Hold::Held(7)
+    }
+
+    fn release(&mut self, _: u8) {}
+}
+
+impl<'a> Host for Machine<'a> {
+    type Store = MemorySystem<'a>;
+
+    type Folder = MemorySystem<'a>;
+
+    type Output = Vec<u8>;
+
+    type File = NoFile;
+
+    ghost finds = { λ _ _ _. ⊤ };
+
+    ghost lends = { λ _ _ _. ⊤ };
+
+    ghost takes_back = { λ _ _ _. ⊤ };
+
+    fn output_file(&mut self) -> io::Result<Option<NoFile>> {
+        Ok(None)
+    }
+
+    fn lend(&mut self) -> Lent<'a> {
+        Ground {
+            store: self.ground.store.take(),
+            folder: self.ground.folder.take(),
+            output: mem::replace(&mut self.ground.output, Vec::new(self.alloc)),
+        }
+    }
+
+    fn take_back(&mut self, ground: Lent<'a>)
+        ensures { ⊤ }
+    {
+        self.ground = ground;
+    }
+}
+
+/// What a run leaves.
+#[derive(Drop)]
+pub struct Ran {
+    pub status: u8,
+    pub log: Vec<u8>,
+    pub store: MemSource,
+    pub root: MemDest,
+}
+
+/// Carries a store into a root, or rehearses that. None where the machine can't be made.
+pub fn carried(
+    rt: &HostRuntime,
+    faults: &Faults,
+    store: MemSource,
+    root: MemDest,
+    rehearse: bool,
+) -> Option<Ran> {
+    let wanted = wanted(rt.alloc(), rehearse)?;
+    let mut machine = set_up(rt.alloc(), faults, store, root)?;
+    let status = status_of(rt, &mut machine, wanted);
+    Some(left(machine, status))
+}
+
+// The status of a run on a machine.
+fn status_of(rt: &HostRuntime, machine: &mut Machine<'_>, wanted: Wanted) -> u8 {
+    migrate(rt, machine, wanted, None, "store", "root")
+}
+
+// What a run of this status left on a machine.
+fn left(machine: Machine<'_>, status: u8) -> Ran {
+    let Ground {
+        store,
+        folder,
+        output,
+    } = machine.ground;
+    let (store, _) = store.into_folders();
+    let (_, root) = folder.into_folders();
+    Ran {
+        status,
+        log: output,
+        store,
+        root,
+    }
+}
+
+fn set_up(alloc: Global, faults: &Faults, store: MemSource, root: MemDest) -> Option<Machine<'_>> {
+    let ground = Ground {
+        store: system(alloc, faults, store, MemDest::new(alloc))?,
+        folder: system(alloc, faults, MemSource::new(alloc), root)?,
+        output: Vec::new(alloc),
+    };
+    Some(Machine { alloc, ground })
+}
+
+fn system(
+    alloc: Global,
+    faults: &Faults,
+    store: MemSource,
+    root: MemDest,
+) -> Option<MemorySystem<'_>> {
+    MemorySystem::new(alloc, faults, "store", store, "root", root)
+}
+
+// A run with the greatest limits and three tuples of three digits.
+fn wanted(alloc: Global, rehearse: bool) -> Option<Wanted> {
+    let meta = Meta::of(
+        alloc,
+        "2024-05-01T12:00:00Z",
+        "Ada",
+        None,
+        "Migrated from Pairtree",
+    );
+    let job = Job {
+        meta: meta.ok()?,
+        layout: Layout::default_form(),
+        algorithm: Algorithm::Sha512,
+        limits: Limits::greatest(),
+        gather: false,
+        share: Share::whole(),
+    };
+    Some(Wanted {
+        job,
+        ignored: Ignored::new(alloc),
+        sync: false,
+        rehearse,
+        verbose: false,
+        progress: Progress::Never,
+        interval: 10,
+    })
+}

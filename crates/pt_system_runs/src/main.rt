@@ -1,0 +1,37 @@
+//! Whole runs over a system in memory, by the program's own call. It prints a line for each: that all is as it should be, or what isn't.
+#![tactic(auto)]
+
+mod cases;
+mod demo;
+mod machine;
+mod one_object;
+mod rows;
+
+use cases::Case;
+use rows::{Found, Row, tried};
+
+const ROWS: [(&str, Row); 4] = [
+    ("carried", Row::Carried),
+    ("rehearsed before", Row::RehearsedBefore),
+    ("rehearsed after", Row::RehearsedAfter),
+    ("stopped and carried again", Row::Stopped),
+];
+
+fn main(rt: HostRuntime) {
+    for case in [one_object::CASE, demo::CASE] {
+        tell(&rt, &case);
+    }
+}
+
+// Tries each row over a case.
+fn tell(rt: &HostRuntime, case: &Case) {
+    let name = case.name;
+    for (what, row) in ROWS {
+        let said = match tried(rt, case, row) {
+            Found::Well => "as it should be",
+            Found::Otherwise(why) => why,
+            Found::Unmade => "the devices can't be made",
+        };
+        let _ = println!(rt; "{name}, {what}: {said}");
+    }
+}

@@ -1,0 +1,73 @@
+//! Trees from pairs of a path and bytes.
+use crate::paths::{planted, push};
+use pt_memory::{MemDest, MemSource, PlantFault};
+use pt_tree::{NamePath, TreeFault};
+use std::alloc::Global;
+
+/// A tree in memory that directories and files can be planted in.
+pub trait Plants {
+    /// Plants an empty directory.
+    fn dir(&mut self, path: &NamePath) -> Result<(), PlantFault>;
+
+    /// Plants a file of these bytes.
+    fn file(&mut self, path: &NamePath, bytes: &[u8]) -> Result<(), PlantFault>;
+}
+
+impl Plants for MemSource {
+    fn dir(&mut self, path: &NamePath) -> Result<(), PlantFault> {
+        self.plant_dir(path)
+    }
+
+    fn file(&mut self, path: &NamePath, bytes: &[u8]) -> Result<(), PlantFault> {
+        self.plant_file(path, bytes)
+    }
+}
+
+impl Plants for MemDest {
+    fn dir(&mut self, path: &NamePath) -> Result<(), PlantFault> {
+        self.plant_dir(path)
+    }
+
+    fn file(&mut self, path: &NamePath, bytes: &[u8]) -> Result<(), PlantFault> {
+        self.plant_file(path, bytes)
+    }
+}
+
+/// A destination with these files, and with the directories on the way to them. A path that ends in `/` is a directory.
+pub fn tree(alloc: Global, files: &[(&str, &str)]) -> Result<MemDest, TreeFault> {
+    let mut dest = MemDest::new(alloc);
+    add(alloc, &mut dest, files)?;
+    Ok(dest)
+}
+
+/// Adds such files to a tree.
+pub fn add<T: Plants>(
+    alloc: Global,
+    tree: &mut T,
+    files: &[(&str, &str)],
+) -> Result<(), TreeFault> {
+    for (text, bytes) in files {
+        let at = way(alloc, tree, NamePath::new(alloc), text)?;
+        if !text.ends_with('/') {
+            planted(tree.file(&at, bytes.as_bytes()))?;
+        }
+    }
+    Ok(())
+}
+
+/// The path of an entry below another. Each directory that it names is planted where it isn't there.
+pub(crate) fn way<T: Plants>(
+    alloc: Global,
+    tree: &mut T,
+    below: NamePath,
+    text: &str,
+) -> Result<NamePath, TreeFault> {
+    let mut at = below;
+    for name in text.split('/') {
+        let _ = tree.dir(&at);
+        if !name.is_empty() {
+            push(alloc, &mut at, name)?;
+        }
+    }
+    Ok(at)
+}
