@@ -1,58 +1,167 @@
--- An audit under way.
-use Rattle.std.specs.Prelude.{◌≡◌, ⊤, ℕ, None, Option, Some, Ok, Err, Result, String}
-use Rattle.std.specs.String.{string_bytes}
-use Rattle.std.specs.Global.{Global}
-use Rattle.pt_audit.specs.Counting.{objects_in}
-use Rattle.pt_audit.specs.Lines.{End, line_by, line_text}
-use Rattle.pt_audit.specs.Telling.{told_of}
+-- An audit: what it tells of the objects of a store and a storage root, and an audit under way.
+use Rattle.std.specs.Prelude.{◌≡◌, ℕ, suc, ◌+◌, All, Bool, true, false, List, [], ◌∷◌, ◌++◌, drop, map, min, Option, None, Some, slice_get}
+use Rattle.std.specs.Option.{ForSome}
+use Rattle.pt_audit.specs.Counting.{counts_with, no_counts}
+use Rattle.pt_audit.specs.Lines as audit
 use Rattle.pt_audit.specs.declared.counts.Counts.{Counts}
-use Rattle.pt_audit.specs.declared.difference.Finding.{Finding}
-use Rattle.pt_move.specs.Migrates.{Migrates}
-use Rattle.pt_move.specs.NextLine.{IsCarried}
+use Rattle.pt_compare.specs.Found.{IsFound, Sought}
+use Rattle.pt_compare.specs.Marks.{inside}
+use Rattle.pt_compare.specs.declared.difference.Finding.{Finding}
 use Rattle.pt_move.specs.Running.{Running}
-use Rattle.pt_move.specs.declared.fault.Fault.{Fault}
-use Rattle.pt_move.specs.declared.next_line.Carried.{Carried}
-use Rattle.pt_plan.specs.World.{World}
+use Rattle.pt_name.specs.Place.{place_of}
+use Rattle.pt_object.specs.Distinct.{content_of_row, distinct}
+use Rattle.pt_object.specs.FilePaths.{File, part_in_order, row_paths}
+use Rattle.pt_object.specs.Inventory.{inventory_text}
+use Rattle.pt_object.specs.Object.{rows_of, stored_files}
+use Rattle.pt_plan.specs.Items.{Holds, Item, Named, PairtreeObject, items, outcome}
+use Rattle.pt_plan.specs.Job.{Job}
+use Rattle.pt_plan.specs.Lines.{Done, Line, Skipped, line_by_verdict, line_text}
+use Rattle.pt_plan.specs.TurnWalk.{in_pairtree, in_root}
 use Rattle.pt_plan.specs.declared.phase.Phase.{Phase}
 use Rattle.pt_plan.specs.declared.phase.Phase.TheVariants as phase
-use Rattle.pt_state.specs.Outside.{world}
-use Rattle.pt_state.specs.declared.job.Job.{Job}
-use Rattle.pt_state.specs.declared.job.Report.{Report}
-use Rattle.pt_state.specs.declared.state.State.{State}
-use Rattle.pt_tree.specs.Source.{Reading}
+use Rattle.pt_state.specs.States.{job_of}
+use Rattle.pt_state.specs.declared.job.Job as own
+use Rattle.pt_survey.specs.Surveying.{IsSurvey, Surveys, sight_at}
+use Rattle.pt_survey.specs.declared.survey.Sight.{Sight}
+use Rattle.pt_survey.specs.declared.survey.AtHand.{AtHand}
+use Rattle.pt_tree.specs.Failures.{greatest_count}
+use Rattle.pt_tree.specs.Forest.{Forest}
+use Rattle.pt_tree.specs.Path.{Path}
+use Rattle.pt_tree.specs.Source.{CanOpen, Reading}
+use Rattle.pt_walk.specs.Left.{bytes_at}
+use Rattle.pt_walk.specs.declared.cause.Cause.{Cause}
 
--- the world of a run that is compared: neither its destination nor its log tells anything
-abbrev pub world_of : Option Reading → ℕ → ℕ → ℕ → World
-world_of source s d l = world source None None s d l
+-- ---- what is told of an item
 
--- nothing is put in place of the next line
-abbrev pub IsNone : Option (String Global) → Type 0
-IsNone None = ⊤
-IsNone (Some text) = ⊥
+-- what is sought at the place of an object of the store: it, as a run would carry it, but for what its inventory says of its version
+abbrev pub sought : Job → Forest → List ℕ → PairtreeObject → List File → Sought
+sought job source id object files = record {
+  algorithm = job.algorithm;
+  text = inventory_text id (rows_of job.algorithm files) job.meta job.algorithm;
+  stored = stored_files (rows_of job.algorithm files)
+      (λ path. bytes_at source (in_pairtree (object.at ++ path)));
+}
 
--- the line of an object, of which this was found
-abbrev pub IsOfObject : (Carried → Type 0) → Finding → Option (String Global) → Type 0
-IsOfObject Is found None = ⊥
-IsOfObject Is found (Some text) = (object : Carried) × Is object
-    × (string_bytes text ≡ line_text (line_by (told_of object) found))
+-- the item has an object with no cause against it, and this is found at the place of its identifier
+pub record IsFoundOf (job : Job) (source root : Forest) (item : Item) (finding : Finding) : Type 0 where
+  pub id : List ℕ
+  pub object : PairtreeObject
+  pub files : List File
+  pub named : item.verdict ≡ Named id object
+  pub whole : outcome job.limits object ≡ Holds files
+  pub found : IsFound (sought job source id object files)
+      (inside root (in_root (place_of job.tuples id))) finding
 
--- the end line, with the counts
-abbrev pub IsOfEnd : Counts → ℕ → Option (String Global) → Type 0
-IsOfEnd counts skipped None = ⊥
-IsOfEnd counts skipped (Some text) =
-    string_bytes text ≡ line_text (End counts.same counts.absent counts.differs skipped)
+-- The text that is told of an item, by the line that a run would tell of it over no root, and what is counted. Where it only leads on nothing is; what is passed over is told as a run tells it; of an object it is told what is found
+pub data TellsOf (job : Job) (source root : Forest) (item : Item) : List Line → List ℕ → Counts → Counts → Type 0 where
+  Leads : {counts : Counts} → TellsOf job source root item [] [] counts counts
+  Passes : {counts : Counts} (at : Path) (why : Cause)
+      → TellsOf job source root item (Skipped at why ∷ []) (line_text (Skipped at why)) counts
+      (record counts { skipped = counts.skipped + 1 })
+  Finds : {counts : Counts} {at : Path} {bytes empty files : ℕ} {id : List ℕ} {to : Path} (finding : Finding)
+      → IsFoundOf job source root item finding
+      → TellsOf job source root item (Done at bytes empty files id to ∷ [])
+      (audit.line_text (audit.line_by
+      (record {
+        at = at;
+        bytes = min bytes greatest_count;
+        empty = empty;
+        files = files;
+        id = id;
+        to = to;
+      }) finding))
+      counts (counts_with finding counts)
 
--- what is put in place of the line of the next turn of a run, where this was found of the object at hand, and this counted
-abbrev pub IsNextAt : Phase → State → Finding → Counts → Option (String Global) → Type 0
-IsNextAt (phase.Line object) s found counts text = IsOfObject (IsCarried object s) found text
-IsNextAt phase.End s found counts text = IsOfEnd counts s.counts.skipped text
-IsNextAt _ s found counts text = IsNone text
+-- of the first so many items of a store, the text that is told of them, one after another, and the counts
+pub data Told (job : Job) (source root : Forest) : ℕ → List ℕ → Counts → Type 0 where
+  Nothing : Told job source root 0 [] no_counts
+  Next : {n : ℕ} {text more : List ℕ} {counts later : Counts} (item : Item)
+      → Told job source root n text counts → slice_get (items job source) n ≡ Some item
+      → TellsOf job source root item (line_by_verdict job item.path false item.verdict) more counts later
+      → Told job source root (suc n) (text ++ more) later
 
-abbrev pub IsNext : Running → Finding → Counts → Option (String Global) → Type 0
-IsNext r found counts text = IsNextAt r.phase r.state found counts text
+-- ---- an audit under way
 
--- it is a run over this world, of which as many objects are counted as it carries, and as many sites as it passes over
-abbrev pub Audits : Job → World → World → Result Counts Fault → Type 0
-Audits job old new (Ok counts) = (report : Report) × Migrates job old new (Ok report)
-    × (objects_in counts ≡ report.done) × (counts.skipped ≡ report.skipped)
-Audits job old new (Err f) = Migrates job old new (Err f)
+-- where the trees of store and root are told, and the log told this at first: it has got the text of the first so many items, of which these are the counts
+abbrev pub HasToldOf : Job → Option Forest → Option Forest → Option (List ℕ) → Option (List ℕ) → ℕ → Counts → Type 0
+HasToldOf job source root first now count counts =
+    ForSome source
+    (λ s. ForSome root
+    (λ r. ForSome first
+    (λ old. (text : List ℕ) × (now ≡ Some (old ++ text)) × Told job s r count text counts)))
+
+-- with those that the survey passed over
+abbrev pub counted : Counts → Running → Counts
+counted counts r = record counts { skipped = r.state.counts.skipped }
+
+-- of which items is told between two steps: of the one whose object is at hand too
+abbrev pub told_at : Phase → ℕ → ℕ
+told_at (phase.Line object) count = suc count
+told_at _ count = count
+
+-- a step of the survey was made, and of nothing is told yet that it came to
+pub record IsSeen (told : Option Reading) (source root : Option Forest) (first now : Option (List ℕ))
+    (counts : Counts) (r : Running) : Type 0 where
+  pub count : ℕ
+  pub is : IsSurvey told count r
+  pub so_far : HasToldOf (job_of r.state.job) source root first now count (counted counts r)
+
+-- a survey is under way that saw this by its last step
+pub record IsAt (told : Option Reading) (what : Sight) (r : Running) : Type 0 where
+  pub under_way : Surveys told r
+  pub saw : what ≡ sight_at r.phase
+
+-- between two steps
+pub record IsUnderWay (told : Option Reading) (source root : Option Forest) (first now : Option (List ℕ))
+    (counts : Counts) (r : Running) : Type 0 where
+  pub count : ℕ
+  pub is : IsSurvey told count r
+  pub so_far : HasToldOf (job_of r.state.job) source root first now (told_at r.phase count) (counted counts r)
+
+-- what is sought at the place of the object at hand
+abbrev pub sought_at_hand : own.Job → AtHand → Forest → Sought
+sought_at_hand job hand source = record {
+  algorithm = job.algorithm;
+  text = inventory_text hand.told.id.now hand.rows.now job.meta job.algorithm;
+  stored = stored_files hand.rows.now (λ path. bytes_at source (in_pairtree (hand.told.at ++ path)));
+}
+
+-- and this is found there, where both trees are told
+abbrev pub IsFoundAtHand : own.Job → AtHand → Option Forest → Option Forest → Finding → Type 0
+IsFoundAtHand job hand source root finding =
+    ForSome source (λ s. ForSome root
+    (λ r. IsFound (sought_at_hand job hand s) (inside r (in_root hand.told.to.now)) finding))
+
+-- the object at hand can be compared: its contents are those of its rows, these are in order, and the source's files can be opened
+pub record CanCompare (told : Option Reading) (hand : AtHand) : Type 0 where
+  pub contents : hand.contents.now ≡ map content_of_row (distinct hand.rows.now)
+  pub order : part_in_order (row_paths hand.rows.now) ≡ true
+  pub files : All (λ row. CanOpen told (in_pairtree (hand.told.at ++ row.path))) hand.rows.now
+
+-- ---- a whole audit
+
+-- the end line, with these counts
+abbrev pub last_text : Counts → List ℕ
+last_text counts = audit.line_text (audit.End counts.same counts.absent counts.differs counts.skipped)
+
+-- what is told of all items, and the end line
+pub record IsAuditLog (job : Job) (source root : Forest) (text : List ℕ) (counts : Counts) : Type 0 where
+  pub count : ℕ
+  pub lines : List ℕ
+  pub told : Told job source root count lines counts
+  pub all : drop count (items job source) ≡ []
+  pub whole : text ≡ lines ++ last_text counts
+
+-- where both trees are told, and the log told this at first, it has got that
+abbrev pub EndsAs : Job → Option Forest → Option Forest → Option (List ℕ) → Option (List ℕ) → Counts → Type 0
+EndsAs job source root first now counts =
+    ForSome source
+    (λ s. ForSome root
+    (λ r. ForSome first
+    (λ old. (text : List ℕ) × (now ≡ Some (old ++ text)) × IsAuditLog job s r text counts)))
+
+-- a step leaves the audit under way, or ended with these counts
+abbrev pub GoesOn : Bool → Option Reading → Option Forest → Option Forest → Option (List ℕ) → Option (List ℕ) → Counts → Running → Type 0
+GoesOn true told source root first now counts r = IsUnderWay told source root first now counts r
+GoesOn false told source root first now counts r =
+    EndsAs (job_of r.state.job) source root first now (counted counts r)

@@ -1,8 +1,8 @@
 -- What an audit counts.
 use Rattle.std.specs.Prelude.{◌+◌, ℕ, min}
 use Rattle.pt_audit.specs.declared.counts.Counts.{Counts}
-use Rattle.pt_audit.specs.declared.difference.Finding.{Finding}
-use Rattle.pt_audit.specs.declared.difference.Finding.TheVariants as finding
+use Rattle.pt_compare.specs.declared.difference.Finding.{Finding}
+use Rattle.pt_compare.specs.declared.difference.Finding.TheVariants as finding
 use Rattle.pt_tree.specs.Failures.{greatest_count}
 
 -- no line is counted
@@ -18,7 +18,3 @@ abbrev pub counts_with : Finding → Counts → Counts
 counts_with finding.Same counts = record counts { same = one_more counts.same }
 counts_with finding.Absent counts = record counts { absent = one_more counts.absent }
 counts_with (finding.Differs difference) counts = record counts { differs = one_more counts.differs }
-
--- how many objects are counted
-abbrev pub objects_in : Counts → ℕ
-objects_in counts = counts.same + counts.absent + counts.differs

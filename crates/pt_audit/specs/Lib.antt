@@ -1,11 +1,5 @@
 pub mod Auditing
-pub mod Bytes
-pub mod Comparing
 pub mod Counting
-pub mod Described
-pub mod Difference
-pub mod Entries
+pub mod Failing
+pub mod Layout
 pub mod Lines
-pub mod Paths
-pub mod Root
-pub mod Telling

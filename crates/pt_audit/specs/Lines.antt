@@ -1,14 +1,12 @@
 -- The lines of an audit's log: each one compact JSON object with its keys in byte order, and LF.
-use Rattle.std.specs.Prelude.{ℕ, List, [], ◌∷◌, ◌++◌, Option, None, Some, Ok, Err, Result, ⊤, codes, String}
-use Rattle.std.specs.String.{string_bytes}
-use Rattle.std.specs.Global.{Global}
-use Rattle.pt_audit.specs.Difference.{why_word}
-use Rattle.pt_audit.specs.declared.difference.Finding.{Finding}
-use Rattle.pt_audit.specs.declared.difference.Finding.TheVariants as finding
-use Rattle.pt_audit.specs.declared.difference.Why.{Why}
+use Rattle.std.specs.Prelude.{ℕ, List, [], ◌∷◌, ◌++◌, codes}
+use Rattle.pt_compare.specs.Difference.{why_word}
+use Rattle.pt_compare.specs.declared.difference.Finding.{Finding}
+use Rattle.pt_compare.specs.declared.difference.Finding.TheVariants as finding
+use Rattle.pt_compare.specs.declared.difference.Why.{Why}
+use Rattle.pt_move.specs.declared.carried.Carried.{Carried}
 use Rattle.pt_plan.specs.Lines.{number_member, text_member}
 use Rattle.pt_tree.specs.Path.{Path, joined}
-use Rattle.pt_tree.specs.declared.faults.MemoryFault.{MemoryFault}
 use Rattle.serde_json.specs.Data.{Data, no_members}
 use Rattle.serde_json.specs.Data as json
 use Rattle.serde_json.specs.Written.{compact_text}
@@ -68,13 +66,13 @@ line_tree (End same absent differs skipped) = json.object
 abbrev pub line_text : Line → List ℕ
 line_text line = compact_text (line_tree line) ++ 10 ∷ []
 
--- what is put in place of a piece, if anything is; a line for which memory was wanting is put by nobody
-abbrev pub in_place : Result (Option (String Global)) MemoryFault → List ℕ → List ℕ
-in_place (Ok (Some text)) piece = string_bytes text
-in_place (Ok None) piece = piece
-in_place (Err wanting) piece = piece
-
--- memory was wanting for the line: then the log is as it was, and wants it too
-abbrev pub IfWanting : Result (Option (String Global)) MemoryFault → Type 0 → Type 0
-IfWanting (Ok line) P = ⊤
-IfWanting (Err wanting) P = P
+-- what the line of an object tells, as a survey has it
+abbrev pub told_of : Carried → Told
+told_of object = record {
+  at = object.at;
+  bytes = object.bytes;
+  empty = object.empty;
+  files = object.files;
+  id = object.id.now;
+  to = object.to.now;
+}

@@ -1,95 +1,205 @@
+#![tactic(auto, using(crate::proofs::Telling::auditing))]
 //! A whole audit.
-ghost use Rattle.std.specs.Prelude.{◌≡◌, IfOk};
-ghost use Rattle.pt_audit.specs.Auditing.{Audits, IsNext, world_of};
-ghost use Rattle.pt_audit.specs.Root.{KeepsRoot};
-ghost use Rattle.pt_audit.specs.Telling.{Grows, KeepsLog};
+ghost use Rattle.std.specs.Prelude.{◌≡◌, ℕ, IfErr, IfOk, List, None, OnOk, Option};
+ghost use Rattle.pt_audit.specs.Auditing.{CanCompare, EndsAs, GoesOn, IsAt, IsFoundAtHand, IsSeen, IsUnderWay, last_text};
+ghost use Rattle.std.specs.Io.KnownBytes.{Appends};
+ghost use Rattle.pt_audit.specs.Failing.{BlamesRightly, FailsAs, TellFails, failures};
+ghost use Rattle.pt_move.specs.Fault.{fault_of};
+ghost use Rattle.pt_compare.specs.Root.{KeepsRoot, tree_in};
+ghost use Rattle.pt_move.specs.Outcome.{SaysRightly};
+ghost use Rattle.pt_state.specs.States.{job_of};
+ghost use Rattle.pt_plan.specs.World.{source_tree};
+ghost use Rattle.pt_survey.specs.Growing.{IsCounted, KeepsLog};
+ghost use Rattle.pt_survey.specs.Surveying.{IsHand, Surveys, sight_at};
+ghost use Rattle.pt_survey.specs.declared.survey.Sight.TheVariants as sight;
 
+use crate::Counts;
+use crate::layout::check_layout;
 use crate::lines::{end_line, object_line};
-use crate::{AuditLog, Comparing, Counts, Finding, Root};
-use pt_move::{Fault, Job, Mover, NextLine, Turn};
-use pt_tree::{Log, MemoryFault, Source};
+use pt_compare::{Finding, Root, Scanned, compare};
+use pt_move::{Fault, Job};
+use pt_plan::Halt;
+use pt_state::paths::{in_pairtree, in_storage_root};
+use pt_survey::{AtHand, Sight, Survey};
+use pt_tree::{Log, Source};
 use std::alloc::Global;
 
-/// Holds the storage root that stands against the objects of a Pairtree store: what a run would make of each is compared,
-/// path by path and byte by byte, with what stands at its place, and the log tells of each what was found.
+/// Holds the storage root that stands against the objects of a Pairtree store: each is compared, path by path and byte by byte,
+/// with what stands at its place, and the log tells of each what was found.
 ///
-/// The run that is compared is that of `migrate`, turn by turn, over the same store and job; but each place is free to it,
-/// so that a second folder of an identifier is compared too, and nothing stands at `staging`. Of the job's description of
-/// the version nothing is compared: moment, user and message may be whatever the inventory that stands gives. `Dest` is
-/// answered where the root can't be read, and the other faults as by `migrate`.
-///
-/// All that `migrate` promises of a run holds of it (`run`), over a destination and a log that tell nothing. Store and root
-/// are as they were, and what stood in the log stands.
+/// The store is seen as a run with this job sees it; but each object is compared, also a second one of an identifier. Of the
+/// job's description of the version nothing is compared: moment, user and message may be whatever the inventory that stands
+/// gives. `Dest` is answered where the root can't be read, `Target` where it isn't one of this layout, and the other faults
+/// as by `migrate`. Nothing is made or changed, but that the log gets its lines.
 pub fn audit<S: Source, R: Root, L: Log>(
     alloc: Global,
     source: &mut S,
-    dest: &mut Comparing<R>,
+    root: &mut R,
     log: &mut L,
     job: Job,
 ) -> Result<Counts, Fault>
-    ensures run { Audits job
-        (world_of (S.told source.old) (S.failed source.old) dest.old.failures (L.failed log.old))
-        (world_of (S.told source.new) (S.failed source.new) dest.new.failures (L.failed log.new))
-        result }
-    ensures source_stays { S.keeps source.old source.new }
-    ensures root_stays { KeepsRoot R.told R.keeps dest.old.root dest.new.root }
-    ensures log_stays { L.keeps log.old log.new }
-    ensures log_grows { Grows (L.told log.old) (L.told log.new) }
+    ensures ends { IfOk result (EndsAs (job_of job) (tree_in (S.told source.old))
+        (tree_in (R.told root.old)) (L.told log.old) (L.told log.new)) }
+    ensures source { KeepsRoot S.told S.keeps source.old source.new }
+    ensures root { KeepsRoot R.told R.keeps root.old root.new }
+    ensures log { KeepsLog L.told L.keeps log.old log.new }
+    ensures blames { BlamesRightly
+        (failures (S.failed source.old) (R.failed root.old) (L.failed log.old))
+        (failures (S.failed source.new) (R.failed root.new) (L.failed log.new)) result }
+    ensures says { IfErr result (SaysRightly job (source_tree (S.told source.old)) None) }
 {
-    let mut instead = Ok(None);
-    let mut lines = AuditLog::new(log, &mut instead);
-    compared(alloc, source, dest, &mut lines, job)
-}
-
-// The run that is compared, whose log gets the audit's lines.
-fn compared<S: Source, R: Root, L: Log>(
-    alloc: Global,
-    source: &mut S,
-    dest: &mut Comparing<R>,
-    lines: &mut AuditLog<'_, L>,
-    job: Job,
-) -> Result<Counts, Fault>
-    ensures run { Audits job
-        (world_of (S.told source.old) (S.failed source.old) dest.old.failures
-        (L.failed lines.old.log.now))
-        (world_of (S.told source.new) (S.failed source.new) dest.new.failures
-        (L.failed lines.new.log.now))
-        result }
-    ensures source_stays { S.keeps source.old source.new }
-    ensures root_stays { KeepsRoot R.told R.keeps dest.old.root dest.new.root }
-    ensures log_stays { KeepsLog L.told L.keeps lines.old.log lines.new.log }
-{
-    let mut mover = Mover::start(alloc, job);
+    let mut survey = Survey::start(alloc, job);
     let mut counts = Counts::none();
     loop {
-        let told = mover.report().done;
-        let counted = counts.with(dest.finding());
-        let Turn::More = mover.step(source, dest, lines)? else {
-            return Ok(counts.with_skipped(mover.report().skipped));
-        };
-        if mover.report().done > told {
-            counts = counted;
+        if !go_on(alloc, &mut survey, &mut counts, source, root, log)? {
+            return Ok(counts.with_skipped(survey.report().skipped));
         }
-        lines.put_instead(next_line(alloc, &mover, dest.finding(), counts));
     }
 }
 
-// The audit's line in place of the one that the next turn puts, where that tells of an object, by what was found, or of the
-// end, with the counts.
-fn next_line(
+// Makes one step of the survey, and tells of what was seen. Whether there is more to see.
+fn go_on<S: Source, R: Root, L: Log>(
     alloc: Global,
-    mover: &Mover,
-    finding: &Finding,
-    counts: Counts,
-) -> Result<Option<String>, MemoryFault>
-    ensures { IfOk result (IsNext mover.now finding.now counts) }
+    survey: &mut Survey,
+    counts: &mut Counts,
+    source: &mut S,
+    root: &mut R,
+    log: &mut L,
+) -> Result<bool, Fault>
+    requires { Surveys (S.told source.old) survey.old }
+    ensures on { (first : Option (List ℕ)) → IsUnderWay (S.told source.old)
+        (tree_in (S.told source.old)) (tree_in (R.told root.old)) first (L.told log.old)
+        counts.old survey.old
+        → IfOk result (λ more. GoesOn more (S.told source.new) (tree_in (S.told source.old))
+        (tree_in (R.told root.old)) first (L.told log.new) counts.new survey.new) }
+    ensures still { OnOk result (Surveys (S.told source.new) survey.new
+        × IsCounted survey.old.state survey.new.state) }
+    ensures source { KeepsRoot S.told S.keeps source.old source.new }
+    ensures root { KeepsRoot R.told R.keeps root.old root.new }
+    ensures log { KeepsLog L.told L.keeps log.old log.new }
+    ensures blames { BlamesRightly
+        (failures (S.failed source.old) (R.failed root.old) (L.failed log.old))
+        (failures (S.failed source.new) (R.failed root.new) (L.failed log.new)) result }
+    ensures says { IfErr result (SaysRightly survey.old.state.job
+        (source_tree (S.told source.old)) None) }
 {
-    match mover.next_line()? {
-        NextLine::Carried(object) => Ok(Some(object_line(alloc, &object, finding)?)),
-        NextLine::End => {
-            let counts = counts.with_skipped(mover.report().skipped);
-            Ok(Some(end_line(alloc, &counts)?))
+    let sight = survey.step(source, log)?;
+    Ok(tell(alloc, survey, sight, counts, source, root, log)?)
+}
+
+// Tells of what was seen by a step. Whether there is more to see.
+fn tell<S: Source, R: Root, L: Log>(
+    alloc: Global,
+    survey: &Survey,
+    sight: Sight,
+    counts: &mut Counts,
+    source: &mut S,
+    root: &mut R,
+    log: &mut L,
+) -> Result<bool, Halt>
+    requires { IsAt (S.told source.old) sight survey.now }
+    ensures on { (first : Option (List ℕ)) → IsSeen (S.told source.old)
+        (tree_in (S.told source.old)) (tree_in (R.told root.old)) first (L.told log.old)
+        counts.old survey.now
+        → IfOk result (λ more. GoesOn more (S.told source.new) (tree_in (S.told source.old))
+        (tree_in (R.told root.old)) first (L.told log.new) counts.new survey.now) }
+    ensures still { OnOk result (Surveys (S.told source.new) survey.now) }
+    ensures source { KeepsRoot S.told S.keeps source.old source.new }
+    ensures root { KeepsRoot R.told R.keeps root.old root.new }
+    ensures log { KeepsLog L.told L.keeps log.old log.new }
+    ensures fails { TellFails result
+        (failures (S.failed source.old) (R.failed root.old) (L.failed log.old))
+        (failures (S.failed source.new) (R.failed root.new) (L.failed log.new)) }
+    ensures says { IfErr result (λ why. SaysRightly survey.now.state.job
+        (source_tree (S.told source.old)) None (fault_of why)) }
+{
+    match sight {
+        Sight::More => Ok(true),
+        Sight::Store => {
+            check_layout(alloc, root, survey.job().layout)?;
+            Ok(true)
         }
-        NextLine::Other => Ok(None),
+        Sight::Object => {
+            tell_object(alloc, survey, counts, source, root, log)?;
+            Ok(true)
+        }
+        Sight::End => {
+            tell_end(alloc, counts.with_skipped(survey.report().skipped), log)?;
+            Ok(false)
+        }
     }
+}
+
+// Compares the object at hand, tells what was found, and counts it.
+fn tell_object<S: Source, R: Root, L: Log>(
+    alloc: Global,
+    survey: &Survey,
+    counts: &mut Counts,
+    source: &mut S,
+    root: &mut R,
+    log: &mut L,
+) -> Result<(), Halt>
+    requires under_way { Surveys (S.told source.old) survey.now }
+    requires at_hand { sight_at survey.now.phase ≡ sight.Object }
+    ensures on { (first : Option (List ℕ)) → IsSeen (S.told source.old)
+        (tree_in (S.told source.old)) (tree_in (R.told root.old)) first (L.told log.old)
+        counts.old survey.now
+        → OnOk result (IsUnderWay (S.told source.new) (tree_in (S.told source.old))
+        (tree_in (R.told root.old)) first (L.told log.new) counts.new survey.now) }
+    ensures still { OnOk result (Surveys (S.told source.new) survey.now) }
+    ensures source { KeepsRoot S.told S.keeps source.old source.new }
+    ensures root { KeepsRoot R.told R.keeps root.old root.new }
+    ensures log { KeepsLog L.told L.keeps log.old log.new }
+    ensures fails { FailsAs result
+        (failures (S.failed source.old) (R.failed root.old) (L.failed log.old))
+        (failures (S.failed source.new) (R.failed root.new) (L.failed log.new)) }
+{
+    let Some(hand) = survey.at_hand()? else {
+        unreachable!()
+    };
+    let finding = found(alloc, source, root, survey.job(), &hand)?;
+    let line = object_line(alloc, &hand.told, &finding)?;
+    log.put(line.as_bytes()).map_err(Halt::of_log)?;
+    *counts = counts.with(&finding);
+    Ok(())
+}
+
+// What is found of the object at hand.
+fn found<S: Source, R: Root>(
+    alloc: Global,
+    source: &mut S,
+    root: &mut R,
+    job: &Job,
+    hand: &AtHand<'_>,
+) -> Result<Finding, Halt>
+    requires { CanCompare (S.told source.old) hand.now }
+    ensures found { IfOk result (IsFoundAtHand job.now hand.now (tree_in (S.told source.old))
+        (tree_in (R.told root.old))) }
+    ensures source { KeepsRoot S.told S.keeps source.old source.new }
+    ensures root { KeepsRoot R.told R.keeps root.old root.new }
+    ensures fails { FailsAs result (failures (S.failed source.old) (R.failed root.old) 0)
+        (failures (S.failed source.new) (R.failed root.new) 0) }
+{
+    let from = in_pairtree(hand.told.at.copy()?)?;
+    let to = in_storage_root(alloc, hand.told.to)?;
+    let object = Scanned {
+        id: hand.told.id.as_str(),
+        rows: hand.rows,
+        contents: hand.contents,
+        meta: &job.meta,
+        algorithm: job.algorithm,
+        from: &from,
+        to: &to,
+    };
+    compare(alloc, source, root, &object)
+}
+
+// Tells the end, with the counts.
+fn tell_end<L: Log>(alloc: Global, counts: Counts, log: &mut L) -> Result<(), Halt>
+    ensures told { OnOk result (Appends (L.told log.old) (L.told log.new) (last_text counts)) }
+    ensures log { KeepsLog L.told L.keeps log.old log.new }
+    ensures fails { FailsAs result (failures 0 0 (L.failed log.old)) (failures 0 0 (L.failed log.new)) }
+{
+    let line = end_line(alloc, &counts)?;
+    log.put(line.as_bytes()).map_err(Halt::of_log)
 }

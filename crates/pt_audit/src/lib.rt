@@ -1,23 +1,11 @@
-//! An audit: what a run makes of a store is held against the storage root that stands.
+//! An audit: the objects of a store are held against the storage root that stands.
 #![tactic(auto)]
 
 mod auditing;
-mod bytes;
-mod comparing;
 mod counts;
-mod difference;
-mod entries;
-mod host;
-mod inventories;
+mod layout;
 mod lines;
-mod log;
-mod names;
-mod paths;
-mod root;
 
 pub use auditing::audit;
-pub use comparing::Comparing;
 pub use counts::Counts;
-pub use difference::{Difference, Finding, Why};
-pub use log::AuditLog;
-pub use root::{Root, standing};
+pub use pt_compare::{Difference, Finding, Root, Why};

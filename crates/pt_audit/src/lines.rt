@@ -6,7 +6,7 @@ ghost use Rattle.serde_json.specs.View.{view};
 ghost use Rattle.serde_json.specs.Written.{compact_text, has_float};
 ghost use Rattle.pt_audit.specs.Lines.{line_by, line_text, line_tree};
 ghost use Rattle.pt_audit.specs.Lines as line;
-ghost use Rattle.pt_audit.specs.Telling.{told_of};
+ghost use Rattle.pt_audit.specs.Lines.{told_of};
 
 use crate::{Counts, Difference, Finding};
 use pt_move::Carried;

@@ -1,11 +1,11 @@
 pub mod Bounds
+pub mod Carried
 pub mod Counting
 pub mod Fault
 pub mod Held
 pub mod Leaving
 pub mod Lines
 pub mod Migrates
-pub mod NextLine
 pub mod Outcome
 pub mod Promises
 pub mod Running

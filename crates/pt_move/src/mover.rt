@@ -12,12 +12,10 @@ ghost use Rattle.pt_move.specs.Running.{BeganSomewhere, HasBegun, IsBegun, IsNew
 ghost use Rattle.pt_move.specs.Stepping.{Any, IsReady, Made, Stays, Steps, most_calls_at};
 
 use crate::Fault;
-use crate::turning::turn;
-use pt_object::{Contents, Hasher, Rows};
+use crate::turning::{new_state, turn};
 use pt_plan::{Halt, Phase};
 use pt_state::{Devices, Job, Outside, Report, State};
-use pt_tree::{Block, Dest, Log, Source};
-use pt_walk::Trail;
+use pt_tree::{Dest, Log, Source};
 use std::alloc::Global;
 use std::marker::Model;
 use std::mem;
@@ -67,26 +65,9 @@ impl Mover {
     fn fresh(alloc: Global, job: Job) -> Mover
         ensures { IsNew job result }
     {
-        let hasher = Hasher::start(job.algorithm);
-        let state = State {
-            alloc,
-            job,
-            prefix: String::new(alloc),
-            trail: Trail::new(alloc),
-            rows: Rows::new(alloc),
-            contents: Contents::new(alloc),
-            block: Block::new(),
-            hasher,
-            counts: Report {
-                done: 0,
-                present: 0,
-                skipped: 0,
-                turns: 0,
-            },
-        };
         Mover {
             phase: Phase::Begin,
-            state,
+            state: new_state(alloc, job),
         }
     }
 

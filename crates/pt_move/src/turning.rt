@@ -1,6 +1,8 @@
 #![tactic(auto, using(crate::proofs::Needs::standing))]
-// One turn: what is done at each phase.
+//! One turn: what is done at each phase.
 ghost use Rattle.std.specs.Prelude.{◌<◌, []};
+ghost use Rattle.pt_plan.specs.declared.phase.Phase.TheVariants as phase;
+ghost use Rattle.pt_move.specs.Running.{IsNew};
 ghost use Rattle.pt_plan.specs.Permits.{Permits};
 ghost use Rattle.pt_state.specs.Outside.{TakesTurn};
 ghost use Rattle.pt_state.specs.States.{held_of, job_of, kept_of};
@@ -9,15 +11,42 @@ ghost use Rattle.pt_move.specs.Stands.{CanAdd, Stands};
 ghost use Rattle.pt_move.specs.Turning.{HasFed, TakesCounted};
 
 use pt_make::{copying, making, placing, telling};
+use pt_object::{Contents, Hasher, Rows};
 use pt_plan::{Halt, Phase};
 use pt_scan::{judging, reading, scanning, walking};
 use pt_start::{root, store};
-use pt_state::{Outside, State};
+use pt_state::{Job, Outside, Report, State};
+use pt_tree::Block;
+use pt_walk::Trail;
+use std::alloc::Global;
+
+/// What a run holds that is to begin: nothing, and nothing is counted.
+pub fn new_state(alloc: Global, job: Job) -> State
+    ensures { IsNew job (record { phase = phase.Begin; state = result }) }
+{
+    let hasher = Hasher::start(job.algorithm);
+    State {
+        alloc,
+        job,
+        prefix: String::new(alloc),
+        trail: Trail::new(alloc),
+        rows: Rows::new(alloc),
+        contents: Contents::new(alloc),
+        block: Block::new(),
+        hasher,
+        counts: Report {
+            done: 0,
+            present: 0,
+            skipped: 0,
+            turns: 0,
+        },
+    }
+}
 
 /// Makes the turn of a phase, which is counted as it begins, and gives the next phase, or why the run halts: `Source`,
 /// `Dest` and `Log` where that device failed, `Memory` where a growth was refused, the others where the table of turns
 /// says so (docs/MODEL.md). It is a turn of the run's definitions, whatever the devices tell.
-pub(crate) fn turn<O: Outside>(state: &mut State, phase: Phase, out: &mut O) -> Result<Phase, Halt>
+pub fn turn<O: Outside>(state: &mut State, phase: Phase, out: &mut O) -> Result<Phase, Halt>
     requires permits { Permits (job_of state.old.job) phase (held_of state.old [])
         (O.world out.old).source (O.world out.old).dest }
     requires stands { Stands phase state.old }

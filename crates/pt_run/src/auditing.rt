@@ -10,7 +10,7 @@ use crate::tally::{TalliedLog, Tally};
 use crate::terminal::Terminals;
 use crate::watch::{Progress, Watched, Watching, Words};
 use crate::{prefix, reason, running};
-use pt_audit::{Comparing, Counts};
+use pt_audit::Counts;
 use pt_folder::{HostSource, System};
 use pt_guard::begin;
 use pt_ignore::{Ignored, Ignoring};
@@ -108,15 +108,13 @@ where
     let ignores = !wanted.ignored.names().is_empty();
     let ignoring = Ignoring::new(HostSource::new(ground.store, alloc, store), wanted.ignored);
     let mut source = Watched::new(ignoring, rt, alloc, &tally, watching);
-    let root = HostSource::new(ground.folder, alloc, folder);
-    let mut dest = Comparing::new(alloc, root, wanted.job.algorithm);
+    let mut root = HostSource::new(ground.folder, alloc, folder);
     let mut log = TalliedLog::new(DurableLog::new(ground.output, file), &tally);
-    let ran = pt_audit::audit(alloc, &mut source, &mut dest, &mut log, wanted.job);
+    let ran = pt_audit::audit(alloc, &mut source, &mut root, &mut log, wanted.job);
     source.end();
     let ignoring = source.into_source();
     reason::left_out(rt, verbose & ignores, ignoring.left_out());
     let source = ignoring.into_source();
-    let root = dest.into_root();
     let status = told(rt, &ran, verbose, &source, &root, store, folder);
     let ground = Ground {
         store: source.into_system(),

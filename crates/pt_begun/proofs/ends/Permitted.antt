@@ -130,7 +130,7 @@ next_item {job} {past} {object} {here} {held} {item} at dest next =
     may_make
     (λ now is. let known = dest now is in item_may job known.0 past.placed object held.rows past.bytes _ item now known.1.started at.rows.order next known.1.at)
 
-may_open_row : {job : Job} {past : Past} {object : Object} {here : Part} {prefix : List ℕ} {held : Held} (n : ℕ) {row : Row} {reading : Option Reading} → KnowsSource job past (phase.Make object here) prefix held reading → slice_get held.rows n ≡ Some row → MayOpenRow reading object held.trail row.path
+pub may_open_row : {job : Job} {past : Past} {object : Object} {here : Part} {prefix : List ℕ} {held : Held} (n : ℕ) {row : Row} {reading : Option Reading} → KnowsSource job past (phase.Make object here) prefix held reading → slice_get held.rows n ≡ Some row → MayOpenRow reading object held.trail row.path
 unfolding MayOpenRow CanOpen
 may_open_row {job} {past} {object} {prefix} {held} n {row} source is s same =
     let known = source s same in

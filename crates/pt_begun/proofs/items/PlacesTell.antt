@@ -101,7 +101,7 @@ long_from _ _ [] = refl
 long_from job start (file ∷ some) = long_from job (start + length file.1) some
 
 -- it tells the numbers of the rows
-done_told : {job : Job} {past : Past} (source : Forest) {object : Object} {held : Held} → HeldAt job past (phase.Line object) held → HasScanned job (object_at source object (to_site object held.trail)) held.rows object.empty []
+pub done_told : {job : Job} {past : Past} (source : Forest) {object : Object} {held : Held} → HeldAt job past (phase.Line object) held → HasScanned job (object_at source object (to_site object held.trail)) held.rows object.empty []
     → line_by_outcome (trail_path (to_site object held.trail)) object.id (object_at source object (to_site object held.trail)) (place_of job.tuples object.id) (Holds (files (entries (object_at source object (to_site object held.trail)).inside))) ≡ done_line object held
 done_told {job} source {object} {held} at it =
     let what = object_at source object (to_site object held.trail) in

@@ -89,7 +89,7 @@ deep_entry job at path _ t _ is long deep =
     let sum : length at + length path ≡ length t = sym (ap length is ∙ length-append at path) ∙ long in
     ap (λ (n : ℕ). cond (nat_lt job.limits.depth n) (Some cause.Limit) None) sum ∙ ap (λ b. cond b (Some cause.Limit) None) deep
 
-fails_at_directory : {job : Job} (source : Forest) (object : Object) {rows : List Row} {empty : ℕ} (t : List Frame) {name : List ℕ} → is_proper (pairtree_of source) ≡ true → is_trail t ≡ true → current_entry t ≡ Some (name, kind.Dir) → is_passed object t (name, kind.Dir) ≡ false
+pub fails_at_directory : {job : Job} (source : Forest) (object : Object) {rows : List Row} {empty : ℕ} (t : List Frame) {name : List ℕ} → is_proper (pairtree_of source) ≡ true → is_trail t ≡ true → current_entry t ≡ Some (name, kind.Dir) → is_passed object t (name, kind.Dir) ≡ false
     → nat_lt job.limits.depth (length t) ≡ true → Fits (pairtree_of source) t → object.site ≤ length t → 0 < own_listings object t → HasScanned job (object_at source object (to_site object t)) rows empty (left_of source object t)
     → outcome job.limits (object_at source object (to_site object t)) ≡ Fails cause.Limit
 fails_at_directory source object [] proper is_one e apart deep fits within own it = absurd (cc)
@@ -101,7 +101,7 @@ fails_at_directory {job} source object {rows} (frame ∷ frames) {name} proper i
     (left_directory source object frame frames name (listing_of in_it) in_it proper fits within own e apart refl refl)
     (deep_entry job what.at (logical_path object t) (length rows) t in_it (path_in_object object t) (path_length frame frames _ is_one e) deep)
 
-fails_at_file : {job : Job} (source : Forest) (object : Object) {rows : List Row} {empty : ℕ} (t : List Frame) {name : List ℕ} → is_proper (pairtree_of source) ≡ true → current_entry t ≡ Some (name, kind.File)
+pub fails_at_file : {job : Job} (source : Forest) (object : Object) {rows : List Row} {empty : ℕ} (t : List Frame) {name : List ℕ} → is_proper (pairtree_of source) ≡ true → current_entry t ≡ Some (name, kind.File)
     → (nat_le job.limits.files (length rows) || nat_lt job.limits.path_bytes (length (joined (logical_path object t)))) || nat_lt job.limits.file_bytes (length (bytes_at (pairtree_of source) (names_to t))) ≡ true
     → Fits (pairtree_of source) t → 0 < own_listings object t → HasScanned job (object_at source object (to_site object t)) rows empty (left_of source object t) → outcome job.limits (object_at source object (to_site object t)) ≡ Fails cause.Limit
 fails_at_file source object [] proper e bad fits own it = absurd (cc)
@@ -125,7 +125,7 @@ left_other source object frame frames {name} proper fits some e =
     ∙ ap (λ (p : Path). (p, Other) ∷ entries_left object.gathered top (suc k) (advanced t)) (logical_is object frame frames k (name, kind.Other) e own)
     ∙ ap (λ (n : ℕ). (logical_path object t, Other) ∷ entries_left object.gathered top n (advanced t)) (sym own)
 
-fails_at_other : {job : Job} (source : Forest) (object : Object) {rows : List Row} {empty : ℕ} (t : List Frame) {name : List ℕ} → is_proper (pairtree_of source) ≡ true → current_entry t ≡ Some (name, kind.Other) → Fits (pairtree_of source) t → 0 < own_listings object t
+pub fails_at_other : {job : Job} (source : Forest) (object : Object) {rows : List Row} {empty : ℕ} (t : List Frame) {name : List ℕ} → is_proper (pairtree_of source) ≡ true → current_entry t ≡ Some (name, kind.Other) → Fits (pairtree_of source) t → 0 < own_listings object t
     → HasScanned job (object_at source object (to_site object t)) rows empty (left_of source object t) → outcome job.limits (object_at source object (to_site object t)) ≡ Fails cause.Other
 fails_at_other source object [] proper e fits own it = absurd (cc)
 fails_at_other source object (frame ∷ frames) {name} proper e fits own it =
@@ -133,7 +133,7 @@ fails_at_other source object (frame ∷ frames) {name} proper e fits own it =
     fails_at it (left_other source object frame frames proper fits own e) refl
 
 -- before its directory is entered
-fails_before : {job : Job} {source : Forest} {prefix : List ℕ} {object : Object} (t : List Frame) {count : ℕ} → is_trail t ≡ true → object.gathered ≡ false → nat_lt job.limits.depth (length t) ≡ true → length t ≡ object.site → IsInObject job source prefix object t count
+pub fails_before : {job : Job} {source : Forest} {prefix : List ℕ} {object : Object} (t : List Frame) {count : ℕ} → is_trail t ≡ true → object.gathered ≡ false → nat_lt job.limits.depth (length t) ≡ true → length t ≡ object.site → IsInObject job source prefix object t count
     → outcome job.limits (object_at source object (to_site object t)) ≡ Fails cause.Limit
 fails_before [] is_one apart deep same it = absurd (let some = it.some in omega (arith, some, same))
 fails_before {job} {source} {object} (frame ∷ frames) is_one apart deep same it =
@@ -146,7 +146,7 @@ fails_before {job} {source} {object} (frame ∷ frames) is_one apart deep same i
     (ap (λ b. not b && nat_lt job.limits.depth (length what.at)) apart ∙ ap (λ (n : ℕ). nat_lt job.limits.depth n) (ap length at_is ∙ path_length frame frames _ is_one entry.1) ∙ deep)
 
 -- a file is too long where too much of it was read
-too_long : (most count more : ℕ) {long : ℕ} → nat_lt most (count + more) ≡ true → count + more ≤ long → nat_lt most long ≡ true
+pub too_long : (most count more : ℕ) {long : ℕ} → nat_lt most (count + more) ≡ true → count + more ≤ long → nat_lt most long ≡ true
 too_long most count more {long} is within = let above = ltb-true most (count + more) is in lt-ltb most long (omega (arith, above, within))
 
 -- ---- each turn

@@ -50,7 +50,7 @@ pub judged_next : {job : Job} {source : Forest} {t : List Frame} {count : ℕ} �
 judged_next {job} {source} {t} {count} it = get_map (item_of job (prefix_of source)) (sites_of job.limits.depth source) count _ it.here.site
 
 -- by what the site is judged to be
-judged_verdict : (job : Job) (source : Forest) (prefix : List ℕ) (t : List Frame) {what : VerdictOn (Option ℕ)} → is_proper (pairtree_of source) ≡ true → 0 < length t → Fits (pairtree_of source) t → judged_at job prefix t ≡ what
+pub judged_verdict : (job : Job) (source : Forest) (prefix : List ℕ) (t : List Frame) {what : VerdictOn (Option ℕ)} → is_proper (pairtree_of source) ≡ true → 0 < length t → Fits (pairtree_of source) t → judged_at job prefix t ≡ what
     → verdict_of job prefix (trail_path t) (Listed (inside_at (pairtree_of source) (trail_path t))) ≡ verdict_there job source t what
 judged_verdict job source prefix [] proper some fits is = absurd (omega (arith, some))
 judged_verdict job source prefix (frame ∷ frames) proper _ fits is = judged_there job source prefix frame frames proper fits ∙ ap (verdict_there job source (frame ∷ frames)) is
@@ -60,7 +60,7 @@ path_at _ _ None _ = refl
 path_at _ _ (Some _) _ = refl
 
 -- its verdict with the prefix that was read
-with_prefix : (job : Job) {source : Forest} {prefix : List ℕ} (t : List Frame) {verdict : Verdict} → HasStarted source prefix → verdict_of job prefix (trail_path t) (Listed (inside_at (pairtree_of source) (trail_path t))) ≡ verdict → (item_judged job source t).verdict ≡ verdict
+pub with_prefix : (job : Job) {source : Forest} {prefix : List ℕ} (t : List Frame) {verdict : Verdict} → HasStarted source prefix → verdict_of job prefix (trail_path t) (Listed (inside_at (pairtree_of source) (trail_path t))) ≡ verdict → (item_judged job source t).verdict ≡ verdict
 with_prefix job {source} t started is = ap (λ (p : List ℕ). verdict_of job p (trail_path t) (Listed (inside_at (pairtree_of source) (trail_path t)))) (sym started.read) ∙ is
 
 -- ---- whether its place is taken

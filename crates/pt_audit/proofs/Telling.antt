@@ -1,0 +1,617 @@
+-- What an audit tells after each step, and after an object was compared.
+use Rattle.std.proofs.Common.{◌≡◌, ◌<◌, ℕ, suc, ◌+◌, Bool, true, false, List, [], ◌∷◌, ◌++◌, refl, ap, sym, ◌∙◌, subst, arith, inl, inr, append-nil, append_assoc, drop, length, min}
+use Rattle.std.specs.Prelude.{All, IfOk, IsSome, Option, None, Some, Result, Ok, Err, get_or, map, slice_get, option_to_list, count_by}
+use Rattle.std.specs.String.{string_bytes}
+use Rattle.std.specs.Option.{ForSome, option_map}
+use Rattle.std.specs.Io.KnownBytes.{Appends}
+use Rattle.std.proofs.lemmas.List.{drop-map}
+use Rattle.std.proofs.lemmas.Option.{slice_get-get_or}
+use Rattle.pt_audit.specs.Auditing.{CanCompare, EndsAs, Finds, GoesOn as AuditGoesOn, Nothing, HasToldOf, IsAt, IsAuditLog, IsFoundAtHand, IsFoundOf, IsSeen, IsUnderWay, Leads, Next, Passes, TellsOf, Told, counted, last_text, sought, sought_at_hand, told_at}
+use Rattle.pt_audit.specs.Counting.{counts_with, no_counts}
+use Rattle.pt_audit.specs.Failing.{BlamesRightly, FailsAs, RootFailsAs, TellFails, failures}
+use Rattle.pt_audit.specs.Lines as audit
+use Rattle.pt_audit.specs.declared.counts.Counts.{Counts}
+use Rattle.pt_begun.specs.BegunHeld.{HeldAt}
+use Rattle.pt_begun.specs.BegunSource.{SourcePart}
+use Rattle.pt_begun.specs.Past.{Past}
+use Rattle.pt_begun.proofs.ends.Permitted.{may_open_row}
+use Rattle.pt_begun.proofs.source.InPairtree.{some_same}
+use Rattle.pt_compare.specs.Found.{IsFound, Sought}
+use Rattle.pt_compare.specs.Marks.{inside}
+use Rattle.pt_compare.specs.Root.{tree_in}
+use Rattle.pt_compare.specs.declared.difference.Finding.{Finding}
+use Rattle.pt_compare.specs.declared.difference.Finding.TheVariants as found
+use Rattle.pt_move.specs.Bounds.{IsBounded}
+use Rattle.pt_move.specs.Carried.{IsCarried}
+use Rattle.pt_move.specs.Fault.{fault_of}
+use Rattle.pt_move.specs.Outcome.{SaysRightly}
+use Rattle.pt_move.specs.Running.{IsNew, Running}
+use Rattle.pt_move.proofs.Outcomes.{reading_of}
+use Rattle.pt_name.specs.Place.{place_of}
+use Rattle.pt_object.specs.Distinct.{content_of_row, distinct}
+use Rattle.pt_object.specs.FilePaths.{File, part_in_order, row_paths}
+use Rattle.pt_object.specs.Inventory.{inventory_text}
+use Rattle.pt_object.specs.Object.{rows_of, stored_files}
+use Rattle.pt_object.specs.declared.rows.Row.{Row}
+use Rattle.pt_plan.specs.Items.{Item, item_of, items}
+use Rattle.pt_plan.specs.Job.{Job}
+use Rattle.pt_plan.specs.Lines.{Line, Skipped, is_skipped, line_by_verdict, line_text}
+use Rattle.pt_plan.specs.Permits.{MayOpenRow}
+use Rattle.pt_plan.specs.Run.{Held}
+use Rattle.pt_plan.specs.Store.{has_prefix, is_store, prefix_of, sites_of}
+use Rattle.pt_plan.specs.Turn.{HasFailed}
+use Rattle.pt_plan.specs.TurnPlace.{bytes_in_rows, done_line}
+use Rattle.pt_plan.specs.TurnMake.{path_of_source}
+use Rattle.pt_plan.specs.TurnWalk.{in_pairtree, in_root}
+use Rattle.pt_plan.specs.World.{Failures, Puts, source_tree}
+use Rattle.pt_plan.specs.declared.halt.Halt.{Halt}
+use Rattle.pt_plan.specs.declared.halt.Halt.TheVariants as halt
+use Rattle.pt_plan.specs.declared.object.Object.{Object}
+use Rattle.pt_plan.specs.declared.phase.Part.TheVariants as part
+use Rattle.pt_plan.specs.declared.phase.Phase.{Phase}
+use Rattle.pt_plan.specs.declared.phase.Phase.TheVariants as phase
+use Rattle.pt_state.specs.States.{held_of, job_of}
+use Rattle.pt_state.specs.declared.job.Job as own
+use Rattle.pt_state.specs.declared.job.Report.{Report}
+use Rattle.pt_state.specs.declared.state.State.{State}
+use Rattle.pt_survey.specs.Surveying.{WasAtHand, GoesOn, HasAtHand, IsHand, IsHandAt, IsOf, IsSurvey, Leads as SeesLeads, Nothing as SeesNothing, Saw, Sees, Skips, Surveys, is_looking, sight_at}
+use Rattle.pt_survey.specs.declared.survey.AtHand as hand
+use Rattle.pt_survey.specs.declared.survey.Sight.{Sight}
+use Rattle.pt_survey.specs.declared.survey.Sight.TheVariants as sight
+use Rattle.pt_survey.proofs.Seen.{has_at_hand}
+use Rattle.pt_tree.specs.Failures.{HasRisen, greatest_count}
+use Rattle.pt_tree.specs.Forest.{Forest, file_at}
+use Rattle.pt_tree.specs.Path.{Path}
+use Rattle.pt_tree.specs.Source.{CanOpen, Reading}
+use Rattle.pt_walk.specs.Left.{bytes_at}
+
+-- ---- where it stands
+
+-- an object is at hand
+object_at_hand : (here : Phase) → sight_at here ≡ sight.Object → (object : Object) × (here ≡ phase.Line object)
+object_at_hand (phase.Line object) is = (object, refl)
+object_at_hand phase.Begin is = absurd (cc)
+object_at_hand (phase.Prefix _) is = absurd (cc)
+object_at_hand phase.Staging is = absurd (cc)
+object_at_hand phase.Root is = absurd (cc)
+object_at_hand (phase.RootMake _) is = absurd (cc)
+object_at_hand phase.RootRename is = absurd (cc)
+object_at_hand (phase.RootCheck _) is = absurd (cc)
+object_at_hand phase.OpenRoot is = absurd (cc)
+object_at_hand phase.Judge is = absurd (cc)
+object_at_hand (phase.OpenObject _) is = absurd (cc)
+object_at_hand (phase.Scan _) is = absurd (cc)
+object_at_hand (phase.Read _ _) is = absurd (cc)
+object_at_hand (phase.Make _ _) is = absurd (cc)
+object_at_hand (phase.Copy _ _ _) is = absurd (cc)
+object_at_hand (phase.Tuples _ _) is = absurd (cc)
+object_at_hand (phase.Rename _) is = absurd (cc)
+object_at_hand phase.Walk is = absurd (cc)
+object_at_hand phase.End is = absurd (cc)
+object_at_hand phase.Ended is = absurd (cc)
+
+-- where none is at hand, of the items that were seen is told
+told_there : (here : Phase) (count : ℕ) (what : Sight) → sight_at here ≡ what → what ≡ sight.More → told_at here count ≡ count
+told_there (phase.Line object) count what is more = absurd (cc)
+told_there phase.Begin count what is more = refl
+told_there (phase.Prefix _) count what is more = refl
+told_there phase.Staging count what is more = refl
+told_there phase.Root count what is more = refl
+told_there (phase.RootMake _) count what is more = refl
+told_there phase.RootRename count what is more = refl
+told_there (phase.RootCheck _) count what is more = refl
+told_there phase.OpenRoot count what is more = refl
+told_there phase.Judge count what is more = refl
+told_there (phase.OpenObject _) count what is more = refl
+told_there (phase.Scan _) count what is more = refl
+told_there (phase.Read _ _) count what is more = refl
+told_there (phase.Make _ _) count what is more = refl
+told_there (phase.Copy _ _ _) count what is more = refl
+told_there (phase.Tuples _ _) count what is more = refl
+told_there (phase.Rename _) count what is more = refl
+told_there phase.Walk count what is more = refl
+told_there phase.End count what is more = refl
+told_there phase.Ended count what is more = refl
+
+told_store : (here : Phase) (count : ℕ) → sight_at here ≡ sight.Store → told_at here count ≡ count
+told_store (phase.Line object) count is = absurd (cc)
+told_store phase.OpenRoot count is = refl
+told_store phase.Begin count is = refl
+told_store (phase.Prefix _) count is = refl
+told_store phase.Staging count is = refl
+told_store phase.Root count is = refl
+told_store (phase.RootMake _) count is = refl
+told_store phase.RootRename count is = refl
+told_store (phase.RootCheck _) count is = refl
+told_store phase.Judge count is = refl
+told_store (phase.OpenObject _) count is = refl
+told_store (phase.Scan _) count is = refl
+told_store (phase.Read _ _) count is = refl
+told_store (phase.Make _ _) count is = refl
+told_store (phase.Copy _ _ _) count is = refl
+told_store (phase.Tuples _ _) count is = refl
+told_store (phase.Rename _) count is = refl
+told_store phase.Walk count is = refl
+told_store phase.End count is = refl
+told_store phase.Ended count is = refl
+
+looking_told : (here : Phase) (count : ℕ) → is_looking here ≡ true → told_at here count ≡ count
+looking_told (phase.Line object) count is = absurd (cc)
+looking_told phase.Begin count is = refl
+looking_told (phase.Prefix _) count is = refl
+looking_told phase.Staging count is = refl
+looking_told phase.Root count is = refl
+looking_told (phase.RootMake _) count is = refl
+looking_told phase.RootRename count is = refl
+looking_told (phase.RootCheck _) count is = refl
+looking_told phase.OpenRoot count is = refl
+looking_told phase.Judge count is = refl
+looking_told (phase.OpenObject _) count is = refl
+looking_told (phase.Scan _) count is = refl
+looking_told (phase.Read _ _) count is = refl
+looking_told (phase.Make _ _) count is = refl
+looking_told (phase.Copy _ _ _) count is = refl
+looking_told (phase.Tuples _ _) count is = refl
+looking_told (phase.Rename _) count is = refl
+looking_told phase.Walk count is = refl
+looking_told phase.End count is = refl
+looking_told phase.Ended count is = refl
+
+pub no_hand : (r : Running) → sight_at r.phase ≡ sight.Object → IsHand r None → ⊥
+no_hand r is none =
+    let here = object_at_hand r.phase is in
+    subst (λ (p : Phase). IsHandAt p r.state None) here.1 none
+
+-- the survey is at its end
+end_at : (here : Phase) → sight_at here ≡ sight.End → here ≡ phase.End
+end_at phase.End is = refl
+end_at phase.Begin is = absurd (cc)
+end_at (phase.Prefix _) is = absurd (cc)
+end_at phase.Staging is = absurd (cc)
+end_at phase.Root is = absurd (cc)
+end_at (phase.RootMake _) is = absurd (cc)
+end_at phase.RootRename is = absurd (cc)
+end_at (phase.RootCheck _) is = absurd (cc)
+end_at phase.OpenRoot is = absurd (cc)
+end_at phase.Judge is = absurd (cc)
+end_at (phase.OpenObject _) is = absurd (cc)
+end_at (phase.Scan _) is = absurd (cc)
+end_at (phase.Read _ _) is = absurd (cc)
+end_at (phase.Make _ _) is = absurd (cc)
+end_at (phase.Copy _ _ _) is = absurd (cc)
+end_at (phase.Tuples _ _) is = absurd (cc)
+end_at (phase.Rename _) is = absurd (cc)
+end_at (phase.Line _) is = absurd (cc)
+end_at phase.Walk is = absurd (cc)
+end_at phase.Ended is = absurd (cc)
+
+-- ---- what a step tells
+
+-- a text that is put behind the one that was told
+put_behind : (old text more : List ℕ) (now new : Option (List ℕ)) → now ≡ Some (old ++ text) → Appends now new more → new ≡ Some (old ++ (text ++ more))
+put_behind old text more now new told puts = by new (subst (λ o. Appends o new more) told puts)
+  where
+    by : (new : Option (List ℕ)) → Appends (Some (old ++ text)) new more → new ≡ Some (old ++ (text ++ more))
+    by None puts = absurd puts
+    by (Some bytes) puts = ap (λ b. Some b) (puts ∙ append_assoc old text more)
+
+abbrev HasTold : Job → Forest → Forest → List ℕ → Option (List ℕ) → ℕ → Counts → Type 0
+HasTold job source root old now n counts = (text : List ℕ) × (now ≡ Some (old ++ text)) × Told job source root n text counts
+
+-- with what a step saw
+saw_on : (job : Job) (source root : Forest) (old : List ℕ) {here : Phase} {held : Held} (count next : ℕ) (counts : Counts) (skipped : ℕ) {line : Option Line} (now new : Option (List ℕ)) → Sees job source count here held line next → Puts line now new → skipped ≡ counts.skipped + count_by is_skipped (option_to_list line)
+    → HasTold job source root old now (told_at here count) counts → HasTold job source root old new next (record counts { skipped = skipped })
+unfolding Puts
+saw_on job source root old {here} count next counts skipped now new (SeesNothing looks) puts skips (text, told, lines) = (
+  text,
+  puts ∙ told,
+  subst (λ (n : ℕ). Told job source root count text (record counts { skipped = n })) (same_skips skips) (subst (λ (n : ℕ). Told job source root n text counts) (looking_told here count looks) lines),
+)
+  where
+    same_skips : {a b : ℕ} → a ≡ b + 0 → b ≡ a
+    same_skips is = omega (arith, is)
+saw_on job source root old {here} count next counts skipped now new (SeesLeads looks it) puts skips (text, told, lines) = (
+  text ++ [],
+  puts ∙ told ∙ ap (λ t. Some (old ++ t)) (sym (append-nil text)),
+  subst (λ (n : ℕ). Told job source root (suc count) (text ++ []) (record counts { skipped = n })) (same_skips skips)
+      (Next it.item (subst (λ (n : ℕ). Told job source root n text counts) (looking_told here count looks) lines) it.is (subst (λ (l : List Line). TellsOf job source root it.item l [] counts counts) (sym it.lines_are) Leads)),
+)
+  where
+    same_skips : {a b : ℕ} → a ≡ b + 0 → b ≡ a
+    same_skips is = omega (arith, is)
+saw_on job source root old {here} count next counts skipped now new (Skips looks at why it) puts skips (text, told, lines) = (
+  text ++ line_text (Skipped at why),
+  put_behind old text (line_text (Skipped at why)) now new told puts,
+  subst (λ (n : ℕ). Told job source root (suc count) (text ++ line_text (Skipped at why)) (record counts { skipped = n })) (one_more skipped counts.skipped skips)
+      (Next it.item (subst (λ (n : ℕ). Told job source root n text counts) (looking_told here count looks) lines) it.is
+      (subst (λ (l : List Line). TellsOf job source root it.item l (line_text (Skipped at why)) counts (record counts { skipped = counts.skipped + 1 })) (sym it.lines_are) (Passes at why))),
+)
+  where
+    one_more : (a b : ℕ) → a ≡ b + 1 → b + 1 ≡ a
+    one_more a b is = omega (arith, is)
+saw_on job source root old count next counts skipped now new (WasAtHand it) puts skips (text, told, lines) = (
+  text,
+  puts ∙ told,
+  subst (λ (n : ℕ). Told job source root (suc count) text (record counts { skipped = n })) (same_skips skips) lines,
+)
+  where
+    same_skips : {a b : ℕ} → a ≡ b + 0 → b ≡ a
+    same_skips is = omega (arith, is)
+
+-- a step of the survey was made
+pub seen_after : (told told' : Option Reading) (source root : Option Forest) (first now new : Option (List ℕ)) (counts : Counts) (before after : Running) → source_tree told ≡ source
+    → (it : IsUnderWay told source root first now counts before) → GoesOn told told' now new it.count before after → IsSeen told' source root first new counts after
+seen_after told told' source root first now new counts before after same it on = record {
+  count = on.next;
+  is = on.is;
+  so_far = λ s e r f old g.
+      let told_is = reading_of told (same ∙ e) in
+      let saw = on.saw told_is.0 told_is.1 in
+      let sees = subst (λ (t : Forest). Sees (job_of before.state.job) t it.count before.phase (held_of before.state []) saw.line on.next) told_is.2 saw.sees in
+      subst (λ (j : own.Job). HasTold (job_of j) s r old new on.next (counted counts after)) (sym on.job)
+      (saw_on (job_of before.state.job) s r old it.count on.next (counted counts before) _ now new sees saw.puts saw.skips (it.so_far s e r f old g));
+}
+
+-- more is to be seen
+pub goes_on : {told : Option Reading} {source root : Option Forest} {first : Option (List ℕ)} (now : Option (List ℕ)) (counts : Counts) (r : Running) → sight_at r.phase ≡ sight.More → IsSeen told source root first now counts r → IsUnderWay told source root first now counts r
+goes_on now counts r is it = record {
+  count = it.count;
+  is = it.is;
+  so_far = λ s e o f old g. subst (λ (n : ℕ). HasTold (job_of r.state.job) s o old now n (counted counts r)) (sym (told_there r.phase it.count sight.More is refl)) (it.so_far s e o f old g);
+}
+
+pub goes_on_store : {told : Option Reading} {source root : Option Forest} {first : Option (List ℕ)} (now : Option (List ℕ)) (counts : Counts) (r : Running) → sight_at r.phase ≡ sight.Store → IsSeen told source root first now counts r → IsUnderWay told source root first now counts r
+goes_on_store now counts r is it = record {
+  count = it.count;
+  is = it.is;
+  so_far = λ s e o f old g. subst (λ (n : ℕ). HasTold (job_of r.state.job) s o old now n (counted counts r)) (sym (told_store r.phase it.count is)) (it.so_far s e o f old g);
+}
+
+-- ---- the object at hand
+
+-- a survey at an object stands so over any source that tells this tree
+source_again : {told again : Option Reading} {r : Running} {count : ℕ} → sight_at r.phase ≡ sight.Object → source_tree again ≡ source_tree told → IsSurvey told count r → IsSurvey again count r
+source_again {told} {again} {r} {count} is same it = record {
+  fed = it.fed;
+  was = it.was;
+  past = it.past;
+  seen = it.seen;
+  is = record {
+    layout = it.is.layout;
+    held = it.is.held;
+    source = λ s e.
+        let had = reading_of told (sym same ∙ ap (option_map (λ (s : Reading). s.tree)) e) in
+        subst (λ (p : Phase). PartAt p s) (sym here.1)
+        (with_tree s had.0 had.2 (subst (λ (p : Phase). PartAt p had.0) here.1 (it.is.source had.0 had.1)));
+    dest = tt;
+    items = λ s e old f. absurd (cc);
+    log = λ s e old f. absurd (cc);
+    quiet = tt;
+    left = λ s e old f. absurd (cc);
+  };
+  stands = it.stands;
+}
+  where
+    here : (object : Object) × (r.phase ≡ phase.Line object)
+    here = object_at_hand r.phase is
+
+    PartAt : Phase → Reading → Type 0
+    PartAt p s = SourcePart (job_of r.state.job) it.past p (string_bytes r.state.prefix) (held_of r.state it.fed) s
+
+    with_tree : (s had : Reading) → had.tree ≡ s.tree → PartAt (phase.Line here.0) had → PartAt (phase.Line here.0) s
+    with_tree s had same part = subst (λ (t : Forest). PartAt (phase.Line here.0) (record { tree = t; unread = s.unread })) same
+        (record { proper = part.proper; at = part.at; bytes = part.bytes; few = part.few })
+
+pub surveys_again : (told again : Option Reading) (r : Running) → sight_at r.phase ≡ sight.Object → source_tree again ≡ source_tree told → Surveys told r → Surveys again r
+unfolding Surveys
+surveys_again told again r is same (count, it) = (count, source_again is same it)
+
+-- it can be compared
+pub can_compare : (told : Option Reading) (r : Running) (at : hand.AtHand) → sight_at r.phase ≡ sight.Object → Surveys told r → IsHand r (Some at) → CanCompare told at
+unfolding Surveys CanOpen MayOpenRow
+can_compare told r at is (count, it) mine = record {
+  contents = of.contents ∙ held.rows.contents ∙ ap (λ l. map content_of_row (distinct l)) (sym of.rows);
+  order = ap (λ l. part_in_order (row_paths l)) of.rows ∙ held.rows.order;
+  files = λ k d less s e.
+      let row = ap (λ (l : List Row). slice_get l k) (sym of.rows) ∙ slice_get-get_or at.rows.now k d less in
+      subst (λ (p : Path). IsSome (file_at s.tree (in_pairtree (p ++ (get_or at.rows.now k d).path)))) (sym of.told.at)
+      (may_open_row {here = part.Staging} k {reading = told} source row s e);
+}
+  where
+    here : (object : Object) × (r.phase ≡ phase.Line object)
+    here = object_at_hand r.phase is
+
+    of : IsOf here.0 r.state at
+    of = subst (λ (p : Phase). IsHandAt p r.state (Some at)) here.1 mine
+
+    held : HeldAt (job_of r.state.job) it.past (phase.Line here.0) (held_of r.state it.fed)
+    held = subst (λ (p : Phase). HeldAt (job_of r.state.job) it.past p (held_of r.state it.fed)) here.1 it.is.held
+
+    source : ForSome told (SourcePart (job_of r.state.job) it.past (phase.Make here.0 part.Staging) (string_bytes r.state.prefix) (held_of r.state it.fed))
+    source = λ s e.
+        let known = subst (λ (p : Phase). SourcePart (job_of r.state.job) it.past p (string_bytes r.state.prefix) (held_of r.state it.fed) s) here.1 (it.is.source s e) in
+        record { proper = known.proper; at = known.at; bytes = known.bytes; few = known.few }
+
+-- what was found of it is what is told of its item
+found_of : {job : own.Job} {source root : Forest} {count : ℕ} {object : Object} {s : State} {at : hand.AtHand} {finding : Finding} → s.job ≡ job → (it : HasAtHand (job_of job) source count object (held_of s [])) → IsOf object s at
+    → IsFound (sought_at_hand job at source) (inside root (in_root at.told.to.now)) finding → IsFoundOf (job_of job) source root it.item finding
+found_of {job} {source} {root} {count} {object} {s} {at} {finding} same it mine found = record {
+  id = object.id;
+  object = it.inner;
+  files = it.files;
+  named = it.named;
+  whole = it.whole;
+  found = subst (λ (w : Sought). IsFound w (inside root (in_root (place_of job.layout object.id))) finding) sought_is
+      (subst (λ (p : Path). IsFound (sought_at_hand job at source) (inside root (in_root p)) finding) (mine.told.to ∙ it.place) found);
+}
+  where
+    rows_are : at.rows.now ≡ rows_of job.algorithm it.files
+    rows_are = mine.rows ∙ it.rows
+
+    at_is : at.told.at ≡ it.inner.at
+    at_is = mine.told.at ∙ sym it.at
+
+    sought_is : sought_at_hand job at source ≡ sought (job_of job) source object.id it.inner it.files
+    sought_is = λ i. record {
+      algorithm = job.algorithm;
+      text = inventory_text (mine.told.id i) (rows_are i) job.meta job.algorithm;
+      stored = stored_files (rows_are i) (λ path. bytes_at source (in_pairtree (at_is i ++ path)));
+    }
+
+-- its line
+line_is : {object : Object} {s : State} {at : hand.AtHand} (finding : Finding) → IsOf object s at
+    → audit.line_text (audit.line_by (audit.told_of at.told) finding)
+    ≡ audit.line_text (audit.line_by (record { at = path_of_source object s.trail; bytes = min (bytes_in_rows s.rows) greatest_count; empty = object.empty; files = length s.rows; id = object.id; to = object.place }) finding)
+line_is finding mine = λ i. audit.line_text (audit.line_by (record { at = mine.told.at i; bytes = mine.told.bytes i; empty = mine.told.empty i; files = mine.told.files i; id = mine.told.id i; to = mine.told.to i }) finding)
+
+-- its line was put, and it is counted
+pub told_object : (told again : Option Reading) (source root : Option Forest) (first now new : Option (List ℕ)) (counts : Counts) (r : Running) (at : hand.AtHand) (finding : Finding) (text : List ℕ) (job : own.Job) (later : Counts) → job ≡ r.state.job → later ≡ counts_with finding counts → sight_at r.phase ≡ sight.Object → source_tree told ≡ source → source_tree again ≡ source_tree told
+    → IsHand r (Some at) → IsFoundAtHand job at source root finding → text ≡ audit.line_text (audit.line_by (audit.told_of at.told) finding) → Appends now new text
+    → IsSeen told source root first now counts r → IsUnderWay again source root first new later r
+told_object told again source root first now new counts r at finding text job later job_is counted_is is tree same mine found_there line puts it = record {
+  count = it.count;
+  is = source_again is same it.is;
+  so_far = subst (λ (k : Counts). HasToldOf (job_of r.state.job) source root first new (told_at r.phase it.count) (counted k r)) (sym counted_is) (λ s e o f old g.
+      let told_is = reading_of told (tree ∙ e) in
+      let had = it.so_far s e o f old g in
+      let item = subst (λ (t : Forest). HasAtHand (job_of r.state.job) t it.count here.0 (held_of r.state [])) told_is.2
+      (subst (λ (n : ℕ). HasAtHand (job_of r.state.job) told_is.0.tree n here.0 (held_of r.state [])) it.is.seen (at_hand_there told_is.0 told_is.1)) in
+      subst (λ (n : ℕ). HasTold (job_of r.state.job) s o old new n (counted (counts_with finding counts) r)) (sym (ap (λ (p : Phase). told_at p it.count) here.1)) (
+        had.0 ++ text,
+        put_behind old had.0 text now new had.1 puts,
+        subst (λ (k : Counts). Told (job_of r.state.job) s o (suc it.count) (had.0 ++ text) k) (counts_are finding)
+            (Next item.item had.2 item.is
+            (subst (λ (l : List Line). TellsOf (job_of r.state.job) s o item.item l text (counted counts r) (counts_with finding (counted counts r))) (sym item.lines_are)
+            (subst (λ (t : List ℕ). TellsOf (job_of r.state.job) s o item.item (done_line here.0 (held_of r.state []) ∷ []) t (counted counts r) (counts_with finding (counted counts r))) (sym (line ∙ line_is finding of))
+            (Finds finding (found_of refl item of (is_found s e o f)))))),
+      ));
+}
+  where
+    here : (object : Object) × (r.phase ≡ phase.Line object)
+    here = object_at_hand r.phase is
+
+    is_found : IsFoundAtHand r.state.job at source root finding
+    is_found = subst (λ (j : own.Job). IsFoundAtHand j at source root finding) job_is found_there
+
+    of : IsOf here.0 r.state at
+    of = subst (λ (p : Phase). IsHandAt p r.state (Some at)) here.1 mine
+
+    at_hand_there : (s : Reading) → told ≡ Some s → HasAtHand (job_of r.state.job) s.tree it.is.past.count here.0 (held_of r.state [])
+    at_hand_there s e =
+        let fed = it.is.fed in
+        let known = has_at_hand (subst (λ (p : Phase). HeldAt (job_of r.state.job) it.is.past p (held_of r.state fed)) here.1 it.is.is.held)
+        (subst (λ (p : Phase). SourcePart (job_of r.state.job) it.is.past p (string_bytes r.state.prefix) (held_of r.state fed) s) here.1 (it.is.is.source s e)) in
+        record { item = known.item; inner = known.inner; files = known.files; is = known.is; named = known.named; whole = known.whole; rows = known.rows; at = known.at; place = known.place; lines_are = known.lines_are }
+
+    counts_are : (f : Finding) → counts_with f (counted counts r) ≡ counted (counts_with f counts) r
+    counts_are found.Same = refl
+    counts_are found.Absent = refl
+    counts_are (found.Differs _) = refl
+
+-- ---- the end
+
+pub told_end : (told : Option Reading) (source root : Option Forest) (first now new : Option (List ℕ)) (counts : Counts) (r : Running) → sight_at r.phase ≡ sight.End → source_tree told ≡ source → Appends now new (last_text (counted counts r))
+    → IsSeen told source root first now counts r → EndsAs (job_of r.state.job) source root first new (counted counts r)
+told_end told source root first now new counts r is tree puts it = λ s e o f old g.
+    let had = it.so_far s e o f old g in
+    let told_is = reading_of told (tree ∙ e) in
+    let part = subst (λ (p : Phase). SourcePart (job_of r.state.job) it.is.past p (string_bytes r.state.prefix) (held_of r.state it.is.fed) told_is.0) (end_at r.phase is) (it.is.is.source told_is.0 told_is.1) in (
+      had.0 ++ last_text (counted counts r),
+      put_behind old had.0 (last_text (counted counts r)) now new had.1 puts,
+      record {
+        count = it.count;
+        lines = had.0;
+        told = had.2;
+        all = subst (λ (t : Forest). drop it.count (items (job_of r.state.job) t) ≡ []) told_is.2 (subst (λ (n : ℕ). drop n (items (job_of r.state.job) told_is.0.tree) ≡ []) it.is.seen
+            (drop-map (item_of (job_of r.state.job) (prefix_of told_is.0.tree)) it.is.past.count (sites_of r.state.job.limits.depth told_is.0.tree) ∙ ap (map (item_of (job_of r.state.job) (prefix_of told_is.0.tree))) part.at.2));
+        whole = refl;
+      },
+    )
+
+-- ---- what was found
+
+abbrev sought_from : own.Job → hand.AtHand → List ℕ → Path → Forest → Sought
+sought_from job at id from s = record {
+  algorithm = job.algorithm;
+  text = inventory_text id at.rows.now job.meta job.algorithm;
+  stored = stored_files at.rows.now (λ path. bytes_at s (from ++ path));
+}
+
+-- what was found of the object that was compared is what was found of the one at hand
+pub found_at_hand : (job : own.Job) (at : hand.AtHand) (id : List ℕ) (from to : Path) (source root : Option Forest) (result : Result Finding Halt) → id ≡ at.told.id.now → from ≡ in_pairtree at.told.at → to ≡ in_root at.told.to.now
+    → IfOk result (λ finding. ForSome source (λ s. ForSome root (λ r. IsFound (sought_from job at id from s) (inside r to) finding))) → IfOk result (IsFoundAtHand job at source root)
+found_at_hand job at id from to source root (Err why) id_is from_is to_is is_found = tt
+found_at_hand job at id from to source root (Ok finding) id_is from_is to_is is_found = λ s e r f.
+    subst (λ (w : Sought). IsFound w (inside r (in_root at.told.to.now)) finding) (sought_is s) (subst (λ (p : Path). IsFound (sought_from job at id from s) (inside r p) finding) to_is (is_found s e r f))
+  where
+    sought_is : (s : Forest) → sought_from job at id from s ≡ sought_at_hand job at s
+    sought_is s = λ i. record {
+      algorithm = job.algorithm;
+      text = inventory_text (id_is i) at.rows.now job.meta job.algorithm;
+      stored = stored_files at.rows.now (λ path. bytes_at s (from_is i ++ path));
+    }
+
+-- ---- by what was seen
+
+pub at_object : {told : Option Reading} {r : Running} → IsAt told sight.Object r → sight_at r.phase ≡ sight.Object
+at_object it = sym it.saw
+
+pub on_more : {told : Option Reading} {source root : Option Forest} {first : Option (List ℕ)} (now : Option (List ℕ)) (counts : Counts) (r : Running) → IsAt told sight.More r → IsSeen told source root first now counts r → IsUnderWay told source root first now counts r
+on_more now counts r at it = goes_on now counts r (sym at.saw) it
+
+pub on_store : {told : Option Reading} {source root : Option Forest} {first : Option (List ℕ)} (now : Option (List ℕ)) (counts : Counts) (r : Running) → IsAt told sight.Store r → IsSeen told source root first now counts r → IsUnderWay told source root first now counts r
+on_store now counts r at it = goes_on_store now counts r (sym at.saw) it
+
+pub on_end : (told : Option Reading) (what : Sight) (root : Option Forest) (first now new : Option (List ℕ)) (counts last : Counts) (r : Running) → what ≡ sight.End → IsAt told what r → last ≡ counted counts r → Appends now new (last_text last) → IsSeen told (source_tree told) root first now counts r
+    → EndsAs (job_of r.state.job) (source_tree told) root first new (counted counts r)
+on_end told what root first now new counts last r end at is puts it = told_end told (source_tree told) root first now new counts r (sym at.saw ∙ end) refl (subst (λ (k : Counts). Appends now new (last_text k)) is puts) it
+
+-- a device's fault and want of memory say nothing of the source
+pub says_failed : (job : own.Job) (source : Option Forest) (why : Halt) (old new : Failures) → HasFailed why old new → SaysRightly job source None (fault_of why)
+unfolding SaysRightly
+says_failed job source halt.Source old new it = (λ s e. tt, λ t e. absurd (cc), λ s t e f. absurd (cc))
+says_failed job source halt.Dest old new it = (λ s e. tt, λ t e. absurd (cc), λ s t e f. absurd (cc))
+says_failed job source halt.Log old new it = (λ s e. tt, λ t e. absurd (cc), λ s t e f. absurd (cc))
+says_failed job source halt.Memory old new it = (λ s e. tt, λ t e. absurd (cc), λ s t e f. absurd (cc))
+says_failed job source halt.NotPairtree old new it = absurd it
+says_failed job source halt.Prefix old new it = absurd it
+says_failed job source halt.StagingLeft old new it = absurd it
+says_failed job source halt.Target old new it = absurd it
+says_failed job source halt.Changed old new it = absurd it
+
+-- a root of another layout is told only of a store with a good prefix
+store_at : (here : Phase) → sight_at here ≡ sight.Store → here ≡ phase.OpenRoot
+store_at phase.OpenRoot is = refl
+store_at phase.Begin is = absurd (cc)
+store_at (phase.Prefix _) is = absurd (cc)
+store_at phase.Staging is = absurd (cc)
+store_at phase.Root is = absurd (cc)
+store_at (phase.RootMake _) is = absurd (cc)
+store_at phase.RootRename is = absurd (cc)
+store_at (phase.RootCheck _) is = absurd (cc)
+store_at phase.Judge is = absurd (cc)
+store_at (phase.OpenObject _) is = absurd (cc)
+store_at (phase.Scan _) is = absurd (cc)
+store_at (phase.Read _ _) is = absurd (cc)
+store_at (phase.Make _ _) is = absurd (cc)
+store_at (phase.Copy _ _ _) is = absurd (cc)
+store_at (phase.Tuples _ _) is = absurd (cc)
+store_at (phase.Rename _) is = absurd (cc)
+store_at (phase.Line _) is = absurd (cc)
+store_at phase.Walk is = absurd (cc)
+store_at phase.End is = absurd (cc)
+store_at phase.Ended is = absurd (cc)
+
+pub says_layout : (told : Option Reading) (r : Running) (why : Halt) (old new : ℕ) → IsAt told sight.Store r → RootFailsAs {T = Unit {0}} (Err why) old new → SaysRightly r.state.job (source_tree told) None (fault_of why)
+unfolding SaysRightly Surveys
+says_layout told r halt.Dest old new at it = (λ s e. tt, λ t e. absurd (cc), λ s t e f. absurd (cc))
+says_layout told r halt.Memory old new at it = (λ s e. tt, λ t e. absurd (cc), λ s t e f. absurd (cc))
+says_layout told r halt.Target old new at it = (λ s e. started s e at.under_way, λ t e. absurd (cc), λ s t e f. absurd (cc))
+  where
+    started : (s : Forest) → source_tree told ≡ Some s → (count : ℕ) × IsSurvey told count r → (is_store s ≡ true) × (has_prefix s ≡ true)
+    started s e (count, it) =
+        let had = reading_of told e in
+        let part = subst (λ (p : Phase). SourcePart (job_of r.state.job) it.past p (string_bytes r.state.prefix) (held_of r.state it.fed) had.0) (store_at r.phase (sym at.saw)) (it.is.source had.0 had.1) in
+        subst (λ (t : Forest). (is_store t ≡ true) × (has_prefix t ≡ true)) had.2 (part.at.2.store, part.at.2.good)
+says_layout told r halt.Source old new at it = absurd it
+says_layout told r halt.Log old new at it = absurd it
+says_layout told r halt.NotPairtree old new at it = absurd it
+says_layout told r halt.Prefix old new at it = absurd it
+says_layout told r halt.StagingLeft old new at it = absurd it
+says_layout told r halt.Changed old new at it = absurd it
+
+pub layout_fails : (why : Halt) (a b c old new : ℕ) → RootFailsAs {T = Unit {0}} (Err why) old new → TellFails {T = Bool} (Err why) (failures a old c) (failures a new c)
+layout_fails halt.Dest a b c old new it = inl (refl, it, refl)
+layout_fails halt.Memory a b c old new it = inl (ap (λ (n : ℕ). failures a n c) it)
+layout_fails halt.Target a b c old new it = inr (refl, ap (λ (n : ℕ). failures a n c) it)
+layout_fails halt.Source a b c old new it = absurd it
+layout_fails halt.Log a b c old new it = absurd it
+layout_fails halt.NotPairtree a b c old new it = absurd it
+layout_fails halt.Prefix a b c old new it = absurd it
+layout_fails halt.StagingLeft a b c old new it = absurd it
+layout_fails halt.Changed a b c old new it = absurd it
+
+-- the log's calls alone
+pub log_fails : (why : Halt) (a b old new : ℕ) → FailsAs {T = Unit {0}} (Err why) (failures 0 0 old) (failures 0 0 new) → HasFailed why (failures a b old) (failures a b new)
+log_fails halt.Source a b old new it = (rose it.0, refl, it.2)
+  where
+    rose : HasRisen 0 0 → HasRisen a a
+    rose it = absurd (omega (arith, it))
+log_fails halt.Dest a b old new it = (refl, rose it.1, it.2)
+  where
+    rose : HasRisen 0 0 → HasRisen b b
+    rose it = absurd (omega (arith, it))
+log_fails halt.Log a b old new it = (refl, refl, it.2)
+log_fails halt.Memory a b old new it = ap (λ (f : Failures). failures a b f.log) it
+log_fails halt.NotPairtree a b old new it = absurd it
+log_fails halt.Prefix a b old new it = absurd it
+log_fails halt.StagingLeft a b old new it = absurd it
+log_fails halt.Target a b old new it = absurd it
+log_fails halt.Changed a b old new it = absurd it
+
+-- ---- a step, and what was told of it
+
+pub surveys_on : (told told' : Option Reading) (now new : Option (List ℕ)) (before after : Running) → Surveys told before → ((count : ℕ) → IsSurvey told count before → GoesOn told told' now new count before after) → Surveys told' after
+unfolding Surveys
+surveys_on told told' now new before after (count, it) on = let later = on count it in (later.next, later.is)
+
+pub step_told : (more : Bool) (told told' told'' : Option Reading) (root : Option Forest) (first now new last : Option (List ℕ)) (counts later : Counts) (before after : Running) → source_tree told' ≡ source_tree told → ((count : ℕ) → IsSurvey told count before → GoesOn told told' now new count before after)
+    → ((first : Option (List ℕ)) → IsSeen told' (source_tree told') root first new counts after → AuditGoesOn more told'' (source_tree told') root first last later after) → IsUnderWay told (source_tree told) root first now counts before → AuditGoesOn more told'' (source_tree told) root first last later after
+step_told more told told' told'' root first now new last counts later before after same on tells it =
+    subst (λ (s : Option Forest). AuditGoesOn more told'' s root first last later after) same
+    (tells first (subst (λ (s : Option Forest). IsSeen told' s root first new counts after) (sym same) (seen_after told told' (source_tree told) root first now new counts before after refl it (on it.count it.is))))
+
+-- an audit that is to begin
+pub first_step : (job : own.Job) (told : Option Reading) (source root : Option Forest) (first : Option (List ℕ)) (counts : Counts) (r : Running) → IsNew job r → IsSurvey told 0 r → counts ≡ no_counts → IsUnderWay told source root first first counts r
+first_step job told source root first counts r new it none = record {
+  count = 0;
+  is = it;
+  so_far = λ s e o f old g.
+      subst (λ (n : ℕ). HasTold (job_of r.state.job) s o old first n (counted counts r)) (sym (ap (λ (p : Phase). told_at p 0) new.phase))
+      ([], g ∙ ap (λ l. Some l) (sym (append-nil old)), subst (λ (k : Counts). Told (job_of r.state.job) s o 0 [] k) (sym same) Nothing);
+}
+  where
+    same : counted counts r ≡ no_counts
+    same = ap (λ (k : Counts). counted k r) none ∙ ap (λ (c : Report). record no_counts { skipped = c.skipped }) new.counts
+
+pub surveys_first : (told : Option Reading) (count : ℕ) (r : Running) → IsSurvey told count r → Surveys told r
+unfolding Surveys
+surveys_first told count r it = (count, it)
+
+-- over trees that are the same
+pub same_trees : (more : Bool) (told : Option Reading) (source source' root root' : Option Forest) (first now : Option (List ℕ)) (counts : Counts) (r : Running) → more ≡ true → source' ≡ source → root' ≡ root → AuditGoesOn more told source root first now counts r → IsUnderWay told source' root' first now counts r
+same_trees more told source source' root root' first now counts r is s o it =
+    subst (λ (t : Option Forest). IsUnderWay told t root' first now counts r) (sym s) (subst (λ (t : Option Forest). IsUnderWay told source t first now counts r) (sym o) (subst (λ (b : Bool). AuditGoesOn b told source root first now counts r) is it))
+
+pub same_end : (more : Bool) (job : own.Job) (told : Option Reading) (source source' root root' : Option Forest) (first now : Option (List ℕ)) (counts result : Counts) (r : Running) → more ≡ false → r.state.job ≡ job → result ≡ counted counts r → source' ≡ source → root' ≡ root → AuditGoesOn more told source root first now counts r → EndsAs (job_of job) source' root' first now result
+same_end more job told source source' root root' first now counts result r is j k s o it =
+    subst (λ (x : own.Job). EndsAs (job_of x) source' root' first now result) j
+    (subst (λ (x : Counts). EndsAs (job_of r.state.job) source' root' first now x) (sym k)
+    (subst (λ (t : Option Forest). EndsAs (job_of r.state.job) t root' first now (counted counts r)) (sym s)
+    (subst (λ (t : Option Forest). EndsAs (job_of r.state.job) source t first now (counted counts r)) (sym o) (subst (λ (b : Bool). AuditGoesOn b told source root first now counts r) is it))))
+
+pub same_failures : {a b c a' b' c' : ℕ} {x : Bool} → BlamesRightly {T = Bool} (failures a b c) (failures a' b' c') (Ok x) → failures a' b' c' ≡ failures a b c
+same_failures it = λ i. failures (it.source i) (it.root i) (it.log i)
+
+-- whom both blame
+pub blames_told : (why : Halt) (a b c a' c' a'' b'' c'' : ℕ) → a' ≡ a → c' ≡ c → TellFails {T = Bool} (Err why) (failures a' b c') (failures a'' b'' c'') → BlamesRightly {T = Bool} (failures a b c) (failures a'' b'' c'') (Err (fault_of why))
+blames_told why a b c a' c' a'' b'' c'' sa sc it =
+    subst (λ (n : ℕ). BlamesRightly {T = Bool} (failures n b c) (failures a'' b'' c'') (Err (fault_of why))) sa
+    (subst (λ (n : ℕ). BlamesRightly {T = Bool} (failures a' b n) (failures a'' b'' c'') (Err (fault_of why))) sc (elim it [ inl failed ↦ by why failed | inr target ↦ not_of target ]))
+  where
+    by : (why : Halt) → HasFailed why (failures a' b c') (failures a'' b'' c'') → BlamesRightly {T = Bool} (failures a' b c') (failures a'' b'' c'') (Err (fault_of why))
+    by halt.Source failed = record { source = failed.0; root = failed.1; log = failed.2 }
+    by halt.Dest failed = record { source = failed.0; root = failed.1; log = failed.2 }
+    by halt.Log failed = record { source = failed.0; root = failed.1; log = failed.2 }
+    by halt.Memory failed = record { source = ap (λ (f : Failures). f.source) failed; root = ap (λ (f : Failures). f.dest) failed; log = ap (λ (f : Failures). f.log) failed }
+    by halt.NotPairtree failed = absurd failed
+    by halt.Prefix failed = absurd failed
+    by halt.StagingLeft failed = absurd failed
+    by halt.Target failed = absurd failed
+    by halt.Changed failed = absurd failed
+
+    not_of : (why ≡ halt.Target) × (failures a'' b'' c'' ≡ failures a' b c') → BlamesRightly {T = Bool} (failures a' b c') (failures a'' b'' c'') (Err (fault_of why))
+    not_of (is, same) = subst (λ (w : Halt). BlamesRightly {T = Bool} (failures a' b c') (failures a'' b'' c'') (Err (fault_of w))) (sym is)
+        (record { source = ap (λ (f : Failures). f.source) same; root = ap (λ (f : Failures). f.dest) same; log = ap (λ (f : Failures). f.log) same })
+
+pub ruleset auditing = (no_hand, surveys_again, can_compare, at_object, on_more, on_store, on_end, says_failed, says_layout, layout_fails, log_fails, surveys_on, blames_told, first_step, same_trees, same_end)

@@ -1,0 +1,7 @@
+use Rattle.std.proofs.Common.{rules}
+use Rattle.pt_audit.proofs.Telling.{found_at_hand}
+use Rattle.pt_audit.proofs.auditing.found.Goals as goal
+
+pub returns-clause-found : goal.returns-clause-found
+returns-clause-found g c =
+    found_at_hand c.args.job.now c.args.hand.now _ _ _ _ _ c.compare.result (search rules) (search rules) (search rules) c.compare.ensures.found

@@ -1,0 +1,17 @@
+use Rattle.std.proofs.Common.{refl, rules, subst}
+use Rattle.std.specs.Prelude.{Option, Some}
+use Rattle.pt_audit.proofs.Telling.{can_compare, told_object}
+use Rattle.pt_survey.specs.Surveying.{IsHand}
+use Rattle.pt_survey.specs.declared.survey.AtHand.{AtHand}
+use Rattle.pt_audit.proofs.auditing.tell_object.Goals as goal
+
+pub found-requires : goal.found-requires
+found-requires g c =
+    can_compare _ c.args.survey.now c.in-Some.hand c.requires.at_hand c.requires.under_way
+    (subst (λ (o : Option AtHand). IsHand c.args.survey.now o) c.in-Some.is c.in_ok-hand.ensures)
+
+pub returns-clause-on : goal.returns-clause-on
+returns-clause-on g c = λ first it.
+    told_object _ _ _ _ first _ _ c.args.counts.now c.args.survey.now c.in-Some.hand c.in_ok-finding.finding _ c.job.result.now c.with.result c.job.ensures (search rules) c.requires.at_hand refl (search rules)
+    (subst (λ (o : Option AtHand). IsHand c.args.survey.now o) c.in-Some.is c.in_ok-hand.ensures)
+    c.in_ok-finding.ensures.found c.in_ok-line.ensures (search rules) it

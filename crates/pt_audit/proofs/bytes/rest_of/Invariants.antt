@@ -1,7 +1,0 @@
-use Rattle.std.proofs.Common.{◌≡◌}
-use Rattle.pt_audit.specs.Root.{Reads, tree_in}
-use Rattle.pt_audit.proofs.Passed.{HasTaken}
-use Rattle.pt_audit.proofs.bytes.rest_of.Given as goal
-
-abbrev pub invariant-loop : goal.invariant-loop
-invariant-loop g l = (tree_in (g.R.Source.told l.root) ≡ tree_in (g.R.Source.told l.fn.root)) × Reads (g.R.Source.told l.root) × HasTaken l.bytes.items l.counter (g.R.Source.told l.fn.root) (g.R.Source.told l.root) × g.R.Source.keeps l.fn.root l.root

@@ -1,7 +1,0 @@
-use Rattle.std.proofs.Common.{ap, ◌∙◌}
-use Rattle.pt_audit.specs.Entries.{names_in}
-use Rattle.pt_audit.proofs.Noted.{first_noted}
-use Rattle.pt_audit.proofs.entries.Entries.first.Goals as goal
-
-pub returns-in_ok-names_of-in-Some : goal.returns-in_ok-names_of-in-Some
-returns-in_ok-names_of-in-Some c = first_noted (c.in-Some.text.now, c.in-Some.field-0-1.now) c.in_ok-names_of-in-Some.field-0 c.self.inside.by_text.entries c.args.self.now c.in-Some.ensures.first (c.in_ok-names_of-in-Some.ensures ∙ ap names_in c.as_slice.ensures.value) c.self.view_is

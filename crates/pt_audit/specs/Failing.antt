@@ -1,0 +1,37 @@
+-- Which device an audit blames: the root is the destination.
+use Rattle.std.specs.Prelude.{◌≡◌, ◌⊎◌, ℕ, Result, Ok, Err}
+use Rattle.pt_move.specs.Counting.{Counts}
+use Rattle.pt_move.specs.declared.fault.Fault.{Fault}
+use Rattle.pt_plan.specs.Turn.{HasFailed}
+use Rattle.pt_plan.specs.World.{Failures}
+use Rattle.pt_plan.specs.declared.halt.Halt.{Halt}
+use Rattle.pt_plan.specs.declared.halt.Halt.TheVariants as halt
+use Rattle.pt_tree.specs.Failures.{HasRisen}
+
+-- how often each failed
+abbrev pub failures : ℕ → ℕ → ℕ → Failures
+failures source root log = record { source = source; dest = root; log = log }
+
+-- the device that is blamed has failed, and no other; else memory was wanting, and none has
+abbrev pub FailsAs : {T : Type 0} → Result T Halt → Failures → Failures → Type 0
+FailsAs (Ok x) old new = new ≡ old
+FailsAs (Err why) old new = HasFailed why old new
+
+-- so it is with the calls of the root alone; or what stands there isn't of this layout, and none has failed
+abbrev pub RootFailsAs : {T : Type 0} → Result T Halt → ℕ → ℕ → Type 0
+RootFailsAs (Ok x) old new = new ≡ old
+RootFailsAs (Err halt.Dest) old new = HasRisen old new
+RootFailsAs (Err halt.Memory) old new = new ≡ old
+RootFailsAs (Err halt.Target) old new = new ≡ old
+RootFailsAs (Err why) old new = ⊥
+
+-- or so it is with all calls
+abbrev pub TellFails : {T : Type 0} → Result T Halt → Failures → Failures → Type 0
+TellFails (Ok x) old new = new ≡ old
+TellFails (Err why) old new = HasFailed why old new ⊎ ((why ≡ halt.Target) × (new ≡ old))
+
+-- a device is blamed only where its count of failures rose, and else its count stayed
+pub record BlamesRightly {T : Type 0} (old new : Failures) (result : Result T Fault) : Type 0 where
+  pub source : Counts 1 old.source new.source result
+  pub root : Counts 2 old.dest new.dest result
+  pub log : Counts 3 old.log new.log result

@@ -1,0 +1,88 @@
+-- What stands on the way to a path of a root that tells.
+use Rattle.std.proofs.Common.{◌≡◌, ◌<◌, ◌+◌, ℕ, List, [], ◌∷◌, ◌++◌, true, false, drop, get_or, length, refl, sym, ap, subst, take, ◌∙◌}
+use Rattle.std.proofs.lemmas.List.{drop_more, take-append-drop}
+use Rattle.std.specs.Prelude.{Option, None, Some, IsSome}
+use Rattle.std.specs.Option.{option_map, option_map_or, option_and_then, ForSome}
+use Rattle.pt_tree.specs.Forest.{Forest, Node, File, Dir, Other, as_dir, as_file, dir_at, file_at, find, kind_of, node_at}
+use Rattle.pt_tree.specs.Path.{Path, parent}
+use Rattle.pt_tree.specs.declared.kind.Kind.{Kind}
+use Rattle.pt_tree.specs.declared.kind.Kind.TheVariants as kind
+use Rattle.pt_compare.specs.Root.{CanLook, IsSeen, Stands, is_dir, kind_at, same_kind}
+use Rattle.pt_compare.proofs.Listed.{itself}
+
+pub parent-push : (p : Path) (n : List ℕ) → parent (p ++ n ∷ []) ≡ p
+parent-push [] n = refl
+parent-push (x ∷ []) n = refl
+parent-push (x ∷ y ∷ p) n = ap (λ q. x ∷ q) (parent-push (y ∷ p) n)
+
+-- the top is a directory
+pub top_seen : (tree : Option Forest) → IsSeen tree [] (Some kind.Dir)
+top_seen tree = λ f is. refl
+
+-- what is seen stands
+pub seen_stands : (tree : Option Forest) (p : Path) (k : Kind) → IsSeen tree p (Some k) → Stands tree (p, k)
+seen_stands None p k seen = refl
+seen_stands (Some f) p k seen = ap (λ o. option_map_or (same_kind k) o false) (seen f refl) ∙ itself k
+
+pub seen_kind : (tree : Option Forest) (p : Path) (here : Option Kind) (k : Kind) → IsSeen tree p here → here ≡ Some k → Stands tree (p, k)
+seen_kind tree p here k seen is = seen_stands tree p k (subst (IsSeen tree p) is seen)
+
+below : (x : Node) (p : Path) (n : List ℕ) (q : Path) → is_dir (option_map kind_of (node_at x p)) ≡ false → node_at x (p ++ n ∷ q) ≡ None
+below (File b) [] n q other = refl
+below Other [] n q other = refl
+below (Dir d) [] n q other = absurd (cc)
+below (File b) (m ∷ p) n q other = refl
+below Other (m ∷ p) n q other = refl
+below (Dir d) (m ∷ p) n q other = on (find d m) (λ x. below x p n q) other
+  where
+    on : (o : Option Node) → ((x : Node) → is_dir (option_map kind_of (node_at x p)) ≡ false → node_at x (p ++ n ∷ q) ≡ None)
+        → is_dir (option_map kind_of (option_and_then (λ x. node_at x p) o)) ≡ false → option_and_then (λ x. node_at x (p ++ n ∷ q)) o ≡ None
+    on None deeper other = refl
+    on (Some x) deeper other = deeper x other
+
+-- below what is no directory nothing stands
+pub none_below : (tree : Option Forest) (path way : Path) (i : ℕ) (n d : List ℕ) (here : Option Kind) → i < length path → n ≡ get_or path i d → way ≡ take i path
+    → IsSeen tree way here → is_dir here ≡ false → IsSeen tree path None
+none_below tree path way i n d here within is way_is seen other =
+    let whole : way ++ n ∷ drop (i + 1) path ≡ path = ap (λ (p : Path). p ++ n ∷ drop (i + 1) path) way_is ∙ ap (λ (p : Path). take i path ++ p) (ap (λ (x : List ℕ). x ∷ drop (i + 1) path) is ∙ sym (drop_more path i d within)) ∙ take-append-drop i path in
+    λ f told. ap (λ (p : Path). kind_at f p) (sym whole) ∙ ap (option_map kind_of) (below (Dir f) way n (drop (i + 1) path) (ap is_dir (seen f told) ∙ other))
+
+-- below a directory that is seen one may look
+pub seen_dir : (tree : Option Forest) (p : Path) (here : Option Kind) → IsSeen tree p here → is_dir here ≡ true → Stands tree (p, kind.Dir)
+seen_dir None p here seen is = refl
+seen_dir (Some f) p here seen is = ap is_dir (seen f refl) ∙ is
+
+-- the top stands as a directory
+pub top_stands : (tree : Option Forest) → Stands tree ([], kind.Dir)
+top_stands None = refl
+top_stands (Some f) = refl
+
+pub dir_of : (o : Option Node) → option_map_or (same_kind kind.Dir) (option_map kind_of o) false ≡ true → IsSome (option_and_then as_dir o)
+dir_of None e = absurd (cc)
+dir_of (Some (File b)) e = absurd (cc)
+dir_of (Some (Dir d)) e = refl
+dir_of (Some Other) e = absurd (cc)
+
+pub file_of : (o : Option Node) → option_map_or (same_kind kind.File) (option_map kind_of o) false ≡ true → IsSome (option_and_then as_file o)
+file_of None e = absurd (cc)
+file_of (Some (File b)) e = refl
+file_of (Some (Dir d)) e = absurd (cc)
+file_of (Some Other) e = absurd (cc)
+
+pub stands_dir : (tree : Option Forest) (p : Path) → Stands tree (p, kind.Dir) → ForSome tree (λ f. IsSome (dir_at f p))
+stands_dir None p stands = λ f is. absurd (cc)
+stands_dir (Some g) p stands = λ f is. let same : g ≡ f = cc in subst (λ f. IsSome (dir_at f p)) same (dir_of (node_at (Dir g) p) stands)
+
+pub stands_file : (tree : Option Forest) (p : Path) → Stands tree (p, kind.File) → ForSome tree (λ f. IsSome (file_at f p))
+stands_file None p stands = λ f is. absurd (cc)
+stands_file (Some g) p stands = λ f is. let same : g ≡ f = cc in subst (λ f. IsSome (file_at f p)) same (file_of (node_at (Dir g) p) stands)
+
+-- below a directory one may look
+pub can_look : (tree : Option Forest) (p : Path) (n : List ℕ) → Stands tree (p, kind.Dir) → CanLook tree (p ++ n ∷ [])
+unfolding CanLook
+can_look tree p n stands = λ f is. subst (λ q. IsSome (dir_at f q)) (sym (parent-push p n)) (stands_dir tree p stands f is)
+
+pub look_below : (tree : Option Forest) (p : Path) (n : List ℕ) (here : Option Kind) → IsSeen tree p here → is_dir here ≡ true → CanLook tree (p ++ n ∷ [])
+look_below tree p n here seen is = can_look tree p n (seen_dir tree p here seen is)
+
+pub ruleset roots = (top_seen, look_below)

@@ -1,0 +1,44 @@
+use Rattle.std.proofs.Common.{rules, ap, sym, ◌≡◌, ◌∙◌}
+use Rattle.std.specs.Option.{option_map}
+use Rattle.pt_compare.specs.Root.{is_reading, tree_in}
+use Rattle.pt_tree.specs.Source.{IsRead, after_next}
+use Rattle.pt_compare.proofs.Alike.{so_far_differ, so_far_end, so_far_next}
+use Rattle.pt_compare.proofs.Passed.{told_other, told_same}
+use Rattle.pt_compare.proofs.Reading.{next_reads, next_tree}
+use Rattle.pt_compare.proofs.both_sides.are_alike.Goals as goal
+
+pub returns-then-ne-clause-alike : goal.returns-then-ne-clause-alike
+returns-then-ne-clause-alike g c =
+    let read_s : IsRead (g.S.Source.told c.loop.source) c.next.new.block.items = search rules in
+    let read_r : IsRead (g.R.Source.told c.loop.root) c.next-in-loop.new.block.items = search rules in
+    so_far_differ (g.S.Source.told c.args.source.now) (g.R.Source.told c.args.root.now) (g.S.Source.told c.loop.source) (g.R.Source.told c.loop.root) c.next.new.block.items c.next-in-loop.new.block.items c.loop.invariant.so_far read_s read_r
+    (λ same. told_other c.as_slice.result.now c.next-in-loop.new.block.items c.as_slice-in-loop.result.now c.if-ne.ensures c.as_slice.ensures.value (same ∙ sym c.as_slice-in-loop.ensures.value))
+
+pub returns-then-is_empty-clause-alike : goal.returns-then-is_empty-clause-alike
+returns-then-is_empty-clause-alike g c =
+    let read_s : IsRead (g.S.Source.told c.loop.source) c.next.new.block.items = search rules in
+    let read_r : IsRead (g.R.Source.told c.loop.root) c.next-in-loop.new.block.items = search rules in
+    so_far_end (g.S.Source.told c.args.source.now) (g.R.Source.told c.args.root.now) (g.S.Source.told c.loop.source) (g.R.Source.told c.loop.root) c.next.new.block.items c.next-in-loop.new.block.items c.loop.invariant.so_far read_s read_r
+    (told_same c.as_slice.result.now c.next-in-loop.new.block.items c.as_slice-in-loop.result.now c.if-ne.ensures c.as_slice.ensures.value ∙ c.as_slice-in-loop.ensures.value) c.if-is_empty.ensures
+
+pub loop-preserved : goal.loop-preserved
+loop-preserved g c =
+    let read_s : IsRead (g.S.Source.told c.loop.source) c.next.new.block.items = search rules in
+    let read_r : IsRead (g.R.Source.told c.loop.root) c.next-in-loop.new.block.items = search rules in
+    let moved_s : g.S.Source.told c.next.new.self ≡ option_map after_next (g.S.Source.told c.loop.source) = search rules in
+    let moved_r : g.R.Source.told c.next-in-loop.new.self ≡ option_map after_next (g.R.Source.told c.loop.root) = search rules in
+    let failed_s : g.S.Source.failed c.next.new.self ≡ g.S.Source.failed c.loop.source = search rules in
+    let failed_r : g.R.Source.failed c.next-in-loop.new.self ≡ g.R.Source.failed c.loop.root = search rules in
+    let so_far = c.loop.invariant in
+    record {
+      source_keeps = g.met.S.Source.keeps_on _ _ _ so_far.source_keeps c.next.ensures.keeps;
+      source_tree = ap tree_in moved_s ∙ next_tree (g.S.Source.told c.loop.source) ∙ so_far.source_tree;
+      root_keeps = g.met.R.Source.keeps_on _ _ _ so_far.root_keeps c.next-in-loop.ensures.keeps;
+      root_tree = ap tree_in moved_r ∙ next_tree (g.R.Source.told c.loop.root) ∙ so_far.root_tree;
+      source_failed = failed_s ∙ so_far.source_failed;
+      root_failed = failed_r ∙ so_far.root_failed;
+      source_reads = ap is_reading moved_s ∙ next_reads (g.S.Source.told c.loop.source) so_far.source_reads;
+      root_reads = ap is_reading moved_r ∙ next_reads (g.R.Source.told c.loop.root) so_far.root_reads;
+      so_far = so_far_next (g.S.Source.told c.args.source.now) (g.R.Source.told c.args.root.now) (g.S.Source.told c.loop.source) (g.R.Source.told c.loop.root) (g.S.Source.told c.next.new.self) (g.R.Source.told c.next-in-loop.new.self) c.next.new.block.items c.next-in-loop.new.block.items so_far.so_far read_s read_r moved_s moved_r
+          (told_same c.as_slice.result.now c.next-in-loop.new.block.items c.as_slice-in-loop.result.now c.if-ne.ensures c.as_slice.ensures.value ∙ c.as_slice-in-loop.ensures.value);
+    }

@@ -1,0 +1,35 @@
+use Rattle.std.proofs.Common.{arith, rules, refl}
+use Rattle.pt_compare.specs.Bytes.{IsAllLeft}
+use Rattle.pt_compare.specs.Marks.{marks_of}
+use Rattle.pt_compare.specs.declared.stop.Stop.TheVariants as stop
+use Rattle.pt_plan.specs.declared.halt.Halt.TheVariants as halt
+use Rattle.pt_compare.proofs.Described.{on_none, on_some}
+use Rattle.pt_compare.proofs.Going.{halt_is}
+use Rattle.pt_compare.proofs.Single.{halted_text, text_long, text_met, text_other, unopened_text}
+use Rattle.pt_compare.proofs.meeting.meet_inventory.Goals as goal
+
+pub returns-in_err-open_file-clause-met : goal.returns-in_err-open_file-clause-met
+returns-in_err-open_file-clause-met g c = unopened_text (g.R.Source.told c.args.root.now) (g.R.Source.told c.open_file.new.root) _ _ _ _ (marks_of c.open_file.new.entries) _ c.in_err-open_file.field-0.0 c.from_residual.result c.from_residual.ensures.1 c.in_err-open_file.ensures.opened
+
+pub returns-in_err-stands-clause-met : goal.returns-in_err-stands-clause-met
+returns-in_err-stands-clause-met g c = halted_text _ _ _ _ _ _ c.from_residual-in_err-stands.result c.in_err-stands.field-0.0 c.from_residual-in_err-stands.ensures.1 (first_of (search rules, search (rules, halt_is), grind (arith, halt_is)))
+
+pub returns-in_err-text-clause-met : goal.returns-in_err-text-clause-met
+returns-in_err-text-clause-met g c = halted_text _ _ _ _ _ _ c.from_residual-in_err-text.result (stop.Halt halt.Memory) c.from_residual-in_err-text.ensures.1 tt
+
+pub returns-in_default-clause-met : goal.returns-in_default-clause-met
+returns-in_default-clause-met g c =
+    let all : IsAllLeft (g.R.Source.told c.open_file.new.root) c.in_ok-stands.field-0 = search rules in
+    text_long (g.R.Source.told c.args.root.now) (g.R.Source.told c.open_file.new.root) c.args.place.now c.args.path c.args.made.now (marks_of c.args.entries.now) (marks_of c.open_file.new.entries) c.in_ok-stands.field-0 c.other_bytes.result _ refl c.other_bytes.ensures c.in_ok-open_file.ensures.opened all c.in_default.is
+
+pub returns-in-Some-2-clause-met : goal.returns-in-Some-2-clause-met
+returns-in-Some-2-clause-met g c =
+    let all : IsAllLeft (g.R.Source.told c.open_file.new.root) c.in_ok-stands.field-0 = search rules in
+    text_met (g.R.Source.told c.args.root.now) (g.R.Source.told c.open_file.new.root) c.args.place.now c.args.path c.args.made.now (marks_of c.args.entries.now) (marks_of c.open_file.new.entries) c.in_ok-stands.field-0 c.in-Some.stands c.in-Some-2.text _ refl c.in_ok-open_file.ensures.opened all c.in-Some.is
+    (on_some c.in_ok-text.field-0 c.in-Some-2.text _ _ c.in-Some-2.is c.in_ok-text.ensures)
+
+pub returns-in-None-clause-met : goal.returns-in-None-clause-met
+returns-in-None-clause-met g c =
+    let all : IsAllLeft (g.R.Source.told c.open_file.new.root) c.in_ok-stands.field-0 = search rules in
+    text_other (g.R.Source.told c.args.root.now) (g.R.Source.told c.open_file.new.root) c.args.place.now c.args.path c.args.made.now (marks_of c.args.entries.now) (marks_of c.open_file.new.entries) c.in_ok-stands.field-0 c.in-Some.stands c.other_bytes-in-None.result _ refl c.other_bytes-in-None.ensures c.in_ok-open_file.ensures.opened all c.in-Some.is
+    (on_none c.in_ok-text.field-0 _ _ c.in-None.is c.in_ok-text.ensures)

@@ -1,0 +1,19 @@
+use Rattle.std.proofs.Common.{subst, sym, ◌∙◌, ◌++◌, ◌∷◌, []}
+use Rattle.std.specs.Prelude.{None}
+use Rattle.pt_tree.specs.Path.{Path}
+use Rattle.pt_compare.specs.Root.{CanLook, IsSeen, tree_in}
+use Rattle.pt_compare.proofs.Roots.{look_below, none_below}
+use Rattle.pt_compare.proofs.root.standing.Goals as goal
+
+pub returns-then-not-is_dir-clause-kind : goal.returns-then-not-is_dir-clause-kind
+returns-then-not-is_dir-clause-kind g c =
+    let tree = tree_in (g.R.Source.told c.args.root.now) in
+    let at = c.loop-name.invariant in
+    subst (λ (p : Path). IsSeen tree p None) c.names-name-items.ensures
+    (none_below tree c.names-name-items.result.now c.loop-name.way c.loop-name.name-index c.name-item.result _ c.loop-name.here c.loop-name-test.true c.name-item.is at.0 at.3 (sym c.is_dir.ensures ∙ c.if-not-is_dir.true))
+
+pub kind-requires : goal.kind-requires
+kind-requires g c =
+    let at = c.loop-name.invariant in
+    subst (λ (p : Path). CanLook (tree_in (g.R.Source.told c.loop-name.root)) p) (sym c.in_ok-push.ensures.ok)
+    (subst (λ t. CanLook (tree_in t) (c.loop-name.way ++ c.in_ok-copy.field-0 ∷ [])) (sym at.1) (look_below (tree_in (g.R.Source.told c.args.root.now)) c.loop-name.way c.in_ok-copy.field-0 c.loop-name.here at.3 (sym c.is_dir.ensures ∙ c.if-not-is_dir.false)))

@@ -1,0 +1,9 @@
+pub mod Bytes
+pub mod Described
+pub mod Difference
+pub mod Entries
+pub mod Found
+pub mod Marks
+pub mod Meeting
+pub mod Parts
+pub mod Root

@@ -1,0 +1,99 @@
+#![tactic(auto, using(crate::proofs::Reading::reading, crate::proofs::Passed::passed))]
+//! The bytes of the open file of a root, held against others.
+ghost use Rattle.std.specs.Prelude.{◌≡◌, true, false, IfOk};
+ghost use Rattle.pt_tree.specs.Failures.{IsCounted};
+ghost use Rattle.pt_compare.specs.Bytes.{CameNext, IsAllLeft, IsNotNext, TellsEnd, TellsRest};
+ghost use Rattle.pt_compare.specs.Root.{Reads, tree_in};
+
+use crate::Root;
+use pt_tree::{Block, TreeFault};
+use std::alloc::Global;
+
+// How many bytes are read at a time.
+const PIECE: usize = 8192;
+
+// How many blocks of a text are read at most, the last of them empty: 2^40 - 8,192 bytes.
+const MOST: u32 = 1 << 27;
+
+/// Whether these bytes come next in the open file of a root: block by block, of which all but the last have to be full.
+pub(crate) fn come_next<R: Root>(
+    root: &mut R,
+    block: &mut Block,
+    bytes: &[u8],
+) -> Result<bool, TreeFault>
+    requires { Reads (R.told root.old) }
+    ensures tree { tree_in (R.told root.new) ≡ tree_in (R.told root.old) }
+    ensures keeps { R.keeps root.old root.new }
+    ensures failures { IsCounted (R.failed root.old) (R.failed root.new) result }
+    ensures reads { Reads (R.told root.new) }
+    ensures next { IfOk result (λ same. same ≡ true
+        → CameNext bytes.now (R.told root.old) (R.told root.new)) }
+    ensures other { IfOk result (λ same. same ≡ false → IsNotNext bytes.now (R.told root.old)) }
+{
+    let mut rest = bytes;
+    while !rest.is_empty() {
+        let (piece, behind) = rest.split_at(rest.len().min(PIECE));
+        root.next(block)?;
+        if block.as_slice() != piece {
+            return Ok(false);
+        }
+        rest = behind;
+    }
+    Ok(true)
+}
+
+/// Whether the open file of a root has no further bytes.
+pub(crate) fn has_ended<R: Root>(root: &mut R, block: &mut Block) -> Result<bool, TreeFault>
+    requires { Reads (R.told root.old) }
+    ensures tree { tree_in (R.told root.new) ≡ tree_in (R.told root.old) }
+    ensures keeps { R.keeps root.old root.new }
+    ensures failures { IsCounted (R.failed root.old) (R.failed root.new) result }
+    ensures reads { Reads (R.told root.new) }
+    ensures ended { IfOk result (TellsEnd (R.told root.old)) }
+{
+    root.next(block)?;
+    Ok(block.is_empty())
+}
+
+/// Whether the open file of a root has these bytes, and no further ones.
+pub(crate) fn are_the_rest<R: Root>(
+    root: &mut R,
+    block: &mut Block,
+    bytes: &[u8],
+) -> Result<bool, TreeFault>
+    requires { Reads (R.told root.old) }
+    ensures tree { tree_in (R.told root.new) ≡ tree_in (R.told root.old) }
+    ensures keeps { R.keeps root.old root.new }
+    ensures failures { IsCounted (R.failed root.old) (R.failed root.new) result }
+    ensures reads { Reads (R.told root.new) }
+    ensures same { IfOk result (TellsRest bytes.now (R.told root.old)) }
+{
+    if !come_next(root, block, bytes)? {
+        return Ok(false);
+    }
+    has_ended(root, block)
+}
+
+/// All that is left of the open file of a root; None where that is more than 2^40 - 8,192 bytes.
+pub(crate) fn rest_of<R: Root>(
+    alloc: Global,
+    root: &mut R,
+    block: &mut Block,
+) -> Result<Option<Vec<u8>>, TreeFault>
+    requires { Reads (R.told root.old) }
+    ensures tree { tree_in (R.told root.new) ≡ tree_in (R.told root.old) }
+    ensures keeps { R.keeps root.old root.new }
+    ensures failures { IsCounted (R.failed root.old) (R.failed root.new) result }
+    ensures reads { Reads (R.told root.new) }
+    ensures rest { IfOk result (IsAllLeft (R.told root.old)) }
+{
+    let mut bytes = Vec::new(alloc);
+    for _ in 0..MOST {
+        root.next(block)?;
+        if block.is_empty() {
+            return Ok(Some(bytes));
+        }
+        bytes.extend_from_slice(block.as_slice())?;
+    }
+    Ok(None)
+}

@@ -1,0 +1,252 @@
+//! An object of a store, held against what stands at its place in a storage root.
+ghost use Rattle.std.specs.Prelude.{◌≡◌, ◌++◌, ◌∷◌, [], IfOk, map, true, All, IfErr, None, OnOk};
+ghost use Rattle.std.specs.Option.{ForSome};
+ghost use Rattle.pt_compare.specs.Found.{HaltsAs, IsFound, IsLeft, MeetsInventories, MeetsObject, sought_of, text_of};
+ghost use Rattle.pt_compare.specs.Marks.{inside, marks_of};
+ghost use Rattle.pt_compare.specs.Meeting.{FailsAs, FailsInRoot, MeetsFrom, MeetsIn, NotedStand, both};
+ghost use Rattle.pt_compare.specs.Parts.{content_items, files_of, first_items, fronts, last_items, leads_to_last, way_items};
+ghost use Rattle.pt_compare.specs.Root.{KeepsRoot, tree_in};
+ghost use Rattle.pt_plan.specs.declared.halt.Halt.TheVariants as halt;
+ghost use Rattle.pt_object.specs.Distinct.{content_of_row, distinct};
+ghost use Rattle.pt_object.specs.FilePaths.{part_in_order, row_paths};
+ghost use Rattle.pt_tree.specs.Source.{CanOpen};
+
+use crate::entries::Entries;
+use crate::meeting::{meet_bytes, meet_content, meet_folder, meet_inventory};
+use crate::paths::{content_path, joined, path_of, sidecar_name};
+use crate::stop::Stop;
+use crate::{Difference, Finding, Root, Scanned, Why, standing};
+use pt_object::{inventory, object_declaration, sidecar};
+use pt_plan::Halt;
+use pt_tree::{Known, NamePath, Source};
+use std::alloc::Global;
+
+/// Holds an object against what stands at its place, in the order in which a run makes it (OCFL 1.1, "Object Structure"): the
+/// place itself, the declaration, the version's folder, its contents, its inventory and sidecar, and those at the top. It finds
+/// the first of them that doesn't stand so; else the first entry that stands there beside them, by the order of the texts of
+/// the paths; else that just the object stands. The inventory in the version's folder may differ from that of the rows in the
+/// moment, the user and the message of its version; the one at the top has to be the same as that, byte for byte.
+///
+/// Each side is read once. `Source` where a call of the source failed, `Dest` where one of the root did, and `Memory` where a
+/// growth was refused, or a file has more than 2^77 bytes.
+pub fn compare<S: Source, R: Root>(
+    alloc: Global,
+    source: &mut S,
+    root: &mut R,
+    object: &Scanned<'_>,
+) -> Result<Finding, Halt>
+    requires contents { object.now.contents.now
+        ≡ map content_of_row (distinct object.now.rows.now) }
+    requires order { part_in_order (row_paths object.now.rows.now) ≡ true }
+    requires files { All (λ row. CanOpen (S.told source.old) (object.now.from.now ++ row.path))
+        object.now.rows.now }
+    ensures source { KeepsRoot S.told S.keeps source.old source.new }
+    ensures root { KeepsRoot R.told R.keeps root.old root.new }
+    ensures failures { HaltsAs result (both (S.failed source.old) (R.failed root.old))
+        (both (S.failed source.new) (R.failed root.new)) }
+    ensures found { IfOk result (λ finding. ForSome (tree_in (S.told source.old))
+        (λ s. ForSome (tree_in (R.told root.old))
+        (λ r. IsFound (sought_of object.now s) (inside r object.now.to.now) finding))) }
+{
+    let here = standing(alloc, root, object.to).map_err(Halt::of_dest)?;
+    let Some(kind) = here else {
+        return Ok(Finding::Absent);
+    };
+    let mut entries = Entries::new(alloc);
+    entries.add(&NamePath::new(alloc), kind)?;
+    match meet_object(alloc, source, root, object, &mut entries) {
+        Ok(()) => left_over(&entries),
+        Err(Stop::Differs(difference)) => Ok(Finding::Differs(difference)),
+        Err(Stop::Halt(why)) => Err(why),
+    }
+}
+
+// What is found where all of an object stands, and this is still noted beside it.
+fn left_over(entries: &Entries) -> Result<Finding, Halt>
+    ensures halts { IfErr result (λ why. why ≡ halt.Memory) }
+    ensures left { IfOk result (IsLeft (marks_of entries.now)) }
+{
+    match entries.first()? {
+        Some(path) => {
+            let why = Why::Extra;
+            Ok(Finding::Differs(Difference { path, why }))
+        }
+        None => Ok(Finding::Same),
+    }
+}
+
+// Meets all of an object.
+fn meet_object<S: Source, R: Root>(
+    alloc: Global,
+    source: &mut S,
+    root: &mut R,
+    object: &Scanned<'_>,
+    entries: &mut Entries,
+) -> Result<(), Stop>
+    requires contents { object.now.contents.now
+        ≡ map content_of_row (distinct object.now.rows.now) }
+    requires files { All (λ row. CanOpen (S.told source.old) (object.now.from.now ++ row.path))
+        object.now.rows.now }
+    requires noted { NotedStand (tree_in (R.told root.old)) object.now.to.now
+        (marks_of entries.old) }
+    ensures source { KeepsRoot S.told S.keeps source.old source.new }
+    ensures root { KeepsRoot R.told R.keeps root.old root.new }
+    ensures failures { FailsAs result (both (S.failed source.old) (R.failed root.old))
+        (both (S.failed source.new) (R.failed root.new)) }
+    ensures met { ForSome (tree_in (S.told source.old)) (λ s. ForSome (tree_in (R.told root.old))
+        (λ r. MeetsObject (sought_of object.now s) (inside r object.now.to.now)
+        (marks_of entries.old) (marks_of entries.new) result)) }
+{
+    meet_first(alloc, root, object.to, entries)?;
+    meet_contents(alloc, source, root, object, entries)?;
+    meet_inventories(alloc, root, object, entries)
+}
+
+// Meets the place itself, the declaration (OCFL 1.1, "Object Conformance Declaration") and the version's folder.
+fn meet_first<R: Root>(
+    alloc: Global,
+    root: &mut R,
+    place: &NamePath,
+    entries: &mut Entries,
+) -> Result<(), Stop>
+    requires { NotedStand (tree_in (R.told root.old)) place.now (marks_of entries.old) }
+    ensures root { KeepsRoot R.told R.keeps root.old root.new }
+    ensures failures { FailsInRoot result (R.failed root.old) (R.failed root.new) }
+    ensures met { MeetsIn (tree_in (R.told root.old)) place.now first_items
+        (marks_of entries.old) (marks_of entries.new) result }
+{
+    meet_folder(root, place, entries, NamePath::new(alloc))?;
+    let declaration = path_of(alloc, &[Known::Declaration])?;
+    meet_bytes(root, place, entries, declaration, object_declaration())?;
+    let version = path_of(alloc, &[Known::Version])?;
+    meet_folder(root, place, entries, version)
+}
+
+// Meets the contents (OCFL 1.1, "Content Directory"), each with the folders on the way to it that are new.
+fn meet_contents<S: Source, R: Root>(
+    alloc: Global,
+    source: &mut S,
+    root: &mut R,
+    object: &Scanned<'_>,
+    entries: &mut Entries,
+) -> Result<(), Stop>
+    requires files { All (λ content. CanOpen (S.told source.old)
+        (object.now.from.now ++ content.path)) object.now.contents.now }
+    requires noted { NotedStand (tree_in (R.told root.old)) object.now.to.now
+        (marks_of entries.old) }
+    ensures source { KeepsRoot S.told S.keeps source.old source.new }
+    ensures root { KeepsRoot R.told R.keeps root.old root.new }
+    ensures failures { FailsAs result (both (S.failed source.old) (R.failed root.old))
+        (both (S.failed source.new) (R.failed root.new)) }
+    ensures met { MeetsFrom (tree_in (S.told source.old)) (tree_in (R.told root.old))
+        object.now.to.now
+        (λ s. content_items None (files_of s object.now.from.now object.now.contents.now))
+        (marks_of entries.old) (marks_of entries.new) result }
+    ensures stands { OnOk result (NotedStand (tree_in (R.told root.new)) object.now.to.now
+        (marks_of entries.new)) }
+{
+    let mut last = None;
+    for i in 0..object.contents.len() {
+        let Some(content) = object.contents.get(i) else {
+            return Ok(());
+        };
+        meet_way(alloc, root, object.to, entries, &last, &content.path)?;
+        let path = content_path(alloc, &content.path, content.path.len())?;
+        let from = joined(object.from, &content.path)?;
+        meet_content(source, root, object.to, entries, &path, &from)?;
+        last = Some(path);
+    }
+    Ok(())
+}
+
+// Meets the folders on the way to a content that the last content didn't need.
+fn meet_way<R: Root>(
+    alloc: Global,
+    root: &mut R,
+    place: &NamePath,
+    entries: &mut Entries,
+    last: &Option<NamePath>,
+    path: &NamePath,
+) -> Result<(), Stop>
+    requires { NotedStand (tree_in (R.told root.old)) place.now (marks_of entries.old) }
+    ensures root { KeepsRoot R.told R.keeps root.old root.new }
+    ensures failures { FailsInRoot result (R.failed root.old) (R.failed root.new) }
+    ensures met { MeetsIn (tree_in (R.told root.old)) place.now
+        (way_items last.now (fronts path.now))
+        (marks_of entries.old) (marks_of entries.new) result }
+{
+    for names in 0..path.len() {
+        let folder = content_path(alloc, path, names)?;
+        if leads_to(last, &folder) {
+            continue;
+        }
+        meet_folder(root, place, entries, folder)?;
+    }
+    Ok(())
+}
+
+// Whether a folder is on the way to the content that was met last.
+fn leads_to(last: &Option<NamePath>, folder: &NamePath) -> bool
+    ensures { result ≡ leads_to_last last.now folder.now }
+{
+    match last {
+        Some(last) => last.is_within(folder),
+        None => false,
+    }
+}
+
+// Meets the inventories and their sidecars (OCFL 1.1, "Inventory", "Inventory Digest").
+fn meet_inventories<R: Root>(
+    alloc: Global,
+    root: &mut R,
+    object: &Scanned<'_>,
+    entries: &mut Entries,
+) -> Result<(), Stop>
+    requires contents { object.now.contents.now
+        ≡ map content_of_row (distinct object.now.rows.now) }
+    requires noted { NotedStand (tree_in (R.told root.old)) object.now.to.now
+        (marks_of entries.old) }
+    ensures root { KeepsRoot R.told R.keeps root.old root.new }
+    ensures failures { FailsInRoot result (R.failed root.old) (R.failed root.new) }
+    ensures met { ForSome (tree_in (R.told root.old))
+        (λ r. MeetsInventories object.now.algorithm (text_of object.now)
+        (inside r object.now.to.now) (marks_of entries.old) (marks_of entries.new) result) }
+{
+    let made = inventory(
+        alloc,
+        object.id,
+        object.rows,
+        object.contents,
+        object.meta,
+        object.algorithm,
+    )?;
+    let path = path_of(alloc, &[Known::Version, Known::Inventory])?;
+    let stands = meet_inventory(alloc, root, object.to, entries, path, made.as_bytes())?;
+    meet_copies(alloc, root, object, entries, stands.as_str())
+}
+
+// Meets what follows from the inventory in the version's folder: its sidecar, the same inventory at the top, and the sidecar
+// there.
+fn meet_copies<R: Root>(
+    alloc: Global,
+    root: &mut R,
+    object: &Scanned<'_>,
+    entries: &mut Entries,
+    text: &str,
+) -> Result<(), Stop>
+    requires { NotedStand (tree_in (R.told root.old)) object.now.to.now (marks_of entries.old) }
+    ensures root { KeepsRoot R.told R.keeps root.old root.new }
+    ensures failures { FailsInRoot result (R.failed root.old) (R.failed root.new) }
+    ensures met { MeetsIn (tree_in (R.told root.old)) object.now.to.now
+        (last_items object.now.algorithm text.now)
+        (marks_of entries.old) (marks_of entries.new) result }
+{
+    let line = sidecar(alloc, text, object.algorithm)?;
+    let name = sidecar_name(object.algorithm);
+    let path = path_of(alloc, &[Known::Version, name])?;
+    meet_bytes(root, object.to, entries, path, line.as_bytes())?;
+    let path = path_of(alloc, &[Known::Inventory])?;
+    meet_bytes(root, object.to, entries, path, text.as_bytes())?;
+    let path = path_of(alloc, &[name])?;
+    meet_bytes(root, object.to, entries, path, line.as_bytes())
+}

@@ -1,0 +1,177 @@
+//! Single entries of an object, held against what stands at its place: one that stands is taken out of what is noted.
+ghost use Rattle.std.specs.Prelude.{◌≡◌, ◌∷◌, [], OnOk};
+ghost use Rattle.std.specs.String.{string_bytes};
+ghost use Rattle.pt_compare.specs.Marks.{is_kind_of, marks_of, without_mark};
+ghost use Rattle.pt_compare.specs.Meeting.{FailsAs, FailsInRoot, MeetsFrom, MeetsIn, MeetsTextIn, NotedStand, OpensIn, both, why_for};
+ghost use Rattle.pt_compare.specs.declared.difference.Why.TheVariants as why;
+ghost use Rattle.pt_compare.specs.declared.stop.Stop.TheVariants as stop;
+ghost use Rattle.pt_compare.specs.Root.{KeepsRoot, Reads, tree_in};
+ghost use Rattle.pt_object.specs.Script.{MakeFile, MakeFolder};
+ghost use Rattle.pt_tree.specs.Source.{CanOpen};
+ghost use Rattle.pt_walk.specs.Left.{bytes_at};
+
+use crate::both_sides::are_alike;
+use crate::bytes::{are_the_rest, rest_of};
+use crate::entries::{Entries, note};
+use crate::inventories::text_if_made;
+use crate::paths::joined;
+use crate::stop::{Stop, of_root, of_source};
+use crate::{Difference, Root, Why};
+use pt_tree::{Block, Kind, NamePath, Source};
+use std::alloc::Global;
+
+/// Meets a folder, and notes its entries.
+pub(crate) fn meet_folder<R: Root>(
+    root: &mut R,
+    place: &NamePath,
+    entries: &mut Entries,
+    path: NamePath,
+) -> Result<(), Stop>
+    requires { NotedStand (tree_in (R.told root.old)) place.now (marks_of entries.old) }
+    ensures root { KeepsRoot R.told R.keeps root.old root.new }
+    ensures failures { FailsInRoot result (R.failed root.old) (R.failed root.new) }
+    ensures met { MeetsIn (tree_in (R.told root.old)) place.now (MakeFolder path ∷ [])
+        (marks_of entries.old) (marks_of entries.new) result }
+{
+    let here = entries.take(&path)?;
+    if !is_of_kind(here, Kind::Dir) {
+        return Err(wrong(path, here));
+    }
+    let whole = joined(place, &path)?;
+    let listing = root.list(&whole).map_err(of_root)?;
+    note(entries, &path, &listing)?;
+    Ok(())
+}
+
+/// Meets a file that has these bytes.
+pub(crate) fn meet_bytes<R: Root>(
+    root: &mut R,
+    place: &NamePath,
+    entries: &mut Entries,
+    path: NamePath,
+    bytes: &[u8],
+) -> Result<(), Stop>
+    requires { NotedStand (tree_in (R.told root.old)) place.now (marks_of entries.old) }
+    ensures root { KeepsRoot R.told R.keeps root.old root.new }
+    ensures failures { FailsInRoot result (R.failed root.old) (R.failed root.new) }
+    ensures met { MeetsIn (tree_in (R.told root.old)) place.now (MakeFile path bytes.now ∷ [])
+        (marks_of entries.old) (marks_of entries.new) result }
+{
+    open_file(root, place, entries, &path)?;
+    let mut block = Block::new();
+    if are_the_rest(root, &mut block, bytes).map_err(of_root)? {
+        Ok(())
+    } else {
+        Err(other_bytes(path))
+    }
+}
+
+/// Meets a content, which has the bytes of a file of the source.
+pub(crate) fn meet_content<S: Source, R: Root>(
+    source: &mut S,
+    root: &mut R,
+    place: &NamePath,
+    entries: &mut Entries,
+    path: &NamePath,
+    from: &NamePath,
+) -> Result<(), Stop>
+    requires noted { NotedStand (tree_in (R.told root.old)) place.now (marks_of entries.old) }
+    requires file { CanOpen (S.told source.old) from.now }
+    ensures source { KeepsRoot S.told S.keeps source.old source.new }
+    ensures root { KeepsRoot R.told R.keeps root.old root.new }
+    ensures failures { FailsAs result (both (S.failed source.old) (R.failed root.old))
+        (both (S.failed source.new) (R.failed root.new)) }
+    ensures met { MeetsFrom (tree_in (S.told source.old)) (tree_in (R.told root.old)) place.now
+        (λ s. MakeFile path.now (bytes_at s from.now) ∷ [])
+        (marks_of entries.old) (marks_of entries.new) result }
+    ensures noted { OnOk result (marks_of entries.new
+        ≡ without_mark path.now (marks_of entries.old)) }
+{
+    open_file(root, place, entries, path)?;
+    source.open(from).map_err(of_source)?;
+    if are_alike(source, root)? {
+        Ok(())
+    } else {
+        Err(other_bytes(path.copy()?))
+    }
+}
+
+/// Meets the inventory in the version's folder, which has to be the one that was made but for what it says of its version,
+/// and gives its text.
+pub(crate) fn meet_inventory<R: Root>(
+    alloc: Global,
+    root: &mut R,
+    place: &NamePath,
+    entries: &mut Entries,
+    path: NamePath,
+    made: &[u8],
+) -> Result<String, Stop>
+    requires { NotedStand (tree_in (R.told root.old)) place.now (marks_of entries.old) }
+    ensures root { KeepsRoot R.told R.keeps root.old root.new }
+    ensures failures { FailsInRoot result (R.failed root.old) (R.failed root.new) }
+    ensures met { MeetsTextIn (tree_in (R.told root.old)) place.now path made.now
+        (marks_of entries.old) (marks_of entries.new) result }
+{
+    open_file(root, place, entries, &path)?;
+    let mut block = Block::new();
+    let Some(stands) = rest_of(alloc, root, &mut block).map_err(of_root)? else {
+        return Err(other_bytes(path));
+    };
+    match text_if_made(alloc, stands, made)? {
+        Some(text) => Ok(text),
+        None => Err(other_bytes(path)),
+    }
+}
+
+// Takes a file out of what is noted, and opens it.
+fn open_file<R: Root>(
+    root: &mut R,
+    place: &NamePath,
+    entries: &mut Entries,
+    path: &NamePath,
+) -> Result<(), Stop>
+    requires { NotedStand (tree_in (R.told root.old)) place.now (marks_of entries.old) }
+    ensures root { KeepsRoot R.told R.keeps root.old root.new }
+    ensures failures { FailsInRoot result (R.failed root.old) (R.failed root.new) }
+    ensures opened { OpensIn (R.told root.old) (R.told root.new) place.now path.now
+        (marks_of entries.old) (marks_of entries.new) result }
+{
+    let here = entries.take(path)?;
+    if !is_of_kind(here, Kind::File) {
+        return Err(wrong(path.copy()?, here));
+    }
+    let whole = joined(place, path)?;
+    root.open(&whole).map_err(of_root)?;
+    Ok(())
+}
+
+// Whether something of this kind is noted.
+fn is_of_kind(here: Option<Kind>, kind: Kind) -> bool
+    ensures { result ≡ is_kind_of kind here }
+{
+    match (here, kind) {
+        (Some(Kind::File), Kind::File) => true,
+        (Some(Kind::Dir), Kind::Dir) => true,
+        (Some(Kind::Other), Kind::Other) => true,
+        _ => false,
+    }
+}
+
+// What is wrong where another kind was noted, or nothing.
+fn wrong(path: NamePath, here: Option<Kind>) -> Stop
+    ensures { result ≡ stop.Differs (record { path = path; why = why_for here }) }
+{
+    let why = match here {
+        Some(_) => Why::Kind,
+        None => Why::Missing,
+    };
+    Stop::Differs(Difference { path, why })
+}
+
+// A file has other bytes.
+fn other_bytes(path: NamePath) -> Stop
+    ensures { result ≡ stop.Differs (record { path = path; why = why.Bytes }) }
+{
+    let why = Why::Bytes;
+    Stop::Differs(Difference { path, why })
+}

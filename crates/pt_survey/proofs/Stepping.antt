@@ -1,0 +1,550 @@
+-- What a step of a survey needs, and that the survey goes on.
+use Rattle.std.proofs.Common.{◌≡◌, ◌≢◌, ◌<◌, ◌+◌, arith, ℕ, suc, Bool, true, false, List, [], ◌∷◌, refl, ap, sym, ◌∙◌, subst, take}
+use Rattle.std.specs.Prelude.{◌==◌, Option, None, Some, Result, Ok, Err, count_by, option_to_list}
+use Rattle.std.specs.Option.{ForSome}
+use Rattle.std.proofs.lemmas.Bool.{true≢false}
+use Rattle.pt_name.specs.Tuples.{IsLayout}
+use Rattle.pt_object.specs.Hasher.{HasBeenFed}
+use Rattle.pt_tree.specs.Dest.{Writing}
+use Rattle.pt_tree.specs.Forest.{Forest, is_proper}
+use Rattle.pt_tree.specs.Source.{Reading}
+use Rattle.pt_tree.specs.Tree.{Tree}
+use Rattle.pt_plan.specs.Answer.{Answer, phase_after}
+use Rattle.pt_plan.specs.Job.{Job}
+use Rattle.pt_plan.specs.Lines.{Done, End, Line, Present, Skipped, is_skipped, line_text}
+use Rattle.pt_plan.specs.Permits.{Permits}
+use Rattle.pt_plan.specs.Run.{Counts, Held, Kept, Run, new_run, turning}
+use Rattle.pt_plan.specs.Turn.{Did, FailsAtFirst, FailsLater, Follows, GoesOn as TurnGoesOn, IsRefused, LeavesSome, Stays, Happens, Make, Place, Scan, Start, Turn, Walk, counted as counted_with}
+use Rattle.pt_plan.specs.TurnPlace as place
+use Rattle.pt_plan.specs.World.{Answers, Calls, Changes, Failures, LeavesFront, Puts, World, source_tree}
+use Rattle.pt_plan.specs.declared.halt.Halt.{Halt}
+use Rattle.pt_plan.specs.declared.halt.Halt.TheVariants as halt
+use Rattle.pt_plan.specs.declared.object.Object.{Object}
+use Rattle.pt_plan.specs.declared.phase.Part.{Part}
+use Rattle.pt_plan.specs.declared.phase.Part.TheVariants as part
+use Rattle.pt_plan.specs.declared.phase.Phase.{Phase}
+use Rattle.pt_plan.specs.declared.phase.Phase.TheVariants as phase
+use Rattle.pt_begun.specs.Begun.{IsPast, IsWorld, start_of}
+use Rattle.pt_begun.specs.Past.{Past, done_after, no_past, past_after}
+use Rattle.pt_begun.specs.WorkLaws.{BegunWithinWork}
+use Rattle.pt_begun.proofs.ends.NewRun.{new_past}
+use Rattle.pt_begun.proofs.ends.TurnKeeps.{turned}
+use Rattle.pt_state.specs.Outside.{world}
+use Rattle.pt_state.specs.States.{held_of, job_of, kept_of}
+use Rattle.pt_state.specs.declared.job.Job as own
+use Rattle.pt_state.specs.declared.state.State.{State}
+use Rattle.pt_move.specs.Bounds.{IsBounded}
+use Rattle.pt_move.specs.Running.{BeganSomewhere, FedUntilEnd, InProgress, IsBegun, IsNew, IsWell, Running, run_of}
+use Rattle.pt_move.specs.Stands.{Stands}
+use Rattle.pt_move.specs.Turning.{CountedTurn, HasFed}
+use Rattle.pt_move.specs.Counting.{Rose}
+use Rattle.pt_move.specs.Fault.{fault_number, fault_of}
+use Rattle.pt_move.specs.declared.fault.Fault.TheVariants as fault
+use Rattle.pt_move.specs.Leaving.{TurnLeaves}
+use Rattle.pt_move.specs.Outcome.{SaysRightly}
+use Rattle.pt_move.specs.Promises.{TurnKeeps}
+use Rattle.pt_move.proofs.Answering.{fed_going, fed_to_end, has_fed, left_by_turn, may_turn, stands_there, well_after}
+use Rattle.pt_move.proofs.Keeping.{keeps_after, tree_stays}
+use Rattle.pt_tree.specs.Failures.{HasRisen}
+use Rattle.pt_survey.specs.Bare.{bare}
+use Rattle.pt_survey.specs.Growing.{BlamesRightly, Grows, IsCounted, Leaves, grows_none}
+use Rattle.pt_plan.specs.TurnPlace.{done_line}
+use Rattle.pt_survey.specs.Surveying.{WasAtHand, GoesOn, HasAtHand, IsReady, IsSurvey, is_at_hand, Leads, Nothing, Skips, Saw, Sees, Surveys, is_looking, is_of_survey, no_start, passed, passed_part, source_alone}
+use Rattle.pt_survey.proofs.Alone.{counted_alone, no_change, no_line}
+use Rattle.pt_survey.proofs.Seen.{has_at_hand, looks_on, looks_sees}
+
+-- ---- it is a run in progress over the source alone
+
+pub going : (here : Phase) → is_of_survey here ≡ true → here ≢ phase.Ended
+going here is ended = true≢false (sym is ∙ ap is_of_survey ended)
+
+module _ {told : Option Reading} {count : ℕ} {r : Running} (a b c : ℕ) where
+  pub is_begun : IsSurvey told count r → IsBegun no_start (world told None None a b c) r
+  unfolding IsBegun BegunWithinWork
+  is_begun it = record { fed = it.fed; was = it.was; begun = (it.past, it.is, λ s e old f. absurd (cc)) }
+
+  pub began : IsSurvey told count r → BeganSomewhere (world told None None a b c) r
+  unfolding BeganSomewhere
+  began it = (no_start, is_begun it)
+
+-- ---- what its turn needs
+
+permits_any : (job : Job) (here : Phase) (held : Held) (r : Option Reading) (w v : Option Writing) → is_of_survey here ≡ true → Permits job here held r w → Permits job here held r v
+permits_any job phase.Begin held r w v is may = may
+permits_any job (phase.Prefix _) held r w v is may = may
+permits_any job phase.OpenRoot held r w v is may = may
+permits_any job phase.Judge held r w v is may = may
+permits_any job (phase.OpenObject _) held r w v is may = may
+permits_any job (phase.Scan _) held r w v is may = may
+permits_any job (phase.Read _ _) held r w v is may = may
+permits_any job phase.Walk held r w v is may = may
+permits_any job (phase.Line _) held r w v is may = may
+permits_any job phase.End held r w v is may = may
+permits_any job phase.Staging held r w v is may = absurd (true≢false (sym is))
+permits_any job phase.Root held r w v is may = absurd (true≢false (sym is))
+permits_any job (phase.RootMake _) held r w v is may = absurd (true≢false (sym is))
+permits_any job phase.RootRename held r w v is may = absurd (true≢false (sym is))
+permits_any job (phase.RootCheck _) held r w v is may = absurd (true≢false (sym is))
+permits_any job (phase.Make _ _) held r w v is may = absurd (true≢false (sym is))
+permits_any job (phase.Copy _ _ _) held r w v is may = absurd (true≢false (sym is))
+permits_any job (phase.Tuples _ _) held r w v is may = absurd (true≢false (sym is))
+permits_any job (phase.Rename _) held r w v is may = absurd (true≢false (sym is))
+permits_any job phase.Ended held r w v is may = absurd (true≢false (sym is))
+
+module _ (told : Option Reading) (here : Phase) (s : State) where
+  pub may_look : (w : Option Writing) → is_of_survey here ≡ true → Surveys told (record { phase = here; state = s }) → Permits (job_of s.job) here (held_of s []) told w
+  unfolding Surveys
+  may_look w is (count, it) = permits_any (job_of s.job) here (held_of s []) told None w is (may_turn here s (world told None None 0 0 0) (going here is) (began 0 0 0 it))
+
+  pub stands_so : is_of_survey here ≡ true → Surveys told (record { phase = here; state = s }) → Stands here s
+  unfolding Surveys
+  stands_so is (count, it) = stands_there here s (world told None None 0 0 0) (going here is) (began 0 0 0 it)
+
+  pub fed_so : is_of_survey here ≡ true → Surveys told (record { phase = here; state = s }) → HasFed here s.job.algorithm s.hasher
+  unfolding Surveys
+  fed_so is (count, it) = has_fed here s (world told None None 0 0 0) (going here is) (began 0 0 0 it)
+
+pub of_survey : (told : Option Reading) (r : Running) → Surveys told r → is_of_survey r.phase ≡ true
+unfolding Surveys
+of_survey told r (count, it) = it.stands
+
+-- ---- where a run would make something it goes on
+
+passed_past : {job : Job} {told : Option Reading} (next : Phase) {kept : Kept} {past : Past} → IsPast job no_start (source_alone told) (record { phase = next; kept = kept }) past → IsPast job no_start (source_alone told) (record { phase = passed next; kept = kept }) past
+passed_past phase.Staging it = record {
+  layout = it.layout;
+  held = record { trail = record { is_one = it.held.trail.is_one; none = it.held.trail.none; entry = tt }; ends = tt; rows = it.held.rows; behind = tt; numbers = tt; fed = tt };
+  source = λ s e. let known = it.source s e in record { proper = known.proper; at = known.at; bytes = tt; few = known.few };
+  dest = tt;
+  items = λ s e old f. absurd (cc);
+  log = λ s e old f. absurd (cc);
+  quiet = tt;
+  left = λ s e old f. absurd (cc);
+}
+passed_past (phase.Make object part.Staging) it = record {
+  layout = it.layout;
+  held = record { trail = record { is_one = it.held.trail.is_one; none = tt; entry = tt }; ends = it.held.ends; rows = it.held.rows; behind = tt; numbers = tt; fed = tt };
+  source = λ s e. let known = it.source s e in record { proper = known.proper; at = known.at; bytes = known.bytes; few = known.few };
+  dest = tt;
+  items = λ s e old f. absurd (cc);
+  log = λ s e old f. absurd (cc);
+  quiet = tt;
+  left = λ s e old f. absurd (cc);
+}
+passed_past (phase.Make object part.Declaration) it = it
+passed_past (phase.Make object part.Version) it = it
+passed_past (phase.Make object (part.Content _)) it = it
+passed_past (phase.Make object part.VersionInventory) it = it
+passed_past (phase.Make object part.VersionSidecar) it = it
+passed_past (phase.Make object part.Inventory) it = it
+passed_past (phase.Make object part.Sidecar) it = it
+passed_past phase.Begin it = it
+passed_past (phase.Prefix _) it = it
+passed_past phase.Root it = it
+passed_past (phase.RootMake _) it = it
+passed_past phase.RootRename it = it
+passed_past (phase.RootCheck _) it = it
+passed_past phase.OpenRoot it = it
+passed_past phase.Judge it = it
+passed_past (phase.OpenObject _) it = it
+passed_past (phase.Scan _) it = it
+passed_past (phase.Read _ _) it = it
+passed_past (phase.Copy _ _ _) it = it
+passed_past (phase.Tuples _ _) it = it
+passed_past (phase.Rename _) it = it
+passed_past (phase.Line _) it = it
+passed_past phase.Walk it = it
+passed_past phase.End it = it
+passed_past phase.Ended it = it
+
+passed_well : (next : Phase) {s : State} → IsWell (record { phase = next; state = s }) → IsWell (record { phase = passed next; state = s })
+passed_well phase.Staging well = record {
+  bounded = record { lines = well.bounded.lines; turns = well.bounded.turns; few = well.bounded.few; within = tt; prefix = well.bounded.prefix };
+  fresh = λ begins. absurd (cc);
+}
+passed_well (phase.Make object part.Staging) well = record {
+  bounded = record { lines = well.bounded.lines; turns = well.bounded.turns; few = well.bounded.few; within = tt; prefix = well.bounded.prefix };
+  fresh = λ begins. absurd (cc);
+}
+passed_well (phase.Make object part.Declaration) well = well
+passed_well (phase.Make object part.Version) well = well
+passed_well (phase.Make object (part.Content _)) well = well
+passed_well (phase.Make object part.VersionInventory) well = well
+passed_well (phase.Make object part.VersionSidecar) well = well
+passed_well (phase.Make object part.Inventory) well = well
+passed_well (phase.Make object part.Sidecar) well = well
+passed_well phase.Begin well = well
+passed_well (phase.Prefix _) well = well
+passed_well phase.Root well = well
+passed_well (phase.RootMake _) well = well
+passed_well phase.RootRename well = well
+passed_well (phase.RootCheck _) well = well
+passed_well phase.OpenRoot well = well
+passed_well phase.Judge well = well
+passed_well (phase.OpenObject _) well = well
+passed_well (phase.Scan _) well = well
+passed_well (phase.Read _ _) well = well
+passed_well (phase.Copy _ _ _) well = well
+passed_well (phase.Tuples _ _) well = well
+passed_well (phase.Rename _) well = well
+passed_well (phase.Line _) well = well
+passed_well phase.Walk well = well
+passed_well phase.End well = well
+passed_well phase.Ended well = well
+
+-- ---- it goes on
+
+-- what the hasher was fed has no part in what is seen
+other_fed : {job : Job} {source : Forest} {m n : ℕ} {here : Phase} (s : State) {fed : List ℕ} {line : Option Line} → Sees job source m here (held_of s fed) line n → Sees job source m here (held_of s []) line n
+other_fed s (Nothing looks) = Nothing looks
+other_fed s (Leads looks it) = Leads looks it
+other_fed s (Skips looks at why it) = Skips looks at why it
+other_fed s (WasAtHand it) = WasAtHand it
+
+skips_counted : (line : Option Line) (counts : Counts) → (counted_with line counts).skipped ≡ counts.skipped + count_by is_skipped (option_to_list line)
+skips_counted None counts = omega arith
+skips_counted (Some (Done at bytes empty files id to)) counts = omega arith
+skips_counted (Some (Present at id to)) counts = omega arith
+skips_counted (Some (Skipped at why)) counts = omega arith
+skips_counted (Some (End done present skipped)) counts = omega arith
+
+module _ (here next : Phase) (s s' : State) (told told' : Option Reading) where
+  abbrev Before : Running
+  Before = record { phase = here; state = s }
+
+  abbrev After : Running
+  After = record { phase = passed next; state = s' }
+
+  abbrev later_of : Past → List ℕ → Past
+  later_of past fed = past_after here next (held_of s fed) past
+
+  -- over the source alone it is in progress after a turn
+  past_on : {fed fed' : List ℕ} {past : Past} {calls : Calls} → Follows (job_of s.job) (turning (kept_of s fed)).counts here (kept_of s fed).prefix (held_of s fed) (kept_of s' fed').prefix (held_of s' fed') calls (Ok next)
+      → Answers calls.asked told told' → (kept_of s' fed').counts ≡ counted_with calls.line (turning (kept_of s fed)).counts → IsPast (job_of s.job) no_start (source_alone told) (run_of Before fed) past
+      → IsPast (job_of s.job) no_start (source_alone told') (record { phase = next; kept = kept_of s' fed' }) (later_of past fed)
+  past_on {fed} {fed'} {past} {calls} follows answers counts it =
+      turned (job_of s.job) past no_start (source_alone told) (source_alone told') (run_of Before fed) (kept_of s' fed') next calls follows
+      (record { source = answers; dest = no_change calls.change; log = no_line calls.line }) counts it
+
+  survey_on : {count : ℕ} (it : IsSurvey told count Before) (fed' : List ℕ) → s'.job ≡ s.job → HasBeenFed s.job.algorithm s'.hasher fed' → IsPast (job_of s.job) no_start (source_alone told') (record { phase = next; kept = kept_of s' fed' }) (later_of it.past it.fed)
+      → is_of_survey (passed next) ≡ true → IsSurvey told' (later_of it.past it.fed).count After
+  survey_on it fed' job was past stands = record {
+    fed = fed';
+    was = fed_to_end (passed next) s'.job.algorithm s'.hasher fed' (subst (λ j. HasBeenFed j.algorithm s'.hasher fed') (sym job) was);
+    past = later_of it.past it.fed;
+    seen = refl;
+    is = subst (λ j. IsPast (job_of j) no_start (source_alone told') (record { phase = passed next; kept = kept_of s' fed' }) (later_of it.past it.fed)) (sym job) (passed_past next past);
+    stands = stands;
+  }
+
+-- a turn that looks
+pub looks : (here next : Phase) (s s' : State) (told told' : Option Reading) (w : Option Writing) (l l' : Option (List ℕ)) (a b c a' b' c' : ℕ) (count : ℕ) → is_looking here ≡ true → IsSurvey told count (record { phase = here; state = s })
+    → CountedTurn here s s' (world told (Some bare) l a b c) (world told' w l' a' b' c') (Ok next) → GoesOn told told' l l' count (record { phase = here; state = s }) (record { phase = passed next; state = s' })
+unfolding CountedTurn Did
+looks here next s s' told told' w l l' a b c a' b' c' count looking it counted =
+    let made = counted.1 it.fed (fed_going s.job.algorithm s.hasher it.fed (going here it.stands) it.was) in
+    by made.0 made.1.0 made.1.1
+  where
+    later : Past
+    later = past_after here next (held_of s it.fed) it.past
+
+    by : (fed' : List ℕ) → HasBeenFed s.job.algorithm s'.hasher fed' → Turn (job_of s.job) here (turning (kept_of s it.fed)) (kept_of s' fed') (world told (Some bare) l a b c) (world told' w l' a' b' c') (Ok next)
+        → GoesOn told told' l l' count (record { phase = here; state = s }) (record { phase = passed next; state = s' })
+    by fed' was (TurnGoesOn calls _ follows did counts) = record {
+      next = later.count;
+      is = survey_on here next s s' told told' it fed' counted.0 was (past_on here next s s' told told' follows did.0.source counts it.is) (looks_on looking follows);
+      saw = λ r e. record {
+        line = calls.line;
+        sees = subst (λ (n : ℕ). Sees (job_of s.job) r.tree n here (held_of s []) calls.line later.count) it.seen
+            (other_fed s {fed = it.fed} (looks_sees looking follows it.is.held.trail.is_one (it.is.source r e) told' (subst (λ o. Answers calls.asked o told') e did.0.source) w did.0.dest));
+        puts = did.0.log;
+        skips = ap (λ (k : Counts). k.skipped) counts ∙ skips_counted calls.line (turning (kept_of s it.fed)).counts;
+      };
+      job = counted.0;
+    }
+
+at_hand_seen : {job : Job} {source : Forest} {count : ℕ} {object : Object} {held : Held} → HasAtHand job source count object held → {same : Held} → done_line object held ≡ done_line object same → Sees job source count (phase.Line object) same None (suc count)
+at_hand_seen it {same} is = WasAtHand (record { item = it.item; is = it.is; lines_are = it.lines_are ∙ ap (λ (l : Line). l ∷ []) is })
+
+-- the turn that passes it
+line_follows : {job : Job} {counts : Counts} {object : Object} {next : Phase} {prefix read : List ℕ} {held after : Held} {calls : Calls} → Follows job counts (phase.Line object) prefix held read after calls (Ok next) → (next ≡ phase.Walk) × (calls.line ≡ Some (done_line object held))
+line_follows (Start _ _ _ _ _ _ turn) = elim turn [ ]
+line_follows (Walk _ _ _ _ _ _ turn) = elim turn [ ]
+line_follows (Scan _ _ _ _ _ _ turn) = elim turn [ ]
+line_follows (Make _ _ _ _ _ _ turn) = elim turn [ ]
+line_follows (Place _ _ _ _ _ _ (place.TellsDone _ _)) = (refl, refl)
+
+-- the object at hand is passed
+pub passes : (object : Object) (next : Phase) (s s' : State) (told told' : Option Reading) (w : Option Writing) (l : Option (List ℕ)) (a b c a' b' c' : ℕ) (count : ℕ) → IsSurvey told count (record { phase = phase.Line object; state = s })
+    → CountedTurn (phase.Line object) s s' (world told (Some bare) None a b c) (world told' w None a' b' c') (Ok next) → GoesOn told told' l l count (record { phase = phase.Line object; state = s }) (record { phase = passed next; state = s' })
+unfolding CountedTurn Did Puts
+passes object next s s' told told' w l a b c a' b' c' count it counted =
+    let made = counted.1 it.fed (fed_going s.job.algorithm s.hasher it.fed (going (phase.Line object) it.stands) it.was) in
+    by made.0 made.1.0 made.1.1
+  where
+    later : Past
+    later = past_after (phase.Line object) next (held_of s it.fed) it.past
+
+    by : (fed' : List ℕ) → HasBeenFed s.job.algorithm s'.hasher fed' → Turn (job_of s.job) (phase.Line object) (turning (kept_of s it.fed)) (kept_of s' fed') (world told (Some bare) None a b c) (world told' w None a' b' c') (Ok next)
+        → GoesOn told told' l l count (record { phase = phase.Line object; state = s }) (record { phase = passed next; state = s' })
+    by fed' was (TurnGoesOn calls _ follows did kept) =
+        let walks = line_follows follows in
+        record {
+          next = later.count;
+          is = survey_on (phase.Line object) next s s' told told' it fed' counted.0 was (past_on (phase.Line object) next s s' told told' follows did.0.source kept it.is) (ap (λ (p : Phase). is_of_survey (passed p)) walks.0);
+          saw = λ r e. record {
+            line = None;
+            sees = subst (λ (n : ℕ). Sees (job_of s.job) r.tree n (phase.Line object) (held_of s []) None later.count) it.seen
+                (subst (λ (n : ℕ). Sees (job_of s.job) r.tree it.past.count (phase.Line object) (held_of s []) None n) (sym (ap (λ (p : Phase). done_after (phase.Line object) s.trail p it.past.count) walks.0))
+                (at_hand_seen (has_at_hand it.is.held (it.is.source r e)) refl));
+            puts = refl;
+            skips = ap (λ (k : Counts). k.skipped) kept ∙ ap (λ (line : Option Line). (counted_with line (turning (kept_of s it.fed)).counts).skipped) walks.1 ∙ skips_counted None (turning (kept_of s it.fed)).counts;
+          };
+          job = counted.0;
+        }
+
+-- ---- what a turn leaves, whatever it answers
+
+module _ (here : Phase) (s s' : State) (told told' : Option Reading) (w v : Option Writing) (l l' : Option (List ℕ)) (a b c a' b' c' : ℕ) (answer : Answer) where
+  abbrev Old : World
+  Old = world told None None a b c
+
+  abbrev New : World
+  New = world told' None None a' b' c'
+
+  abbrev Counted : Type 0
+  Counted = CountedTurn here s s' (world told w l a b c) (world told' v l' a' b' c') answer
+
+  alone : Counted → CountedTurn here s s' Old New answer
+  alone counted = counted_alone here s s' told told' w v l l' a b c a' b' c' answer counted
+
+  pub tree_of_turn : Surveys told (record { phase = here; state = s }) → Counted → source_tree told' ≡ source_tree told
+  unfolding Surveys
+  tree_of_turn (count, it) counted = tree_stays here s s' Old New answer (going here it.stands) (began a b c it) (alone counted)
+
+  pub well_of_turn : Surveys told (record { phase = here; state = s }) → IsWell (record { phase = here; state = s }) → s.counts.turns < s.job.limits.turns → Counted → IsWell (record { phase = phase_after answer; state = s' })
+  unfolding Surveys
+  well_of_turn (count, it) well more counted = well_after here s s' Old New answer (going here it.stands) (began a b c it) well more (alone counted)
+
+  pub leaves_of_turn : Surveys told (record { phase = here; state = s }) → Counted → TurnLeaves s s' None None (record { source = a; dest = b; log = c }) (record { source = a'; dest = b'; log = c' }) answer
+  unfolding Surveys
+  leaves_of_turn (count, it) counted = left_by_turn here s s' Old New answer (going here it.stands) (began a b c it) (alone counted)
+
+-- what stood in the log stands
+put_grows : (line : Option Line) (l l' : Option (List ℕ)) → Puts line l l' → Grows l l'
+unfolding Puts
+put_grows None l l' same = subst (Grows l) (sym same) (grows_none l)
+put_grows (Some line) l l' puts = (line_text line, puts)
+
+front_grows : (line : Option Line) (l l' : Option (List ℕ)) → LeavesFront line l l' → Grows l l'
+front_grows None l l' same = subst (Grows l) (sym same) (grows_none l)
+front_grows (Some line) l l' (n, puts) = (take n (line_text line), puts)
+
+pub log_of_turn : (here : Phase) (s s' : State) (told told' : Option Reading) (w v : Option Writing) (l l' : Option (List ℕ)) (a b c a' b' c' : ℕ) (answer : Answer) → Surveys told (record { phase = here; state = s }) → CountedTurn here s s' (world told w l a b c) (world told' v l' a' b' c') answer → Grows l l'
+unfolding Surveys CountedTurn Did Stays LeavesSome
+log_of_turn here s s' told told' w v l l' a b c a' b' c' answer (count, it) counted =
+    by (counted.1 it.fed (fed_going s.job.algorithm s.hasher it.fed (going here it.stands) it.was)).1.1
+  where
+    by : {before after : Kept} {answer : Answer} → Turn (job_of s.job) here before after (world told w l a b c) (world told' v l' a' b' c') answer → Grows l l'
+    by (TurnGoesOn calls _ _ did _) = put_grows calls.line l l' did.0.log
+    by (IsRefused _ _ calls _ _ did _) = put_grows calls.line l l' did.0.log
+    by (FailsAtFirst _ stays _) = subst (Grows l) (sym stays.2) (grows_none l)
+    by (FailsLater _ _ calls _ _ _ _ left _ _) = front_grows calls.line l l' left.0.log
+
+-- whom it blames
+risen_none : HasRisen 0 0 → ⊥
+risen_none risen = absurd (omega (arith, risen))
+
+pub blames_halted : {T : Type 0} {s s' : State} {a c a' c' : ℕ} (why : Halt) → TurnLeaves s s' None None (record { source = a; dest = 0; log = c }) (record { source = a'; dest = 0; log = c' }) (Err why) → BlamesRightly {T = T} a a' c c' (Err (fault_of why))
+blames_halted halt.Source left = record { source_is = left.failures.0; log_is = left.failures.2; no_dest = λ is. absurd (cc) }
+blames_halted halt.Dest left = absurd (risen_none left.failures.1)
+blames_halted halt.Log left = record { source_is = left.failures.0; log_is = left.failures.2; no_dest = λ is. absurd (cc) }
+blames_halted halt.Memory left = record { source_is = ap (λ (f : Failures). f.source) left.failures; log_is = ap (λ (f : Failures). f.log) left.failures; no_dest = λ is. absurd (cc) }
+blames_halted halt.NotPairtree left = record { source_is = ap (λ (f : Failures). f.source) left.failures; log_is = ap (λ (f : Failures). f.log) left.failures; no_dest = λ is. absurd (cc) }
+blames_halted halt.Prefix left = record { source_is = ap (λ (f : Failures). f.source) left.failures; log_is = ap (λ (f : Failures). f.log) left.failures; no_dest = λ is. absurd (cc) }
+blames_halted halt.StagingLeft left = record { source_is = ap (λ (f : Failures). f.source) left.failures; log_is = ap (λ (f : Failures). f.log) left.failures; no_dest = λ is. absurd (cc) }
+blames_halted halt.Target left = record { source_is = ap (λ (f : Failures). f.source) left.failures; log_is = ap (λ (f : Failures). f.log) left.failures; no_dest = λ is. absurd (cc) }
+blames_halted halt.Changed left = record { source_is = ap (λ (f : Failures). f.source) left.failures; log_is = ap (λ (f : Failures). f.log) left.failures; no_dest = λ is. absurd (cc) }
+
+pub blames_none : {T : Type 0} {x : T} {s s' : State} {a c a' c' : ℕ} (next : Phase) → TurnLeaves s s' None None (record { source = a; dest = 0; log = c }) (record { source = a'; dest = 0; log = c' }) (Ok next) → BlamesRightly {T = T} a a' c c' (Ok x)
+blames_none next left = record { source_is = ap (λ (f : Failures). f.source) left.failures; log_is = ap (λ (f : Failures). f.log) left.failures; no_dest = tt }
+
+-- where it halts it says so rightly
+pub says_of_turn : (here : Phase) (s s' : State) (told told' : Option Reading) (w v : Option Writing) (l l' : Option (List ℕ)) (a b c a' b' c' : ℕ) (why : Halt) → Surveys told (record { phase = here; state = s }) → CountedTurn here s s' (world told w l a b c) (world told' v l' a' b' c') (Err why)
+    → SaysRightly s.job (source_tree told) None (fault_of why)
+unfolding Surveys TurnKeeps
+says_of_turn here s s' told told' w v l l' a b c a' b' c' why (count, it) counted =
+    (keeps_after here s s' (world told None None a b c) (world told' None None a' b' c') (Err why) (going here it.stands) (counted_alone here s s' told told' w v l l' a b c a' b' c' (Err why) counted) no_start (is_begun a b c it)).says.says
+
+-- an object that is at hand
+the_object : (here : Phase) → is_at_hand here ≡ true → (object : Object) × (here ≡ phase.Line object)
+the_object (phase.Line object) is = (object, refl)
+the_object phase.Begin is = absurd (true≢false (sym is))
+the_object (phase.Prefix _) is = absurd (true≢false (sym is))
+the_object phase.Staging is = absurd (true≢false (sym is))
+the_object phase.Root is = absurd (true≢false (sym is))
+the_object (phase.RootMake _) is = absurd (true≢false (sym is))
+the_object phase.RootRename is = absurd (true≢false (sym is))
+the_object (phase.RootCheck _) is = absurd (true≢false (sym is))
+the_object phase.OpenRoot is = absurd (true≢false (sym is))
+the_object phase.Judge is = absurd (true≢false (sym is))
+the_object (phase.OpenObject _) is = absurd (true≢false (sym is))
+the_object (phase.Scan _) is = absurd (true≢false (sym is))
+the_object (phase.Read _ _) is = absurd (true≢false (sym is))
+the_object (phase.Make _ _) is = absurd (true≢false (sym is))
+the_object (phase.Copy _ _ _) is = absurd (true≢false (sym is))
+the_object (phase.Tuples _ _) is = absurd (true≢false (sym is))
+the_object (phase.Rename _) is = absurd (true≢false (sym is))
+the_object phase.Walk is = absurd (true≢false (sym is))
+the_object phase.End is = absurd (true≢false (sym is))
+the_object phase.Ended is = absurd (true≢false (sym is))
+
+-- over whatever log
+pub passes_there : (here next : Phase) (s s' : State) (told told' : Option Reading) (w : Option Writing) (l : Option (List ℕ)) (a b c a' b' c' : ℕ) (count : ℕ) → is_at_hand here ≡ true → IsSurvey told count (record { phase = here; state = s })
+    → CountedTurn here s s' (world told (Some bare) None a b c) (world told' w None a' b' c') (Ok next) → GoesOn told told' l l count (record { phase = here; state = s }) (record { phase = passed next; state = s' })
+passes_there here next s s' told told' w l a b c a' b' c' count is it counted =
+    let line = the_object here is in
+    subst (λ (p : Phase). GoesOn told told' l l count (record { phase = p; state = s }) (record { phase = passed next; state = s' })) (sym line.1)
+    (passes line.0 next s s' told told' w l a b c a' b' c' count (subst (λ (p : Phase). IsSurvey told count (record { phase = p; state = s })) line.1 it)
+    (subst (λ (p : Phase). CountedTurn p s s' (world told (Some bare) None a b c) (world told' w None a' b' c') (Ok next)) line.1 counted))
+
+-- what isn't at hand nor at the end is looked at
+pub looking_is : (told : Option Reading) (here : Phase) (s : State) → Surveys told (record { phase = here; state = s }) → is_at_hand here ≡ false → here ≢ phase.End → is_looking here ≡ true
+looking_is told here s it off more = by here (of_survey told (record { phase = here; state = s }) it) off more
+  where
+    by : (here : Phase) → is_of_survey here ≡ true → is_at_hand here ≡ false → here ≢ phase.End → is_looking here ≡ true
+    by (phase.Line object) is off more = absurd (true≢false off)
+    by phase.End is off more = absurd (more refl)
+    by phase.Begin is off more = is
+    by (phase.Prefix _) is off more = is
+    by phase.Staging is off more = is
+    by phase.Root is off more = is
+    by (phase.RootMake _) is off more = is
+    by phase.RootRename is off more = is
+    by (phase.RootCheck _) is off more = is
+    by phase.OpenRoot is off more = is
+    by phase.Judge is off more = is
+    by (phase.OpenObject _) is off more = is
+    by (phase.Scan _) is off more = is
+    by (phase.Read _ _) is off more = is
+    by (phase.Make _ _) is off more = is
+    by (phase.Copy _ _ _) is off more = is
+    by (phase.Tuples _ _) is off more = is
+    by (phase.Rename _) is off more = is
+    by phase.Walk is off more = is
+    by phase.Ended is off more = is
+
+-- what it leaves
+pub leaves_ok : (here next : Phase) (s s' : State) (told told' : Option Reading) (v : Option Writing) (l l' : Option (List ℕ)) (a c a' c' : ℕ) → Surveys told (record { phase = here; state = s }) → CountedTurn here s s' (world told (Some bare) l a 0 c) (world told' v l' a' 0 c') (Ok next)
+    → Leaves told told' l l' a a' c c' s.job (Ok (passed next))
+leaves_ok here next s s' told told' v l l' a c a' c' it counted = record {
+  tree = tree_of_turn here s s' told told' (Some bare) v l l' a 0 c a' 0 c' (Ok next) it counted;
+  grows = log_of_turn here s s' told told' (Some bare) v l l' a 0 c a' 0 c' (Ok next) it counted;
+  blames = blames_none next (leaves_of_turn here s s' told told' (Some bare) v l l' a 0 c a' 0 c' (Ok next) it counted);
+  says = tt;
+}
+
+pub leaves_err : (here : Phase) (why : Halt) (s s' : State) (told told' : Option Reading) (v : Option Writing) (l l' : Option (List ℕ)) (a c a' c' : ℕ) → Surveys told (record { phase = here; state = s }) → CountedTurn here s s' (world told (Some bare) l a 0 c) (world told' v l' a' 0 c') (Err why)
+    → Leaves told told' l l' a a' c c' s.job (Err why)
+leaves_err here why s s' told told' v l l' a c a' c' it counted = record {
+  tree = tree_of_turn here s s' told told' (Some bare) v l l' a 0 c a' 0 c' (Err why) it counted;
+  grows = log_of_turn here s s' told told' (Some bare) v l l' a 0 c a' 0 c' (Err why) it counted;
+  blames = blames_halted why (leaves_of_turn here s s' told told' (Some bare) v l l' a 0 c a' 0 c' (Err why) it counted);
+  says = says_of_turn here s s' told told' (Some bare) v l l' a 0 c a' 0 c' why it counted;
+}
+
+-- of a turn that tells nothing, over a log that isn't touched
+pub leaves_log : {told told' : Option Reading} (l : Option (List ℕ)) {a a' : ℕ} (c : ℕ) {job : own.Job} {result : Result Phase Halt} → Leaves told told' None None a a' 0 0 job result → Leaves told told' l l a a' c c job result
+leaves_log l c {result = Ok next} it = record { tree = it.tree; grows = grows_none l; blames = record { source_is = it.blames.source_is; log_is = refl; no_dest = tt }; says = tt }
+leaves_log l c {result = Err why} it = record { tree = it.tree; grows = grows_none l; blames = record { source_is = it.blames.source_is; log_is = never why it.blames.log_is; no_dest = it.blames.no_dest }; says = it.says }
+  where
+    never : (why : Halt) → Rose (fault_number (fault_of why) == 3) 0 0 → Rose (fault_number (fault_of why) == 3) c c
+    never halt.Source is = refl
+    never halt.Dest is = refl
+    never halt.Log is = absurd (risen_none is)
+    never halt.Memory is = refl
+    never halt.NotPairtree is = refl
+    never halt.Prefix is = refl
+    never halt.StagingLeft is = refl
+    never halt.Target is = refl
+    never halt.Changed is = refl
+
+-- so it is where the object at hand was passed
+pub leaves_passed : (here next : Phase) (s s' : State) (told told' : Option Reading) (v : Option Writing) (l : Option (List ℕ)) (c a a' : ℕ) → Surveys told (record { phase = here; state = s }) → CountedTurn here s s' (world told (Some bare) None a 0 0) (world told' v None a' 0 0) (Ok next)
+    → Leaves told told' l l a a' c c s.job (Ok (passed next))
+leaves_passed here next s s' told told' v l c a a' it counted = leaves_log l c (leaves_ok here next s s' told told' v None None a 0 a' 0 it counted)
+
+pub leaves_halted : (here : Phase) (why : Halt) (s s' : State) (told told' : Option Reading) (v : Option Writing) (l : Option (List ℕ)) (c a a' : ℕ) → Surveys told (record { phase = here; state = s }) → CountedTurn here s s' (world told (Some bare) None a 0 0) (world told' v None a' 0 0) (Err why)
+    → Leaves told told' l l a a' c c s.job (Err why)
+leaves_halted here why s s' told told' v l c a a' it counted = leaves_log l c (leaves_err here why s s' told told' v None None a 0 a' 0 it counted)
+
+pub well_ok : (here next : Phase) (s s' : State) (told told' : Option Reading) (v : Option Writing) (l l' : Option (List ℕ)) (a b c a' b' c' : ℕ) → Surveys told (record { phase = here; state = s }) → IsWell (record { phase = here; state = s }) → s.counts.turns < s.job.limits.turns
+    → CountedTurn here s s' (world told (Some bare) l a b c) (world told' v l' a' b' c') (Ok next) → IsWell (record { phase = passed next; state = s' })
+well_ok here next s s' told told' v l l' a b c a' b' c' it well more counted = passed_well next (well_of_turn here s s' told told' (Some bare) v l l' a b c a' b' c' (Ok next) it well more counted)
+
+pub well_err : (here : Phase) (why : Halt) (s s' : State) (told told' : Option Reading) (v : Option Writing) (l l' : Option (List ℕ)) (a b c a' b' c' : ℕ) → Surveys told (record { phase = here; state = s }) → IsWell (record { phase = here; state = s }) → s.counts.turns < s.job.limits.turns
+    → CountedTurn here s s' (world told (Some bare) l a b c) (world told' v l' a' b' c') (Err why) → IsWell (record { phase = phase.Ended; state = s' })
+well_err here why s s' told told' v l l' a b c a' b' c' it well more counted = well_of_turn here s s' told told' (Some bare) v l l' a b c a' b' c' (Err why) it well more counted
+
+-- ---- a survey that is to begin
+
+pub new_survey : (r : Running) (job : own.Job) → IsNew job r → IsLayout job.layout → (told : Option Reading) → ForSome told (λ s. is_proper s.tree ≡ true) → IsSurvey told 0 r
+new_survey r job new layout told proper = record {
+  fed = [];
+  was = fed_to_end r.phase r.state.job.algorithm r.state.hasher [] (subst (λ j. HasBeenFed j.algorithm r.state.hasher []) (sym new.job_is) new.fed);
+  past = no_past;
+  seen = refl;
+  is = subst (λ j. IsPast (job_of j) no_start (source_alone told) (run_of r []) no_past) (sym new.job_is)
+      (subst (λ (run : Run). IsPast (job_of job) no_start (source_alone told) run no_past) (sym run_is)
+      (new_past {world = source_alone told} layout (record { source = proper; dest = λ s e. absurd (cc) })));
+  stands = ap is_of_survey new.phase;
+}
+  where
+    run_is : run_of r [] ≡ new_run
+    run_is = λ i. record { phase = new.phase i; kept = new.kept i }
+
+-- a step that isn't made
+pub says_no_turn : (job : own.Job) (source : Option Forest) → SaysRightly job source None fault.Turns
+unfolding SaysRightly
+says_no_turn job source = (λ s e. tt, λ t e. absurd (cc), λ s t e f. absurd (cc))
+
+pub says_ended : (job : own.Job) (source : Option Forest) → SaysRightly job source None fault.Ended
+unfolding SaysRightly
+says_ended job source = (λ s e. tt, λ t e. absurd (cc), λ s t e f. absurd (cc))
+
+-- ---- by what a step makes of the answer
+
+module _ (here next : Phase) (s s' : State) (told told' : Option Reading) (v : Option Writing) (l l' : Option (List ℕ)) (a c a' c' : ℕ) (at : Phase) where
+  pub step_looks : (count : ℕ) → at ≡ passed next → is_looking here ≡ true → CountedTurn here s s' (world told (Some bare) l a 0 c) (world told' v l' a' 0 c') (Ok next) → IsSurvey told count (record { phase = here; state = s })
+      → GoesOn told told' l l' count (record { phase = here; state = s }) (record { phase = at; state = s' })
+  step_looks count is looking counted it = subst (λ (p : Phase). GoesOn told told' l l' count (record { phase = here; state = s }) (record { phase = p; state = s' })) (sym is) (looks here next s s' told told' v l l' a 0 c a' 0 c' count looking it counted)
+
+  pub step_well : at ≡ passed next → IsReady told here s → CountedTurn here s s' (world told (Some bare) l a 0 c) (world told' v l' a' 0 c') (Ok next) → IsWell (record { phase = at; state = s' })
+  step_well is ready counted = subst (λ (p : Phase). IsWell (record { phase = p; state = s' })) (sym is) (well_ok here next s s' told told' v l l' a 0 c a' 0 c' ready.under_way ready.well ready.within counted)
+
+  pub step_leaves : at ≡ passed next → IsReady told here s → CountedTurn here s s' (world told (Some bare) l a 0 c) (world told' v l' a' 0 c') (Ok next) → Leaves told told' l l' a a' c c' s.job (Ok at)
+  step_leaves is ready counted = subst (λ (p : Phase). Leaves told told' l l' a a' c c' s.job (Ok p)) (sym is) (leaves_ok here next s s' told told' v l l' a c a' c' ready.under_way counted)
+
+  pub step_passes : (count : ℕ) → at ≡ passed next → is_at_hand here ≡ true → CountedTurn here s s' (world told (Some bare) None a 0 0) (world told' v None a' 0 0) (Ok next) → IsSurvey told count (record { phase = here; state = s })
+      → GoesOn told told' l l count (record { phase = here; state = s }) (record { phase = at; state = s' })
+  step_passes count is line counted it = subst (λ (p : Phase). GoesOn told told' l l count (record { phase = here; state = s }) (record { phase = p; state = s' })) (sym is) (passes_there here next s s' told told' v l a 0 0 a' 0 0 count line it counted)
+
+  pub step_leaves_log : at ≡ passed next → IsReady told here s → CountedTurn here s s' (world told (Some bare) None a 0 0) (world told' v None a' 0 0) (Ok next) → Leaves told told' l l a a' c c s.job (Ok at)
+  step_leaves_log is ready counted = subst (λ (p : Phase). Leaves told told' l l a a' c c s.job (Ok p)) (sym is) (leaves_passed here next s s' told told' v l c a a' ready.under_way counted)
+
+module _ (here : Phase) (why : Halt) (s s' : State) (told told' : Option Reading) (v : Option Writing) (l l' : Option (List ℕ)) (a c a' c' : ℕ) (answer : Answer) where
+  pub halt_well : answer ≡ Err why → IsReady told here s → CountedTurn here s s' (world told (Some bare) l a 0 c) (world told' v l' a' 0 c') (Err why) → IsWell (record { phase = phase_after answer; state = s' })
+  halt_well is ready counted = subst (λ (r : Answer). IsWell (record { phase = phase_after r; state = s' })) (sym is) (well_err here why s s' told told' v l l' a 0 c a' 0 c' ready.under_way ready.well ready.within counted)
+
+  pub halt_leaves : answer ≡ Err why → IsReady told here s → CountedTurn here s s' (world told (Some bare) l a 0 c) (world told' v l' a' 0 c') (Err why) → Leaves told told' l l' a a' c c' s.job answer
+  halt_leaves is ready counted = subst (λ (r : Answer). Leaves told told' l l' a a' c c' s.job r) (sym is) (leaves_err here why s s' told told' v l l' a c a' c' ready.under_way counted)
+
+  pub halt_leaves_log : answer ≡ Err why → IsReady told here s → CountedTurn here s s' (world told (Some bare) None a 0 0) (world told' v None a' 0 0) (Err why) → Leaves told told' l l a a' c c s.job answer
+  halt_leaves_log is ready counted = subst (λ (r : Answer). Leaves told told' l l a a' c c s.job r) (sym is) (leaves_halted here why s s' told told' v l c a a' ready.under_way counted)
+
+-- it is counted
+pub step_counted : (here : Phase) (s s' : State) (told told' : Option Reading) (v : Option Writing) (l l' : Option (List ℕ)) (a c a' c' : ℕ) (answer : Answer) → IsReady told here s → CountedTurn here s s' (world told (Some bare) l a 0 c) (world told' v l' a' 0 c') answer → IsCounted s s'
+unfolding CountedTurn
+step_counted here s s' told told' v l l' a c a' c' answer ready counted = (counted.0, (leaves_of_turn here s s' told told' (Some bare) v l l' a 0 c a' 0 c' answer ready.under_way counted).turns)
+
+pub ruleset steps = (may_look, stands_so, fed_so, looking_is, new_survey, says_no_turn, says_ended, grows_none, step_looks, step_well, step_leaves, step_passes, step_leaves_log, halt_well, halt_leaves, halt_leaves_log, step_counted)

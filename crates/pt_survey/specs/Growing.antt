@@ -1,0 +1,65 @@
+-- A log in which what stood stands, and which device a step blames.
+use Rattle.std.proofs.Common.{◌≡◌, ◌≢◌, ◌∙◌, ap, append-nil, append_assoc, sym}
+use Rattle.std.specs.Prelude.{ℕ, ◌+◌, List, [], ◌++◌, Option, None, Some, IfErr, Result, Ok, Err}
+use Rattle.std.specs.Io.KnownBytes.{Appends}
+use Rattle.pt_move.specs.Counting.{Counts}
+use Rattle.pt_move.specs.Fault.{fault_of}
+use Rattle.pt_move.specs.Outcome.{SaysRightly}
+use Rattle.pt_move.specs.declared.fault.Fault.{Fault}
+use Rattle.pt_move.specs.declared.fault.Fault.TheVariants as fault
+use Rattle.pt_plan.specs.World.{source_tree}
+use Rattle.pt_plan.specs.declared.halt.Halt.{Halt}
+use Rattle.pt_plan.specs.declared.phase.Phase.{Phase}
+use Rattle.pt_state.specs.declared.job.Job.{Job}
+use Rattle.pt_state.specs.declared.state.State.{State}
+use Rattle.pt_tree.specs.Source.{Reading}
+
+-- what stood in a log stands, and bytes may stand behind it
+abbrev pub Grows : Option (List ℕ) → Option (List ℕ) → Type 0
+Grows old new = (more : List ℕ) × Appends old new more
+
+-- it does where nothing is put
+pub grows_none : (told : Option (List ℕ)) → Grows told told
+grows_none None = ([], tt)
+grows_none (Some xs) = ([], sym (append-nil xs))
+
+-- and where it does twice
+pub grows_on : (a b c : Option (List ℕ)) → Grows a b → Grows b c → Grows a c
+grows_on None b c p q = ([], tt)
+grows_on (Some xs) None c p q = absurd (p.1)
+grows_on (Some xs) (Some ys) None p q = absurd (q.1)
+grows_on (Some xs) (Some ys) (Some zs) p q = (
+  p.0 ++ q.0,
+  q.1 ∙ ap (λ l. l ++ q.0) p.1 ∙ append_assoc xs p.0 q.0,
+)
+
+-- it is the same log still, in which what stood stands
+abbrev pub KeepsLog : {L : Type 0} → (L → Option (List ℕ)) → (L → L → Type 0) → L → L → Type 0
+KeepsLog told keeps old new = keeps old new × Grows (told old) (told new)
+
+-- it is the same source still, with the same tree
+abbrev pub KeepsTree : {S : Type 0} → (S → Option Reading) → (S → S → Type 0) → S → S → Type 0
+KeepsTree told keeps old new = keeps old new × (source_tree (told new) ≡ source_tree (told old))
+
+-- a step is counted, and the job stays
+abbrev pub IsCounted : State → State → Type 0
+IsCounted s s' = (s'.job ≡ s.job) × (s'.counts.turns ≡ s.counts.turns + 1)
+
+-- a halt as a fault
+abbrev pub fault_in : {T : Type 0} → Result T Halt → Result T Fault
+fault_in (Ok x) = Ok x
+fault_in (Err why) = Err (fault_of why)
+
+-- source and log are blamed only where their counts of failures rose, and else these stayed; and there is no destination to blame
+pub record BlamesRightly {T : Type 0} (source source' log log' : ℕ) (result : Result T Fault) : Type 0 where
+  pub source_is : Counts 1 source source' result
+  pub log_is : Counts 3 log log' result
+  pub no_dest : IfErr result (λ f. f ≢ fault.Dest)
+
+-- what a turn leaves outside, whatever it answers: the source's tree is as it was, the log has grown, devices are blamed rightly, and a refusal is true
+pub record Leaves (told told' : Option Reading) (old new : Option (List ℕ)) (source source' log log' : ℕ)
+    (job : Job) (result : Result Phase Halt) : Type 0 where
+  pub tree : source_tree told' ≡ source_tree told
+  pub grows : Grows old new
+  pub blames : BlamesRightly source source' log log' (fault_in result)
+  pub says : IfErr result (λ why. SaysRightly job (source_tree told) None (fault_of why))

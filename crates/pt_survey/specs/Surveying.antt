@@ -1,0 +1,168 @@
+-- A survey under way: the turns of a run that look at a store, over a destination in which nothing stands. Its neighbours are the source's, since nothing is made.
+use Rattle.std.specs.Prelude.{◌≡◌, ◌<◌, ℕ, suc, Bool, true, false, List, [], ◌∷◌, ◌+◌, count_by, Option, None, Some, option_to_list, slice_get}
+use Rattle.std.specs.Option.{ForSome}
+use Rattle.pt_begun.specs.Begun.{IsPast, Start}
+use Rattle.pt_begun.specs.Past.{Past}
+use Rattle.pt_move.specs.Running.{FedUntilEnd, IsWell, Running, run_of}
+use Rattle.pt_name.specs.Place.{place_of}
+use Rattle.pt_object.specs.FilePaths.{File}
+use Rattle.pt_object.specs.Object.{rows_of}
+use Rattle.pt_plan.specs.Items.{Holds, Item, Named, PairtreeObject, items, outcome}
+use Rattle.pt_plan.specs.Job.{Job}
+use Rattle.pt_plan.specs.Lines.{Line, Skipped, is_skipped, line_by_verdict}
+use Rattle.pt_plan.specs.Run.{Held}
+use Rattle.pt_plan.specs.TurnMake.{path_of_source}
+use Rattle.pt_plan.specs.TurnPlace.{done_line}
+use Rattle.pt_plan.specs.World.{Puts, World}
+use Rattle.pt_plan.specs.declared.object.Object.{Object}
+use Rattle.pt_plan.specs.declared.phase.Part.{Part}
+use Rattle.pt_plan.specs.declared.phase.Part.TheVariants as part
+use Rattle.pt_plan.specs.declared.phase.Phase.{Phase}
+use Rattle.pt_plan.specs.declared.phase.Phase.TheVariants as phase
+use Rattle.pt_state.specs.Outside.{world}
+use Rattle.pt_state.specs.States.{held_of, job_of}
+use Rattle.pt_state.specs.declared.state.State.{State}
+use Rattle.pt_move.specs.Carried.{IsCarried}
+use Rattle.pt_survey.specs.declared.survey.AtHand.{AtHand}
+use Rattle.pt_survey.specs.declared.survey.Sight.{Sight}
+use Rattle.pt_survey.specs.declared.survey.Sight.TheVariants as sight
+use Rattle.pt_tree.specs.Forest.{Forest}
+use Rattle.pt_tree.specs.Path.{Path}
+use Rattle.pt_tree.specs.Source.{Reading}
+use Rattle.pt_walk.specs.declared.cause.Cause.{Cause}
+
+-- ---- where it stands
+
+-- of destination and log nothing is told
+abbrev pub no_start : Start
+no_start = record { dest = None; log = None }
+
+abbrev pub source_alone : Option Reading → World
+source_alone told = world told None None 0 0 0
+
+-- what stands in the source is looked at
+abbrev pub is_looking : Phase → Bool
+is_looking phase.Begin = true
+is_looking (phase.Prefix here) = true
+is_looking phase.OpenRoot = true
+is_looking phase.Judge = true
+is_looking (phase.OpenObject object) = true
+is_looking (phase.Scan object) = true
+is_looking (phase.Read object bytes) = true
+is_looking phase.Walk = true
+is_looking _ = false
+
+-- an object is at hand
+abbrev pub is_at_hand : Phase → Bool
+is_at_hand (phase.Line object) = true
+is_at_hand _ = false
+
+-- or an object is at hand, or all was seen
+abbrev pub is_of_survey : Phase → Bool
+is_of_survey (phase.Line object) = true
+is_of_survey phase.End = true
+is_of_survey here = is_looking here
+
+-- where a survey goes on that a run would make something: no root is made, and an object that was scanned is at hand
+abbrev pub passed_part : Object → Part → Phase
+passed_part object part.Staging = phase.Line object
+passed_part object here = phase.Make object here
+
+abbrev pub passed : Phase → Phase
+passed phase.Staging = phase.OpenRoot
+passed (phase.Make object here) = passed_part object here
+passed here = here
+
+-- what is seen there
+abbrev pub sight_at : Phase → Sight
+sight_at phase.OpenRoot = sight.Store
+sight_at (phase.Line object) = sight.Object
+sight_at phase.End = sight.End
+sight_at _ = sight.More
+
+-- a survey of a source that tells this is under way, and so many items were seen
+pub record IsSurvey (told : Option Reading) (count : ℕ) (r : Running) : Type 0 where
+  pub fed : List ℕ
+  pub was : FedUntilEnd r.phase r.state.job.algorithm r.state.hasher fed
+  pub past : Past
+  pub seen : past.count ≡ count
+  pub is : IsPast (job_of r.state.job) no_start (source_alone told) (run_of r fed) past
+  pub stands : is_of_survey r.phase ≡ true
+
+-- or of some number of items
+unfoldable pub Surveys : Option Reading → Running → Type 0
+Surveys told r = (count : ℕ) × IsSurvey told count r
+
+-- a step may be made: the survey is under way, its numbers are within their bounds, and the limit of turns isn't made
+pub record IsReady (told : Option Reading) (here : Phase) (s : State) : Type 0 where
+  pub under_way : Surveys told (record { phase = here; state = s })
+  pub well : IsWell (record { phase = here; state = s })
+  pub within : s.counts.turns < s.job.limits.turns
+
+-- ---- what a step sees
+
+-- the item of this number has these lines, where its place is free
+pub record SeesItem (job : Job) (source : Forest) (count : ℕ) (lines : List Line) : Type 0 where
+  pub item : Item
+  pub is : slice_get (items job source) count ≡ Some item
+  pub lines_are : line_by_verdict job item.path false item.verdict ≡ lines
+
+-- From where it stood, with what is held: so many items are seen after a step, and this line was told. As many as before; or one more, which only leads on, or is passed over with its line, or has the object that was at hand, of which others tell
+pub data Sees (job : Job) (source : Forest) (count : ℕ) : Phase → Held → Option Line → ℕ → Type 0 where
+  Nothing : {here : Phase} {held : Held} → is_looking here ≡ true → Sees job source count here held None count
+  Leads : {here : Phase} {held : Held} → is_looking here ≡ true → SeesItem job source count []
+      → Sees job source count here held None (suc count)
+  Skips : {here : Phase} {held : Held} → is_looking here ≡ true → (at : Path) (why : Cause)
+      → SeesItem job source count (Skipped at why ∷ [])
+      → Sees job source count here held (Some (Skipped at why)) (suc count)
+  WasAtHand : {object : Object} {held : Held} → SeesItem job source count (done_line object held ∷ [])
+      → Sees job source count (phase.Line object) held None (suc count)
+
+-- and the log got that line, which is counted if it tells of what was passed over
+pub record Saw (source : Forest) (count next : ℕ) (before after : Running) (old new : Option (List ℕ)) : Type 0 where
+  pub line : Option Line
+  pub sees : Sees (job_of before.state.job) source count before.phase (held_of before.state []) line next
+  pub puts : Puts line old new
+  pub skips : after.state.counts.skipped
+      ≡ before.state.counts.skipped + count_by is_skipped (option_to_list line)
+
+-- the survey goes on after a step: so many items are seen, and, where the source tells, this was seen
+pub record GoesOn (told told' : Option Reading) (old new : Option (List ℕ)) (count : ℕ)
+    (before after : Running) : Type 0 where
+  pub next : ℕ
+  pub is : IsSurvey told' next after
+  pub saw : ForSome told (λ s. Saw s.tree count next before after old new)
+  pub job : after.state.job ≡ before.state.job
+
+-- ---- the object at hand
+
+-- the item of this number has it: there is no cause against it, and what is held of it are its files
+pub record HasAtHand (job : Job) (source : Forest) (count : ℕ) (object : Object) (held : Held) : Type 0 where
+  pub item : Item
+  pub inner : PairtreeObject
+  pub files : List File
+  pub is : slice_get (items job source) count ≡ Some item
+  pub named : item.verdict ≡ Named object.id inner
+  pub whole : outcome job.limits inner ≡ Holds files
+  pub rows : held.rows ≡ rows_of job.algorithm files
+  pub at : inner.at ≡ path_of_source object held.trail
+  pub place : object.place ≡ place_of job.tuples object.id
+  pub lines_are : line_by_verdict job item.path false item.verdict ≡ done_line object held ∷ []
+
+-- it is this object, with what is held of it
+pub record IsOf (object : Object) (s : State) (hand : AtHand) : Type 0 where
+  pub told : IsCarried object s hand.told
+  pub rows : hand.rows.now ≡ s.rows
+  pub contents : hand.contents.now ≡ s.contents
+
+-- if there is one
+abbrev pub IsHandOf : Object → State → Option AtHand → Type 0
+IsHandOf object s None = ⊥
+IsHandOf object s (Some hand) = IsOf object s hand
+
+abbrev pub IsHandAt : Phase → State → Option AtHand → Type 0
+IsHandAt (phase.Line object) s hand = IsHandOf object s hand
+IsHandAt _ s hand = hand ≡ None
+
+abbrev pub IsHand : Running → Option AtHand → Type 0
+IsHand r hand = IsHandAt r.phase r.state hand

@@ -1,0 +1,7 @@
+//! A survey of a store: its sites and objects are looked at as a run does, and nothing is made of them.
+#![tactic(auto)]
+
+mod bare;
+mod survey;
+
+pub use survey::{AtHand, Sight, Survey};

@@ -1,0 +1,253 @@
+#![tactic(auto, using(crate::proofs::Stepping::steps))]
+// A survey under way, made step by step.
+ghost use Rattle.std.specs.Option.{ForSome};
+ghost use Rattle.std.specs.Prelude.{◌≡◌, ◌≢◌, ℕ, true, Option, Some, None, IfErr, OnOk, IfOk};
+ghost use Rattle.pt_move.specs.Outcome.{SaysRightly};
+ghost use Rattle.pt_move.specs.Running.{IsNew};
+ghost use Rattle.pt_move.specs.Running.{IsWell};
+ghost use Rattle.pt_plan.specs.Answer.{phase_after};
+ghost use Rattle.pt_survey.specs.Growing.{BlamesRightly, IsCounted, KeepsLog, KeepsTree, Leaves};
+ghost use Rattle.pt_plan.specs.World.{source_tree};
+ghost use Rattle.pt_state.specs.Outside.{world};
+ghost use Rattle.pt_survey.specs.Bare.{bare};
+ghost use Rattle.pt_move.specs.Turning.{CountedTurn};
+ghost use Rattle.pt_plan.specs.declared.phase.Phase.TheVariants as phase;
+ghost use Rattle.pt_survey.specs.Surveying.{GoesOn, IsHand, IsReady, IsSurvey, Surveys, is_at_hand as is_at_hand_there, is_looking, passed as passed_phase, sight_at};
+ghost use Rattle.pt_tree.specs.Forest.{is_proper};
+ghost use Rattle.pt_tree.specs.Source.{Reading};
+
+use crate::bare::{Bare, Unread};
+use pt_move::turning::{new_state, turn};
+use pt_move::{Carried, Fault, Job, Report, as_told};
+use pt_object::{Contents, Rows};
+use pt_plan::{Halt, Part, Phase};
+use pt_state::{Devices, State};
+use pt_tree::{Log, MemoryFault, Source};
+use std::alloc::Global;
+use std::marker::Model;
+use std::mem;
+
+/// What a step of a survey came to.
+#[derive(Clone, Copy, Debug, PartialEq, Eq)]
+pub enum Sight {
+    /// There is more to see.
+    More,
+    /// It is a store with a good prefix; its sites come next.
+    Store,
+    /// An object was scanned whole, and is at hand until the next step.
+    Object,
+    /// All was seen.
+    End,
+}
+
+/// An object that was scanned whole: no entry of it is a cause against it.
+#[derive(Drop)]
+pub struct AtHand<'s> {
+    /// The object, as a run's line would tell of it.
+    pub told: Carried<'s>,
+    /// Its files, in the order of their logical paths.
+    pub rows: &'s Rows,
+    /// Which of them are stored.
+    pub contents: &'s Contents,
+}
+
+/// A survey of a store under way, seen as what a run holds.
+#[derive(Drop)]
+pub struct Survey {
+    phase: Phase,
+    state: State,
+}
+
+impl Model for Survey {
+    ghost use Rattle.pt_move.specs.Running.{IsWell, Running};
+
+    ghost Value = { Running };
+
+    ghost view = { λ m. record { phase = m.phase; state = m.state } };
+
+    ghost invariant = { λ m. IsWell (record { phase = m.phase; state = m.state }) };
+}
+
+impl Survey {
+    /// A survey that is to begin. It calls nothing and takes no memory.
+    pub fn start(alloc: Global, job: Job) -> Survey
+        ensures new { IsNew job result }
+        ensures begun { (told : Option Reading) → ForSome told (λ s. is_proper s.tree ≡ true)
+            → IsSurvey told 0 result }
+    {
+        job.layout.count();
+        Survey::fresh(alloc, job)
+    }
+
+    // Nothing is held, and nothing is counted.
+    fn fresh(alloc: Global, job: Job) -> Survey
+        ensures { IsNew job result }
+    {
+        Survey {
+            phase: Phase::Begin,
+            state: new_state(alloc, job),
+        }
+    }
+
+    /// Makes one step, which is a turn of a run over a destination in which nothing stands. What is passed over is told in
+    /// the log as a run tells it; of an object nothing is told.
+    pub fn step<S: Source, L: Log>(&mut self, source: &mut S, log: &mut L) -> Result<Sight, Fault>
+        requires { Surveys (S.told source.old) self.old }
+        ensures on { (count : ℕ) → IsSurvey (S.told source.old) count self.old
+            → OnOk result (GoesOn (S.told source.old) (S.told source.new)
+            (L.told log.old) (L.told log.new) count self.old self.new) }
+        ensures sight { IfOk result (λ sight. sight ≡ sight_at self.new.phase) }
+        ensures counted { OnOk result (IsCounted self.old.state self.new.state) }
+        ensures source { KeepsTree S.told S.keeps source.old source.new }
+        ensures log { KeepsLog L.told L.keeps log.old log.new }
+        ensures blames { BlamesRightly (S.failed source.old) (S.failed source.new)
+            (L.failed log.old) (L.failed log.new) result }
+        ensures says { IfErr result (SaysRightly self.old.state.job
+            (source_tree (S.told source.old)) None) }
+    {
+        let here = match mem::replace(&mut self.phase, Phase::Ended) {
+            Phase::Ended | Phase::End => return Err(Fault::Ended),
+            here => here,
+        };
+        if self.state.counts.turns >= self.state.job.limits.turns() {
+            return Err(Fault::Turns);
+        }
+        self.phase = stepped(&mut self.state, here, source, log)?;
+        Ok(seen_at(&self.phase))
+    }
+
+    /// The object at hand, if there is one; `Memory` where a growth was refused.
+    pub fn at_hand(&self) -> Result<Option<AtHand<'_>>, MemoryFault>
+        ensures { IfOk result (IsHand self.now) }
+    {
+        match &self.phase {
+            Phase::Line(object) => Ok(Some(AtHand {
+                told: as_told(object, &self.state)?,
+                rows: &self.state.rows,
+                contents: &self.state.contents,
+            })),
+            _ => Ok(None),
+        }
+    }
+
+    /// What it was asked for.
+    pub fn job(&self) -> &Job
+        ensures { result.now ≡ self.now.state.job }
+    {
+        &self.state.job
+    }
+
+    /// The lines of each kind whose `put` was answered Ok, the objects that were at hand, and the steps made.
+    pub fn report(&self) -> Report
+        ensures { result ≡ self.now.state.counts }
+    {
+        self.state.counts
+    }
+}
+
+// Makes the turn of a phase, and gives the next one.
+fn stepped<S: Source, L: Log>(
+    state: &mut State,
+    here: Phase,
+    source: &mut S,
+    log: &mut L,
+) -> Result<Phase, Halt>
+    requires ready { IsReady (S.told source.old) here state.old }
+    requires more { here ≢ phase.End }
+    ensures on { (count : ℕ)
+        → IsSurvey (S.told source.old) count (record { phase = here; state = state.old })
+        → IfOk result (λ next. GoesOn (S.told source.old) (S.told source.new)
+        (L.told log.old) (L.told log.new) count (record { phase = here; state = state.old })
+        (record { phase = next; state = state.new })) }
+    ensures well { IsWell (record { phase = phase_after result; state = state.new }) }
+    ensures leaves { Leaves (S.told source.old) (S.told source.new) (L.told log.old) (L.told log.new)
+        (S.failed source.old) (S.failed source.new) (L.failed log.old) (L.failed log.new)
+        state.old.job result }
+    ensures counted { IsCounted state.old state.new }
+    ensures source_stays { S.keeps source.old source.new }
+    ensures log_stays { L.keeps log.old log.new }
+{
+    if is_at_hand(&here) {
+        Ok(passed(pass(state, here, source)?))
+    } else {
+        Ok(passed(look(state, here, source, log)?))
+    }
+}
+
+// Whether an object is at hand.
+fn is_at_hand(here: &Phase) -> bool
+    ensures { result ≡ is_at_hand_there here.now }
+{
+    matches!(here, Phase::Line(_))
+}
+
+// Makes a turn that looks.
+fn look<S: Source, L: Log>(
+    state: &mut State,
+    here: Phase,
+    source: &mut S,
+    log: &mut L,
+) -> Result<Phase, Halt>
+    requires ready { IsReady (S.told source.old) here state.old }
+    requires looks { is_looking here ≡ true }
+    ensures turn { CountedTurn here state.old state.new
+        (world (S.told source.old) (Some bare) (L.told log.old)
+        (S.failed source.old) 0 (L.failed log.old))
+        (world (S.told source.new) (Some bare) (L.told log.new)
+        (S.failed source.new) 0 (L.failed log.new)) result }
+    ensures source_stays { S.keeps source.old source.new }
+    ensures log_stays { L.keeps log.old log.new }
+{
+    turn(
+        state,
+        here,
+        &mut Devices {
+            source,
+            dest: &mut Bare,
+            log,
+        },
+    )
+}
+
+// Passes the object at hand, of which nothing is told.
+fn pass<S: Source>(state: &mut State, here: Phase, source: &mut S) -> Result<Phase, Halt>
+    requires ready { IsReady (S.told source.old) here state.old }
+    requires at_hand { is_at_hand_there here ≡ true }
+    ensures turn { CountedTurn here state.old state.new
+        (world (S.told source.old) (Some bare) None (S.failed source.old) 0 0)
+        (world (S.told source.new) (Some bare) None (S.failed source.new) 0 0) result }
+    ensures source_stays { S.keeps source.old source.new }
+{
+    turn(
+        state,
+        here,
+        &mut Devices {
+            source,
+            dest: &mut Bare,
+            log: &mut Unread,
+        },
+    )
+}
+
+// Where the survey goes on that a run would make something.
+fn passed(next: Phase) -> Phase
+    ensures { result ≡ passed_phase next }
+{
+    match next {
+        Phase::Staging => Phase::OpenRoot,
+        Phase::Make(object, Part::Staging) => Phase::Line(object),
+        next => next,
+    }
+}
+
+// What is seen at a phase.
+fn seen_at(here: &Phase) -> Sight
+    ensures { result ≡ sight_at here.now }
+{
+    match here {
+        Phase::OpenRoot => Sight::Store,
+        Phase::Line(_) => Sight::Object,
+        Phase::End => Sight::End,
+        _ => Sight::More,
+    }
+}
