@@ -1,41 +1,36 @@
 -- What an audit tells after each step, and after an object was compared.
-use Rattle.std.proofs.Common.{◌≡◌, ◌<◌, ℕ, suc, ◌+◌, Bool, true, false, List, [], ◌∷◌, ◌++◌, refl, ap, sym, ◌∙◌, subst, arith, inl, inr, append-nil, append_assoc, drop, length, min}
-use Rattle.std.specs.Prelude.{All, IfOk, IsSome, Option, None, Some, Result, Ok, Err, get_or, map, slice_get, option_to_list, count_by}
+use Rattle.std.proofs.Common.{◌≡◌, ℕ, suc, ◌+◌, Bool, true, false, List, [], ◌∷◌, ◌++◌, refl, ap, sym, ◌∙◌, subst, arith, inl, inr, append-nil, append_assoc, drop, length, min}
+use Rattle.std.specs.Prelude.{IfOk, IsSome, Option, None, Some, Result, Ok, Err, get_or, map, slice_get, option_to_list, count_by}
 use Rattle.std.specs.String.{string_bytes}
 use Rattle.std.specs.Option.{ForSome, option_map}
 use Rattle.std.specs.Io.KnownBytes.{Appends}
 use Rattle.std.proofs.lemmas.List.{drop-map}
 use Rattle.std.proofs.lemmas.Option.{slice_get-get_or}
-use Rattle.pt_audit.specs.Auditing.{CanCompare, EndsAs, Finds, GoesOn as AuditGoesOn, Nothing, HasToldOf, IsAt, IsAuditLog, IsFoundAtHand, IsFoundOf, IsSeen, IsUnderWay, Leads, Next, Passes, TellsOf, Told, counted, last_text, sought, sought_at_hand, told_at}
+use Rattle.pt_audit.specs.Auditing.{CanCompare, EndsAs, Finds, GoesOn as AuditGoesOn, Nothing, HasToldOf, IsAt, IsFoundAtHand, IsFoundOf, IsSeen, IsUnderWay, Leads, Next, Passes, TellsOf, Told, counted, last_text, sought, sought_at_hand, told_at}
 use Rattle.pt_audit.specs.Counting.{counts_with, no_counts}
 use Rattle.pt_audit.specs.Failing.{BlamesRightly, FailsAs, RootFailsAs, TellFails, failures}
 use Rattle.pt_audit.specs.Lines as audit
 use Rattle.pt_audit.specs.declared.counts.Counts.{Counts}
 use Rattle.pt_begun.specs.BegunHeld.{HeldAt}
 use Rattle.pt_begun.specs.BegunSource.{SourcePart}
-use Rattle.pt_begun.specs.Past.{Past}
 use Rattle.pt_begun.proofs.ends.Permitted.{may_open_row}
-use Rattle.pt_begun.proofs.source.InPairtree.{some_same}
 use Rattle.pt_compare.specs.Found.{IsFound, Sought}
 use Rattle.pt_compare.specs.Marks.{inside}
-use Rattle.pt_compare.specs.Root.{tree_in}
 use Rattle.pt_compare.specs.declared.difference.Finding.{Finding}
 use Rattle.pt_compare.specs.declared.difference.Finding.TheVariants as found
-use Rattle.pt_move.specs.Bounds.{IsBounded}
-use Rattle.pt_move.specs.Carried.{IsCarried}
 use Rattle.pt_move.specs.Fault.{fault_of}
 use Rattle.pt_move.specs.Outcome.{SaysRightly}
 use Rattle.pt_move.specs.Running.{IsNew, Running}
 use Rattle.pt_move.proofs.Outcomes.{reading_of}
 use Rattle.pt_name.specs.Place.{place_of}
 use Rattle.pt_object.specs.Distinct.{content_of_row, distinct}
-use Rattle.pt_object.specs.FilePaths.{File, part_in_order, row_paths}
+use Rattle.pt_object.specs.FilePaths.{part_in_order, row_paths}
 use Rattle.pt_object.specs.Inventory.{inventory_text}
 use Rattle.pt_object.specs.Object.{rows_of, stored_files}
 use Rattle.pt_object.specs.declared.rows.Row.{Row}
-use Rattle.pt_plan.specs.Items.{Item, item_of, items}
+use Rattle.pt_plan.specs.Items.{item_of, items}
 use Rattle.pt_plan.specs.Job.{Job}
-use Rattle.pt_plan.specs.Lines.{Line, Skipped, is_skipped, line_by_verdict, line_text}
+use Rattle.pt_plan.specs.Lines.{Line, Skipped, is_skipped, line_text}
 use Rattle.pt_plan.specs.Permits.{MayOpenRow}
 use Rattle.pt_plan.specs.Run.{Held}
 use Rattle.pt_plan.specs.Store.{has_prefix, is_store, prefix_of, sites_of}
@@ -54,7 +49,7 @@ use Rattle.pt_state.specs.States.{held_of, job_of}
 use Rattle.pt_state.specs.declared.job.Job as own
 use Rattle.pt_state.specs.declared.job.Report.{Report}
 use Rattle.pt_state.specs.declared.state.State.{State}
-use Rattle.pt_survey.specs.Surveying.{WasAtHand, GoesOn, HasAtHand, IsHand, IsHandAt, IsOf, IsSurvey, Leads as SeesLeads, Nothing as SeesNothing, Saw, Sees, Skips, Surveys, is_looking, sight_at}
+use Rattle.pt_survey.specs.Surveying.{WasAtHand, GoesOn, HasAtHand, IsHand, IsHandAt, IsOf, IsSurvey, Leads as SeesLeads, Nothing as SeesNothing, Sees, Skips, Surveys, is_looking, sight_at}
 use Rattle.pt_survey.specs.declared.survey.AtHand as hand
 use Rattle.pt_survey.specs.declared.survey.Sight.{Sight}
 use Rattle.pt_survey.specs.declared.survey.Sight.TheVariants as sight

@@ -1,5 +1,5 @@
 -- An audit: what it tells of the objects of a store and a storage root, and an audit under way.
-use Rattle.std.specs.Prelude.{◌≡◌, ℕ, suc, ◌+◌, All, Bool, true, false, List, [], ◌∷◌, ◌++◌, drop, map, min, Option, None, Some, slice_get}
+use Rattle.std.specs.Prelude.{◌≡◌, ℕ, suc, ◌+◌, All, Bool, true, false, List, [], ◌∷◌, ◌++◌, drop, map, min, Option, Some, slice_get}
 use Rattle.std.specs.Option.{ForSome}
 use Rattle.pt_audit.specs.Counting.{counts_with, no_counts}
 use Rattle.pt_audit.specs.Lines as audit

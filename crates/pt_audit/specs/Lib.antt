@@ -1,3 +1,4 @@
+pub mod AuditLaws
 pub mod Auditing
 pub mod Counting
 pub mod Failing

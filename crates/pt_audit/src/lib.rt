@@ -3,6 +3,7 @@
 
 mod auditing;
 mod counts;
+pub mod laws;
 mod layout;
 mod lines;
 

@@ -1,5 +1,5 @@
 use Rattle.std.proofs.Common.{refl, rules, subst}
-use Rattle.std.specs.Prelude.{Option, Some}
+use Rattle.std.specs.Prelude.{Option}
 use Rattle.pt_audit.proofs.Telling.{can_compare, told_object}
 use Rattle.pt_survey.specs.Surveying.{IsHand}
 use Rattle.pt_survey.specs.declared.survey.AtHand.{AtHand}
