@@ -77,7 +77,7 @@ tail_of [] = []
 tail_of (x ∷ items) = items
 
 module _ (sought : Sought) (order : part_in_order (paths_of sought.stored) ≡ true) (apart : are_apart (paths_of sought.stored) ≡ true) (t : Tree) where
-  are_items : (inventory : List ℕ) → object_items sought.algorithm inventory sought.stored ≡ all_items sought inventory
+  pub are_items : (inventory : List ℕ) → object_items sought.algorithm inventory sought.stored ≡ all_items sought inventory
   are_items inventory = items_are sought.algorithm inventory sought.stored order
 
   first_marks : Marks
@@ -121,11 +121,11 @@ module _ (sought : Sought) (order : part_in_order (paths_of sought.stored) ≡ t
   carries inventory = object_carries sought.algorithm inventory sought.stored apart
 
   -- where an item comes: what stands there is noted, and the object has it there
-  record Located (inventory : List ℕ) (front : List Item) (item : Item) : Type 0 where
-    noted : all_met t front (at_first t) (item_path item) ≡ kind_in t (item_path item)
-    wanted : object_with sought inventory (item_path item) ≡ Some (item_entry item)
+  pub record Located (inventory : List ℕ) (front : List Item) (item : Item) : Type 0 where
+    pub noted : all_met t front (at_first t) (item_path item) ≡ kind_in t (item_path item)
+    pub wanted : object_with sought inventory (item_path item) ≡ Some (item_entry item)
 
-  locate : (inventory : List ℕ) (front : List Item) (item : Item) (rest : List Item) → object_items sought.algorithm inventory sought.stored ≡ front ++ item ∷ rest → Located inventory front item
+  pub locate : (inventory : List ℕ) (front : List Item) (item : Item) (rest : List Item) → object_items sought.algorithm inventory sought.stored ≡ front ++ item ∷ rest → Located inventory front item
   unfolding tail_of
   locate inventory [] item rest is =
       let same : MakeFolder [] ≡ item = cc in
@@ -147,8 +147,13 @@ module _ (sought : Sought) (order : part_in_order (paths_of sought.stored) ≡ t
             ∙ stays_made rest (done item (made front (on_way [] []))) (item_path item) (item_entry item) r.later (put_there (made front (on_way [] [])) (item_path item) (item_entry item));
       }
 
+  -- a folder is at the object's place
+  pub at_top : (inventory : List ℕ) → object_with sought inventory [] ≡ Some Folder
+  unfolding tail_of
+  at_top inventory = (locate inventory [] (MakeFolder []) (tail_of (object_items sought.algorithm inventory sought.stored)) refl).wanted
+
   -- another inventory changes no kind
-  kinds : (a b : List ℕ) (q : Path) → kind_in (object_with sought a) q ≡ kind_in (object_with sought b) q
+  pub kinds : (a b : List ℕ) (q : Path) → kind_in (object_with sought a) q ≡ kind_in (object_with sought b) q
   unfolding tail_of
   kinds a b q = ap (λ (u : Tree). kind_in u q) (whole a) ∙ four q ∙ ap (λ (u : Tree). kind_in u q) (sym (whole b))
     where

@@ -1,4 +1,5 @@
 pub mod Bytes
+pub mod CompareLaws
 pub mod Described
 pub mod Difference
 pub mod Entries

@@ -8,6 +8,7 @@ mod difference;
 mod entries;
 mod host;
 mod inventories;
+pub mod laws;
 mod meeting;
 mod names;
 mod paths;
