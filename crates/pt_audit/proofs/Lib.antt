@@ -1,3 +1,4 @@
+pub mod AfterRun
 pub mod Telling
 pub mod Failing
 pub mod LineTexts

@@ -43,7 +43,7 @@ nothing_wrong {counts = counts} (Finds (found.Differs difference) it) absent dif
 
 -- so an item with an object stands
 item_stands : (job : Job) (source root : Forest) (item : Item) (id : List ℕ) (object : PairtreeObject) (files : List File) → item.verdict ≡ Named id object → outcome job.limits object ≡ Holds files → IfDone (line_by_verdict job item.path false item.verdict) (IsFoundOf job source root item found.Same)
-    → IsObject (sought job source id object files) (inside root (in_root (place_of job.tuples id)))
+    → IsObject (sought job id files) (inside root (in_root (place_of job.tuples id)))
 item_stands job source root item id object files named whole it = by found_is
   where
     P : Type 0
@@ -53,16 +53,15 @@ item_stands job source root item id object files named whole it = by found_is
     found_is = subst (λ (o : Outcome). IfDone (line_by_outcome item.path id object (place_of job.tuples id) o ∷ []) P) whole
         (subst (λ (v : Verdict). IfDone (line_by_verdict job item.path false v) P) named it)
 
-    by : P → IsObject (sought job source id object files) (inside root (in_root (place_of job.tuples id)))
+    by : P → IsObject (sought job id files) (inside root (in_root (place_of job.tuples id)))
     by p =
         let both : Named p.id p.object ≡ Named id object = sym p.named ∙ named in
         let same_id : p.id ≡ id = cc in
         let same_object : p.object ≡ object = cc in
         let held : Holds p.files ≡ Holds files = sym p.whole ∙ ap (outcome job.limits) same_object ∙ whole in
         let same_files : p.files ≡ files = cc in
-        subst (λ (i : List ℕ). IsObject (sought job source i object files) (inside root (in_root (place_of job.tuples i)))) same_id
-        (subst (λ (o : PairtreeObject). IsObject (sought job source p.id o files) (inside root (in_root (place_of job.tuples p.id)))) same_object
-        (subst (λ (f : List File). IsObject (sought job source p.id p.object f) (inside root (in_root (place_of job.tuples p.id)))) same_files p.found))
+        subst (λ (i : List ℕ). IsObject (sought job i files) (inside root (in_root (place_of job.tuples i)))) same_id
+        (subst (λ (f : List File). IsObject (sought job p.id f) (inside root (in_root (place_of job.tuples p.id)))) same_files p.found)
 
 -- ---- all items
 

@@ -26,7 +26,7 @@ use Rattle.pt_name.specs.Place.{place_of}
 use Rattle.pt_object.specs.Distinct.{content_of_row, distinct}
 use Rattle.pt_object.specs.FilePaths.{part_in_order, row_paths}
 use Rattle.pt_object.specs.Inventory.{inventory_text}
-use Rattle.pt_object.specs.Object.{rows_of, stored_files}
+use Rattle.pt_object.specs.Object.{bytes_in, rows_of, stored_files}
 use Rattle.pt_object.specs.declared.rows.Row.{Row}
 use Rattle.pt_plan.specs.Items.{item_of, items}
 use Rattle.pt_plan.specs.Job.{Job}
@@ -346,11 +346,14 @@ found_of {job} {source} {root} {count} {object} {s} {at} {finding} same it mine 
     at_is : at.told.at ≡ it.inner.at
     at_is = mine.told.at ∙ sym it.at
 
-    sought_is : sought_at_hand job at source ≡ sought (job_of job) source object.id it.inner it.files
+    stored_is : stored_files at.rows.now (λ path. bytes_at source (in_pairtree (at.told.at ++ path))) ≡ stored_files (rows_of job.algorithm it.files) (bytes_in it.files)
+    stored_is = (λ i. stored_files (mine.rows i) (λ path. bytes_at source (in_pairtree (at_is i ++ path)))) ∙ it.stored ∙ ap (λ l. stored_files l (bytes_in it.files)) it.rows
+
+    sought_is : sought_at_hand job at source ≡ sought (job_of job) object.id it.files
     sought_is = λ i. record {
       algorithm = job.algorithm;
-      text = inventory_text (mine.told.id i) (rows_are i) job.meta job.algorithm;
-      stored = stored_files (rows_are i) (λ path. bytes_at source (in_pairtree (at_is i ++ path)));
+      text_with = λ meta. inventory_text (mine.told.id i) (rows_are i) meta job.algorithm;
+      stored = stored_is i;
     }
 
 -- its line
@@ -396,7 +399,7 @@ told_object told again source root first now new counts r at finding text job la
         let fed = it.is.fed in
         let known = has_at_hand (subst (λ (p : Phase). HeldAt (job_of r.state.job) it.is.past p (held_of r.state fed)) here.1 it.is.is.held)
         (subst (λ (p : Phase). SourcePart (job_of r.state.job) it.is.past p (string_bytes r.state.prefix) (held_of r.state fed) s) here.1 (it.is.is.source s e)) in
-        record { item = known.item; inner = known.inner; files = known.files; is = known.is; named = known.named; whole = known.whole; rows = known.rows; at = known.at; place = known.place; lines_are = known.lines_are }
+        record { item = known.item; inner = known.inner; files = known.files; is = known.is; named = known.named; whole = known.whole; rows = known.rows; stored = known.stored; at = known.at; place = known.place; lines_are = known.lines_are }
 
     counts_are : (f : Finding) → counts_with f (counted counts r) ≡ counted (counts_with f counts) r
     counts_are found.Same = refl
@@ -428,7 +431,7 @@ told_end told source root first now new counts r is tree puts it = λ s e o f ol
 abbrev sought_from : own.Job → hand.AtHand → List ℕ → Path → Forest → Sought
 sought_from job at id from s = record {
   algorithm = job.algorithm;
-  text = inventory_text id at.rows.now job.meta job.algorithm;
+  text_with = λ meta. inventory_text id at.rows.now meta job.algorithm;
   stored = stored_files at.rows.now (λ path. bytes_at s (from ++ path));
 }
 
@@ -442,7 +445,7 @@ found_at_hand job at id from to source root (Ok finding) id_is from_is to_is is_
     sought_is : (s : Forest) → sought_from job at id from s ≡ sought_at_hand job at s
     sought_is s = λ i. record {
       algorithm = job.algorithm;
-      text = inventory_text (id_is i) at.rows.now job.meta job.algorithm;
+      text_with = λ meta. inventory_text (id_is i) at.rows.now meta job.algorithm;
       stored = stored_files at.rows.now (λ path. bytes_at s (from_is i ++ path));
     }
 

@@ -12,7 +12,7 @@ use Rattle.pt_name.specs.Place.{place_of}
 use Rattle.pt_object.specs.Distinct.{content_of_row, distinct}
 use Rattle.pt_object.specs.FilePaths.{File, part_in_order, row_paths}
 use Rattle.pt_object.specs.Inventory.{inventory_text}
-use Rattle.pt_object.specs.Object.{rows_of, stored_files}
+use Rattle.pt_object.specs.Object.{bytes_in, rows_of, stored_files}
 use Rattle.pt_plan.specs.Items.{Holds, Item, Named, PairtreeObject, items, outcome}
 use Rattle.pt_plan.specs.Job.{Job}
 use Rattle.pt_plan.specs.Lines.{Done, Line, Skipped, line_by_verdict, line_text}
@@ -33,13 +33,12 @@ use Rattle.pt_walk.specs.declared.cause.Cause.{Cause}
 
 -- ---- what is told of an item
 
--- what is sought at the place of an object of the store: it, as a run would carry it, but for what its inventory says of its version
-abbrev pub sought : Job → Forest → List ℕ → PairtreeObject → List File → Sought
-sought job source id object files = record {
+-- what is sought at the place of an object of the store: it, as a run would carry it, with an inventory that says of its version whatever a run can be given
+abbrev pub sought : Job → List ℕ → List File → Sought
+sought job id files = record {
   algorithm = job.algorithm;
-  text = inventory_text id (rows_of job.algorithm files) job.meta job.algorithm;
-  stored = stored_files (rows_of job.algorithm files)
-      (λ path. bytes_at source (in_pairtree (object.at ++ path)));
+  text_with = λ meta. inventory_text id (rows_of job.algorithm files) meta job.algorithm;
+  stored = stored_files (rows_of job.algorithm files) (bytes_in files);
 }
 
 -- the item has an object with no cause against it, and this is found at the place of its identifier
@@ -49,7 +48,7 @@ pub record IsFoundOf (job : Job) (source root : Forest) (item : Item) (finding :
   pub files : List File
   pub named : item.verdict ≡ Named id object
   pub whole : outcome job.limits object ≡ Holds files
-  pub found : IsFound (sought job source id object files)
+  pub found : IsFound (sought job id files)
       (inside root (in_root (place_of job.tuples id))) finding
 
 -- The text that is told of an item, by the line that a run would tell of it over no root, and what is counted. Where it only leads on nothing is; what is passed over is told as a run tells it; of an object it is told what is found
@@ -122,7 +121,7 @@ pub record IsUnderWay (told : Option Reading) (source root : Option Forest) (fir
 abbrev pub sought_at_hand : own.Job → AtHand → Forest → Sought
 sought_at_hand job hand source = record {
   algorithm = job.algorithm;
-  text = inventory_text hand.told.id.now hand.rows.now job.meta job.algorithm;
+  text_with = λ meta. inventory_text hand.told.id.now hand.rows.now meta job.algorithm;
   stored = stored_files hand.rows.now (λ path. bytes_at source (in_pairtree (hand.told.at ++ path)));
 }
 

@@ -186,7 +186,6 @@ fn found<S: Source, R: Root>(
         id: hand.told.id.as_str(),
         rows: hand.rows,
         contents: hand.contents,
-        meta: &job.meta,
         algorithm: job.algorithm,
         from: &from,
         to: &to,

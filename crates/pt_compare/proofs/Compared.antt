@@ -26,6 +26,7 @@ use Rattle.pt_object.proofs.ObjectScripts.{in_order_apart}
 use Rattle.pt_object.proofs.Ways.{is_same}
 use Rattle.pt_object.specs.Distinct.{content_of_row, distinct, distinct_after, row_has_digest}
 use Rattle.pt_object.specs.FilePaths.{File, are_apart, part_in_order, parts_before, paths_of, row_paths}
+use Rattle.pt_object.specs.MetaParts.{MetaParts}
 use Rattle.pt_object.specs.Object.{stored_files}
 use Rattle.pt_object.specs.Script.{Item, MakeFile}
 use Rattle.pt_object.specs.declared.algorithm.Algorithm.{Algorithm}
@@ -114,14 +115,14 @@ record Early (sought : Sought) (t : Tree) (old now : Marks) : Type 0 where
   stand : All (StandsSo t) (early_items sought.stored)
   noted : now ≡ all_met t (early_items sought.stored) old
 
-by_inventories : (sought : Sought) (t : Tree) (old now new : Marks) (r : Answer) → Early sought t old now → MeetsInventories sought.algorithm sought.text t now new r → MeetsObject sought t old new r
+by_inventories : (sought : Sought) (t : Tree) (old now new : Marks) (r : Answer) → Early sought t old now → MeetsInventories sought.algorithm sought.text_with t now new r → MeetsObject sought t old new r
 by_inventories sought t old now new (Ok x) early met = (
   met.0,
   met.1,
   all_both (StandsSo t) (early_items sought.stored) (inventory_items sought.algorithm met.0) early.stand met.2,
   met.3 ∙ ap (all_met t (inventory_items sought.algorithm met.0)) early.noted ∙ sym (all_met-append t (early_items sought.stored) (inventory_items sought.algorithm met.0) old),
 )
-by_inventories sought t old now new (Err (stop.Differs d)) early (inl between) = inr (inl (between.0, early.stand, subst (λ (m : Marks). IsWrongInventory t m version_inventory sought.text d.why) early.noted between.1))
+by_inventories sought t old now new (Err (stop.Differs d)) early (inl between) = inr (inl (between.0, early.stand, subst (λ (m : Marks). IsWrongInventory t m version_inventory sought.text_with d.why) early.noted between.1))
 by_inventories sought t old now new (Err (stop.Differs d)) early (inr late) = inr (inr (late.0, (late.2, late.1), stops_later t old now (early_items sought.stored) (inventory_items sought.algorithm late.0) d.path d.why early.stand early.noted late.3))
 by_inventories sought t old now new (Err (stop.Halt why)) early met = tt
 
@@ -165,7 +166,7 @@ module _ (src tree : Option Forest) (place : Path) (sought : Forest → Sought) 
         stops_object (sought s) (inside f place) old now new e answer (err_of answer e is) (meets_later_stop (inside f place) first_items (content_items None (sought s).stored) old mid now e here.0 here.1 later)
 
     pub inventories_last : (last : Option Forest) (v : Unit {0}) (new : Marks) (r : Answer) → last ≡ next → MeetsFrom src next place (λ s. content_items None (files s)) mid now (Ok v)
-        → ((s : Forest) → ForSome last (λ f. MeetsInventories (sought s).algorithm (sought s).text (inside f place) now new r)) → MeetsAll new r
+        → ((s : Forest) → ForSome last (λ f. MeetsInventories (sought s).algorithm (sought s).text_with (inside f place) now new r)) → MeetsAll new r
     unfolding MeetsIn MeetsFrom
     inventories_last last v new r follows contents inventories = λ s read f told.
         let here = first f told in
@@ -196,30 +197,30 @@ module _ (sought : Sought) (order : part_in_order (paths_of sought.stored) ≡ t
 file_first : (t : Tree) (p : Path) (bytes : List ℕ) → t p ≡ Some (Bytes bytes) → All (StandsSo t) (MakeFile p bytes ∷ [])
 file_first t p bytes is = All-cons (StandsSo t) (MakeFile p bytes) [] is (All-nil (StandsSo t))
 
-pub inventory_stops : (tree : Option Forest) (place p : Path) (algorithm : Algorithm) (made text : List ℕ) (old mid new : Marks) (e : Stop) (answer : Answer) → IsErrAnd answer (λ f. f ≡ e) → p ≡ version_inventory → made ≡ text → MeetsTextIn tree place p made old mid (Err e) → ForSome tree (λ f. MeetsInventories algorithm text (inside f place) old new answer)
+pub inventory_stops : (tree : Option Forest) (place p : Path) (algorithm : Algorithm) (text_with : MetaParts → List ℕ) (old mid new : Marks) (e : Stop) (answer : Answer) → IsErrAnd answer (λ f. f ≡ e) → p ≡ version_inventory → MeetsTextIn tree place p text_with old mid (Err e) → ForSome tree (λ f. MeetsInventories algorithm text_with (inside f place) old new answer)
 unfolding MeetsTextIn
-inventory_stops tree place p algorithm made text old mid new e answer is at same met = λ f told.
-    let here = subst (λ (m : List ℕ). MeetsText (inside f place) version_inventory m old mid (Err e)) same (subst (λ (q : Path). MeetsText (inside f place) q made old mid (Err e)) at (met f told)) in
-    subst (MeetsInventories algorithm text (inside f place) old new) (sym (err_of answer e is)) (by f e here)
+inventory_stops tree place p algorithm text_with old mid new e answer is at met = λ f told.
+    let here = subst (λ (q : Path). MeetsText (inside f place) q text_with old mid (Err e)) at (met f told) in
+    subst (MeetsInventories algorithm text_with (inside f place) old new) (sym (err_of answer e is)) (by f e here)
   where
-    by : (f : Forest) (e : Stop) → MeetsText (inside f place) version_inventory text old mid (Err e) → MeetsInventories algorithm text (inside f place) old new (Err e)
+    by : (f : Forest) (e : Stop) → MeetsText (inside f place) version_inventory text_with old mid (Err e) → MeetsInventories algorithm text_with (inside f place) old new (Err e)
     by f (stop.Differs d) here = inl here
     by f (stop.Halt why) here = tt
 
-pub inventory_noted : (tree next : Option Forest) (place p : Path) (made : List ℕ) (old new : Marks) (text : String Global) → next ≡ tree → NotedStand tree place old → MeetsTextIn tree place p made old new (Ok text) → NotedStand next place new
+pub inventory_noted : (tree next : Option Forest) (place p : Path) (text_with : MetaParts → List ℕ) (old new : Marks) (text : String Global) → next ≡ tree → NotedStand tree place old → MeetsTextIn tree place p text_with old new (Ok text) → NotedStand next place new
 unfolding NotedStand MeetsTextIn
-inventory_noted tree next place p made old new text is noted met = λ f told q k some.
+inventory_noted tree next place p text_with old new text is noted met = λ f told q k some.
     let there = sym is ∙ told in
     all_met_noted (inside f place) (MakeFile p (string_bytes text) ∷ []) old (noted f there) q k (ap (λ (m : Marks). m q) (sym (met f there).2) ∙ some)
 
-pub inventory_then : (tree next : Option Forest) (place p : Path) (algorithm : Algorithm) (made text now : List ℕ) (old mid new : Marks) (stands : String Global) (r : Answer) → next ≡ tree → p ≡ version_inventory → made ≡ text → now ≡ string_bytes stands → MeetsTextIn tree place p made old mid (Ok stands)
-    → MeetsIn next place (last_items algorithm now) mid new r → ForSome tree (λ f. MeetsInventories algorithm text (inside f place) old new r)
+pub inventory_then : (tree next : Option Forest) (place p : Path) (algorithm : Algorithm) (text_with : MetaParts → List ℕ) (now : List ℕ) (old mid new : Marks) (stands : String Global) (r : Answer) → next ≡ tree → p ≡ version_inventory → now ≡ string_bytes stands → MeetsTextIn tree place p text_with old mid (Ok stands)
+    → MeetsIn next place (last_items algorithm now) mid new r → ForSome tree (λ f. MeetsInventories algorithm text_with (inside f place) old new r)
 unfolding MeetsTextIn MeetsIn
-inventory_then tree next place p algorithm made text now old mid new stands r same at is_text is_now met copies = λ f told.
-    let here = subst (λ (m : List ℕ). MeetsText (inside f place) version_inventory m old mid (Ok stands)) is_text (subst (λ (q : Path). MeetsText (inside f place) q made old mid (Ok stands)) at (met f told)) in
+inventory_then tree next place p algorithm text_with now old mid new stands r same at is_now met copies = λ f told.
+    let here = subst (λ (q : Path). MeetsText (inside f place) q text_with old mid (Ok stands)) at (met f told) in
     by f r here (subst (λ (l : List ℕ). Meets {T = Unit {0}} (inside f place) (last_items algorithm l) mid new r) is_now (copies f (same ∙ told)))
   where
-    by : (f : Forest) (r : Answer) → MeetsText (inside f place) version_inventory text old mid (Ok stands) → Meets {T = Unit {0}} (inside f place) (last_items algorithm (string_bytes stands)) mid new r → MeetsInventories algorithm text (inside f place) old new r
+    by : (f : Forest) (r : Answer) → MeetsText (inside f place) version_inventory text_with old mid (Ok stands) → Meets {T = Unit {0}} (inside f place) (last_items algorithm (string_bytes stands)) mid new r → MeetsInventories algorithm text_with (inside f place) old new r
     by f (Ok x) here copies = (
       string_bytes stands,
       here.1,

@@ -1,174 +1,105 @@
--- The parts of an inventory's text, and what is the same of two of them.
-use Rattle.std.proofs.Common.{◌≡◌, ◌<◌, ◌≤◌, ◌⊎◌, ◌↔◌, inl, inr, ℕ, List, Bool, true, false, ◌++◌, take, drop, length, length-append, arith, refl, ap, sym, subst, ◌∙◌}
-use Rattle.std.proofs.Math.Seq.{drop-append_seam, take-append_seam}
-use Rattle.std.proofs.lemmas.Bool.{cases_order, true≢false}
-use Rattle.std.proofs.lemmas.List.{append_cancel_left, take-append-drop}
-use Rattle.std.specs.Prelude.{IfOk, MatchOption, Ok, Err, None, Some, Option, Result, codes}
-use Rattle.std.specs.Str.Pattern.{FindsText, HasTextAt, LacksTextAt, RFindsText, SplitsAroundMatch}
-use Rattle.pt_compare.specs.Described.{Cut, DifferInMeta, IsCut, IsDescribed, IsFirst, IsGiven, IsLast, TellsMade, from_created, from_message, from_state}
+-- What an inventory says of its version, read back, and whether it is one that a run could make.
+use Rattle.std.proofs.Common.{◌≡◌, ◌∙◌, ◌∷◌, [], ℕ, List, Bool, true, false, refl, ap, sym, subst}
+use Rattle.std.proofs.lemmas.Bool.{true≢false}
+use Rattle.std.specs.Prelude.{IfOk, IfSome, MatchOption, Ok, Err, None, Some, Option, Result}
+use Rattle.std.specs.Option.{option_and_then, unwrap_or}
+use Rattle.std.specs.Str.{IsUtf8, bytes_eq}
+use Rattle.std.specs.Cmp.Lexicographic.{other_text, same_text}
+use Rattle.pt_compare.specs.Described.{IsGiven, IsMade, TellsMade, description_in, given_by, is_text_with, texts_in_inventory, unless_refused}
+use Rattle.pt_object.proofs.InventoryText.{inventory_reads}
+use Rattle.pt_object.specs.Inventory.{inventory_text, inventory_tree}
+use Rattle.pt_object.specs.Meta.{given_address, meta_refusal, parts_of}
 use Rattle.pt_object.specs.MetaParts.{MetaParts}
+use Rattle.pt_object.specs.declared.algorithm.Algorithm.{Algorithm}
+use Rattle.pt_object.specs.declared.meta.MetaFault.{MetaFault}
+use Rattle.pt_object.specs.declared.meta.MetaFault.TheVariants as fault
+use Rattle.pt_object.specs.declared.rows.Row.{Row}
+use Rattle.pt_tree.specs.Refusal.{Answers}
 use Rattle.pt_tree.specs.declared.faults.MemoryFault.{MemoryFault}
+use Rattle.serde_json.specs.Data.{null}
+use Rattle.serde_json.specs.Read.{read}
 
--- a text round another that is found in it
-round : (n s front back : List ℕ) (i j : ℕ) → HasTextAt n s i j → front ≡ take i s → back ≡ drop j s → s ≡ front ++ (n ++ back)
-round n s front back i j at front_is back_is =
-    sym (take-append-drop i s) ∙ ap (λ l. take i s ++ l) at.split ∙ ap (λ l. l ++ (n ++ drop j s)) (sym front_is) ∙ ap (λ l. front ++ (n ++ l)) (sym back_is)
+-- ---- what a run is given
 
--- a text that was cut at its first such word, and one at its last
-record IsCutFirst (n s front back : List ℕ) : Type 0 where
-  around : s ≡ front ++ (n ++ back)
-  first : IsFirst n s (length front)
+given_twice : (address : Option (List ℕ)) → given_address (given_address address) ≡ given_address address
+given_twice None = refl
+given_twice (Some []) = refl
+given_twice (Some (x ∷ xs)) = refl
 
-record IsCutLast (n s front back : List ℕ) : Type 0 where
-  around : s ≡ front ++ (n ++ back)
-  last : IsLast n s (length front)
-
-cut_first : (n s front back : List ℕ) → SplitsAroundMatch (FindsText n) s front back → IsCutFirst n s front back
-cut_first n s front back (i, j, found, front_is, back_is, before, long, rest) =
-    record { around = round n s front back i j found.1 front_is back_is; first = λ k less. found.0 k (omega (arith, less, long)) }
-
-cut_last : (n s front back : List ℕ) → SplitsAroundMatch (RFindsText n) s front back → IsCutLast n s front back
-cut_last n s front back (i, j, found, front_is, back_is, before, long, rest) =
-    record { around = round n s front back i j found.1 front_is back_is; last = λ k more. found.0 k (omega (arith, more, long)) }
-
-word_at : (n s front back : List ℕ) → s ≡ front ++ (n ++ back) → drop (length front) s ≡ n ++ back
-word_at n s front back is = ap (drop (length front)) is ∙ drop-append_seam front (n ++ back)
-
-within : (n s front back : List ℕ) → s ≡ front ++ (n ++ back) → length front ≤ length s
-within n s front back is = omega (arith, ap length is, length-append front (n ++ back))
-
--- what is found nowhere stands nowhere
-not_round : (n s : List ℕ) → ((i : ℕ) → i ≤ length s → LacksTextAt n s i) → (front back : List ℕ) → s ≡ front ++ (n ++ back) → ⊥
-not_round n s none front back is = none (length front) (within n s front back is) back (word_at n s front back is)
-
-same_parts : (n s f b g d : List ℕ) → s ≡ f ++ (n ++ b) → s ≡ g ++ (n ++ d) → length f ≡ length g → (f ≡ g) × (b ≡ d)
-same_parts n s f b g d is it same = (
-  sym (take-append_seam f (n ++ b)) ∙ ap (take (length f)) (sym is) ∙ ap (λ k. take k s) same ∙ ap (take (length g)) it ∙ take-append_seam g (n ++ d),
-  append_cancel_left n b d (sym (word_at n s f b is) ∙ ap (λ k. drop k s) same ∙ word_at n s g d it),
-)
-
--- there is one first place of a word, and one last
-first_once : (n s f b g d : List ℕ) → IsCutFirst n s f b → s ≡ g ++ (n ++ d) → IsFirst n s (length g) → (f ≡ g) × (b ≡ d)
-first_once n s f b g d cut it first = by (cases_order (length f) (length g))
+-- what a run is given, it can be given again
+given_again : (texts meta : MetaParts) → given_by texts ≡ Some meta → IsGiven meta
+given_again texts meta is = by (meta_refusal texts.created texts.name) refl is
   where
-    by : (length f ≡ length g) ⊎ ((length f < length g) ⊎ (length g < length f)) → (f ≡ g) × (b ≡ d)
-    by (inl same) = same_parts n s f b g d cut.around it same
-    by (inr (inl less)) = absurd (first (length f) less b (word_at n s f b cut.around))
-    by (inr (inr more)) = absurd (cut.first (length g) more d (word_at n s g d it))
+    by : (o : Option MetaFault) → meta_refusal texts.created texts.name ≡ o → unless_refused o texts ≡ Some meta → IsGiven meta
+    by None free is =
+        let told : MetaParts = record texts { address = given_address texts.address } in
+        let same : told ≡ meta = cc in
+        subst IsGiven same (ap (λ o. unless_refused o told) free ∙ ap (λ a. Some (parts_of texts.created texts.name a texts.message)) (given_twice texts.address))
+    by (Some refusal) free is = absurd (cc)
 
-last_once : (n s f b g d : List ℕ) → IsCutLast n s f b → s ≡ g ++ (n ++ d) → IsLast n s (length g) → (f ≡ g) × (b ≡ d)
-last_once n s f b g d cut it last = by (cases_order (length f) (length g))
-  where
-    by : (length f ≡ length g) ⊎ ((length f < length g) ⊎ (length g < length f)) → (f ≡ g) × (b ≡ d)
-    by (inl same) = same_parts n s f b g d cut.around it same
-    by (inr (inl less)) = absurd (cut.last (length g) less (within n s g d it) d (word_at n s g d it))
-    by (inr (inr more)) = absurd (last (length f) more (within n s f b cut.around) b (word_at n s f b cut.around))
+given_of : (texts : Option MetaParts) (meta : MetaParts) → option_and_then given_by texts ≡ Some meta → IsGiven meta
+given_of None meta is = absurd (cc)
+given_of (Some texts) meta is = given_again texts meta is
 
-abbrev FindsFirst : List ℕ → List ℕ → List ℕ → List ℕ → Type 0
-FindsFirst n = SplitsAroundMatch (FindsText n)
+pub all_given : (texts : MetaParts) (r : Result (Option MetaParts) MemoryFault) → IfOk r (λ meta. meta ≡ given_by texts) → IfOk r (λ meta. IfSome meta IsGiven)
+all_given texts (Ok None) is = tt
+all_given texts (Ok (Some meta)) is = given_again texts meta (sym is)
+all_given texts (Err e) is = tt
 
-abbrev FindsLast : List ℕ → List ℕ → List ℕ → List ℕ → Type 0
-FindsLast n = SplitsAroundMatch (RFindsText n)
+pub given_ok : (o : Option MetaFault) (texts meta : MetaParts) → Answers o fault.Memory (Ok meta) (λ m. m ≡ record texts { address = given_address texts.address }) → Some meta ≡ unless_refused o texts
+given_ok None texts meta is = ap (λ m. Some m) is
+given_ok (Some refusal) texts meta is = absurd (cc)
 
-abbrev created_word : List ℕ
-created_word = codes "\"versions\":{\"v1\":{\"created\":"
+pub given_err : (o : Option MetaFault) (texts : MetaParts) (f : MetaFault) (P : MetaParts → Type 0) → (f ≡ fault.Memory → ⊥) → Answers o fault.Memory (Err f) P → None ≡ unless_refused o texts
+given_err None texts f P refused is = absurd (refused is)
+given_err (Some refusal) texts f P refused is = refl
 
-abbrev message_word : List ℕ
-message_word = codes ",\"message\":"
+-- ---- whether it is made
 
-abbrev state_word : List ℕ
-state_word = codes ",\"state\":"
+-- with a description that a run can be given the inventory is made
+made_with : (text_with : MetaParts → List ℕ) (inventory : List ℕ) (meta : Option MetaParts) → IsUtf8 inventory → ((m : MetaParts) → meta ≡ Some m → IsGiven m) → is_text_with text_with inventory meta ≡ true → IsMade text_with inventory
+made_with text_with inventory None text given is = absurd (true≢false (sym is))
+made_with text_with inventory (Some m) text given is = record { is_text = text; meta = m; given = given m refl; is = same_text inventory (text_with m) (sym is) }
 
-abbrev user_word : List ℕ
-user_word = codes ",\"user\":"
+if_given : (meta : Option MetaParts) → IfSome meta IsGiven → (m : MetaParts) → meta ≡ Some m → IsGiven m
+if_given meta given m is = subst (λ o. IfSome o IsGiven) is given
 
--- the parts that were found one after another are those of the text
-pub is_cut : (cut : Cut) (s behind_created behind_message behind_state : List ℕ)
-    → FindsFirst created_word s cut.before behind_created → FindsFirst message_word behind_created cut.created behind_message
-    → FindsFirst state_word behind_message cut.message behind_state → FindsLast user_word behind_state cut.state cut.user → IsCut s cut
-is_cut cut s behind_created behind_message behind_state one two three four =
-    let before = cut_first _ _ _ _ one in
-    let created = cut_first _ _ _ _ two in
-    let message = cut_first _ _ _ _ three in
-    let state = cut_last _ _ _ _ four in
-    let state_is : behind_state ≡ from_state cut = state.around in
-    let message_is : behind_message ≡ from_message cut = message.around ∙ ap (λ l. cut.message ++ (state_word ++ l)) state_is in
-    let created_is : behind_created ≡ from_created cut = created.around ∙ ap (λ l. cut.created ++ (message_word ++ l)) message_is in
-    record {
-      is = before.around ∙ ap (λ l. cut.before ++ (created_word ++ l)) created_is;
-      created = before.first;
-      message = subst (λ t. IsFirst message_word t (length cut.created)) created_is created.first;
-      state = subst (λ t. IsFirst state_word t (length cut.message)) message_is message.first;
-      user = subst (λ t. IsLast user_word t (length cut.state)) state_is state.last;
-    }
+pub tells_made : (text_with : MetaParts → List ℕ) (inventory : List ℕ) (meta : Option MetaParts) (made : Bool) → IsUtf8 inventory → IfSome meta IsGiven → made ≡ true → made ≡ is_text_with text_with inventory meta → TellsMade text_with inventory true
+tells_made text_with inventory meta made text given is told = (λ t. made_with text_with inventory meta text (if_given meta given) (sym told ∙ is), λ m. refl)
 
--- what was found of a text's parts so far is that of any cut
-at_created : (s before behind : List ℕ) (cut : Cut) → FindsFirst created_word s before behind → IsCut s cut → behind ≡ from_created cut
-at_created s before behind cut one is = (first_once created_word _ _ _ cut.before (from_created cut) (cut_first _ _ _ _ one) is.is is.created).1
+-- what the inventory of some files says of its version
+module _ (id : List ℕ) (rows : List Row) (algorithm : Algorithm) where
+  abbrev texts : MetaParts → List ℕ
+  texts meta = inventory_text id rows meta algorithm
 
-at_message : (s created behind : List ℕ) (cut : Cut) → FindsFirst message_word s created behind → IsFirst message_word (from_created cut) (length cut.created) → s ≡ from_created cut → behind ≡ from_message cut
-at_message s created behind cut two first is =
-    (first_once message_word _ _ _ cut.created (from_message cut) (cut_first _ _ _ _ two) is (subst (λ t. IsFirst message_word t (length cut.created)) (sym is) first)).1
+  told_of : (meta : MetaParts) → texts_in_inventory (inventory_tree id rows meta algorithm) ≡ Some (parts_of meta.created meta.name meta.address meta.message)
+  told_of meta = by meta.address refl
+    where
+      by : (address : Option (List ℕ)) → meta.address ≡ address → texts_in_inventory (inventory_tree id rows meta algorithm) ≡ Some (parts_of meta.created meta.name meta.address meta.message)
+      by None is = ap (λ a. texts_in_inventory (inventory_tree id rows (parts_of meta.created meta.name a meta.message) algorithm)) is ∙ ap (λ a. Some (parts_of meta.created meta.name a meta.message)) (sym is)
+      by (Some address) is = ap (λ a. texts_in_inventory (inventory_tree id rows (parts_of meta.created meta.name a meta.message) algorithm)) is ∙ ap (λ a. Some (parts_of meta.created meta.name a meta.message)) (sym is)
 
-at_state : (s message behind : List ℕ) (cut : Cut) → FindsFirst state_word s message behind → IsFirst state_word (from_message cut) (length cut.message) → s ≡ from_message cut → behind ≡ from_state cut
-at_state s message behind cut three first is =
-    (first_once state_word _ _ _ cut.message (from_state cut) (cut_first _ _ _ _ three) is (subst (λ t. IsFirst state_word t (length cut.message)) (sym is) first)).1
+  read_back : (meta : MetaParts) → IsGiven meta → description_in (unwrap_or (read (texts meta)) null) ≡ Some meta
+  read_back meta given = ap (λ o. description_in (unwrap_or o null)) (inventory_reads id rows meta algorithm) ∙ ap (option_and_then given_by) (told_of meta) ∙ given
 
-pub none_match : {T : Type 0} (o : Option T) (P : Type 0) (Q : T → Type 0) → o ≡ None → P → MatchOption o P Q
-none_match None P Q is p = p
-none_match (Some x) P Q is p = absurd (cc)
+  same_as_itself : (text : List ℕ) → bytes_eq text text ≡ true
+  same_as_itself text = by (bytes_eq text text) refl
+    where
+      by : (b : Bool) → bytes_eq text text ≡ b → b ≡ true
+      by true is = refl
+      by false is = absurd (other_text text text (sym is) refl)
 
--- a text in which a word wasn't found has no parts
-pub no_created : (s : List ℕ) → FindsText created_word s None → (cut : Cut) → IsCut s cut → ⊥
-no_created s none cut is = not_round created_word s none cut.before (from_created cut) is.is
+  made_read : (inventory : List ℕ) (meta : Option MetaParts) → meta ≡ description_in (unwrap_or (read inventory) null) → IsMade texts inventory → is_text_with texts inventory meta ≡ true
+  made_read inventory meta told made =
+      let found : meta ≡ Some made.meta = told ∙ ap (λ b. description_in (unwrap_or (read b) null)) made.is ∙ read_back made.meta made.given in
+      ap (is_text_with texts inventory) found ∙ ap (λ b. bytes_eq b (texts made.meta)) made.is ∙ same_as_itself (texts made.meta)
 
-pub no_message : (s before rest : List ℕ) → FindsFirst created_word s before rest → FindsText message_word rest None → (cut : Cut) → IsCut s cut → ⊥
-no_message s before rest one none cut is = not_round message_word rest none cut.created (from_message cut) (at_created s before rest cut one is)
-
-pub no_state : (s before rest created behind : List ℕ) → FindsFirst created_word s before rest → FindsFirst message_word rest created behind → FindsText state_word behind None → (cut : Cut) → IsCut s cut → ⊥
-no_state s before rest created behind one two none cut is =
-    not_round state_word behind none cut.message (from_state cut) (at_message rest created behind cut two is.message (at_created s before rest cut one is))
-
-pub no_user : (s before rest created behind message later : List ℕ) → FindsFirst created_word s before rest → FindsFirst message_word rest created behind → FindsFirst state_word behind message later
-    → RFindsText user_word later None → (cut : Cut) → IsCut s cut → ⊥
-no_user s before rest created behind message later one two three none cut is =
-    not_round user_word later none cut.state cut.user
-    (at_state behind message later cut three is.state (at_message rest created behind cut two is.message (at_created s before rest cut one is)))
-
--- a text has one cut
-pub one_cut : (s : List ℕ) (a b : Cut) → IsCut s a → IsCut s b → a ≡ b
-one_cut s a b p q =
-    let one = first_once created_word _ _ _ b.before (from_created b) (record { around = p.is; first = p.created }) q.is q.created in
-    let two = first_once message_word _ _ _ b.created (from_message b) (record { around = refl; first = p.message }) one.1 (subst (λ t. IsFirst message_word t (length b.created)) (sym one.1) q.message) in
-    let three = first_once state_word _ _ _ b.message (from_state b) (record { around = refl; first = p.state }) two.1 (subst (λ t. IsFirst state_word t (length b.message)) (sym two.1) q.state) in
-    let four = last_once user_word _ _ _ b.state b.user (record { around = refl; last = p.user }) three.1 (subst (λ t. IsLast user_word t (length b.state)) (sym three.1) q.user) in
-    λ k. record { before = one.0 k; created = two.0 k; message = three.0 k; state = four.0 k; user = four.1 k }
-
--- the texts don't differ so
-pub tells_other : (stands made : List ℕ) → (DifferInMeta stands made → ⊥) → TellsMade stands made false
-tells_other stands made other = (λ t. absurd (true≢false (sym t)), λ d. absurd (other d))
-
-pub parts_differ : (stands made : List ℕ) (a b : Cut) → IsCut stands a → IsCut made b → ((a.before ≡ b.before) × (a.state ≡ b.state) → ⊥) → DifferInMeta stands made → ⊥
-parts_differ stands made a b p q other d =
-    let one = one_cut stands a d.cut p d.stands_is in
-    let two = one_cut made b d.other q d.made_is in
-    other (ap (λ (c : Cut). c.before) one ∙ d.before ∙ ap (λ (c : Cut). c.before) (sym two), ap (λ (c : Cut). c.state) one ∙ d.state ∙ ap (λ (c : Cut). c.state) (sym two))
-
--- of texts that are the same beside their descriptions it is told whether the first is described
-pub tells_made : (stands made : List ℕ) (a b : Cut) (meta : MetaParts) (r : Result Bool MemoryFault) → IsCut stands a → IsCut made b → a.before ≡ b.before → a.state ≡ b.state → IsGiven meta
-    → ((m : MetaParts) → IsGiven m → IsDescribed m a → Some meta ≡ Some m) → IfOk r (λ same. (same ≡ true) ↔ IsDescribed meta a) → IfOk r (TellsMade stands made)
-tells_made stands made a b meta (Err e) p q before state given one told = tt
-tells_made stands made a b meta (Ok same) p q before state given one told = (
-  λ is. record { meta = meta; cut = a; other = b; stands_is = p; made_is = q; before = before; state = state; given = given; described = told.0 is },
-  λ d.
-      let here = subst (IsDescribed d.meta) (sym (one_cut stands a d.cut p d.stands_is)) d.described in
-      let same_meta : meta ≡ d.meta = let is = one d.meta d.given here in cc in
-      told.1 (subst (λ m. IsDescribed m a) (sym same_meta) here),
-)
-
--- and of those without a description that none is
-pub tells_none : (stands made : List ℕ) (a : Cut) → IsCut stands a → ((m : MetaParts) → IsGiven m → IsDescribed m a → ⊥) → TellsMade stands made false
-tells_none stands made a p none = tells_other stands made (λ d. none d.meta d.given (subst (IsDescribed d.meta) (sym (one_cut stands a d.cut p d.stands_is)) d.described))
+  pub tells_by_json : (inventory : List ℕ) (meta : Option MetaParts) (r : Result Bool MemoryFault) → IsUtf8 inventory → meta ≡ description_in (unwrap_or (read inventory) null) → IfOk r (λ made. made ≡ is_text_with texts inventory meta) → IfOk r (TellsMade texts inventory)
+  tells_by_json inventory meta (Err e) text told is = tt
+  tells_by_json inventory meta (Ok made) text told is = (
+    λ t. made_with texts inventory meta text (λ m some. given_of (texts_in_inventory (unwrap_or (read inventory) null)) m (sym told ∙ some)) (sym is ∙ t),
+    λ m. is ∙ made_read inventory meta told m,
+  )
 
 -- what is said of an answer, where it is known
 pub on_none : {T : Type 0} (o : Option T) (P : Type 0) (Q : T → Type 0) → o ≡ None → MatchOption o P Q → P

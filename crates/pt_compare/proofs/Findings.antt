@@ -3,7 +3,7 @@ use Rattle.std.proofs.Common.{◌≡◌, ◌∙◌, ◌⊎◌, inl, inr, ℕ, Li
 use Rattle.std.specs.Prelude.{All, Option, None, Some, IsSome}
 use Rattle.std.specs.Option.{option_and_then, option_map, option_or}
 use Rattle.std.proofs.lemmas.List.Elements.{All-head, All-tail}
-use Rattle.pt_compare.specs.Found.{HaveOtherBytes, IsHeld, IsOtherFile, IsWrong, Sought, all_items, inventory_items, object_with, version_inventory}
+use Rattle.pt_compare.specs.Found.{HaveOtherBytes, IsHeld, IsOtherFile, IsWrong, Sought, all_items, inventory_items, object_with, shape, version_inventory}
 use Rattle.pt_compare.specs.Marks.{Marks, all_met, at_first, inside, is_entry_of, kind_in, met, without_mark}
 use Rattle.pt_compare.specs.Meeting.{HasOtherBytes, HasOtherKind, IsWrongInventory, IsWrongItem, StandsSo, StopsAt}
 use Rattle.pt_compare.specs.Parts.{early_items, last_items}
@@ -172,18 +172,18 @@ module _ (sought : Sought) (order : part_in_order (paths_of sought.stored) ≡ t
     there : Located inventory front item
     there = locate inventory front item rest is
 
-    wanted_kind : kind_in (object_with sought sought.text) (item_path item) ≡ Some (kind_of_entry (item_entry item))
-    wanted_kind = kinds sought.text inventory (item_path item) ∙ ap (option_map kind_of_entry) there.wanted
+    wanted_kind : kind_in (shape sought) (item_path item) ≡ Some (kind_of_entry (item_entry item))
+    wanted_kind = kinds [] inventory (item_path item) ∙ ap (option_map kind_of_entry) there.wanted
 
     missing : all_met t front (at_first t) (item_path item) ≡ None → IsWrong sought t (item_path item) why.Missing
     missing none = (
-      let some = kind_some (object_with sought sought.text) (item_path item) _ wanted_kind in subst IsSome (sym some.1) refl,
+      let some = kind_some (shape sought) (item_path item) _ wanted_kind in subst IsSome (sym some.1) refl,
       kind_none t (item_path item) (sym there.noted ∙ none),
     )
 
     other_kind : HasOtherKind (all_met t front (at_first t)) (item_path item) (kind_of_entry (item_entry item)) → IsWrong sought t (item_path item) why.Kind
     other_kind other =
-        let wants = kind_some (object_with sought sought.text) (item_path item) _ wanted_kind in
+        let wants = kind_some (shape sought) (item_path item) _ wanted_kind in
         let here = kind_some t (item_path item) other.0 (sym there.noted ∙ other.1) in
         (wants.0, here.0, wants.1, here.1, λ same. other.2 (sym here.2 ∙ same ∙ wants.2))
 
@@ -201,7 +201,7 @@ module _ (sought : Sought) (order : part_in_order (paths_of sought.stored) ≡ t
   pub stopped_early : (p : Path) (w : Why) → StopsAt t (at_first t) (early_items sought.stored) p w → IsWrong sought t p w
   stopped_early p w s =
       subst (λ (q : Path). IsWrong sought t q w) (sym s.path_is)
-      (wrong_item sought.text s.front s.item (s.rest ++ inventory_items sought.algorithm sought.text) (whole sought.text) w s.wrong
+      (wrong_item [] s.front s.item (s.rest ++ inventory_items sought.algorithm []) (whole []) w s.wrong
       (λ other. inl (λ inventory. other_bytes inventory s.front s.item (s.rest ++ inventory_items sought.algorithm inventory) (whole inventory) other)))
     where
       whole : (inventory : List ℕ) → object_items sought.algorithm inventory sought.stored ≡ s.front ++ s.item ∷ (s.rest ++ inventory_items sought.algorithm inventory)
@@ -213,12 +213,12 @@ module _ (sought : Sought) (order : part_in_order (paths_of sought.stored) ≡ t
       (wrong_item inventory s.front s.item s.rest (are_items inventory ∙ s.items_are) w s.wrong
       (λ other. inr (inr (inventory, held, other_bytes inventory s.front s.item s.rest (are_items inventory ∙ s.items_are) other))))
 
-  pub stopped_between : (p : Path) (w : Why) → p ≡ version_inventory → IsWrongInventory t (all_met t (early_items sought.stored) (at_first t)) version_inventory sought.text w → IsWrong sought t p w
+  pub stopped_between : (p : Path) (w : Why) → p ≡ version_inventory → IsWrongInventory t (all_met t (early_items sought.stored) (at_first t)) version_inventory sought.text_with w → IsWrong sought t p w
   stopped_between p w is wrong = subst (λ (q : Path). IsWrong sought t q w) (sym is) (by w wrong)
     where
-      by : (w : Why) → IsWrongInventory t (all_met t (early_items sought.stored) (at_first t)) version_inventory sought.text w → IsWrong sought t version_inventory w
-      by why.Missing wrong = missing sought.text (early_items sought.stored) (MakeFile version_inventory sought.text) (last_items sought.algorithm sought.text) (are_items sought.text) wrong
-      by why.Kind wrong = other_kind sought.text (early_items sought.stored) (MakeFile version_inventory sought.text) (last_items sought.algorithm sought.text) (are_items sought.text) wrong
+      by : (w : Why) → IsWrongInventory t (all_met t (early_items sought.stored) (at_first t)) version_inventory sought.text_with w → IsWrong sought t version_inventory w
+      by why.Missing wrong = missing [] (early_items sought.stored) (MakeFile version_inventory []) (last_items sought.algorithm []) (are_items []) wrong
+      by why.Kind wrong = other_kind [] (early_items sought.stored) (MakeFile version_inventory []) (last_items sought.algorithm []) (are_items []) wrong
       by why.Bytes wrong = inr (inl (refl, wrong))
       by why.Extra wrong = absurd wrong
 
@@ -239,8 +239,8 @@ module _ (sought : Sought) (order : part_in_order (paths_of sought.stored) ≡ t
         let stands = kind_some t q there.0 (ended.noted q there.0 there.1) in
         (by_inventory (ended.unmade q some), subst IsSome (sym stands.1) refl)
       where
-        by_inventory : object_with sought inventory q ≡ None → object_with sought sought.text q ≡ None
-        by_inventory none = kind_none (object_with sought sought.text) q (kinds sought.text inventory q ∙ ap (option_map kind_of_entry) none)
+        by_inventory : object_with sought inventory q ≡ None → shape sought q ≡ None
+        by_inventory none = kind_none (shape sought) q (kinds [] inventory q ∙ ap (option_map kind_of_entry) none)
 
     pub is_all : All (StandsSo t) (all_items sought inventory) → ((p : Path) (n : List ℕ) → IsSome (t (p ++ n ∷ [])) → t p ≡ Some Folder) → ((q : Path) → marks q ≡ None) → (q : Path) → t q ≡ object_with sought inventory q
     unfolding tail_of

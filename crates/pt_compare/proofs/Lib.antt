@@ -14,7 +14,6 @@ pub mod OnWay
 pub mod Passed
 pub mod Reading
 pub mod Roots
-pub mod Said
 pub mod Single
 pub mod Steps
 pub mod Exact

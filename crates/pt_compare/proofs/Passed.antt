@@ -1,5 +1,5 @@
 -- What of a text was found to come next in the open file of a root.
-use Rattle.std.proofs.Common.{suc, ◌≡◌, ◌≢◌, ◌+◌, ◌*◌, ◌<◌, ◌≤◌, ℕ, List, [], ◌∷◌, ◌++◌, true, false, refl, sym, ap, subst, ◌∙◌, take, drop, length, inl, inr, ◌⊎◌, min, arith, not, Bool, ◌==◌}
+use Rattle.std.proofs.Common.{suc, ◌≡◌, ◌≢◌, ◌+◌, ◌*◌, ◌<◌, ◌≤◌, ℕ, List, [], ◌∷◌, ◌++◌, true, false, refl, sym, ap, ◌∙◌, take, drop, length, inl, inr, ◌⊎◌, min, arith, not, Bool, ◌==◌}
 use Rattle.std.specs.Prelude.{Option, None, Some}
 use Rattle.std.specs.Cmp.Lexicographic.{other_text, same_text}
 use Rattle.std.specs.Str.{bytes_eq}
@@ -7,7 +7,7 @@ use Rattle.std.specs.Global.{Vec}
 use Rattle.std.specs.Option.{option_map, ForSome}
 use Rattle.std.proofs.lemmas.Bool.{cases_order, false_from_ne_true, true≢false}
 use Rattle.std.proofs.lemmas.Bool.Decides.{Decides-eqb}
-use Rattle.std.proofs.lemmas.List.{append-nil, append_assoc, append_cancel_left, drop_all, length-append, length-take, length-take-le, take-append-drop, take-append-le, take_all}
+use Rattle.std.proofs.lemmas.List.{append-nil, append_assoc, append_cancel_left, drop_all, length-append, length-take-le, take-append-drop, take-append-le, take_all}
 use Rattle.pt_tree.specs.Source.{IsRead, Reading, after_next}
 use Rattle.pt_compare.specs.Bytes.{CameNext, EndsBlock, IsAllLeft, IsNotNext, TellsEnd, TellsRest, left_in}
 
@@ -143,68 +143,32 @@ rest_told bytes old mid ended came ends = λ left here.
     let next = came left here in
     ends next.0 next.1 ∙ rest_as bytes next.0 ∙ ap (λ l. bytes_eq l bytes) (sym next.2)
 
--- so much of the file was taken in so many blocks, none of them empty
-pub record Taken (bytes : List ℕ) (blocks : ℕ) (left : List ℕ) (now : Option (List ℕ)) : Type 0 where
-  pub behind : List ℕ
-  pub left_is : left ≡ bytes ++ behind
-  pub now_is : now ≡ Some behind
-  pub full : (behind ≡ []) ⊎ (length bytes ≡ blocks * 8192)
-  pub nearly : blocks * 8192 < length bytes + 8192
+-- ---- all that is left, block by block
 
-unfoldable pub HasTaken : List ℕ → ℕ → Option Reading → Option Reading → Type 0
-HasTaken bytes blocks old now = ForSome (left_in old) (λ left. Taken bytes blocks left (left_in now))
+pub none_came : (told : Option Reading) → CameNext [] told told
+unfolding CameNext
+none_came told = λ left is. (left, is, refl)
 
-pub none_taken : (told : Option Reading) → HasTaken [] 0 told told
-unfolding HasTaken
-none_taken told = λ left is. record { behind = left; left_is = refl; now_is = is; full = inr refl; nearly = omega arith }
+pub more_came : (bytes block longer : List ℕ) (old now new : Option Reading) → CameNext bytes old now → IsRead now block → new ≡ option_map after_next now → longer ≡ bytes ++ block → CameNext longer old new
+unfolding CameNext
+more_came bytes block longer old now new came read moved is = λ left here.
+    let (behind, now_is, left_is) = came left here in
+    let took = block_is now behind block read now_is in
+    let behind_is : behind ≡ block ++ drop 8192 behind = sym (take-append-drop 8192 behind) ∙ ap (λ x. x ++ drop 8192 behind) took in (
+      drop 8192 behind,
+      ap left_in moved ∙ left_next now ∙ ap (option_map (drop 8192)) now_is,
+      left_is ∙ ap (λ x. bytes ++ x) behind_is ∙ sym (append_assoc bytes block (drop 8192 behind)) ∙ ap (λ x. x ++ drop 8192 behind) (sym is),
+    )
 
-taken_next : (bytes block behind left : List ℕ) (blocks : ℕ) (now : Option (List ℕ)) → left ≡ bytes ++ behind → take 8192 behind ≡ block → now ≡ Some (drop 8192 behind) → 0 < length block → length bytes ≡ blocks * 8192 → Taken (bytes ++ block) (blocks + 1) left now
-taken_next bytes block behind left blocks now left_is read now_is some whole =
-    let size : length block ≡ min 8192 (length behind) = ap length (sym read) ∙ length-take 8192 behind in
-    let both : length (bytes ++ block) ≡ length bytes + length block = length-append bytes block in
-    let behind_is : behind ≡ block ++ drop 8192 behind = sym (take-append-drop 8192 behind) ∙ ap (λ x. x ++ drop 8192 behind) read in
-    record {
-      behind = drop 8192 behind;
-      left_is = left_is ∙ ap (λ x. bytes ++ x) behind_is ∙ sym (append_assoc bytes block (drop 8192 behind));
-      now_is = now_is;
-      full = by size both (cases_order (length behind) 8192);
-      nearly = omega (arith, both, some, whole);
-    }
-  where
-    by : length block ≡ min 8192 (length behind) → length (bytes ++ block) ≡ length bytes + length block → (length behind ≡ 8192) ⊎ ((length behind < 8192) ⊎ (8192 < length behind)) → (drop 8192 behind ≡ []) ⊎ (length (bytes ++ block) ≡ (blocks + 1) * 8192)
-    by size both (inl same) = inl (drop_all 8192 behind (omega (arith, same)))
-    by size both (inr (inl short)) = inl (drop_all 8192 behind (omega (arith, short)))
-    by size both (inr (inr long)) = inr (omega (arith, size, both, long, whole))
-
-pub one_taken : (bytes block longer : List ℕ) (blocks : ℕ) (old now new : Option Reading) → HasTaken bytes blocks old now → IsRead now block → new ≡ option_map after_next now → false ≡ (length block == 0) → longer ≡ bytes ++ block → HasTaken longer (blocks + 1) old new
-unfolding HasTaken
-one_taken bytes block longer blocks old now new has read moved test is = λ left here.
-    let p = has left here in
-    let took = block_is now p.behind block read p.now_is in
-    let some = some_left block test in
-    let left_now = ap left_in moved ∙ left_next now ∙ ap (option_map (drop 8192)) p.now_is in
-    subst (λ l. Taken l (blocks + 1) left (left_in new)) (sym is) (by p took some left_now p.full)
-  where
-    by : {left : List ℕ} (p : Taken bytes blocks left (left_in now)) → take 8192 p.behind ≡ block → 0 < length block → left_in new ≡ Some (drop 8192 p.behind) → (p.behind ≡ []) ⊎ (length bytes ≡ blocks * 8192) → Taken (bytes ++ block) (blocks + 1) left (left_in new)
-    by {left} p took some left_now (inl none) = absurd (omega (arith, some, ap length (sym took ∙ ap (take 8192) none)))
-    by {left} p took some left_now (inr whole) = taken_next bytes block p.behind left blocks (left_in new) p.left_is took left_now some whole
-
-pub all_taken : (bytes : Vec ℕ) (block : List ℕ) (blocks : ℕ) (old now : Option Reading) → HasTaken bytes.items blocks old now → IsRead now block → true ≡ (length block == 0) → IsAllLeft old (Some bytes)
-unfolding HasTaken IsAllLeft
-all_taken bytes block blocks old now has read test = λ left here.
-    let p = has left here in
-    sym (p.left_is ∙ ap (λ x. bytes.items ++ x) (none_left p.behind (test ∙ ends_as block p.behind (block_is now p.behind block read p.now_is))) ∙ append-nil bytes.items)
+pub all_came : (bytes : Vec ℕ) (block : List ℕ) (old now : Option Reading) → CameNext bytes.items old now → IsRead now block → true ≡ (length block == 0) → IsAllLeft old bytes
+unfolding CameNext IsAllLeft
+all_came bytes block old now came read test = λ left here.
+    let (behind, now_is, left_is) = came left here in
+    sym (left_is ∙ ap (λ x. bytes.items ++ x) (none_left behind (test ∙ ends_as block behind (block_is now behind block read now_is))) ∙ append-nil bytes.items)
   where
     none_left : (l : List ℕ) → true ≡ (length l == 0) → l ≡ []
     none_left [] test = refl
     none_left (x ∷ l) test = absurd (true≢false (test ∙ not_zero (length l)))
-
-pub more_left : (bytes : List ℕ) (blocks : ℕ) (old now : Option Reading) → HasTaken bytes blocks old now → blocks ≡ 134217728 → IsAllLeft old None
-unfolding HasTaken IsAllLeft
-more_left bytes blocks old now has many = λ left here.
-    let p = has left here in
-    let both : length left ≡ length bytes + length p.behind = ap length p.left_is ∙ length-append bytes p.behind in
-    omega (arith, both, p.nearly, many)
 
 -- what the test of two texts has told
 pub told_other : (x block piece : List ℕ) → true ≡ not (bytes_eq x piece) → x ≡ block → block ≢ piece
@@ -221,4 +185,4 @@ told_same x block piece test is = on (bytes_eq x piece) refl test
     on false e t = absurd (cc)
     on true e t = sym is ∙ same_text x piece (sym e)
 
-pub ruleset passed = (none_passed, all_passed, end_told, no_rest, rest_told, none_taken)
+pub ruleset passed = (none_passed, all_passed, end_told, no_rest, rest_told, none_came)

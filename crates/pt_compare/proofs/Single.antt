@@ -1,6 +1,6 @@
 -- One item that is met, or with which something is wrong.
-use Rattle.std.proofs.Common.{◌≡◌, ◌≢◌, ◌∙◌, ◌<◌, ℕ, List, [], ◌∷◌, ◌++◌, Bool, true, false, refl, sym, ap, subst, length}
-use Rattle.std.specs.Prelude.{◌-◌, ◌^◌, MatchOption, All, IsErrAnd, Option, None, Some, IsSome, is_some, Result, Ok, Err, String}
+use Rattle.std.proofs.Common.{◌≡◌, ◌≢◌, ◌∙◌, ℕ, List, [], ◌∷◌, ◌++◌, Bool, true, false, refl, sym, ap, subst}
+use Rattle.std.specs.Prelude.{All, MatchResult, is_ok, IsErrAnd, Option, None, Some, IsSome, is_some, Result, Ok, Err, String}
 use Rattle.std.specs.Global.{Global, Vec}
 use Rattle.std.specs.Option.{option_and_then, option_map, unwrap_or}
 use Rattle.std.specs.String.{string_bytes}
@@ -21,6 +21,7 @@ use Rattle.pt_compare.proofs.Going.{Answer, err_of}
 use Rattle.pt_compare.proofs.Listed.{itself}
 use Rattle.pt_compare.proofs.Made.{kind_some}
 use Rattle.pt_compare.proofs.Reading.{opens_reads}
+use Rattle.pt_object.specs.MetaParts.{MetaParts}
 use Rattle.pt_object.specs.Script.{Item, MakeFolder, MakeFile, item_entry, item_path}
 use Rattle.pt_tree.specs.Forest.{Forest, Node, File, Dir, Other, as_file, file_at, kind_of, node_at}
 use Rattle.pt_tree.specs.Listing as listing
@@ -204,48 +205,47 @@ alike_other src src_mid before mid place p from q old new same e answer is diffe
 abbrev pub TextAnswer : Type 0
 TextAnswer = Result (String Global) Stop
 
-open_failed_text : (t : Tree) (before after : Option Reading) (place p : Path) (made : List ℕ) (old new other : Marks) (e : Stop) → OpensIn before after place p old new (Err e) → MeetsText t p made old other (Err e)
-open_failed_text t before after place p made old new other (stop.Differs d) wrong = (wrong.0, by d.why wrong.1)
+open_failed_text : (t : Tree) (before after : Option Reading) (place p : Path) (text_with : MetaParts → List ℕ) (old new other : Marks) (e : Stop) → OpensIn before after place p old new (Err e) → MeetsText t p text_with old other (Err e)
+open_failed_text t before after place p text_with old new other (stop.Differs d) wrong = (wrong.0, by d.why wrong.1)
   where
-    by : (w : Why) → IsWrongFile old p w → IsWrongInventory t old p made w
+    by : (w : Why) → IsWrongFile old p w → IsWrongInventory t old p text_with w
     by why.Missing wrong = wrong
     by why.Kind wrong = wrong
     by why.Bytes wrong = absurd wrong
     by why.Extra wrong = absurd wrong
-open_failed_text t before after place p made old new other (stop.Halt w) wrong = tt
+open_failed_text t before after place p text_with old new other (stop.Halt w) wrong = tt
 
 err_of_text : (r : TextAnswer) (e : Stop) → IsErrAnd r (λ f. f ≡ e) → r ≡ Err e
 err_of_text (Ok x) e is = absurd is
 err_of_text (Err f) e is = ap (λ (f : Stop). Err f) is
 
-pub unopened_text : (before after : Option Reading) (place p : Path) (made : List ℕ) (old new other : Marks) (e : Stop) (answer : TextAnswer) → IsErrAnd answer (λ f. f ≡ e) → OpensIn before after place p old new (Err e) → MeetsTextIn (tree_in before) place p made old other answer
+-- what was answered before an error became another
+pub was_ok : {T E D : Type 0} (first : Result T E) (last : Result T D) (x : T) (Q : E → Type 0) → MatchResult first (λ y. last ≡ Ok y) Q → is_ok last ≡ is_ok first → last ≡ Ok x → first ≡ Ok x
+was_ok {T} {E} {D} (Ok y) last x Q same variant is = let one = sym same ∙ is in cc
+was_ok {T} {E} {D} (Err e) last x Q same variant is = let no : true ≡ false = sym (ap is_ok is) ∙ variant in absurd (cc)
+
+pub unopened_text : (before after : Option Reading) (place p : Path) (text_with : MetaParts → List ℕ) (old new other : Marks) (e : Stop) (answer : TextAnswer) → IsErrAnd answer (λ f. f ≡ e) → OpensIn before after place p old new (Err e) → MeetsTextIn (tree_in before) place p text_with old other answer
 unfolding MeetsTextIn
-unopened_text before after place p made old new other e answer is wrong = λ f told. subst (MeetsText (inside f place) p made old other) (sym (err_of_text answer e is)) (open_failed_text (inside f place) before after place p made old new other e wrong)
+unopened_text before after place p text_with old new other e answer is wrong = λ f told. subst (MeetsText (inside f place) p text_with old other) (sym (err_of_text answer e is)) (open_failed_text (inside f place) before after place p text_with old new other e wrong)
 
-pub text_met : (before mid : Option Reading) (place p : Path) (made : List ℕ) (old new : Marks) (rest : Option (Vec ℕ)) (stands : Vec ℕ) (text : String Global) (answer : TextAnswer) → answer ≡ Ok text → OpensIn before mid place p old new (Ok tt) → IsAllLeft mid rest → rest ≡ Some stands
-    → (string_bytes text ≡ stands.items) × IsMade stands.items made → MeetsTextIn (tree_in before) place p made old new answer
-unfolding MeetsTextIn IsAllLeft
-text_met before mid place p made old new rest stands text answer is opened all some text_is = λ f told.
-    let there = opened.2 f told in
-    let whole = subst (λ (o : Option (Vec ℕ)). MatchOption o (2 ^ 40 - 8192 < length there.0) (λ bytes. bytes.items ≡ there.0)) some (all there.0 there.2) in
-    subst (MeetsText (inside f place) p made old new) (sym is)
-    (there.1 ∙ ap (λ (b : List ℕ). Some (Bytes b)) (sym (text_is.0 ∙ whole)), subst (λ (b : List ℕ). IsMade b made) (sym text_is.0) text_is.1, opened.1)
+module _ (before mid : Option Reading) (place p : Path) (text_with : MetaParts → List ℕ) (old new : Marks) (rest : Vec ℕ) (stands : List ℕ) (answer : TextAnswer) (opened : OpensIn before mid place p old new (Ok tt)) (all : IsAllLeft mid rest) (same : stands ≡ rest.items) where
+  whole : (f : Forest) (told : tree_in before ≡ Some f) → stands ≡ (opened.2 f told).0
+  unfolding IsAllLeft
+  whole f told = same ∙ all (opened.2 f told).0 (opened.2 f told).2
 
-pub text_long : (before mid : Option Reading) (place p : Path) (made : List ℕ) (old new : Marks) (rest : Option (Vec ℕ)) (e : Stop) (answer : TextAnswer) → answer ≡ Err e → e ≡ stop.Differs (record { path = p; why = why.Bytes }) → OpensIn before mid place p old new (Ok tt) → IsAllLeft mid rest → rest ≡ None
-    → MeetsTextIn (tree_in before) place p made old new answer
-unfolding MeetsTextIn IsAllLeft
-text_long before mid place p made old new rest e answer is differs opened all none = λ f told.
-    let there = opened.2 f told in
-    let long = subst (λ (o : Option (Vec ℕ)). MatchOption o (2 ^ 40 - 8192 < length there.0) (λ bytes. bytes.items ≡ there.0)) none (all there.0 there.2) in
-    subst (MeetsText (inside f place) p made old new) (sym (is ∙ ap (λ (e : Stop). Err e) differs)) (refl, (there.0, there.1, λ made. long))
+  pub text_met : (text : String Global) → answer ≡ Ok text → (string_bytes text ≡ stands) × IsMade text_with stands → MeetsTextIn (tree_in before) place p text_with old new answer
+  unfolding MeetsTextIn
+  text_met text is text_is = λ f told.
+      let there = opened.2 f told in
+      subst (MeetsText (inside f place) p text_with old new) (sym is)
+      (there.1 ∙ ap (λ (b : List ℕ). Some (Bytes b)) (sym (text_is.0 ∙ whole f told)), subst (IsMade text_with) (sym text_is.0) text_is.1, opened.1)
 
-pub text_other : (before mid : Option Reading) (place p : Path) (made : List ℕ) (old new : Marks) (rest : Option (Vec ℕ)) (stands : Vec ℕ) (e : Stop) (answer : TextAnswer) → answer ≡ Err e → e ≡ stop.Differs (record { path = p; why = why.Bytes }) → OpensIn before mid place p old new (Ok tt) → IsAllLeft mid rest → rest ≡ Some stands
-    → (IsMade stands.items made → ⊥) → MeetsTextIn (tree_in before) place p made old new answer
-unfolding MeetsTextIn IsAllLeft
-text_other before mid place p made old new rest stands e answer is differs opened all some other = λ f told.
-    let there = opened.2 f told in
-    let whole = subst (λ (o : Option (Vec ℕ)). MatchOption o (2 ^ 40 - 8192 < length there.0) (λ bytes. bytes.items ≡ there.0)) some (all there.0 there.2) in
-    subst (MeetsText (inside f place) p made old new) (sym (is ∙ ap (λ (e : Stop). Err e) differs)) (refl, (there.0, there.1, λ is_made. absurd (other (subst (λ (b : List ℕ). IsMade b made) (sym whole) is_made))))
+  pub text_other : (e : Stop) → answer ≡ Err e → e ≡ stop.Differs (record { path = p; why = why.Bytes }) → (IsMade text_with stands → ⊥) → MeetsTextIn (tree_in before) place p text_with old new answer
+  unfolding MeetsTextIn
+  text_other e is differs other = λ f told.
+      let there = opened.2 f told in
+      subst (MeetsText (inside f place) p text_with old new) (sym (is ∙ ap (λ (e : Stop). Err e) differs))
+      (refl, (there.0, there.1, λ made. other (subst (IsMade text_with) (sym (whole f told)) made)))
 
 -- ---- calls that end it
 
@@ -262,10 +262,10 @@ source_reads (Some r) mid from can opened = ap is_reading opened ∙ there (file
     there None h = absurd (let e = h in cc)
     there (Some b) h = refl
 
-pub halted_text : (tree : Option Forest) (place p : Path) (made : List ℕ) (old new : Marks) (answer : TextAnswer) (e : Stop) → IsErrAnd answer (λ f. f ≡ e) → IsHalt e → MeetsTextIn tree place p made old new answer
+pub halted_text : (tree : Option Forest) (place p : Path) (text_with : MetaParts → List ℕ) (old new : Marks) (answer : TextAnswer) (e : Stop) → IsErrAnd answer (λ f. f ≡ e) → IsHalt e → MeetsTextIn tree place p text_with old new answer
 unfolding MeetsTextIn
-halted_text tree place p made old new answer e is h = λ f told. subst (MeetsText (inside f place) p made old new) (sym (err_of_text answer e is)) (by f e h)
+halted_text tree place p text_with old new answer e is h = λ f told. subst (MeetsText (inside f place) p text_with old new) (sym (err_of_text answer e is)) (by f e h)
   where
-    by : (f : Forest) (e : Stop) → IsHalt e → MeetsText (inside f place) p made old new (Err e)
+    by : (f : Forest) (e : Stop) → IsHalt e → MeetsText (inside f place) p text_with old new (Err e)
     by f (stop.Differs d) h = absurd h
     by f (stop.Halt why) h = tt

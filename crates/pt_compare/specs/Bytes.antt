@@ -1,5 +1,5 @@
 -- What is left to read of the open file of a root.
-use Rattle.std.specs.Prelude.{◌≡◌, ◌≢◌, ◌*◌, ◌-◌, ◌^◌, ◌<◌, ◌==◌, ◌++◌, ◌⊎◌, [], ℕ, Bool, List, length, Option, Some, MatchOption}
+use Rattle.std.specs.Prelude.{◌≡◌, ◌≢◌, ◌*◌, ◌==◌, ◌++◌, ◌⊎◌, [], ℕ, Bool, List, length, Option, Some}
 use Rattle.std.specs.Global.{Vec}
 use Rattle.std.specs.Option.{option_and_then, ForSome}
 use Rattle.std.specs.Str.{bytes_eq}
@@ -32,8 +32,6 @@ TellsEnd old ended = ForSome (left_in old) (λ left. ended ≡ (length left == 0
 unfoldable pub TellsRest : List ℕ → Option Reading → Bool → Type 0
 TellsRest bytes old same = ForSome (left_in old) (λ left. same ≡ bytes_eq left bytes)
 
--- all that is left; none where that is more than is taken
-unfoldable pub IsAllLeft : Option Reading → Option (Vec ℕ) → Type 0
-IsAllLeft old rest =
-    ForSome (left_in old)
-    (λ left. MatchOption rest (2 ^ 40 - 8192 < length left) (λ bytes. bytes.items ≡ left))
+-- all that is left
+unfoldable pub IsAllLeft : Option Reading → Vec ℕ → Type 0
+IsAllLeft old bytes = ForSome (left_in old) (λ left. bytes.items ≡ left)

@@ -1,17 +1,14 @@
 -- What is found of an object that stands.
-use Rattle.std.specs.Prelude.{◌≡◌, ◌-◌, ◌^◌, ◌≤◌, ℕ, true, List, length, Some}
-use Rattle.pt_compare.specs.Found.{IsFound, IsObject, Sought, version_inventory}
+use Rattle.std.specs.Prelude.{◌≡◌, true}
+use Rattle.pt_compare.specs.Found.{IsFound, IsObject, Sought}
 use Rattle.pt_compare.specs.declared.difference.Finding.{Finding}
 use Rattle.pt_compare.specs.declared.difference.Finding.TheVariants.{Same}
 use Rattle.pt_object.specs.FilePaths.{are_apart, part_in_order, paths_of}
-use Rattle.pt_tree.specs.Tree.{Bytes, Tree}
+use Rattle.pt_tree.specs.Tree.{Tree}
 
--- of an object that stands just as it is sought, with an inventory that is no longer than is compared, nothing is found but that it does
+-- of an object that stands just as it is sought nothing is found but that it does
 abbrev pub StandingObjectIsTheSame : Type 0
 StandingObjectIsTheSame =
     (sought : Sought) (t : Tree) (finding : Finding)
     → part_in_order (paths_of sought.stored) ≡ true → are_apart (paths_of sought.stored) ≡ true
-    → IsObject sought t
-    → ((inventory : List ℕ) → t version_inventory ≡ Some (Bytes inventory)
-    → length inventory ≤ 2 ^ 40 - 8192)
-    → IsFound sought t finding → finding ≡ Same
+    → IsObject sought t → IsFound sought t finding → finding ≡ Same

@@ -1,5 +1,5 @@
 -- What is found of an object at its place.
-use Rattle.std.specs.Prelude.{◌≡◌, ◌≢◌, ◌⊎◌, ◌-◌, ◌^◌, ◌<◌, ℕ, List, [], ◌∷◌, ◌++◌, length, All, None, Some, IsSome, Result, Ok, Err, ⊤}
+use Rattle.std.specs.Prelude.{◌≡◌, ◌≢◌, ◌⊎◌, ℕ, List, [], ◌∷◌, ◌++◌, All, None, Some, IsSome, Result, Ok, Err, ⊤}
 use Rattle.pt_compare.specs.Described.{IsMade}
 use Rattle.pt_compare.specs.declared.scanned.Scanned.{Scanned}
 use Rattle.pt_compare.specs.declared.difference.Finding.{Finding}
@@ -18,6 +18,7 @@ use Rattle.pt_compare.specs.declared.difference.Why.TheVariants as why
 use Rattle.pt_object.specs.FilePaths.{File}
 use Rattle.pt_object.specs.Holding.{holding}
 use Rattle.pt_object.specs.Inventory.{inventory_text}
+use Rattle.pt_object.specs.MetaParts.{MetaParts}
 use Rattle.pt_object.specs.Object.{inventory_name, object_files, stored_files, version_folder}
 use Rattle.pt_object.specs.declared.algorithm.Algorithm.{Algorithm}
 use Rattle.pt_tree.specs.Forest.{Forest}
@@ -25,17 +26,22 @@ use Rattle.pt_tree.specs.Path.{Path}
 use Rattle.pt_tree.specs.Tree.{Entry, Bytes, Tree, kind_of_entry}
 use Rattle.pt_walk.specs.Left.{bytes_at}
 
--- what is sought: the object of these stored files, with this inventory but for what that says of its version
+-- what is sought: the object of these stored files, with an inventory that a run could make of them
 pub record Sought : Type 0 where
   pub algorithm : Algorithm
-  pub text : List ℕ
+  pub text_with : MetaParts → List ℕ
   pub stored : List File
+
+-- the texts of an object's inventory
+abbrev pub texts_of_object : Scanned → MetaParts → List ℕ
+texts_of_object object meta =
+    inventory_text object.id.now object.rows.now meta object.algorithm
 
 -- that of an object of a store, whose source's tree this is
 abbrev pub sought_of : Scanned → Forest → Sought
 sought_of object source = record {
   algorithm = object.algorithm;
-  text = inventory_text object.id.now object.rows.now object.meta.now object.algorithm;
+  text_with = texts_of_object object;
   stored = stored_files object.rows.now (λ path. bytes_at source (object.from.now ++ path));
 }
 
@@ -43,24 +49,28 @@ sought_of object source = record {
 abbrev pub object_with : Sought → List ℕ → Tree
 object_with sought inventory = holding (object_files sought.algorithm inventory sought.stored)
 
+-- the object but for its inventory and its sidecars, whose bytes are others
+abbrev pub shape : Sought → Tree
+shape sought = object_with sought []
+
 -- where the inventory of the version is
 abbrev pub version_inventory : Path
 version_inventory = version_folder ++ inventory_name ∷ []
 
--- this inventory stands in the version's folder, and is the one that is sought but for what it says of its version
+-- this inventory stands in the version's folder, and is one that is sought
 abbrev pub IsHeld : Sought → Tree → List ℕ → Type 0
 IsHeld sought t inventory =
-    (t version_inventory ≡ Some (Bytes inventory)) × IsMade inventory sought.text
+    (t version_inventory ≡ Some (Bytes inventory)) × IsMade sought.text_with inventory
 
 -- where one of two trees has a file, the other has one with other bytes
 abbrev pub HaveOtherBytes : Tree → Tree → Path → Type 0
 HaveOtherBytes wanted t q = (bytes other : List ℕ) × (wanted q ≡ Some (Bytes bytes))
     × (t q ≡ Some (Bytes other)) × (other ≢ bytes)
 
--- the inventory in the version's folder is another than the one that is sought, or longer than is compared
+-- the inventory in the version's folder is none that is sought
 abbrev pub IsOtherInventory : Sought → Tree → Path → Type 0
 IsOtherInventory sought t q = (q ≡ version_inventory) × ((other : List ℕ)
-    × (t q ≡ Some (Bytes other)) × (IsMade other sought.text → 2 ^ 40 - 8192 < length other))
+    × (t q ≡ Some (Bytes other)) × ¬ (IsMade sought.text_with other))
 
 -- A file has other bytes than the object: whatever the inventory, as the declaration and the contents; as the inventory in the version's folder; or as that at the top or a sidecar, with the inventory that stands in the version's folder.
 abbrev pub IsOtherFile : Sought → Tree → Path → Type 0
@@ -77,14 +87,14 @@ HaveOtherKinds wanted t q = (entry other : Entry) × (wanted q ≡ Some entry) �
 
 -- what is wrong at a path, where this stands
 abbrev pub IsWrong : Sought → Tree → Path → Why → Type 0
-IsWrong sought t q why.Missing = IsSome (object_with sought sought.text q) × (t q ≡ None)
-IsWrong sought t q why.Extra = (object_with sought sought.text q ≡ None) × IsSome (t q)
-IsWrong sought t q why.Kind = HaveOtherKinds (object_with sought sought.text) t q
+IsWrong sought t q why.Missing = IsSome (shape sought q) × (t q ≡ None)
+IsWrong sought t q why.Extra = (shape sought q ≡ None) × IsSome (t q)
+IsWrong sought t q why.Kind = HaveOtherKinds (shape sought) t q
 IsWrong sought t q why.Bytes = IsOtherFile sought t q
 
 -- just the object that is sought stands there, with the inventory that it has
 abbrev pub IsObject : Sought → Tree → Type 0
-IsObject sought t = (inventory : List ℕ) × IsMade inventory sought.text
+IsObject sought t = (inventory : List ℕ) × IsMade sought.text_with inventory
     × ((q : Path) → t q ≡ object_with sought inventory q)
 
 -- what is found, where this stands at the place and below it
@@ -104,24 +114,20 @@ IsLeft marks Absent = ⊥
 IsLeft marks Same = (q : Path) → marks q ≡ None
 IsLeft marks (Differs difference) = (difference.why ≡ why.Extra) × IsSome (marks difference.path)
 
--- the text of the inventory that is sought
-abbrev pub text_of : Scanned → List ℕ
-text_of object = inventory_text object.id.now object.rows.now object.meta.now object.algorithm
-
 -- the inventory in the version's folder, and what follows it
 abbrev pub inventory_items : Algorithm → List ℕ → List Item
 inventory_items algorithm inventory = MakeFile version_inventory inventory ∷ last_items algorithm inventory
 
 -- the inventories and their sidecars are met
-abbrev pub MeetsInventories : Algorithm → List ℕ → Tree → Marks → Marks → Result (Unit {0}) Stop → Type 0
-MeetsInventories algorithm text t old new (Ok x) = (inventory : List ℕ) × IsMade inventory text
+abbrev pub MeetsInventories : Algorithm → (MetaParts → List ℕ) → Tree → Marks → Marks → Result (Unit {0}) Stop → Type 0
+MeetsInventories algorithm text_with t old new (Ok x) = (inventory : List ℕ) × IsMade text_with inventory
     × All (StandsSo t) (inventory_items algorithm inventory)
     × (new ≡ all_met t (inventory_items algorithm inventory) old)
-MeetsInventories algorithm text t old new (Err (stop.Differs d)) =
-    ((d.path ≡ version_inventory) × IsWrongInventory t old version_inventory text d.why)
-    ⊎ ((inventory : List ℕ) × IsMade inventory text × (t version_inventory ≡ Some (Bytes inventory))
+MeetsInventories algorithm text_with t old new (Err (stop.Differs d)) =
+    ((d.path ≡ version_inventory) × IsWrongInventory t old version_inventory text_with d.why)
+    ⊎ ((inventory : List ℕ) × IsMade text_with inventory × (t version_inventory ≡ Some (Bytes inventory))
     × StopsAt t old (inventory_items algorithm inventory) d.path d.why)
-MeetsInventories algorithm text t old new (Err (stop.Halt why)) = ⊤
+MeetsInventories algorithm text_with t old new (Err (stop.Halt why)) = ⊤
 
 -- all items of the object with this inventory
 abbrev pub all_items : Sought → List ℕ → List Item
@@ -129,12 +135,12 @@ all_items sought inventory = early_items sought.stored ++ inventory_items sought
 
 -- all of an object is met, up to the first item that doesn't stand so: one before the inventories, the version's inventory, or one after that
 abbrev pub MeetsObject : Sought → Tree → Marks → Marks → Result (Unit {0}) Stop → Type 0
-MeetsObject sought t old new (Ok x) = (inventory : List ℕ) × IsMade inventory sought.text
+MeetsObject sought t old new (Ok x) = (inventory : List ℕ) × IsMade sought.text_with inventory
     × All (StandsSo t) (all_items sought inventory) × (new ≡ all_met t (all_items sought inventory) old)
 MeetsObject sought t old new (Err (stop.Differs d)) =
     StopsAt t old (early_items sought.stored) d.path d.why
     ⊎ (((d.path ≡ version_inventory) × All (StandsSo t) (early_items sought.stored)
-    × IsWrongInventory t (all_met t (early_items sought.stored) old) version_inventory sought.text d.why)
+    × IsWrongInventory t (all_met t (early_items sought.stored) old) version_inventory sought.text_with d.why)
     ⊎ ((inventory : List ℕ) × IsHeld sought t inventory
     × StopsAt t old (all_items sought inventory) d.path d.why))
 MeetsObject sought t old new (Err (stop.Halt why)) = ⊤

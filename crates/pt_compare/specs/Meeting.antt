@@ -1,5 +1,5 @@
 -- What a part of a comparison finds: it meets items of the object one after another, up to the first that doesn't stand so.
-use Rattle.std.specs.Prelude.{◌≡◌, ◌≢◌, ◌-◌, ◌^◌, ◌<◌, length, ℕ, Bool, List, ◌∷◌, ◌++◌, Option, None, Some, Result, Ok, Err, ⊤, All, String}
+use Rattle.std.specs.Prelude.{◌≡◌, ◌≢◌, ℕ, Bool, List, ◌∷◌, ◌++◌, Option, None, Some, Result, Ok, Err, ⊤, All, String}
 use Rattle.std.specs.Global.{Global}
 use Rattle.std.specs.Option.{ForSome}
 use Rattle.std.specs.Str.{bytes_eq}
@@ -12,6 +12,7 @@ use Rattle.pt_compare.specs.declared.difference.Why.{Why}
 use Rattle.pt_compare.specs.declared.difference.Why.TheVariants as why
 use Rattle.pt_compare.specs.declared.stop.Stop.{Stop}
 use Rattle.pt_compare.specs.declared.stop.Stop.TheVariants as stop
+use Rattle.pt_object.specs.MetaParts.{MetaParts}
 use Rattle.pt_object.specs.Script.{Item, MakeFolder, MakeFile, item_entry, item_path}
 use Rattle.pt_plan.specs.Turn.{HasFailed}
 use Rattle.pt_plan.specs.World.{Failures}
@@ -72,24 +73,24 @@ MeetsFrom source tree place items old new result =
     ForSome source (λ s. MeetsIn tree place (items s) old new result)
 
 -- what is wrong with the inventory of the version
-abbrev pub IsWrongInventory : Tree → Marks → Path → List ℕ → Why → Type 0
-IsWrongInventory t marks p made why.Missing = marks p ≡ None
-IsWrongInventory t marks p made why.Kind = HasOtherKind marks p kind.File
-IsWrongInventory t marks p made why.Bytes = (other : List ℕ) × (t p ≡ Some (Bytes other))
-    × (IsMade other made → 2 ^ 40 - 8192 < length other)
-IsWrongInventory t marks p made why.Extra = ⊥
+abbrev pub IsWrongInventory : Tree → Marks → Path → (MetaParts → List ℕ) → Why → Type 0
+IsWrongInventory t marks p text_with why.Missing = marks p ≡ None
+IsWrongInventory t marks p text_with why.Kind = HasOtherKind marks p kind.File
+IsWrongInventory t marks p text_with why.Bytes = (other : List ℕ) × (t p ≡ Some (Bytes other))
+    × ¬ (IsMade text_with other)
+IsWrongInventory t marks p text_with why.Extra = ⊥
 
--- the inventory of the version is met: it is the one that was made, but for what it says of its version
-abbrev pub MeetsText : Tree → Path → List ℕ → Marks → Marks → Result (String Global) Stop → Type 0
-MeetsText t p made old new (Ok text) = (t p ≡ Some (Bytes (string_bytes text)))
-    × IsMade (string_bytes text) made × (new ≡ met t (MakeFile p (string_bytes text)) old)
-MeetsText t p made old new (Err (stop.Differs d)) =
-    (d.path ≡ p) × IsWrongInventory t old p made d.why
-MeetsText t p made old new (Err (stop.Halt why)) = ⊤
+-- the inventory of the version is met: it is one that a run could make
+abbrev pub MeetsText : Tree → Path → (MetaParts → List ℕ) → Marks → Marks → Result (String Global) Stop → Type 0
+MeetsText t p text_with old new (Ok text) = (t p ≡ Some (Bytes (string_bytes text)))
+    × IsMade text_with (string_bytes text) × (new ≡ met t (MakeFile p (string_bytes text)) old)
+MeetsText t p text_with old new (Err (stop.Differs d)) =
+    (d.path ≡ p) × IsWrongInventory t old p text_with d.why
+MeetsText t p text_with old new (Err (stop.Halt why)) = ⊤
 
-unfoldable pub MeetsTextIn : Option Forest → Path → Path → List ℕ → Marks → Marks → Result (String Global) Stop → Type 0
-MeetsTextIn tree place p made old new result =
-    ForSome tree (λ f. MeetsText (inside f place) p made old new result)
+unfoldable pub MeetsTextIn : Option Forest → Path → Path → (MetaParts → List ℕ) → Marks → Marks → Result (String Global) Stop → Type 0
+MeetsTextIn tree place p text_with old new result =
+    ForSome tree (λ f. MeetsText (inside f place) p text_with old new result)
 
 -- what is noted stands, where the root tells
 unfoldable pub NotedStand : Option Forest → Path → Marks → Type 0

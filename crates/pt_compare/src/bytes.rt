@@ -12,8 +12,8 @@ use std::alloc::Global;
 // How many bytes are read at a time.
 const PIECE: usize = 8192;
 
-// How many blocks of a text are read at most, the last of them empty: 2^40 - 8,192 bytes.
-const MOST: u32 = 1 << 27;
+// How many blocks of a file are read at most: 2^64 bytes, of which memory has to be wanting before.
+const MOST: u64 = 1 << 51;
 
 /// Whether these bytes come next in the open file of a root: block by block, of which all but the last have to be full.
 pub(crate) fn come_next<R: Root>(
@@ -74,12 +74,12 @@ pub(crate) fn are_the_rest<R: Root>(
     has_ended(root, block)
 }
 
-/// All that is left of the open file of a root; None where that is more than 2^40 - 8,192 bytes.
+/// All that is left of the open file of a root.
 pub(crate) fn rest_of<R: Root>(
     alloc: Global,
     root: &mut R,
     block: &mut Block,
-) -> Result<Option<Vec<u8>>, TreeFault>
+) -> Result<Vec<u8>, TreeFault>
     requires { Reads (R.told root.old) }
     ensures tree { tree_in (R.told root.new) ≡ tree_in (R.told root.old) }
     ensures keeps { R.keeps root.old root.new }
@@ -91,9 +91,9 @@ pub(crate) fn rest_of<R: Root>(
     for _ in 0..MOST {
         root.next(block)?;
         if block.is_empty() {
-            return Ok(Some(bytes));
+            return Ok(bytes);
         }
         bytes.extend_from_slice(block.as_slice())?;
     }
-    Ok(None)
+    Err(TreeFault::Memory)
 }

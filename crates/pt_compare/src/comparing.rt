@@ -1,7 +1,7 @@
 //! An object of a store, held against what stands at its place in a storage root.
 ghost use Rattle.std.specs.Prelude.{◌≡◌, ◌++◌, ◌∷◌, [], IfOk, map, true, All, IfErr, None, OnOk};
 ghost use Rattle.std.specs.Option.{ForSome};
-ghost use Rattle.pt_compare.specs.Found.{HaltsAs, IsFound, IsLeft, MeetsInventories, MeetsObject, sought_of, text_of};
+ghost use Rattle.pt_compare.specs.Found.{HaltsAs, IsFound, IsLeft, MeetsInventories, MeetsObject, sought_of, texts_of_object};
 ghost use Rattle.pt_compare.specs.Marks.{inside, marks_of};
 ghost use Rattle.pt_compare.specs.Meeting.{FailsAs, FailsInRoot, MeetsFrom, MeetsIn, NotedStand, both};
 ghost use Rattle.pt_compare.specs.Parts.{content_items, files_of, first_items, fronts, last_items, leads_to_last, way_items};
@@ -16,7 +16,7 @@ use crate::meeting::{meet_bytes, meet_content, meet_folder, meet_inventory};
 use crate::paths::{content_path, joined, path_of, sidecar_name};
 use crate::stop::Stop;
 use crate::{Difference, Finding, Root, Scanned, Why, standing};
-use pt_object::{inventory, object_declaration, sidecar};
+use pt_object::{object_declaration, sidecar};
 use pt_plan::Halt;
 use pt_tree::{Known, NamePath, Source};
 use std::alloc::Global;
@@ -24,8 +24,8 @@ use std::alloc::Global;
 /// Holds an object against what stands at its place, in the order in which a run makes it (OCFL 1.1, "Object Structure"): the
 /// place itself, the declaration, the version's folder, its contents, its inventory and sidecar, and those at the top. It finds
 /// the first of them that doesn't stand so; else the first entry that stands there beside them, by the order of the texts of
-/// the paths; else that just the object stands. The inventory in the version's folder may differ from that of the rows in the
-/// moment, the user and the message of its version; the one at the top has to be the same as that, byte for byte.
+/// the paths; else that just the object stands. The inventory in the version's folder may be any that a run could make of these
+/// files, with whatever moment, user and message; the one at the top has to be the same as that, byte for byte.
 ///
 /// Each side is read once. `Source` where a call of the source failed, `Dest` where one of the root did, and `Memory` where a
 /// growth was refused, or a file has more than 2^77 bytes.
@@ -209,19 +209,11 @@ fn meet_inventories<R: Root>(
     ensures root { KeepsRoot R.told R.keeps root.old root.new }
     ensures failures { FailsInRoot result (R.failed root.old) (R.failed root.new) }
     ensures met { ForSome (tree_in (R.told root.old))
-        (λ r. MeetsInventories object.now.algorithm (text_of object.now)
+        (λ r. MeetsInventories object.now.algorithm (texts_of_object object.now)
         (inside r object.now.to.now) (marks_of entries.old) (marks_of entries.new) result) }
 {
-    let made = inventory(
-        alloc,
-        object.id,
-        object.rows,
-        object.contents,
-        object.meta,
-        object.algorithm,
-    )?;
     let path = path_of(alloc, &[Known::Version, Known::Inventory])?;
-    let stands = meet_inventory(alloc, root, object.to, entries, path, made.as_bytes())?;
+    let stands = meet_inventory(alloc, root, object, entries, path)?;
     meet_copies(alloc, root, object, entries, stands.as_str())
 }
 

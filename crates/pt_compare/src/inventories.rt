@@ -1,20 +1,19 @@
 #![tactic(auto)]
-//! The inventory that stands, held against the one that a run makes: all but what it says of its version.
-ghost use Rattle.std.specs.Prelude.{◌≡◌, ◌↔◌, true, IfOk, IfSome, MatchOption, Some};
+//! The inventory that stands, held against those that a run could make of the same files.
+ghost use Rattle.std.specs.Prelude.{◌≡◌, IfOk, IfSome, MatchOption, map};
 ghost use Rattle.std.specs.Option.{option_map, unwrap_or};
 ghost use Rattle.std.specs.String.{string_bytes};
-ghost use Rattle.serde_json.specs.Data.{null, string};
+ghost use Rattle.serde_json.specs.Data.{null};
 ghost use Rattle.serde_json.specs.Read.{read};
 ghost use Rattle.serde_json.specs.View.{view};
-ghost use Rattle.serde_json.specs.Written.{compact_text};
-ghost use Rattle.pt_compare.specs.Described.{Cut, IsCut, IsDescribed, IsGiven, IsMade, TellsMade, cut_of, given_by, texts_in, texts_view, user_text};
-ghost use Rattle.pt_object.specs.Inventory.{user_tree};
-ghost use Rattle.pt_object.specs.MetaParts.{MetaParts};
+ghost use Rattle.pt_compare.specs.Described.{IsGiven, IsMade, TellsMade, description_in, given_by, is_text_with, texts_in, texts_in_inventory, texts_view};
+ghost use Rattle.pt_compare.specs.Found.{texts_of_object};
+ghost use Rattle.pt_object.specs.Distinct.{content_of_row, distinct};
 
-use pt_object::members::put_text;
-use pt_object::{Meta, MetaFault};
+use crate::Scanned;
+use pt_object::{Meta, MetaFault, inventory};
 use pt_tree::MemoryFault;
-use serde_json::{Map, Value};
+use serde_json::Value;
 use std::alloc::Global;
 
 // What stands between the parts of an inventory.
@@ -28,91 +27,113 @@ const USER: &str = ",\"user\":";
 
 const END: &str = "}}}";
 
-/// The text of an inventory that stands, if it is the one that a run makes, but for the moment, the user and the message of
-/// its version (OCFL 1.1, "Versions"), which have to be what a run could give, as it writes them. `Memory` where a growth
-/// was refused.
+/// The text of an inventory that stands, if it is one that a run could make of this object's files: with whatever moment, user
+/// and message it could be given (OCFL 1.1, "Versions"). `Memory` where a growth was refused.
 pub(crate) fn text_if_made(
     alloc: Global,
     stands: Vec<u8>,
-    made: &[u8],
+    object: &Scanned<'_>,
 ) -> Result<Option<String>, MemoryFault>
-    ensures { IfOk result (λ text. MatchOption text (¬ (IsMade stands.items made.now))
-        (λ text. (string_bytes text ≡ stands.items) × IsMade stands.items made.now)) }
+    requires { object.now.contents.now ≡ map content_of_row (distinct object.now.rows.now) }
+    ensures { IfOk result (λ text. MatchOption text
+        (¬ (IsMade (texts_of_object object.now) stands.items))
+        (λ text. (string_bytes text ≡ stands.items)
+        × IsMade (texts_of_object object.now) stands.items)) }
 {
     let Ok(stands) = String::from_utf8(stands) else {
         return Ok(None);
     };
-    let Ok(made) = str::from_utf8(made) else {
-        return Ok(None);
-    };
-    if is_made(alloc, stands.as_str(), made)? {
+    if is_made(alloc, stands.as_str(), object)? {
         Ok(Some(stands))
     } else {
         Ok(None)
     }
 }
 
-// Whether two inventories are the same but for what they say of their versions, and the first says what a run could.
-fn is_made(alloc: Global, stands: &str, made: &str) -> Result<bool, MemoryFault>
-    ensures { IfOk result (TellsMade stands.now made.now) }
+// Whether it is such a text. What it says of its version is first sought where a run writes that, since as JSON a whole
+// inventory takes far more memory than as text.
+fn is_made(alloc: Global, stands: &str, object: &Scanned<'_>) -> Result<bool, MemoryFault>
+    requires { object.now.contents.now ≡ map content_of_row (distinct object.now.rows.now) }
+    ensures { IfOk result (TellsMade (texts_of_object object.now) stands.now) }
 {
-    let Some(stands) = parts_of(stands) else {
-        return Ok(false);
-    };
-    let Some(made) = parts_of(made) else {
-        return Ok(false);
-    };
-    if stands.before != made.before || stands.state != made.state {
-        return Ok(false);
+    let meta = meta_by_text(alloc, stands)?;
+    if is_text(alloc, object, &meta, stands)? {
+        return Ok(true);
     }
-    match meta_in(alloc, &stands)? {
-        Some(meta) => is_written(alloc, &stands, &meta),
-        None => Ok(false),
+    let meta = meta_by_json(alloc, stands)?;
+    is_text(alloc, object, &meta, stands)
+}
+
+// Whether this is the text of the object's inventory with a description of its version.
+fn is_text(
+    alloc: Global,
+    object: &Scanned<'_>,
+    meta: &Option<Meta>,
+    text: &str,
+) -> Result<bool, MemoryFault>
+    requires { object.now.contents.now ≡ map content_of_row (distinct object.now.rows.now) }
+    ensures { IfOk result (λ same. same
+        ≡ is_text_with (texts_of_object object.now) text.now meta.now) }
+{
+    let Some(meta) = meta else {
+        return Ok(false);
+    };
+    let made = inventory(
+        alloc,
+        object.id,
+        object.rows,
+        object.contents,
+        meta,
+        object.algorithm,
+    )?;
+    Ok(text == made.as_str())
+}
+
+// What an inventory says of its version, if that stands where a run writes it and is what a run could say.
+fn meta_by_text(alloc: Global, text: &str) -> Result<Option<Meta>, MemoryFault>
+    ensures { IfOk result (λ meta. IfSome meta IsGiven) }
+{
+    let Some(parts) = parts_of(text) else {
+        return Ok(None);
+    };
+    let created = parsed(alloc, parts.created)?;
+    let message = parsed(alloc, parts.message)?;
+    let user = parsed(alloc, parts.user)?;
+    match texts_of(&created, &message, &user) {
+        Some(texts) => meta_of(alloc, &texts),
+        None => Ok(None),
     }
 }
 
-// The parts of an inventory's text. In its strings each quote has a backslash before it, so what stands between the parts is
-// found in none of them.
+// The parts of an inventory's text that describe its version.
 #[derive(Drop)]
 struct Parts<'a> {
-    before: &'a str,
     created: &'a str,
     message: &'a str,
-    state: &'a str,
     user: &'a str,
 }
 
-// The parts of a text, if it has them.
-fn parts_of(text: &str) -> Option<Parts<'_>>
-    ensures { MatchOption result ((cut : Cut) → ¬ (IsCut text.now cut))
-        (λ parts. IsCut text.now (cut_of parts)) }
-{
-    let (before, rest) = text.split_once(CREATED)?;
+// Those of a text, if it has them. In the strings of JSON each quote has a backslash before it, so the words between the parts
+// are found in none of them.
+fn parts_of(text: &str) -> Option<Parts<'_>> {
+    let (_, rest) = text.split_once(CREATED)?;
     let (created, rest) = rest.split_once(MESSAGE)?;
     let (message, rest) = rest.split_once(STATE)?;
-    let (state, user) = rest.rsplit_once(USER)?;
+    let (_, user) = rest.rsplit_once(USER)?;
+    let user = user.strip_suffix(END)?;
     Some(Parts {
-        before,
         created,
         message,
-        state,
         user,
     })
 }
 
 // What an inventory says of its version, if it is what a run could say.
-fn meta_in(alloc: Global, parts: &Parts<'_>) -> Result<Option<Meta>, MemoryFault>
-    ensures given { IfOk result (λ told. IfSome told IsGiven) }
-    ensures told { IfOk result (λ told. (meta : MetaParts) → IsGiven meta
-        → IsDescribed meta (cut_of parts.now) → told ≡ Some meta) }
+fn meta_by_json(alloc: Global, text: &str) -> Result<Option<Meta>, MemoryFault>
+    ensures { IfOk result (λ meta. meta ≡ description_in (unwrap_or (read text.now) null)) }
 {
-    let Some(user) = parts.user.strip_suffix(END) else {
-        return Ok(None);
-    };
-    let created = parsed(alloc, parts.created)?;
-    let message = parsed(alloc, parts.message)?;
-    let user = parsed(alloc, user)?;
-    match texts_of(&created, &message, &user) {
+    let inventory = parsed(alloc, text)?;
+    match texts_in_json(&inventory) {
         Some(texts) => meta_of(alloc, &texts),
         None => Ok(None),
     }
@@ -138,7 +159,19 @@ struct Texts<'a> {
     message: &'a str,
 }
 
-// The texts of a moment, a message and a user, if all are there.
+// Those of an inventory, if all are there.
+fn texts_in_json(inventory: &Value) -> Option<Texts<'_>>
+    ensures { option_map texts_view result ≡ texts_in_inventory (view inventory.now) }
+{
+    let version = inventory.get("versions")?.get("v1")?;
+    texts_of(
+        version.get("created")?,
+        version.get("message")?,
+        version.get("user")?,
+    )
+}
+
+// Those of a moment, a message and a user.
 fn texts_of<'a>(created: &'a Value, message: &'a Value, user: &'a Value) -> Option<Texts<'a>>
     ensures { option_map texts_view result
         ≡ texts_in (view created.now) (view message.now) (view user.now) }
@@ -157,7 +190,7 @@ fn texts_of<'a>(created: &'a Value, message: &'a Value, user: &'a Value) -> Opti
 
 // The description with these texts, if a run could give it.
 fn meta_of(alloc: Global, texts: &Texts<'_>) -> Result<Option<Meta>, MemoryFault>
-    ensures { IfOk result (λ told. told ≡ given_by (texts_view texts.now)) }
+    ensures { IfOk result (λ meta. meta ≡ given_by (texts_view texts.now)) }
 {
     match Meta::of(
         alloc,
@@ -171,48 +204,4 @@ fn meta_of(alloc: Global, texts: &Texts<'_>) -> Result<Option<Meta>, MemoryFault
         Err(MetaFault::EmptyName) => Ok(None),
         Err(MetaFault::Memory) => Err(MemoryFault::Memory),
     }
-}
-
-// Whether the parts say of their version just this, as a run writes it.
-fn is_written(alloc: Global, parts: &Parts<'_>, meta: &Meta) -> Result<bool, MemoryFault>
-    ensures { IfOk result (λ same. (same ≡ true) ↔ IsDescribed meta.now (cut_of parts.now)) }
-{
-    let created = quoted(alloc, meta.created())?;
-    let message = quoted(alloc, meta.message())?;
-    let user = user_of(alloc, meta)?;
-    Ok(
-        created.as_str() == parts.created
-            && message.as_str() == parts.message
-            && user.as_str() == parts.user,
-    )
-}
-
-// A text as JSON.
-fn quoted(alloc: Global, text: &str) -> Result<String, MemoryFault>
-    ensures { IfOk result (λ json. string_bytes json ≡ compact_text (string text.now)) }
-{
-    let value = Value::from(String::from_str(alloc, text)?);
-    Ok(value.to_string(alloc)?)
-}
-
-// Who made a version, without an address the name alone, and what ends the inventory.
-fn user_of(alloc: Global, meta: &Meta) -> Result<String, MemoryFault>
-    ensures { IfOk result (λ json. string_bytes json ≡ user_text meta.now) }
-{
-    let user = user_value(alloc, meta)?;
-    let mut text = user.to_string(alloc)?;
-    text.push_str(END)?;
-    Ok(text)
-}
-
-// Who made a version, as JSON.
-fn user_value(alloc: Global, meta: &Meta) -> Result<Value, MemoryFault>
-    ensures { IfOk result (λ value. view value ≡ user_tree meta.now.address meta.now.name) }
-{
-    let mut user = Map::new(alloc);
-    if let Some(address) = meta.address() {
-        put_text(&mut user, alloc, "address", address)?;
-    }
-    put_text(&mut user, alloc, "name", meta.name())?;
-    Ok(Value::from(user))
 }

@@ -1,11 +1,13 @@
 //! Single entries of an object, held against what stands at its place: one that stands is taken out of what is noted.
-ghost use Rattle.std.specs.Prelude.{◌≡◌, ◌∷◌, [], OnOk};
+ghost use Rattle.std.specs.Prelude.{◌≡◌, ◌∷◌, [], OnOk, map};
 ghost use Rattle.std.specs.String.{string_bytes};
+ghost use Rattle.pt_compare.specs.Found.{texts_of_object};
 ghost use Rattle.pt_compare.specs.Marks.{is_kind_of, marks_of, without_mark};
 ghost use Rattle.pt_compare.specs.Meeting.{FailsAs, FailsInRoot, MeetsFrom, MeetsIn, MeetsTextIn, NotedStand, OpensIn, both, why_for};
 ghost use Rattle.pt_compare.specs.declared.difference.Why.TheVariants as why;
 ghost use Rattle.pt_compare.specs.declared.stop.Stop.TheVariants as stop;
 ghost use Rattle.pt_compare.specs.Root.{KeepsRoot, Reads, tree_in};
+ghost use Rattle.pt_object.specs.Distinct.{content_of_row, distinct};
 ghost use Rattle.pt_object.specs.Script.{MakeFile, MakeFolder};
 ghost use Rattle.pt_tree.specs.Source.{CanOpen};
 ghost use Rattle.pt_walk.specs.Left.{bytes_at};
@@ -16,7 +18,7 @@ use crate::entries::{Entries, note};
 use crate::inventories::text_if_made;
 use crate::paths::joined;
 use crate::stop::{Stop, of_root, of_source};
-use crate::{Difference, Root, Why};
+use crate::{Difference, Root, Scanned, Why};
 use pt_tree::{Block, Kind, NamePath, Source};
 use std::alloc::Global;
 
@@ -96,28 +98,28 @@ pub(crate) fn meet_content<S: Source, R: Root>(
     }
 }
 
-/// Meets the inventory in the version's folder, which has to be the one that was made but for what it says of its version,
-/// and gives its text.
+/// Meets the inventory in the version's folder, which has to be one that a run could make of the object's files, and gives its
+/// text.
 pub(crate) fn meet_inventory<R: Root>(
     alloc: Global,
     root: &mut R,
-    place: &NamePath,
+    object: &Scanned<'_>,
     entries: &mut Entries,
     path: NamePath,
-    made: &[u8],
 ) -> Result<String, Stop>
-    requires { NotedStand (tree_in (R.told root.old)) place.now (marks_of entries.old) }
+    requires contents { object.now.contents.now
+        ≡ map content_of_row (distinct object.now.rows.now) }
+    requires noted { NotedStand (tree_in (R.told root.old)) object.now.to.now
+        (marks_of entries.old) }
     ensures root { KeepsRoot R.told R.keeps root.old root.new }
     ensures failures { FailsInRoot result (R.failed root.old) (R.failed root.new) }
-    ensures met { MeetsTextIn (tree_in (R.told root.old)) place.now path made.now
-        (marks_of entries.old) (marks_of entries.new) result }
+    ensures met { MeetsTextIn (tree_in (R.told root.old)) object.now.to.now path
+        (texts_of_object object.now) (marks_of entries.old) (marks_of entries.new) result }
 {
-    open_file(root, place, entries, &path)?;
+    open_file(root, object.to, entries, &path)?;
     let mut block = Block::new();
-    let Some(stands) = rest_of(alloc, root, &mut block).map_err(of_root)? else {
-        return Err(other_bytes(path));
-    };
-    match text_if_made(alloc, stands, made)? {
+    let stands = rest_of(alloc, root, &mut block).map_err(of_root)?;
+    match text_if_made(alloc, stands, object)? {
         Some(text) => Ok(text),
         None => Err(other_bytes(path)),
     }

@@ -1,6 +1,6 @@
 //! An object of a store, as its scan found it.
 
-use pt_object::{Algorithm, Contents, Meta, Rows};
+use pt_object::{Algorithm, Contents, Rows};
 use pt_tree::NamePath;
 
 /// An object of a store, as its scan found it, and its place in a storage root.
@@ -12,8 +12,6 @@ pub struct Scanned<'a> {
     pub rows: &'a Rows,
     /// The contents of those rows.
     pub contents: &'a Contents,
-    /// What its inventory would say of its version.
-    pub meta: &'a Meta,
     /// The algorithm of its digests.
     pub algorithm: Algorithm,
     /// The path in the source of the directory that its logical paths begin in, from the source's top on.

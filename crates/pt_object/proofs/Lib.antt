@@ -3,6 +3,7 @@ mod Halving
 mod Indexed
 mod Inserting
 mod Rowed
+pub mod InventoryIsText
 pub mod InventoryText
 pub mod Noting
 pub mod Texts

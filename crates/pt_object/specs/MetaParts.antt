@@ -1,8 +1,16 @@
 -- What a version's description holds.
-use Rattle.std.specs.Prelude.{ℕ, List, Option}
+use Rattle.std.specs.Prelude.{ℕ, IfSome, List, Option}
+use Rattle.std.specs.Str.{IsUtf8}
 
 pub record MetaParts : Type 0 where
   pub created : List ℕ
   pub name : List ℕ
   pub address : Option (List ℕ)
   pub message : List ℕ
+
+-- each of them is a text
+pub record AreTexts (meta : MetaParts) : Type 0 where
+  pub created : IsUtf8 meta.created
+  pub name : IsUtf8 meta.name
+  pub address : IfSome meta.address IsUtf8
+  pub message : IsUtf8 meta.message

@@ -1,3 +1,4 @@
+mod Audited
 mod Begun
 mod Rehearsed
 mod RehearsalTold

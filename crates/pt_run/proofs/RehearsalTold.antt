@@ -1,10 +1,9 @@
 -- A rehearsal tells what the run tells.
-use Rattle.std.proofs.Common.{◌≡◌, ◌∙◌, ◌++◌, ◌+◌, ◌==◌, ℕ, Bool, true, false, List, refl, ap, sym}
+use Rattle.std.proofs.Common.{◌≡◌, ◌∙◌, ◌++◌, ◌+◌, ◌==◌, ℕ, true, List, refl, ap, sym}
 use Rattle.std.specs.Prelude.{if◌then◌else◌, Option, None, Some, is_some, Ok}
 use Rattle.pt_move.specs.Migrates.{Migrates}
 use Rattle.pt_move.specs.Outcome.{EndsWhole, IsWhole}
-use Rattle.pt_begun.specs.Begun.{start_of}
-use Rattle.pt_plan.specs.Lines.{End, Line, all_lines, end_line, log_of}
+use Rattle.pt_plan.specs.Lines.{End, Line, all_lines, end_line}
 use Rattle.pt_plan.specs.Roots.{root_in}
 use Rattle.pt_plan.specs.World.{World, dest_tree, source_tree}
 use Rattle.pt_state.specs.States.{counts_of, job_of}

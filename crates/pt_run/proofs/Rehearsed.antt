@@ -1,8 +1,7 @@
 -- A run that was rehearsed, or made, over a folder as destination.
-use Rattle.std.proofs.Common.{◌≡◌, ◌∙◌, ℕ, Bool, true, false, List, refl, ap, sym, subst}
+use Rattle.std.proofs.Common.{◌≡◌, ◌∙◌, ℕ, Bool, true, false, List, refl, ap, sym}
 use Rattle.std.specs.Prelude.{Option, None, Some, is_some, Result}
 use Rattle.pt_folder.specs.HostDest.{told as told_by}
-use Rattle.pt_folder.specs.declared.dest.HostDest.{HostDest}
 use Rattle.pt_folder.specs.declared.system.Handle.{Ghosts as OfHandle}
 use Rattle.pt_folder.specs.declared.system.Input.{Ghosts as OfInput}
 use Rattle.pt_folder.specs.declared.system.System.{Ghosts as OfSystem}

@@ -1,5 +1,5 @@
 -- Nothing is stuck after a run that ended well.
-use Rattle.std.proofs.Common.{◌≡◌, ◌∙◌, ℕ, Bool, true, refl, subst, arith}
+use Rattle.std.proofs.Common.{◌≡◌, ℕ, Bool, true, refl, arith}
 use Rattle.std.specs.Prelude.{◌≤◌, Option, None, Result, Ok, Err}
 use Rattle.std.specs.Option.{ForSome}
 use Rattle.pt_folder.specs.declared.stuck.Stuck.{Stuck}

@@ -1,32 +1,63 @@
 -- What an audit on a machine comes to.
-use Rattle.std.specs.Prelude.{◌≡◌, ◌+◌, ◌==◌, ℕ, if◌then◌else◌, List, Result, Ok, Err}
+use Rattle.std.specs.Prelude.{◌≡◌, ◌+◌, ◌==◌, ℕ, if◌then◌else◌, IfErr, IfOk, List, None, Option, Result, Ok, Err}
 use Rattle.std.specs.declared.io.Error.{Error}
+use Rattle.pt_audit.specs.Auditing.{EndsAs}
 use Rattle.pt_audit.specs.declared.counts.Counts.{Counts}
+use Rattle.pt_compare.specs.Root.{tree_in}
+use Rattle.pt_folder.specs.SourceHeld.{told_of as source_told}
 use Rattle.pt_guard.specs.Guard.{Begins}
 use Rattle.pt_guard.specs.Paths.{Place}
 use Rattle.pt_guard.specs.declared.places.Folder.{Folder}
 use Rattle.pt_guard.specs.declared.places.Hold.{Hold}
+use Rattle.pt_ignore.specs.Ignoring.{told_without}
+use Rattle.pt_move.specs.Outcome.{SaysRightly}
 use Rattle.pt_move.specs.declared.fault.Fault.{Fault}
 use Rattle.pt_run.specs.Made.{Guarded}
+use Rattle.pt_run.specs.declared.auditing.WantedAudit.{WantedAudit}
 use Rattle.pt_run.specs.declared.host.Ground.{Ground}
+use Rattle.pt_state.specs.States.{job_of}
+use Rattle.pt_survey.specs.Growing.{Grows}
+use Rattle.pt_tree.specs.Forest.{Forest}
 
 -- 0 where each object stands and nothing was passed over, 1 where not, 3 after a fault
 abbrev pub audit_status : Result Counts Fault → ℕ
 audit_status (Ok counts) = if counts.absent + counts.differs + counts.skipped == 0 then 0 else 1
 audit_status (Err fault) = 3
 
--- what an audit came to, and its status
-abbrev pub AuditEnds : ℕ → Type 0
-AuditEnds status = (result : Result Counts Fault) × (status ≡ audit_status result)
+-- the tree that an audit sees of a store: the one that its system keeps, without the entries that are left out
+abbrev pub store_tree : List (List ℕ) → Option Forest → Option Forest
+store_tree ignored tree = tree_in (told_without ignored (source_told tree None))
 
--- what `audit` does on a machine, by the words of its calls: the guard, the audit over what is lent, which is given back, and the lock
+-- and the one of a root
+abbrev pub root_tree : Option Forest → Option Forest
+root_tree tree = tree_in (source_told tree None)
+
+-- an audit was made over these folders of the systems, with what `audit` promises of it: where it ended well the output got its log, of both trees as they stood; and they stand
+pub record AuditsOver {S D W : Type 0} (forest : S → List ℕ → Option Forest)
+    (folders : D → List ℕ → Option Forest) (contents : W → Option (List ℕ)) (wanted : WantedAudit)
+    (store folder : List ℕ) (old new : Ground S D W) (status : ℕ) : Type 0 where
+  pub ran : Result Counts Fault
+  pub ends : IfOk ran (EndsAs (job_of wanted.job) (store_tree wanted.ignored (forest old.store store))
+      (root_tree (folders old.folder folder)) (contents old.output) (contents new.output))
+  pub says : IfErr ran (SaysRightly wanted.job (store_tree wanted.ignored (forest old.store store)) None)
+  pub store_stays : store_tree wanted.ignored (forest new.store store)
+      ≡ store_tree wanted.ignored (forest old.store store)
+  pub root_stays : root_tree (folders new.folder folder) ≡ root_tree (folders old.folder folder)
+  pub grows : Grows (contents old.output) (contents new.output)
+  pub status_is : status ≡ audit_status ran
+
+-- what `audit` does on a machine, by the words of its calls and of what is lent: the guard, the audit over what is lent, which is given back, and the lock
 abbrev pub Audits : {H L S D W : Type 0}
     → (H → List ℕ → Result Place Error → H → Type 0) → (H → List ℕ → Result Folder Error → H → Type 0)
     → (H → List ℕ → Hold L → H → Type 0) → (H → L → H → Type 0)
     → (H → Ground S D W → H → Type 0) → (H → Ground S D W → H → Type 0)
-    → List ℕ → List ℕ → H → H → ℕ → Type 0
-Audits {H} {L} {S} {D} {W} resolves identifies holds releases lends takes_back source dest =
+    → (S → List ℕ → Option Forest) → (D → List ℕ → Option Forest) → (W → Option (List ℕ))
+    → WantedAudit → List ℕ → List ℕ → H → H → ℕ → Type 0
+Audits {H} {L} {S} {D} {W} resolves identifies holds releases lends takes_back forest folders contents
+    wanted source dest =
     Guarded (Begins resolves identifies holds source dest)
     (λ old new status. (ground : Ground S D W) × (lent : H) × lends old ground lent
-    × (after : Ground S D W) × AuditEnds status × takes_back lent after new)
+    × (after : Ground S D W)
+    × AuditsOver forest folders contents wanted source dest ground after status
+    × takes_back lent after new)
     releases

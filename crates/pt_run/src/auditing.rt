@@ -1,6 +1,6 @@
 //! An audit of the root in a folder against a store, on a machine.
 ghost use Rattle.std.specs.Prelude.{◌≡◌};
-ghost use Rattle.pt_run.specs.Audits.{AuditEnds, Audits, audit_status};
+ghost use Rattle.pt_run.specs.Audits.{Audits, AuditsOver, audit_status};
 
 use crate::host::{Ground, Host};
 use crate::log::{DurableLog, Syncs};
@@ -42,12 +42,14 @@ pub struct WantedAudit {
 /// holds the destination. Standard error tells of 2 and 3.
 ///
 /// The guard is asked first. Where the audit may begin it is made over what the machine lends, which is given back then; and at
-/// last the lock is given back. Nothing is made or changed in either folder.
+/// last the lock is given back. Where it ends well the output has got its log, of both folders as their systems keep them.
+/// Nothing is made or changed in either folder.
 pub fn audit<R, H: Host>(rt: &R, host: &mut H, wanted: WantedAudit, source: &str, dest: &str) -> u8
 where
     R: Files + Clock + Eprint + AllocGlobal + Terminals,
     ensures { Audits H.resolves H.identifies H.holds H.releases H.lends H.takes_back
-        source.now dest.now host.old host.new result }
+        H.Store.forest H.Folder.forest H.Output.contents
+        wanted source.now dest.now host.old host.new result }
 {
     match begin(host, rt.alloc(), source, dest) {
         Ok(Ok(lock)) => {
@@ -74,7 +76,8 @@ fn hold<R, H: Host>(rt: &R, host: &mut H, wanted: WantedAudit, store: &str, fold
 where
     R: Files + Clock + Eprint + AllocGlobal + Terminals,
     ensures { (given : _) × (lent : H) × H.lends host.old given lent × (after : _)
-        × AuditEnds result × H.takes_back lent after host.new }
+        × AuditsOver H.Store.forest H.Folder.forest H.Output.contents wanted store.now folder.now
+        given after result × H.takes_back lent after host.new }
 {
     let ground = host.lend();
     let file: Option<H::File> = None;
@@ -94,7 +97,8 @@ fn compare<R, S: System, D: System, W: Write, F: Syncs + Drop>(
 ) -> Ended<S, D, W>
 where
     R: Clock + Eprint + AllocGlobal + Terminals,
-    ensures { AuditEnds result.status }
+    ensures { AuditsOver S.forest D.forest W.contents wanted store.now folder.now
+        ground result.ground result.status }
 {
     let alloc = rt.alloc();
     let tally = Tally::new();

@@ -1,7 +1,6 @@
 -- A turn over a destination and a log that tell is one over the source alone: what they tell has no part in it.
-use Rattle.std.proofs.Common.{◌≡◌, ℕ, List, refl}
-use Rattle.std.specs.Prelude.{Option, None, Some, Ok, Err}
-use Rattle.pt_object.specs.Hasher.{HasBeenFed}
+use Rattle.std.proofs.Common.{ℕ, List, refl}
+use Rattle.std.specs.Prelude.{Option, None, Some}
 use Rattle.pt_tree.specs.Dest.{IsKindAt, IsPeeked, Writing}
 use Rattle.pt_tree.specs.Source.{Reading}
 use Rattle.pt_plan.specs.Answer.{Answer}
@@ -9,7 +8,7 @@ use Rattle.pt_plan.specs.Job.{Job}
 use Rattle.pt_plan.specs.Lines.{Line}
 use Rattle.pt_plan.specs.Run.{Kept}
 use Rattle.pt_plan.specs.Turn.{Did, FailsAtFirst, FailsLater, GoesOn, IsRefused, LeavesSome, Stays, Turn}
-use Rattle.pt_plan.specs.World.{Adds, Change, Changes, ChangesNothing, Creates, Finds, FindsNoneAndMakes, Finishes, LeavesFront, LeavesPart, Makes, Peeks, Puts, Renames, Untouched, WasFound}
+use Rattle.pt_plan.specs.World.{Adds, Change, Changes, ChangesNothing, Creates, Finds, FindsNoneAndMakes, Finishes, LeavesFront, Makes, Peeks, Puts, Renames, Untouched, WasFound}
 use Rattle.pt_plan.specs.declared.phase.Phase.{Phase}
 use Rattle.pt_state.specs.Outside.{world}
 use Rattle.pt_state.specs.declared.state.State.{State}

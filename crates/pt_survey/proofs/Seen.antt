@@ -1,49 +1,53 @@
 -- What the turns that look at a store tell is the line of the item that they end, where nothing stands at its place.
-use Rattle.std.proofs.Common.{◌≡◌, ℕ, suc, ◌+◌, Bool, true, false, List, [], ◌∷◌, refl, ap, sym, ◌∙◌, subst, cond, length, append-nil}
-use Rattle.std.specs.Prelude.{Option, None, Some, Ok, slice_get, nat_lt, option_to_list, ◌||◌}
+use Rattle.std.proofs.Common.{◌≡◌, ℕ, suc, Bool, true, false, List, [], ◌∷◌, ◌++◌, refl, ap, sym, ◌∙◌, subst, cond, length, append-nil}
+use Rattle.std.specs.Prelude.{Option, None, Some, Ok, slice_get, nat_lt, unwrap_or}
 use Rattle.std.proofs.lemmas.Bool.{or_left, or_right, true≢false}
 use Rattle.pt_name.specs.Place.{place_of}
 use Rattle.pt_name.specs.Share.{is_first}
 use Rattle.pt_tree.specs.Dest.{IsKindAt, Writing}
-use Rattle.pt_tree.specs.Forest.{Forest}
+use Rattle.pt_tree.specs.Forest.{Forest, is_proper}
+use Rattle.pt_tree.specs.Path.{Path}
 use Rattle.pt_tree.specs.Source.{IsRead, Reading}
 use Rattle.pt_tree.specs.declared.kind.Kind.TheVariants as kind
-use Rattle.pt_walk.specs.Left.{bytes_at, inside_at}
+use Rattle.pt_walk.specs.Left.{bytes_at}
 use Rattle.pt_walk.specs.Object.{entries, files}
 use Rattle.pt_walk.specs.Site.{is_short}
-use Rattle.pt_walk.specs.Sites.{Listed}
 use Rattle.pt_walk.specs.Trail.{current_entry, is_trail, names_to, trail_path}
 use Rattle.pt_walk.specs.declared.cause.Cause.{Cause}
 use Rattle.pt_walk.specs.declared.cause.Cause.TheVariants as cause
 use Rattle.pt_walk.specs.declared.frame.Frame.{Frame}
 use Rattle.pt_plan.specs.Answer.{Answer}
-use Rattle.pt_plan.specs.Items.{Fails, Holds, Interior, Item, Named, Outcome, PairtreeObject, Skip, item_of, items, outcome}
+use Rattle.pt_plan.specs.Items.{Fails, Interior, Item, Named, Outcome, PairtreeObject, Skip, item_of, items, outcome}
 use Rattle.pt_plan.specs.Job.{Job}
 use Rattle.pt_plan.specs.Lines.{Line, Skipped, line_by_outcome, line_by_verdict}
 use Rattle.pt_plan.specs.Run.{Counts, Held}
-use Rattle.pt_plan.specs.Store.{pairtree_of, prefix_of, sites_of}
+use Rattle.pt_plan.specs.Store.{is_store, pairtree_of, prefix_of, sites_of}
 use Rattle.pt_plan.specs.Turn.{Follows, Make, Place, Scan, Start, Walk}
-use Rattle.pt_object.specs.Object.{rows_of}
+use Rattle.pt_object.proofs.ObjectScripts.{in_order_apart}
+use Rattle.pt_object.specs.FilePaths.{File, part_in_order, row_paths}
+use Rattle.pt_object.specs.Object.{bytes_in, rows_of, stored_files}
+use Rattle.pt_object.specs.declared.rows.Row.{Row}
 use Rattle.pt_plan.specs.TurnMake.{path_of_source}
 use Rattle.pt_plan.specs.TurnPlace.{done_line}
 use Rattle.pt_plan.specs.TurnPlace as place
 use Rattle.pt_plan.specs.TurnMake as make
 use Rattle.pt_plan.specs.TurnScan.{EndsFile, EndsObject, EndsSite, EntersDirectory, EntersObject, IsTooDeep, IsTooLong, LeavesDirectory, MeetsDeep, MeetsLimit, MeetsOther, OpensFile, PassesShorty, ReadsOn, Scans, StartsInSite, is_beyond, logical_path, skipped, to_site}
 use Rattle.pt_plan.specs.TurnStart as start
-use Rattle.pt_plan.specs.TurnWalk.{EndsWalk, EntersSite, IsDeep, IsNew, IsPast, IsPresent, IsSkipped, LeadsOn, LeavesSite, OpensRoot, PassesEntry, Walks}
+use Rattle.pt_plan.specs.TurnWalk.{EndsWalk, EntersSite, IsDeep, IsNew, IsPast, IsPresent, IsSkipped, LeadsOn, LeavesSite, OpensRoot, PassesEntry, Walks, in_pairtree}
 use Rattle.pt_plan.specs.World.{Answers, Calls, Changes}
 use Rattle.pt_plan.specs.declared.object.Object.{Object}
 use Rattle.pt_plan.specs.declared.phase.Phase.{Phase}
 use Rattle.pt_plan.specs.declared.phase.Phase.TheVariants as phase
 use Rattle.pt_begun.specs.BegunHeld.{HeldAt}
-use Rattle.pt_begun.specs.BegunSource.{HasStarted, IsInObject, IsScanned, IsSiteOf, SourcePart, object_at}
+use Rattle.pt_begun.specs.BegunSource.{HasScanned, HasStarted, IsInObject, IsSiteOf, SourcePart, object_at}
 use Rattle.pt_begun.specs.Past.{Past, done_after}
 use Rattle.pt_begun.proofs.held.DistinctRows.{get_map}
-use Rattle.pt_begun.proofs.items.PlacesTell.{comes_whole, done_told}
+use Rattle.pt_begun.proofs.held.OwnFiles.{own_stored}
+use Rattle.pt_begun.proofs.items.PlacesTell.{comes_whole, done_told, files_are}
 use Rattle.pt_begun.proofs.items.ScansTell.{fails_at_directory, fails_at_file, fails_at_other, fails_before, item_of_site, named_so, too_long}
 use Rattle.pt_begun.proofs.items.WalksTell.{judged_next, judged_verdict, with_prefix}
 use Rattle.pt_begun.proofs.source.InObject.{site_itself}
-use Rattle.pt_begun.proofs.source.InPairtree.{pairtree_proper}
+use Rattle.pt_begun.proofs.source.InPairtree.{file_in_pairtree, pairtree_proper}
 use Rattle.pt_begun.proofs.source.ReadsOn.{reads_block}
 use Rattle.pt_begun.proofs.source.WalksKeep.{deep_next, done_at_shorty, none_at_end, none_at_entry, past_next}
 use Rattle.pt_survey.specs.Bare.{bare}
@@ -145,6 +149,18 @@ scan_sees (EndsFile _ _ _) _ _ _ _ = Nothing refl
 
 -- ---- an object at hand
 
+-- what is stored of its files, as they stand in the source below its directory, are their own bytes
+module _ {job : Job} (source : Forest) (object : Object) (site : List Frame) {rows : List Row} {empty : ℕ} (store : is_store source ≡ true) (proper : is_proper source ≡ true) (it : HasScanned job (object_at source object site) rows empty []) where
+  abbrev there : Path → List ℕ
+  there path = bytes_at (pairtree_of source) (path_of_source object site ++ path)
+
+  stored_there : part_in_order (row_paths rows) ≡ true
+      → stored_files rows (λ path. bytes_at source (in_pairtree (path_of_source object site ++ path))) ≡ stored_files rows (bytes_in (files (entries (object_at source object site).inside)))
+  stored_there order =
+      (λ i. stored_files rows (λ path. unwrap_or (file_in_pairtree source (path_of_source object site ++ path) store i) []))
+      ∙ own_stored rows there (in_order_apart (row_paths rows) order)
+      ∙ ap (λ (l : List File). stored_files rows (bytes_in l)) (files_are source object site there (pairtree_proper source store proper) it (λ k d h. refl))
+
 pub has_at_hand : {job : Job} {past : Past} {s : Reading} {prefix : List ℕ} {object : Object} {held : Held} → HeldAt job past (phase.Line object) held → SourcePart job past (phase.Line object) prefix held s → HasAtHand job s.tree past.count object held
 has_at_hand {job} {past} {s} {object} {held} at part =
     let site = to_site object held.trail in
@@ -159,6 +175,7 @@ has_at_hand {job} {past} {s} {object} {held} at part =
       named = named_so part.at.0 part.at.1.stands.site;
       whole = comes_whole it;
       rows = it.rows_are ∙ ap (λ l. rows_of job.algorithm (files l)) (sym front);
+      stored = stored_there s.tree object site part.at.0.store part.proper it at.rows.order;
       at = ap (path_of_source object) (site_itself object held.trail part.at.1.at_site);
       place = part.at.1.stands.place;
       lines_are = ap (line_by_verdict job (trail_path site) false) (named_so part.at.0 part.at.1.stands.site)

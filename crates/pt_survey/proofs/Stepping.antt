@@ -1,5 +1,5 @@
 -- What a step of a survey needs, and that the survey goes on.
-use Rattle.std.proofs.Common.{◌≡◌, ◌≢◌, ◌<◌, ◌+◌, arith, ℕ, suc, Bool, true, false, List, [], ◌∷◌, refl, ap, sym, ◌∙◌, subst, take}
+use Rattle.std.proofs.Common.{◌≡◌, ◌≢◌, ◌<◌, ◌+◌, arith, ℕ, suc, true, false, List, [], ◌∷◌, refl, ap, sym, ◌∙◌, subst, take}
 use Rattle.std.specs.Prelude.{◌==◌, Option, None, Some, Result, Ok, Err, count_by, option_to_list}
 use Rattle.std.specs.Option.{ForSome}
 use Rattle.std.proofs.lemmas.Bool.{true≢false}
@@ -8,23 +8,21 @@ use Rattle.pt_object.specs.Hasher.{HasBeenFed}
 use Rattle.pt_tree.specs.Dest.{Writing}
 use Rattle.pt_tree.specs.Forest.{Forest, is_proper}
 use Rattle.pt_tree.specs.Source.{Reading}
-use Rattle.pt_tree.specs.Tree.{Tree}
 use Rattle.pt_plan.specs.Answer.{Answer, phase_after}
 use Rattle.pt_plan.specs.Job.{Job}
 use Rattle.pt_plan.specs.Lines.{Done, End, Line, Present, Skipped, is_skipped, line_text}
 use Rattle.pt_plan.specs.Permits.{Permits}
 use Rattle.pt_plan.specs.Run.{Counts, Held, Kept, Run, new_run, turning}
-use Rattle.pt_plan.specs.Turn.{Did, FailsAtFirst, FailsLater, Follows, GoesOn as TurnGoesOn, IsRefused, LeavesSome, Stays, Happens, Make, Place, Scan, Start, Turn, Walk, counted as counted_with}
+use Rattle.pt_plan.specs.Turn.{Did, FailsAtFirst, FailsLater, Follows, GoesOn as TurnGoesOn, IsRefused, LeavesSome, Stays, Make, Place, Scan, Start, Turn, Walk, counted as counted_with}
 use Rattle.pt_plan.specs.TurnPlace as place
-use Rattle.pt_plan.specs.World.{Answers, Calls, Changes, Failures, LeavesFront, Puts, World, source_tree}
+use Rattle.pt_plan.specs.World.{Answers, Calls, Failures, LeavesFront, Puts, World, source_tree}
 use Rattle.pt_plan.specs.declared.halt.Halt.{Halt}
 use Rattle.pt_plan.specs.declared.halt.Halt.TheVariants as halt
 use Rattle.pt_plan.specs.declared.object.Object.{Object}
-use Rattle.pt_plan.specs.declared.phase.Part.{Part}
 use Rattle.pt_plan.specs.declared.phase.Part.TheVariants as part
 use Rattle.pt_plan.specs.declared.phase.Phase.{Phase}
 use Rattle.pt_plan.specs.declared.phase.Phase.TheVariants as phase
-use Rattle.pt_begun.specs.Begun.{IsPast, IsWorld, start_of}
+use Rattle.pt_begun.specs.Begun.{IsPast}
 use Rattle.pt_begun.specs.Past.{Past, done_after, no_past, past_after}
 use Rattle.pt_begun.specs.WorkLaws.{BegunWithinWork}
 use Rattle.pt_begun.proofs.ends.NewRun.{new_past}
@@ -33,8 +31,7 @@ use Rattle.pt_state.specs.Outside.{world}
 use Rattle.pt_state.specs.States.{held_of, job_of, kept_of}
 use Rattle.pt_state.specs.declared.job.Job as own
 use Rattle.pt_state.specs.declared.state.State.{State}
-use Rattle.pt_move.specs.Bounds.{IsBounded}
-use Rattle.pt_move.specs.Running.{BeganSomewhere, FedUntilEnd, InProgress, IsBegun, IsNew, IsWell, Running, run_of}
+use Rattle.pt_move.specs.Running.{BeganSomewhere, IsBegun, IsNew, IsWell, Running, run_of}
 use Rattle.pt_move.specs.Stands.{Stands}
 use Rattle.pt_move.specs.Turning.{CountedTurn, HasFed}
 use Rattle.pt_move.specs.Counting.{Rose}
@@ -49,7 +46,7 @@ use Rattle.pt_tree.specs.Failures.{HasRisen}
 use Rattle.pt_survey.specs.Bare.{bare}
 use Rattle.pt_survey.specs.Growing.{BlamesRightly, Grows, IsCounted, Leaves, grows_none}
 use Rattle.pt_plan.specs.TurnPlace.{done_line}
-use Rattle.pt_survey.specs.Surveying.{WasAtHand, GoesOn, HasAtHand, IsReady, IsSurvey, is_at_hand, Leads, Nothing, Skips, Saw, Sees, Surveys, is_looking, is_of_survey, no_start, passed, passed_part, source_alone}
+use Rattle.pt_survey.specs.Surveying.{WasAtHand, GoesOn, HasAtHand, IsReady, IsSurvey, is_at_hand, Leads, Nothing, Skips, Sees, Surveys, is_looking, is_of_survey, no_start, passed, source_alone}
 use Rattle.pt_survey.proofs.Alone.{counted_alone, no_change, no_line}
 use Rattle.pt_survey.proofs.Seen.{has_at_hand, looks_on, looks_sees}
 

@@ -1,18 +1,19 @@
 -- A survey under way: the turns of a run that look at a store, over a destination in which nothing stands. Its neighbours are the source's, since nothing is made.
-use Rattle.std.specs.Prelude.{◌≡◌, ◌<◌, ℕ, suc, Bool, true, false, List, [], ◌∷◌, ◌+◌, count_by, Option, None, Some, option_to_list, slice_get}
+use Rattle.std.specs.Prelude.{◌≡◌, ◌<◌, ℕ, suc, Bool, true, false, List, [], ◌∷◌, ◌++◌, ◌+◌, count_by, Option, None, Some, option_to_list, slice_get}
 use Rattle.std.specs.Option.{ForSome}
 use Rattle.pt_begun.specs.Begun.{IsPast, Start}
 use Rattle.pt_begun.specs.Past.{Past}
 use Rattle.pt_move.specs.Running.{FedUntilEnd, IsWell, Running, run_of}
 use Rattle.pt_name.specs.Place.{place_of}
 use Rattle.pt_object.specs.FilePaths.{File}
-use Rattle.pt_object.specs.Object.{rows_of}
+use Rattle.pt_object.specs.Object.{bytes_in, rows_of, stored_files}
 use Rattle.pt_plan.specs.Items.{Holds, Item, Named, PairtreeObject, items, outcome}
 use Rattle.pt_plan.specs.Job.{Job}
 use Rattle.pt_plan.specs.Lines.{Line, Skipped, is_skipped, line_by_verdict}
 use Rattle.pt_plan.specs.Run.{Held}
 use Rattle.pt_plan.specs.TurnMake.{path_of_source}
 use Rattle.pt_plan.specs.TurnPlace.{done_line}
+use Rattle.pt_plan.specs.TurnWalk.{in_pairtree}
 use Rattle.pt_plan.specs.World.{Puts, World}
 use Rattle.pt_plan.specs.declared.object.Object.{Object}
 use Rattle.pt_plan.specs.declared.phase.Part.{Part}
@@ -29,6 +30,7 @@ use Rattle.pt_survey.specs.declared.survey.Sight.TheVariants as sight
 use Rattle.pt_tree.specs.Forest.{Forest}
 use Rattle.pt_tree.specs.Path.{Path}
 use Rattle.pt_tree.specs.Source.{Reading}
+use Rattle.pt_walk.specs.Left.{bytes_at}
 use Rattle.pt_walk.specs.declared.cause.Cause.{Cause}
 
 -- ---- where it stands
@@ -136,7 +138,7 @@ pub record GoesOn (told told' : Option Reading) (old new : Option (List ℕ)) (c
 
 -- ---- the object at hand
 
--- the item of this number has it: there is no cause against it, and what is held of it are its files
+-- the item of this number has it: there is no cause against it, and what is held of it are its files, as they stand in the source
 pub record HasAtHand (job : Job) (source : Forest) (count : ℕ) (object : Object) (held : Held) : Type 0 where
   pub item : Item
   pub inner : PairtreeObject
@@ -145,6 +147,8 @@ pub record HasAtHand (job : Job) (source : Forest) (count : ℕ) (object : Objec
   pub named : item.verdict ≡ Named object.id inner
   pub whole : outcome job.limits inner ≡ Holds files
   pub rows : held.rows ≡ rows_of job.algorithm files
+  pub stored : stored_files held.rows (λ path. bytes_at source (in_pairtree (inner.at ++ path)))
+      ≡ stored_files held.rows (bytes_in files)
   pub at : inner.at ≡ path_of_source object held.trail
   pub place : object.place ≡ place_of job.tuples object.id
   pub lines_are : line_by_verdict job item.path false item.verdict ≡ done_line object held ∷ []

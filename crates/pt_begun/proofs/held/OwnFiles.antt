@@ -48,14 +48,18 @@ stored_so bytes {all} earlier (row ∷ rows) is apart =
     by true later = later
     by false later = λ i. (row.path, here i) ∷ later i
 
--- so the object is theirs, and so is its script
+-- so what is stored of the rows is what is stored of their files
+pub own_stored : (rows : List Row) (bytes : Path → List ℕ) → are_apart (row_paths rows) ≡ true → stored_files rows bytes ≡ stored_files rows (bytes_in (files_held rows bytes))
+own_stored rows bytes apart = stored_so bytes [] rows refl apart
+
+-- the object is theirs, and so is its script
 pub own_files : (id : List ℕ) (rows : List Row) (bytes : Path → List ℕ) (meta : MetaParts) (algorithm : Algorithm) → are_apart (row_paths rows) ≡ true → All (λ row. digest_of algorithm (bytes row.path) ≡ row.digest) rows
     → (object_of_rows id rows bytes meta algorithm ≡ object_of id (files_held rows bytes) meta algorithm) × (script_of_rows id rows bytes meta algorithm ≡ script_of id (files_held rows bytes) meta algorithm)
 own_files id rows bytes meta algorithm apart digests =
     let files : List File = files_held rows bytes in
     let one = same_bare algorithm bytes rows digests in
     let text : inventory_text id rows meta algorithm ≡ inventory_text id (rows_of algorithm files) meta algorithm = same_text id rows (rows_of algorithm files) meta algorithm one in
-    let stored : stored_files rows bytes ≡ stored_files (rows_of algorithm files) (bytes_in files) = stored_so bytes [] rows refl apart ∙ same_stored (bytes_in files) rows _ one in (
+    let stored : stored_files rows bytes ≡ stored_files (rows_of algorithm files) (bytes_in files) = own_stored rows bytes apart ∙ same_stored (bytes_in files) rows _ one in (
       λ i. holding (object_files algorithm (text i) (stored i)),
       λ i. map (item_in staging) (object_items algorithm (text i) (stored i)),
     )

@@ -1,18 +1,13 @@
-use Rattle.std.proofs.Common.{arith, ap, ◌∙◌, ◌++◌}
+use Rattle.std.proofs.Common.{ap, ◌∙◌, ◌++◌}
 use Rattle.pt_compare.specs.Root.{is_reading, tree_in}
-use Rattle.pt_compare.proofs.Passed.{all_taken, more_left, one_taken}
+use Rattle.pt_compare.proofs.Passed.{all_came, more_came}
 use Rattle.pt_compare.proofs.Reading.{next_reads, next_tree}
 use Rattle.pt_compare.proofs.bytes.rest_of.Goals as goal
-
-pub returns-clause-rest : goal.returns-clause-rest
-returns-clause-rest g c =
-    let told = g.R.Source.told in
-    more_left c.loop.bytes.items c.loop.counter (told c.args.root.now) (told c.loop.root) c.loop.invariant.2 (omega (arith, c.loop-test.false, c.loop.auto.counter-end))
 
 pub returns-then-is_empty-clause-rest : goal.returns-then-is_empty-clause-rest
 returns-then-is_empty-clause-rest g c =
     let told = g.R.Source.told in
-    all_taken c.loop.bytes c.next.new.block.items c.loop.counter (told c.args.root.now) (told c.loop.root) c.loop.invariant.2 c.in_ok-next.ensures.block c.if-is_empty.ensures
+    all_came c.loop.bytes c.next.new.block.items (told c.args.root.now) (told c.loop.root) c.loop.invariant.2 c.in_ok-next.ensures.block c.if-is_empty.ensures
 
 pub loop-preserved : goal.loop-preserved
 loop-preserved g c =
@@ -21,8 +16,7 @@ loop-preserved g c =
     let moved = c.in_ok-next.ensures.moved in (
       ap tree_in moved ∙ next_tree (told c.loop.root) ∙ c.loop.invariant.0,
       ap is_reading moved ∙ next_reads (told c.loop.root) c.loop.invariant.1,
-      one_taken c.loop.bytes.items c.next.new.block.items c.extend_from_slice.new.self.items c.loop.counter (told c.args.root.now) (told c.loop.root) (told c.next.new.self)
-          c.loop.invariant.2 c.in_ok-next.ensures.block moved c.if-is_empty.ensures longer,
+      more_came c.loop.bytes.items c.next.new.block.items c.extend_from_slice.new.self.items (told c.args.root.now) (told c.loop.root) (told c.next.new.self) c.loop.invariant.2 c.in_ok-next.ensures.block moved longer,
       g.met.R.Source.keeps_on _ _ _ c.loop.invariant.3 c.next.ensures.keeps,
       c.in_ok-next.ensures.failures ∙ c.loop.invariant.4,
     )

@@ -1,5 +1,5 @@
 use Rattle.pt_compare.specs.Described.{texts_view}
-use Rattle.pt_compare.proofs.Said.{given_err, given_ok}
+use Rattle.pt_compare.proofs.Described.{given_err, given_ok}
 use Rattle.pt_compare.proofs.inventories.meta_of.Goals as goal
 
 pub returns-in-Ok : goal.returns-in-Ok

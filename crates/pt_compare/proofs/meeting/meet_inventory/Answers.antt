@@ -1,11 +1,13 @@
-use Rattle.std.proofs.Common.{arith, rules, refl}
+use Rattle.std.proofs.Common.{arith, rules, refl, subst, ◌∙◌}
+use Rattle.std.specs.Prelude.{IfOk}
 use Rattle.pt_compare.specs.Bytes.{IsAllLeft}
+use Rattle.pt_compare.specs.Found.{texts_of_object}
 use Rattle.pt_compare.specs.Marks.{marks_of}
 use Rattle.pt_compare.specs.declared.stop.Stop.TheVariants as stop
 use Rattle.pt_plan.specs.declared.halt.Halt.TheVariants as halt
 use Rattle.pt_compare.proofs.Described.{on_none, on_some}
 use Rattle.pt_compare.proofs.Going.{halt_is}
-use Rattle.pt_compare.proofs.Single.{halted_text, text_long, text_met, text_other, unopened_text}
+use Rattle.pt_compare.proofs.Single.{halted_text, text_met, text_other, unopened_text, was_ok}
 use Rattle.pt_compare.proofs.meeting.meet_inventory.Goals as goal
 
 pub returns-in_err-open_file-clause-met : goal.returns-in_err-open_file-clause-met
@@ -17,19 +19,17 @@ returns-in_err-stands-clause-met g c = halted_text _ _ _ _ _ _ c.from_residual-i
 pub returns-in_err-text-clause-met : goal.returns-in_err-text-clause-met
 returns-in_err-text-clause-met g c = halted_text _ _ _ _ _ _ c.from_residual-in_err-text.result (stop.Halt halt.Memory) c.from_residual-in_err-text.ensures.1 tt
 
-pub returns-in_default-clause-met : goal.returns-in_default-clause-met
-returns-in_default-clause-met g c =
-    let all : IsAllLeft (g.R.Source.told c.open_file.new.root) c.in_ok-stands.field-0 = search rules in
-    text_long (g.R.Source.told c.args.root.now) (g.R.Source.told c.open_file.new.root) c.args.place.now c.args.path c.args.made.now (marks_of c.args.entries.now) (marks_of c.open_file.new.entries) c.in_ok-stands.field-0 c.other_bytes.result _ refl c.other_bytes.ensures c.in_ok-open_file.ensures.opened all c.in_default.is
-
-pub returns-in-Some-2-clause-met : goal.returns-in-Some-2-clause-met
-returns-in-Some-2-clause-met g c =
-    let all : IsAllLeft (g.R.Source.told c.open_file.new.root) c.in_ok-stands.field-0 = search rules in
-    text_met (g.R.Source.told c.args.root.now) (g.R.Source.told c.open_file.new.root) c.args.place.now c.args.path c.args.made.now (marks_of c.args.entries.now) (marks_of c.open_file.new.entries) c.in_ok-stands.field-0 c.in-Some.stands c.in-Some-2.text _ refl c.in_ok-open_file.ensures.opened all c.in-Some.is
-    (on_some c.in_ok-text.field-0 c.in-Some-2.text _ _ c.in-Some-2.is c.in_ok-text.ensures)
+pub returns-in-Some-clause-met : goal.returns-in-Some-clause-met
+returns-in-Some-clause-met g c =
+    let all : IsAllLeft (g.R.Source.told c.open_file.new.root) c.in_ok-stands.stands = subst (λ r. IfOk r (IsAllLeft (g.R.Source.told c.open_file.new.root))) (was_ok _ _ _ _ c.map_err.ensures.cases c.map_err.ensures.variant c.in_ok-stands.was) c.rest_of.ensures.rest in
+    text_met (g.R.Source.told c.args.root.now) (g.R.Source.told c.open_file.new.root) c.args.object.now.to.now c.args.path (texts_of_object c.args.object.now) (marks_of c.args.entries.now) (marks_of c.open_file.new.entries) c.in_ok-stands.stands c.in_ok-stands.stands.items _ c.in_ok-open_file.ensures.opened all refl c.in-Some.text refl
+    (on_some c.in_ok-text.field-0 c.in-Some.text _ _ c.in-Some.is c.in_ok-text.ensures)
 
 pub returns-in-None-clause-met : goal.returns-in-None-clause-met
 returns-in-None-clause-met g c =
-    let all : IsAllLeft (g.R.Source.told c.open_file.new.root) c.in_ok-stands.field-0 = search rules in
-    text_other (g.R.Source.told c.args.root.now) (g.R.Source.told c.open_file.new.root) c.args.place.now c.args.path c.args.made.now (marks_of c.args.entries.now) (marks_of c.open_file.new.entries) c.in_ok-stands.field-0 c.in-Some.stands c.other_bytes-in-None.result _ refl c.other_bytes-in-None.ensures c.in_ok-open_file.ensures.opened all c.in-Some.is
+    let all : IsAllLeft (g.R.Source.told c.open_file.new.root) c.in_ok-stands.stands = subst (λ r. IfOk r (IsAllLeft (g.R.Source.told c.open_file.new.root))) (was_ok _ _ _ _ c.map_err.ensures.cases c.map_err.ensures.variant c.in_ok-stands.was) c.rest_of.ensures.rest in
+    text_other (g.R.Source.told c.args.root.now) (g.R.Source.told c.open_file.new.root) c.args.object.now.to.now c.args.path (texts_of_object c.args.object.now) (marks_of c.args.entries.now) (marks_of c.open_file.new.entries) c.in_ok-stands.stands c.in_ok-stands.stands.items _ c.in_ok-open_file.ensures.opened all refl c.other_bytes.result refl c.other_bytes.ensures
     (on_none c.in_ok-text.field-0 _ _ c.in-None.is c.in_ok-text.ensures)
+
+pub returns-in-Some-clause-root : goal.returns-in-Some-clause-root
+returns-in-Some-clause-root g c = (g.met.R.Source.keeps_on _ _ _ c.in_ok-open_file.ensures.root.0 c.rest_of.ensures.keeps, c.rest_of.ensures.tree ∙ c.in_ok-open_file.ensures.root.1)

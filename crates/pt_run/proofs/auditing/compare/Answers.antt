@@ -1,0 +1,36 @@
+use Rattle.std.proofs.Common.{ap, sym, subst, ◌∙◌}
+use Rattle.std.specs.Prelude.{IfErr, None}
+use Rattle.pt_move.specs.Outcome.{SaysRightly}
+use Rattle.pt_state.specs.States.{job_of}
+use Rattle.pt_survey.specs.Growing.{Grows}
+use Rattle.pt_run.proofs.Audited.{ends_as, root_is, store_is}
+use Rattle.pt_run.proofs.auditing.compare.Goals as goal
+
+pub returns : goal.returns
+returns g c =
+    let made = c.audit-ran.ensures in
+    let forest = g.S.System.forest in
+    let folders = g.D.System.forest in
+    let contents = g.W.Write.contents in
+    let wanted = c.args.wanted in
+    let after = c.audit-ran.new in
+    let ignoring = c.new-source.ensures in
+    let names = ap (λ w. w.names) ignoring ∙ c.new-ignoring.ensures.names in
+    let system = ap (λ w. w.source.system) ignoring ∙ ap (λ s. s.system) c.new-ignoring.ensures.source ∙ c.new.ensures.system in
+    let path = ap (λ w. w.source.folder.path.now) ignoring ∙ ap (λ s. s.folder.path.now) c.new-ignoring.ensures.source ∙ c.new.ensures.path in
+    let store = store_is forest _ names system path in
+    let folder = root_is folders _ c.new-root.ensures.system c.new-root.ensures.path in
+    let first = ap (λ l. contents l.writer) c.new-log.ensures ∙ ap contents c.new-2.ensures.writer in
+    let output = c.into_writer.ensures ∙ ap (λ l. l.writer) c.into_log.ensures in
+    let kept = c.into_system.ensures ∙ ap (λ s. s.system) (c.into_source-source.ensures ∙ ap (λ i. i.source) c.into_source-ignoring.ensures) in
+    let later = store_is forest _ (made.source.0.0 ∙ names) (sym kept) (ap (λ f. f.path.now) made.source.0.1 ∙ path) in
+    let stands = root_is folders _ (sym c.into_system-2.ensures) (ap (λ f. f.path.now) made.root.0 ∙ c.new-root.ensures.path) in
+    record {
+      ran = c.audit-ran.result;
+      ends = ends_as c.audit-ran.result (job_of wanted.job) store folder first (ap contents (sym output)) made.ends;
+      says = subst (λ t. IfErr c.audit-ran.result (SaysRightly wanted.job t None)) store made.says;
+      store_stays = sym later ∙ made.source.1 ∙ store;
+      root_stays = sym stands ∙ made.root.1 ∙ folder;
+      grows = subst (λ l. Grows l (contents c.into_writer.result)) first (subst (Grows _) (ap contents (sym output)) made.log.1);
+      status_is = c.told-status.ensures;
+    }
