@@ -74,6 +74,9 @@ TellsNames {H} {S} {D} {W} lends takes_back contents asked old new status =
     × takes_back lent (record ground { output = output }) new
     × (status ≡ names_status written)
 
--- an audit is made, or memory was wanting before anything was asked of the machine, which is 3
-abbrev pub OrWantsMemory : {H : Type 0} → (H → H → ℕ → Type 0) → H → H → ℕ → Type 0
-OrWantsMemory audits old new status = audits old new status ⊎ ((status ≡ 3) × (new ≡ old))
+-- the audit that words ask for is made, or memory was wanting before anything was asked of the machine, which is 3
+abbrev pub AuditsFor : {H : Type 0} → (WantedAudit → List ℕ → List ℕ → H → H → ℕ → Type 0)
+    → Comparison → H → H → ℕ → Type 0
+AuditsFor audits words old new status =
+    ((meta : MetaParts) × audits (wanted_audit meta words) words.source words.dest old new status)
+    ⊎ ((status ≡ 3) × (new ≡ old))

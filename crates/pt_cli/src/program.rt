@@ -1,6 +1,6 @@
 ghost use Rattle.std.specs.Prelude.{◌≡◌, ◌⊎◌, map, string_bytes};
 ghost use Rattle.std.specs.Process.{exit_status};
-ghost use Rattle.pt_cli.specs.Calls.{OrWantsMemory, TellsNames, names_status, wanted_of};
+ghost use Rattle.pt_cli.specs.Calls.{AuditsFor, TellsNames, names_status, wanted_of};
 ghost use Rattle.pt_cli.specs.Statuses.{Ends, EndsWith};
 ghost use Rattle.pt_run.specs.Audits.{Audits};
 ghost use Rattle.pt_run.specs.Made.{Runs};
@@ -35,8 +35,8 @@ where
         (λ words. Runs H.resolves H.identifies H.holds H.releases H.finds H.File.syncs
         H.lends H.takes_back H.Store.forest H.Folder.kept H.Output.contents
         (wanted_of words) words.source words.dest)
-        (λ words. OrWantsMemory (Audits H.resolves H.identifies H.holds H.releases
-        H.lends H.takes_back words.source words.dest))
+        (AuditsFor (Audits H.resolves H.identifies H.holds H.releases
+        H.lends H.takes_back H.Store.forest H.Folder.forest H.Output.contents))
         host.old host.new (exit_status result) }
 {
     let status = match words(rt) {
@@ -59,8 +59,8 @@ where
         (λ words. Runs H.resolves H.identifies H.holds H.releases H.finds H.File.syncs
         H.lends H.takes_back H.Store.forest H.Folder.kept H.Output.contents
         (wanted_of words) words.source words.dest)
-        (λ words. OrWantsMemory (Audits H.resolves H.identifies H.holds H.releases
-        H.lends H.takes_back words.source words.dest))
+        (AuditsFor (Audits H.resolves H.identifies H.holds H.releases
+        H.lends H.takes_back H.Store.forest H.Folder.forest H.Output.contents))
         (map string_bytes words.now) host.old host.new result }
 {
     match read_words(rt.alloc(), words) {
@@ -114,8 +114,9 @@ where
 fn audit<R, H: Host>(rt: &R, host: &mut H, words: Audit) -> u8
 where
     R: Files + Clock + Eprint + AllocGlobal + Terminals,
-    ensures { OrWantsMemory (Audits H.resolves H.identifies H.holds H.releases
-        H.lends H.takes_back words.source words.dest) host.old host.new result }
+    ensures { AuditsFor (Audits H.resolves H.identifies H.holds H.releases
+        H.lends H.takes_back H.Store.forest H.Folder.forest H.Output.contents)
+        words host.old host.new result }
 {
     match audit_asked_for(rt.alloc(), words) {
         Ok(asked) => pt_run::audit(

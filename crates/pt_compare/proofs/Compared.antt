@@ -7,7 +7,7 @@ use Rattle.std.specs.Global.{Global}
 use Rattle.std.specs.String.{string_bytes}
 use Rattle.std.proofs.lemmas.Bool.{and_from, and_parts}
 use Rattle.std.proofs.lemmas.List.Elements.{All-cons, All-head, All-map, All-nil, All-tail}
-use Rattle.pt_compare.specs.Found.{IsFound, IsLeft, IsWrong, MeetsInventories, MeetsObject, Sought, inventory_items, version_inventory}
+use Rattle.pt_compare.specs.Found.{IsFirst, IsFound, IsLeft, IsWrong, MeetsInventories, MeetsObject, Sought, inventory_items, version_inventory}
 use Rattle.pt_compare.specs.Marks.{Marks, all_met, at_first, inside, kind_in, no_marks, with_mark}
 use Rattle.pt_compare.specs.Meeting.{IsWrongInventory, Meets, MeetsFrom, MeetsIn, MeetsText, MeetsTextIn, NotedStand, StandsSo}
 use Rattle.pt_compare.specs.Parts.{content_items, early_items, files_of, first_items, last_items}
@@ -18,7 +18,7 @@ use Rattle.pt_compare.specs.declared.difference.Finding.TheVariants as finding
 use Rattle.pt_compare.specs.declared.stop.Stop.{Stop}
 use Rattle.pt_compare.specs.declared.stop.Stop.TheVariants as stop
 use Rattle.pt_compare.proofs.Entering.{kind_same}
-use Rattle.pt_compare.proofs.Findings.{inside_above, is_all, is_extra, stopped_between, stopped_early, stopped_late}
+use Rattle.pt_compare.proofs.Findings.{are_items, first_between, first_early, first_late, inside_above, is_all, is_extra, stopped_between, stopped_early, stopped_late}
 use Rattle.pt_compare.proofs.Going.{Answer, all_both, all_met-append, err_of, stops_first, stops_later}
 use Rattle.pt_compare.proofs.Made.{kind_none}
 use Rattle.pt_compare.proofs.Steps.{all_met_noted}
@@ -179,10 +179,10 @@ module _ (sought : Sought) (order : part_in_order (paths_of sought.stored) ≡ t
   pub differs_is : (d : Difference) (old new : Marks) → old ≡ at_first (inside f place) → MeetsObject sought (inside f place) old new (Err (stop.Differs d)) → IsFound sought (inside f place) (finding.Differs d)
   differs_is d old new first met = by (subst (λ (m : Marks). MeetsObject sought (inside f place) m new (Err (stop.Differs d))) first met)
     where
-      by : MeetsObject sought (inside f place) (at_first (inside f place)) new (Err (stop.Differs d)) → IsWrong sought (inside f place) d.path d.why
-      by (inl early) = stopped_early sought order apart (inside f place) d.path d.why early
-      by (inr (inl between)) = stopped_between sought order apart (inside f place) d.path d.why between.0 between.2
-      by (inr (inr late)) = stopped_late sought order apart (inside f place) late.0 d.path d.why late.1 late.2
+      by : MeetsObject sought (inside f place) (at_first (inside f place)) new (Err (stop.Differs d)) → IsFound sought (inside f place) (finding.Differs d)
+      by (inl early) = (stopped_early sought order apart (inside f place) d.path d.why early, first_early sought order apart (inside f place) d.path d.why early)
+      by (inr (inl between)) = (stopped_between sought order apart (inside f place) d.path d.why between.0 between.2, first_between sought order apart (inside f place) d.path d.why between.0 between.1 between.2)
+      by (inr (inr late)) = (stopped_late sought order apart (inside f place) late.0 d.path d.why late.1 late.2, first_late sought order apart (inside f place) late.0 d.path d.why late.2)
 
   pub left_is : (old marks : Marks) (found : Finding) (u : Unit {0}) → old ≡ at_first (inside f place) → MeetsObject sought (inside f place) old marks (Ok u) → IsLeft marks found → IsFound sought (inside f place) found
   left_is old marks found u first met left = by found (subst (λ (m : Marks). MeetsObject sought (inside f place) m marks (Ok u)) first met) left
@@ -190,7 +190,10 @@ module _ (sought : Sought) (order : part_in_order (paths_of sought.stored) ≡ t
       by : (found : Finding) → MeetsObject sought (inside f place) (at_first (inside f place)) marks (Ok u) → IsLeft marks found → IsFound sought (inside f place) found
       by finding.Absent met left = absurd left
       by finding.Same met left = (met.0, met.1, is_all sought order apart (inside f place) met.0 marks met.3 met.2 (inside_above f place) left)
-      by (finding.Differs d) met left = subst (IsWrong sought (inside f place) d.path) (sym left.0) (is_extra sought order apart (inside f place) met.0 marks met.3 d.path left.1)
+      by (finding.Differs d) met left = (
+        subst (IsWrong sought (inside f place) d.path) (sym left.0) (is_extra sought order apart (inside f place) met.0 marks met.3 d.path left.1),
+        subst (IsFirst sought (inside f place) d.path) (sym left.0) (met.0, met.1, subst (All (StandsSo (inside f place))) (sym (are_items sought order apart (inside f place) met.0)) met.2),
+      )
 
 -- ---- the inventories
 

@@ -62,4 +62,4 @@ standing_object_is_the_same sought t found.Same order apart stands is = refl
 standing_object_is_the_same sought t found.Absent order apart (inventory, made, all) is =
     let top : Some Folder ≡ None = sym (top_is sought t order apart inventory made all) ∙ is in absurd (cc)
 standing_object_is_the_same sought t (found.Differs d) order apart (inventory, made, all) is =
-    absurd (nothing_wrong sought t order apart inventory made all d.path d.why is)
+    absurd (nothing_wrong sought t order apart inventory made all d.path d.why is.0)

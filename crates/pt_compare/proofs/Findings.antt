@@ -3,7 +3,7 @@ use Rattle.std.proofs.Common.{◌≡◌, ◌∙◌, ◌⊎◌, inl, inr, ℕ, Li
 use Rattle.std.specs.Prelude.{All, Option, None, Some, IsSome}
 use Rattle.std.specs.Option.{option_and_then, option_map, option_or}
 use Rattle.std.proofs.lemmas.List.Elements.{All-head, All-tail}
-use Rattle.pt_compare.specs.Found.{HaveOtherBytes, IsHeld, IsOtherFile, IsWrong, Sought, all_items, inventory_items, object_with, shape, version_inventory}
+use Rattle.pt_compare.specs.Found.{HaveOtherBytes, IsFirst, IsHeld, IsOtherFile, IsWrong, Sought, StandsUpTo, all_items, inventory_items, object_with, shape, version_inventory}
 use Rattle.pt_compare.specs.Marks.{Marks, all_met, at_first, inside, is_entry_of, kind_in, met, without_mark}
 use Rattle.pt_compare.specs.Meeting.{HasOtherBytes, HasOtherKind, IsWrongInventory, IsWrongItem, StandsSo, StopsAt}
 use Rattle.pt_compare.specs.Parts.{early_items, last_items}
@@ -221,6 +221,35 @@ module _ (sought : Sought) (order : part_in_order (paths_of sought.stored) ≡ t
       by why.Kind wrong = other_kind [] (early_items sought.stored) (MakeFile version_inventory []) (last_items sought.algorithm []) (are_items []) wrong
       by why.Bytes wrong = inr (inl (refl, wrong))
       by why.Extra wrong = absurd wrong
+
+  -- ---- and that it is the first
+
+  not_extra : (q : Path) (w : Why) (marks : Marks) (item : Item) → IsWrongItem t marks item w → StandsUpTo sought t q → IsFirst sought t q w
+  not_extra q why.Missing marks item wrong up_to = up_to
+  not_extra q why.Kind marks item wrong up_to = up_to
+  not_extra q why.Bytes marks item wrong up_to = up_to
+  not_extra q why.Extra marks item wrong up_to = absurd wrong
+
+  pub first_early : (p : Path) (w : Why) → StopsAt t (at_first t) (early_items sought.stored) p w → IsFirst sought t p w
+  first_early p w s = not_extra p w (all_met t s.front (at_first t)) s.item s.wrong ([], s.front, s.item, s.rest ++ inventory_items sought.algorithm [], whole, s.path_is, s.stand)
+    where
+      whole : object_items sought.algorithm [] sought.stored ≡ s.front ++ s.item ∷ (s.rest ++ inventory_items sought.algorithm [])
+      whole = are_items [] ∙ ap (λ (l : List Item). l ++ inventory_items sought.algorithm []) s.items_are ∙ append_assoc s.front (s.item ∷ s.rest) (inventory_items sought.algorithm [])
+
+  pub first_between : (p : Path) (w : Why) → p ≡ version_inventory → All (StandsSo t) (early_items sought.stored) → IsWrongInventory t (all_met t (early_items sought.stored) (at_first t)) version_inventory sought.text_with w → IsFirst sought t p w
+  first_between p w is stand wrong = by w wrong
+    where
+      up_to : StandsUpTo sought t p
+      up_to = ([], early_items sought.stored, MakeFile version_inventory [], last_items sought.algorithm [], are_items [], is, stand)
+
+      by : (w : Why) → IsWrongInventory t (all_met t (early_items sought.stored) (at_first t)) version_inventory sought.text_with w → IsFirst sought t p w
+      by why.Missing wrong = up_to
+      by why.Kind wrong = up_to
+      by why.Bytes wrong = up_to
+      by why.Extra wrong = absurd wrong
+
+  pub first_late : (inventory : List ℕ) (p : Path) (w : Why) → StopsAt t (at_first t) (all_items sought inventory) p w → IsFirst sought t p w
+  first_late inventory p w s = not_extra p w (all_met t s.front (at_first t)) s.item s.wrong (inventory, s.front, s.item, s.rest, are_items inventory ∙ s.items_are, s.path_is, s.stand)
 
   -- ---- all of it stands
 

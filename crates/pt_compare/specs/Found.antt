@@ -13,7 +13,8 @@ use Rattle.pt_compare.specs.declared.stop.Stop.TheVariants as stop
 use Rattle.pt_plan.specs.Turn.{HasFailed}
 use Rattle.pt_plan.specs.World.{Failures}
 use Rattle.pt_plan.specs.declared.halt.Halt.{Halt}
-use Rattle.pt_object.specs.Script.{Item, MakeFile}
+use Rattle.pt_object.specs.Script.{Item, MakeFile, item_path}
+use Rattle.pt_object.specs.Scripts.{object_items}
 use Rattle.pt_compare.specs.declared.difference.Why.TheVariants as why
 use Rattle.pt_object.specs.FilePaths.{File}
 use Rattle.pt_object.specs.Holding.{holding}
@@ -97,11 +98,30 @@ abbrev pub IsObject : Sought → Tree → Type 0
 IsObject sought t = (inventory : List ℕ) × IsMade sought.text_with inventory
     × ((q : Path) → t q ≡ object_with sought inventory q)
 
+-- with some inventory, this path is one of the object's, and what a run makes before it stands; so the inventory does, if it is made before
+abbrev pub StandsUpTo : Sought → Tree → Path → Type 0
+StandsUpTo sought t q = (inventory : List ℕ) × (front : List Item) × (item : Item) × (rest : List Item)
+    × (object_items sought.algorithm inventory sought.stored ≡ front ++ item ∷ rest)
+    × (q ≡ item_path item) × All (StandsSo t) front
+
+-- all that a run makes stands
+abbrev pub AllStands : Sought → Tree → Type 0
+AllStands sought t = (inventory : List ℕ) × IsMade sought.text_with inventory
+    × All (StandsSo t) (object_items sought.algorithm inventory sought.stored)
+
+-- what is wrong there is the first in the order in which a run makes the object; what is extra comes last
+abbrev pub IsFirst : Sought → Tree → Path → Why → Type 0
+IsFirst sought t q why.Missing = StandsUpTo sought t q
+IsFirst sought t q why.Kind = StandsUpTo sought t q
+IsFirst sought t q why.Bytes = StandsUpTo sought t q
+IsFirst sought t q why.Extra = AllStands sought t
+
 -- what is found, where this stands at the place and below it
 abbrev pub IsFound : Sought → Tree → Finding → Type 0
 IsFound sought t Absent = t [] ≡ None
 IsFound sought t Same = IsObject sought t
 IsFound sought t (Differs difference) = IsWrong sought t difference.path difference.why
+    × IsFirst sought t difference.path difference.why
 
 -- a comparison halts only as the device that is blamed has failed
 abbrev pub HaltsAs : Result Finding Halt → Failures → Failures → Type 0

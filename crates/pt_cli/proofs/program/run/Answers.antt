@@ -1,8 +1,7 @@
 use Rattle.std.proofs.Common.{◌≡◌, ℕ, map, string_bytes, inl, inr, ◌∙◌, sym, subst}
 use Rattle.std.specs.Process.{exit_status}
-use Rattle.pt_cli.specs.Calls.{OrWantsMemory, TellsNames, wanted_of}
+use Rattle.pt_cli.specs.Calls.{AuditsFor, TellsNames, wanted_of}
 use Rattle.pt_cli.specs.Statuses.{Ends, EndsWith}
-use Rattle.pt_cli.specs.declared.command.Audit.{Audit}
 use Rattle.pt_cli.specs.declared.command.Migrate.{Migrate}
 use Rattle.pt_run.specs.Audits.{Audits}
 use Rattle.pt_run.specs.Made.{Runs}
@@ -17,8 +16,7 @@ returns g c =
     Runs g.H.Places.resolves g.H.Places.identifies g.H.Places.holds g.H.Places.releases g.H.Host.finds g.H.File.Syncs.syncs g.H.Host.lends
     g.H.Host.takes_back g.H.Store.System.forest g.H.Folder.System.kept g.H.Output.Write.contents (wanted_of m) m.source m.dest in
     let audits =
-    λ (a : Audit).
-    OrWantsMemory (Audits g.H.Places.resolves g.H.Places.identifies g.H.Places.holds g.H.Places.releases g.H.Host.lends g.H.Host.takes_back a.source a.dest) in
+    AuditsFor (Audits g.H.Places.resolves g.H.Places.identifies g.H.Places.holds g.H.Places.releases g.H.Host.lends g.H.Host.takes_back g.H.Store.System.forest g.H.Folder.System.forest g.H.Output.Write.contents) in
     let old = c.args.host.now in
     let new = c.match-words.host in
     let code : exit_status c.from.result ≡ c.match-words.status = c.from.ensures in
