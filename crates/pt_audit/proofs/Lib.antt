@@ -3,3 +3,5 @@ pub mod Telling
 pub mod Failing
 pub mod LineTexts
 pub mod Sound
+pub mod Layouts
+pub mod Saying

@@ -1,14 +1,15 @@
 -- What an audit tells after each step, and after an object was compared.
-use Rattle.std.proofs.Common.{◌≡◌, ℕ, suc, ◌+◌, Bool, true, false, List, [], ◌∷◌, ◌++◌, refl, ap, sym, ◌∙◌, subst, arith, inl, inr, append-nil, append_assoc, drop, length, min}
+use Rattle.std.proofs.Common.{◌≡◌, ℕ, suc, ◌+◌, Bool, true, false, List, [], ◌∷◌, ◌++◌, refl, ap, sym, ◌∙◌, subst, arith, append-nil, append_assoc, drop, length, min}
 use Rattle.std.specs.Prelude.{IfOk, IsSome, Option, None, Some, Result, Ok, Err, get_or, map, slice_get, option_to_list, count_by}
 use Rattle.std.specs.String.{string_bytes}
 use Rattle.std.specs.Option.{ForSome, option_map}
 use Rattle.std.specs.Io.KnownBytes.{Appends}
+use Rattle.std.proofs.lemmas.Bool.{true≢false}
 use Rattle.std.proofs.lemmas.List.{drop-map}
 use Rattle.std.proofs.lemmas.Option.{slice_get-get_or}
-use Rattle.pt_audit.specs.Auditing.{CanCompare, EndsAs, Finds, GoesOn as AuditGoesOn, Nothing, HasToldOf, IsAt, IsFoundAtHand, IsFoundOf, IsSeen, IsUnderWay, Leads, Next, Passes, TellsOf, Told, counted, last_text, sought, sought_at_hand, told_at}
+use Rattle.pt_audit.specs.Auditing.{CanCompare, EndsAs, Finds, GoesOn as AuditGoesOn, Nothing, HasToldOf, IsAt, IsFoundAtHand, IsFoundOf, IsSeen, IsUnderWay, CanGoOn, Leads, Next, Passes, TellsOf, Told, counted, last_text, sought, sought_at_hand, told_at}
 use Rattle.pt_audit.specs.Counting.{counts_with, no_counts}
-use Rattle.pt_audit.specs.Failing.{BlamesRightly, FailsAs, RootFailsAs, TellFails, failures}
+use Rattle.pt_audit.specs.Layout.{IsOfLayout}
 use Rattle.pt_audit.specs.Lines as audit
 use Rattle.pt_audit.specs.declared.counts.Counts.{Counts}
 use Rattle.pt_begun.specs.BegunHeld.{HeldAt}
@@ -18,9 +19,7 @@ use Rattle.pt_compare.specs.Found.{IsFound, Sought}
 use Rattle.pt_compare.specs.Marks.{inside}
 use Rattle.pt_compare.specs.declared.difference.Finding.{Finding}
 use Rattle.pt_compare.specs.declared.difference.Finding.TheVariants as found
-use Rattle.pt_move.specs.Fault.{fault_of}
-use Rattle.pt_move.specs.Outcome.{SaysRightly}
-use Rattle.pt_move.specs.Running.{IsNew, Running}
+use Rattle.pt_move.specs.Running.{IsNew, Running, run_of}
 use Rattle.pt_move.proofs.Outcomes.{reading_of}
 use Rattle.pt_name.specs.Place.{place_of}
 use Rattle.pt_object.specs.Distinct.{content_of_row, distinct}
@@ -33,14 +32,12 @@ use Rattle.pt_plan.specs.Job.{Job}
 use Rattle.pt_plan.specs.Lines.{Line, Skipped, is_skipped, line_text}
 use Rattle.pt_plan.specs.Permits.{MayOpenRow}
 use Rattle.pt_plan.specs.Run.{Held}
-use Rattle.pt_plan.specs.Store.{has_prefix, is_store, prefix_of, sites_of}
-use Rattle.pt_plan.specs.Turn.{HasFailed}
+use Rattle.pt_plan.specs.Store.{prefix_of, sites_of}
 use Rattle.pt_plan.specs.TurnPlace.{bytes_in_rows, done_line}
 use Rattle.pt_plan.specs.TurnMake.{path_of_source}
 use Rattle.pt_plan.specs.TurnWalk.{in_pairtree, in_root}
-use Rattle.pt_plan.specs.World.{Failures, Puts, source_tree}
+use Rattle.pt_plan.specs.World.{Puts, source_tree}
 use Rattle.pt_plan.specs.declared.halt.Halt.{Halt}
-use Rattle.pt_plan.specs.declared.halt.Halt.TheVariants as halt
 use Rattle.pt_plan.specs.declared.object.Object.{Object}
 use Rattle.pt_plan.specs.declared.phase.Part.TheVariants as part
 use Rattle.pt_plan.specs.declared.phase.Phase.{Phase}
@@ -49,12 +46,12 @@ use Rattle.pt_state.specs.States.{held_of, job_of}
 use Rattle.pt_state.specs.declared.job.Job as own
 use Rattle.pt_state.specs.declared.job.Report.{Report}
 use Rattle.pt_state.specs.declared.state.State.{State}
-use Rattle.pt_survey.specs.Surveying.{WasAtHand, GoesOn, HasAtHand, IsHand, IsHandAt, IsOf, IsSurvey, Leads as SeesLeads, Nothing as SeesNothing, Sees, Skips, Surveys, is_looking, sight_at}
+use Rattle.pt_survey.specs.Surveying.{WasAtHand, GoesOn, HasAtHand, IsHand, IsHandAt, IsOf, IsSurvey, IsWithinWork, is_before_sites, is_before_store, Leads as SeesLeads, Nothing as SeesNothing, Sees, Skips, Surveys, is_looking, sight_at}
 use Rattle.pt_survey.specs.declared.survey.AtHand as hand
 use Rattle.pt_survey.specs.declared.survey.Sight.{Sight}
 use Rattle.pt_survey.specs.declared.survey.Sight.TheVariants as sight
 use Rattle.pt_survey.proofs.Seen.{has_at_hand}
-use Rattle.pt_tree.specs.Failures.{HasRisen, greatest_count}
+use Rattle.pt_tree.specs.Failures.{greatest_count}
 use Rattle.pt_tree.specs.Forest.{Forest, file_at}
 use Rattle.pt_tree.specs.Path.{Path}
 use Rattle.pt_tree.specs.Source.{CanOpen, Reading}
@@ -65,92 +62,20 @@ use Rattle.pt_walk.specs.Left.{bytes_at}
 -- an object is at hand
 object_at_hand : (here : Phase) → sight_at here ≡ sight.Object → (object : Object) × (here ≡ phase.Line object)
 object_at_hand (phase.Line object) is = (object, refl)
-object_at_hand phase.Begin is = absurd (cc)
-object_at_hand (phase.Prefix _) is = absurd (cc)
-object_at_hand phase.Staging is = absurd (cc)
-object_at_hand phase.Root is = absurd (cc)
-object_at_hand (phase.RootMake _) is = absurd (cc)
-object_at_hand phase.RootRename is = absurd (cc)
-object_at_hand (phase.RootCheck _) is = absurd (cc)
-object_at_hand phase.OpenRoot is = absurd (cc)
-object_at_hand phase.Judge is = absurd (cc)
-object_at_hand (phase.OpenObject _) is = absurd (cc)
-object_at_hand (phase.Scan _) is = absurd (cc)
-object_at_hand (phase.Read _ _) is = absurd (cc)
-object_at_hand (phase.Make _ _) is = absurd (cc)
-object_at_hand (phase.Copy _ _ _) is = absurd (cc)
-object_at_hand (phase.Tuples _ _) is = absurd (cc)
-object_at_hand (phase.Rename _) is = absurd (cc)
-object_at_hand phase.Walk is = absurd (cc)
-object_at_hand phase.End is = absurd (cc)
-object_at_hand phase.Ended is = absurd (cc)
+object_at_hand _ is = absurd (cc)
 
 -- where none is at hand, of the items that were seen is told
 told_there : (here : Phase) (count : ℕ) (what : Sight) → sight_at here ≡ what → what ≡ sight.More → told_at here count ≡ count
 told_there (phase.Line object) count what is more = absurd (cc)
-told_there phase.Begin count what is more = refl
-told_there (phase.Prefix _) count what is more = refl
-told_there phase.Staging count what is more = refl
-told_there phase.Root count what is more = refl
-told_there (phase.RootMake _) count what is more = refl
-told_there phase.RootRename count what is more = refl
-told_there (phase.RootCheck _) count what is more = refl
-told_there phase.OpenRoot count what is more = refl
-told_there phase.Judge count what is more = refl
-told_there (phase.OpenObject _) count what is more = refl
-told_there (phase.Scan _) count what is more = refl
-told_there (phase.Read _ _) count what is more = refl
-told_there (phase.Make _ _) count what is more = refl
-told_there (phase.Copy _ _ _) count what is more = refl
-told_there (phase.Tuples _ _) count what is more = refl
-told_there (phase.Rename _) count what is more = refl
-told_there phase.Walk count what is more = refl
-told_there phase.End count what is more = refl
-told_there phase.Ended count what is more = refl
+told_there _ count what is more = refl
 
 told_store : (here : Phase) (count : ℕ) → sight_at here ≡ sight.Store → told_at here count ≡ count
 told_store (phase.Line object) count is = absurd (cc)
-told_store phase.OpenRoot count is = refl
-told_store phase.Begin count is = refl
-told_store (phase.Prefix _) count is = refl
-told_store phase.Staging count is = refl
-told_store phase.Root count is = refl
-told_store (phase.RootMake _) count is = refl
-told_store phase.RootRename count is = refl
-told_store (phase.RootCheck _) count is = refl
-told_store phase.Judge count is = refl
-told_store (phase.OpenObject _) count is = refl
-told_store (phase.Scan _) count is = refl
-told_store (phase.Read _ _) count is = refl
-told_store (phase.Make _ _) count is = refl
-told_store (phase.Copy _ _ _) count is = refl
-told_store (phase.Tuples _ _) count is = refl
-told_store (phase.Rename _) count is = refl
-told_store phase.Walk count is = refl
-told_store phase.End count is = refl
-told_store phase.Ended count is = refl
+told_store _ count is = refl
 
 looking_told : (here : Phase) (count : ℕ) → is_looking here ≡ true → told_at here count ≡ count
 looking_told (phase.Line object) count is = absurd (cc)
-looking_told phase.Begin count is = refl
-looking_told (phase.Prefix _) count is = refl
-looking_told phase.Staging count is = refl
-looking_told phase.Root count is = refl
-looking_told (phase.RootMake _) count is = refl
-looking_told phase.RootRename count is = refl
-looking_told (phase.RootCheck _) count is = refl
-looking_told phase.OpenRoot count is = refl
-looking_told phase.Judge count is = refl
-looking_told (phase.OpenObject _) count is = refl
-looking_told (phase.Scan _) count is = refl
-looking_told (phase.Read _ _) count is = refl
-looking_told (phase.Make _ _) count is = refl
-looking_told (phase.Copy _ _ _) count is = refl
-looking_told (phase.Tuples _ _) count is = refl
-looking_told (phase.Rename _) count is = refl
-looking_told phase.Walk count is = refl
-looking_told phase.End count is = refl
-looking_told phase.Ended count is = refl
+looking_told _ count is = refl
 
 pub no_hand : (r : Running) → sight_at r.phase ≡ sight.Object → IsHand r None → ⊥
 no_hand r is none =
@@ -160,25 +85,7 @@ no_hand r is none =
 -- the survey is at its end
 end_at : (here : Phase) → sight_at here ≡ sight.End → here ≡ phase.End
 end_at phase.End is = refl
-end_at phase.Begin is = absurd (cc)
-end_at (phase.Prefix _) is = absurd (cc)
-end_at phase.Staging is = absurd (cc)
-end_at phase.Root is = absurd (cc)
-end_at (phase.RootMake _) is = absurd (cc)
-end_at phase.RootRename is = absurd (cc)
-end_at (phase.RootCheck _) is = absurd (cc)
-end_at phase.OpenRoot is = absurd (cc)
-end_at phase.Judge is = absurd (cc)
-end_at (phase.OpenObject _) is = absurd (cc)
-end_at (phase.Scan _) is = absurd (cc)
-end_at (phase.Read _ _) is = absurd (cc)
-end_at (phase.Make _ _) is = absurd (cc)
-end_at (phase.Copy _ _ _) is = absurd (cc)
-end_at (phase.Tuples _ _) is = absurd (cc)
-end_at (phase.Rename _) is = absurd (cc)
-end_at (phase.Line _) is = absurd (cc)
-end_at phase.Walk is = absurd (cc)
-end_at phase.Ended is = absurd (cc)
+end_at _ is = absurd (cc)
 
 -- ---- what a step tells
 
@@ -234,9 +141,9 @@ saw_on job source root old count next counts skipped now new (WasAtHand it) puts
     same_skips is = omega (arith, is)
 
 -- a step of the survey was made
-pub seen_after : (told told' : Option Reading) (source root : Option Forest) (first now new : Option (List ℕ)) (counts : Counts) (before after : Running) → source_tree told ≡ source
+pub seen_after : (told told' : Option Reading) (source root : Option Forest) (first now new : Option (List ℕ)) (counts : Counts) (before after : Running) → source_tree told ≡ source → (is_before_store before.phase ≡ true → is_before_sites after.phase ≡ true)
     → (it : IsUnderWay told source root first now counts before) → GoesOn told told' now new it.count before after → IsSeen told' source root first new counts after
-seen_after told told' source root first now new counts before after same it on = record {
+seen_after told told' source root first now new counts before after same order it on = record {
   count = on.next;
   is = on.is;
   so_far = λ s e r f old g.
@@ -245,7 +152,19 @@ seen_after told told' source root first now new counts before after same it on =
       let sees = subst (λ (t : Forest). Sees (job_of before.state.job) t it.count before.phase (held_of before.state []) saw.line on.next) told_is.2 saw.sees in
       subst (λ (j : own.Job). HasTold (job_of j) s r old new on.next (counted counts after)) (sym on.job)
       (saw_on (job_of before.state.job) s r old it.count on.next (counted counts before) _ now new sees saw.puts saw.skips (it.so_far s e r f old g));
+  opened = λ later. subst (λ (j : own.Job). ForSome root (IsOfLayout (job_of j))) (sym on.job) (it.opened (was_later (is_before_store before.phase) refl later));
 }
+  where
+    was_later : (b : Bool) → is_before_store before.phase ≡ b → is_before_sites after.phase ≡ false → is_before_store before.phase ≡ false
+    was_later false is later = is
+    was_later true is later = absurd (true≢false (sym (order is) ∙ later))
+
+-- where it isn't the store that was seen, the sites come after the store
+sites_after : (here : Phase) → (sight_at here ≡ sight.Store → ⊥) → is_before_store here ≡ false → is_before_sites here ≡ false
+sites_after phase.OpenRoot other later = absurd (other refl)
+sites_after phase.Begin other later = later
+sites_after (phase.Prefix _) other later = later
+sites_after _ other later = later
 
 -- more is to be seen
 pub goes_on : {told : Option Reading} {source root : Option Forest} {first : Option (List ℕ)} (now : Option (List ℕ)) (counts : Counts) (r : Running) → sight_at r.phase ≡ sight.More → IsSeen told source root first now counts r → IsUnderWay told source root first now counts r
@@ -253,13 +172,15 @@ goes_on now counts r is it = record {
   count = it.count;
   is = it.is;
   so_far = λ s e o f old g. subst (λ (n : ℕ). HasTold (job_of r.state.job) s o old now n (counted counts r)) (sym (told_there r.phase it.count sight.More is refl)) (it.so_far s e o f old g);
+  opened = λ later. it.opened (sites_after r.phase (λ store. absurd (let no = sym is ∙ store in cc)) later);
 }
 
-pub goes_on_store : {told : Option Reading} {source root : Option Forest} {first : Option (List ℕ)} (now : Option (List ℕ)) (counts : Counts) (r : Running) → sight_at r.phase ≡ sight.Store → IsSeen told source root first now counts r → IsUnderWay told source root first now counts r
-goes_on_store now counts r is it = record {
+pub goes_on_store : {told : Option Reading} {source root : Option Forest} {first : Option (List ℕ)} (now : Option (List ℕ)) (counts : Counts) (r : Running) → sight_at r.phase ≡ sight.Store → CanGoOn root r → IsSeen told source root first now counts r → IsUnderWay told source root first now counts r
+goes_on_store now counts r is layout it = record {
   count = it.count;
   is = it.is;
   so_far = λ s e o f old g. subst (λ (n : ℕ). HasTold (job_of r.state.job) s o old now n (counted counts r)) (sym (told_store r.phase it.count is)) (it.so_far s e o f old g);
+  opened = λ later. layout;
 }
 
 -- ---- the object at hand
@@ -284,6 +205,9 @@ source_again {told} {again} {r} {count} is same it = record {
     quiet = tt;
     left = λ s e old f. absurd (cc);
   };
+  within = λ s e.
+      let had = reading_of told (sym same ∙ ap (option_map (λ (s : Reading). s.tree)) e) in
+      subst (λ (t : Forest). IsWithinWork (job_of r.state.job) t it.past.count (run_of r it.fed)) had.2 (it.within had.0 had.1);
   stands = it.stands;
 }
   where
@@ -383,6 +307,7 @@ told_object told again source root first now new counts r at finding text job la
             (subst (λ (t : List ℕ). TellsOf (job_of r.state.job) s o item.item (done_line here.0 (held_of r.state []) ∷ []) t (counted counts r) (counts_with finding (counted counts r))) (sym (line ∙ line_is finding of))
             (Finds finding (found_of refl item of (is_found s e o f)))))),
       ));
+  opened = λ later. it.opened (ap is_before_sites here.1);
 }
   where
     here : (object : Object) × (r.phase ≡ phase.Line object)
@@ -457,95 +382,12 @@ at_object it = sym it.saw
 pub on_more : {told : Option Reading} {source root : Option Forest} {first : Option (List ℕ)} (now : Option (List ℕ)) (counts : Counts) (r : Running) → IsAt told sight.More r → IsSeen told source root first now counts r → IsUnderWay told source root first now counts r
 on_more now counts r at it = goes_on now counts r (sym at.saw) it
 
-pub on_store : {told : Option Reading} {source root : Option Forest} {first : Option (List ℕ)} (now : Option (List ℕ)) (counts : Counts) (r : Running) → IsAt told sight.Store r → IsSeen told source root first now counts r → IsUnderWay told source root first now counts r
-on_store now counts r at it = goes_on_store now counts r (sym at.saw) it
+pub on_store : {told : Option Reading} {source root : Option Forest} {first : Option (List ℕ)} (now : Option (List ℕ)) (counts : Counts) (r : Running) (job : own.Job) → job ≡ r.state.job → ForSome root (IsOfLayout (job_of job)) → IsAt told sight.Store r → IsSeen told source root first now counts r → IsUnderWay told source root first now counts r
+on_store {root} now counts r job same layout at it = goes_on_store now counts r (sym at.saw) (subst (λ (j : own.Job). ForSome root (IsOfLayout (job_of j))) same layout) it
 
 pub on_end : (told : Option Reading) (what : Sight) (root : Option Forest) (first now new : Option (List ℕ)) (counts last : Counts) (r : Running) → what ≡ sight.End → IsAt told what r → last ≡ counted counts r → Appends now new (last_text last) → IsSeen told (source_tree told) root first now counts r
-    → EndsAs (job_of r.state.job) (source_tree told) root first new (counted counts r)
-on_end told what root first now new counts last r end at is puts it = told_end told (source_tree told) root first now new counts r (sym at.saw ∙ end) refl (subst (λ (k : Counts). Appends now new (last_text k)) is puts) it
-
--- a device's fault and want of memory say nothing of the source
-pub says_failed : (job : own.Job) (source : Option Forest) (why : Halt) (old new : Failures) → HasFailed why old new → SaysRightly job source None (fault_of why)
-unfolding SaysRightly
-says_failed job source halt.Source old new it = (λ s e. tt, λ t e. absurd (cc), λ s t e f. absurd (cc))
-says_failed job source halt.Dest old new it = (λ s e. tt, λ t e. absurd (cc), λ s t e f. absurd (cc))
-says_failed job source halt.Log old new it = (λ s e. tt, λ t e. absurd (cc), λ s t e f. absurd (cc))
-says_failed job source halt.Memory old new it = (λ s e. tt, λ t e. absurd (cc), λ s t e f. absurd (cc))
-says_failed job source halt.NotPairtree old new it = absurd it
-says_failed job source halt.Prefix old new it = absurd it
-says_failed job source halt.StagingLeft old new it = absurd it
-says_failed job source halt.Target old new it = absurd it
-says_failed job source halt.Changed old new it = absurd it
-
--- a root of another layout is told only of a store with a good prefix
-store_at : (here : Phase) → sight_at here ≡ sight.Store → here ≡ phase.OpenRoot
-store_at phase.OpenRoot is = refl
-store_at phase.Begin is = absurd (cc)
-store_at (phase.Prefix _) is = absurd (cc)
-store_at phase.Staging is = absurd (cc)
-store_at phase.Root is = absurd (cc)
-store_at (phase.RootMake _) is = absurd (cc)
-store_at phase.RootRename is = absurd (cc)
-store_at (phase.RootCheck _) is = absurd (cc)
-store_at phase.Judge is = absurd (cc)
-store_at (phase.OpenObject _) is = absurd (cc)
-store_at (phase.Scan _) is = absurd (cc)
-store_at (phase.Read _ _) is = absurd (cc)
-store_at (phase.Make _ _) is = absurd (cc)
-store_at (phase.Copy _ _ _) is = absurd (cc)
-store_at (phase.Tuples _ _) is = absurd (cc)
-store_at (phase.Rename _) is = absurd (cc)
-store_at (phase.Line _) is = absurd (cc)
-store_at phase.Walk is = absurd (cc)
-store_at phase.End is = absurd (cc)
-store_at phase.Ended is = absurd (cc)
-
-pub says_layout : (told : Option Reading) (r : Running) (why : Halt) (old new : ℕ) → IsAt told sight.Store r → RootFailsAs {T = Unit {0}} (Err why) old new → SaysRightly r.state.job (source_tree told) None (fault_of why)
-unfolding SaysRightly Surveys
-says_layout told r halt.Dest old new at it = (λ s e. tt, λ t e. absurd (cc), λ s t e f. absurd (cc))
-says_layout told r halt.Memory old new at it = (λ s e. tt, λ t e. absurd (cc), λ s t e f. absurd (cc))
-says_layout told r halt.Target old new at it = (λ s e. started s e at.under_way, λ t e. absurd (cc), λ s t e f. absurd (cc))
-  where
-    started : (s : Forest) → source_tree told ≡ Some s → (count : ℕ) × IsSurvey told count r → (is_store s ≡ true) × (has_prefix s ≡ true)
-    started s e (count, it) =
-        let had = reading_of told e in
-        let part = subst (λ (p : Phase). SourcePart (job_of r.state.job) it.past p (string_bytes r.state.prefix) (held_of r.state it.fed) had.0) (store_at r.phase (sym at.saw)) (it.is.source had.0 had.1) in
-        subst (λ (t : Forest). (is_store t ≡ true) × (has_prefix t ≡ true)) had.2 (part.at.2.store, part.at.2.good)
-says_layout told r halt.Source old new at it = absurd it
-says_layout told r halt.Log old new at it = absurd it
-says_layout told r halt.NotPairtree old new at it = absurd it
-says_layout told r halt.Prefix old new at it = absurd it
-says_layout told r halt.StagingLeft old new at it = absurd it
-says_layout told r halt.Changed old new at it = absurd it
-
-pub layout_fails : (why : Halt) (a b c old new : ℕ) → RootFailsAs {T = Unit {0}} (Err why) old new → TellFails {T = Bool} (Err why) (failures a old c) (failures a new c)
-layout_fails halt.Dest a b c old new it = inl (refl, it, refl)
-layout_fails halt.Memory a b c old new it = inl (ap (λ (n : ℕ). failures a n c) it)
-layout_fails halt.Target a b c old new it = inr (refl, ap (λ (n : ℕ). failures a n c) it)
-layout_fails halt.Source a b c old new it = absurd it
-layout_fails halt.Log a b c old new it = absurd it
-layout_fails halt.NotPairtree a b c old new it = absurd it
-layout_fails halt.Prefix a b c old new it = absurd it
-layout_fails halt.StagingLeft a b c old new it = absurd it
-layout_fails halt.Changed a b c old new it = absurd it
-
--- the log's calls alone
-pub log_fails : (why : Halt) (a b old new : ℕ) → FailsAs {T = Unit {0}} (Err why) (failures 0 0 old) (failures 0 0 new) → HasFailed why (failures a b old) (failures a b new)
-log_fails halt.Source a b old new it = (rose it.0, refl, it.2)
-  where
-    rose : HasRisen 0 0 → HasRisen a a
-    rose it = absurd (omega (arith, it))
-log_fails halt.Dest a b old new it = (refl, rose it.1, it.2)
-  where
-    rose : HasRisen 0 0 → HasRisen b b
-    rose it = absurd (omega (arith, it))
-log_fails halt.Log a b old new it = (refl, refl, it.2)
-log_fails halt.Memory a b old new it = ap (λ (f : Failures). failures a b f.log) it
-log_fails halt.NotPairtree a b old new it = absurd it
-log_fails halt.Prefix a b old new it = absurd it
-log_fails halt.StagingLeft a b old new it = absurd it
-log_fails halt.Target a b old new it = absurd it
-log_fails halt.Changed a b old new it = absurd it
+    → EndsAs (job_of r.state.job) (source_tree told) root first new (counted counts r) × CanGoOn root r
+on_end told what root first now new counts last r end at is puts it = (told_end told (source_tree told) root first now new counts r (sym at.saw ∙ end) refl (subst (λ (k : Counts). Appends now new (last_text k)) is puts) it, it.opened (ap is_before_sites (end_at r.phase (sym at.saw ∙ end))))
 
 -- ---- a step, and what was told of it
 
@@ -553,11 +395,11 @@ pub surveys_on : (told told' : Option Reading) (now new : Option (List ℕ)) (be
 unfolding Surveys
 surveys_on told told' now new before after (count, it) on = let later = on count it in (later.next, later.is)
 
-pub step_told : (more : Bool) (told told' told'' : Option Reading) (root : Option Forest) (first now new last : Option (List ℕ)) (counts later : Counts) (before after : Running) → source_tree told' ≡ source_tree told → ((count : ℕ) → IsSurvey told count before → GoesOn told told' now new count before after)
+pub step_told : (more : Bool) (told told' told'' : Option Reading) (root : Option Forest) (first now new last : Option (List ℕ)) (counts later : Counts) (before after : Running) → source_tree told' ≡ source_tree told → (is_before_store before.phase ≡ true → is_before_sites after.phase ≡ true) → ((count : ℕ) → IsSurvey told count before → GoesOn told told' now new count before after)
     → ((first : Option (List ℕ)) → IsSeen told' (source_tree told') root first new counts after → AuditGoesOn more told'' (source_tree told') root first last later after) → IsUnderWay told (source_tree told) root first now counts before → AuditGoesOn more told'' (source_tree told) root first last later after
-step_told more told told' told'' root first now new last counts later before after same on tells it =
+step_told more told told' told'' root first now new last counts later before after same order on tells it =
     subst (λ (s : Option Forest). AuditGoesOn more told'' s root first last later after) same
-    (tells first (subst (λ (s : Option Forest). IsSeen told' s root first new counts after) (sym same) (seen_after told told' (source_tree told) root first now new counts before after refl it (on it.count it.is))))
+    (tells first (subst (λ (s : Option Forest). IsSeen told' s root first new counts after) (sym same) (seen_after told told' (source_tree told) root first now new counts before after refl order it (on it.count it.is))))
 
 -- an audit that is to begin
 pub first_step : (job : own.Job) (told : Option Reading) (source root : Option Forest) (first : Option (List ℕ)) (counts : Counts) (r : Running) → IsNew job r → IsSurvey told 0 r → counts ≡ no_counts → IsUnderWay told source root first first counts r
@@ -567,6 +409,7 @@ first_step job told source root first counts r new it none = record {
   so_far = λ s e o f old g.
       subst (λ (n : ℕ). HasTold (job_of r.state.job) s o old first n (counted counts r)) (sym (ap (λ (p : Phase). told_at p 0) new.phase))
       ([], g ∙ ap (λ l. Some l) (sym (append-nil old)), subst (λ (k : Counts). Told (job_of r.state.job) s o 0 [] k) (sym same) Nothing);
+  opened = λ later. absurd (true≢false (sym (ap is_before_store new.phase) ∙ later));
 }
   where
     same : counted counts r ≡ no_counts
@@ -586,30 +429,11 @@ same_end more job told source source' root root' first now counts result r is j 
     subst (λ (x : own.Job). EndsAs (job_of x) source' root' first now result) j
     (subst (λ (x : Counts). EndsAs (job_of r.state.job) source' root' first now x) (sym k)
     (subst (λ (t : Option Forest). EndsAs (job_of r.state.job) t root' first now (counted counts r)) (sym s)
-    (subst (λ (t : Option Forest). EndsAs (job_of r.state.job) source t first now (counted counts r)) (sym o) (subst (λ (b : Bool). AuditGoesOn b told source root first now counts r) is it))))
+    (subst (λ (t : Option Forest). EndsAs (job_of r.state.job) source t first now (counted counts r)) (sym o) (subst (λ (b : Bool). AuditGoesOn b told source root first now counts r) is it).0)))
 
-pub same_failures : {a b c a' b' c' : ℕ} {x : Bool} → BlamesRightly {T = Bool} (failures a b c) (failures a' b' c') (Ok x) → failures a' b' c' ≡ failures a b c
-same_failures it = λ i. failures (it.source i) (it.root i) (it.log i)
+pub same_layout : (more : Bool) (job : own.Job) (told : Option Reading) (source root root' : Option Forest) (first now : Option (List ℕ)) (counts : Counts) (r : Running) → more ≡ false → r.state.job ≡ job → root' ≡ root → AuditGoesOn more told source root first now counts r → ForSome root' (IsOfLayout (job_of job))
+same_layout more job told source root root' first now counts r is j o it =
+    subst (λ (x : own.Job). ForSome root' (IsOfLayout (job_of x))) j
+    (subst (λ (t : Option Forest). ForSome t (IsOfLayout (job_of r.state.job))) (sym o) (subst (λ (b : Bool). AuditGoesOn b told source root first now counts r) is it).1)
 
--- whom both blame
-pub blames_told : (why : Halt) (a b c a' c' a'' b'' c'' : ℕ) → a' ≡ a → c' ≡ c → TellFails {T = Bool} (Err why) (failures a' b c') (failures a'' b'' c'') → BlamesRightly {T = Bool} (failures a b c) (failures a'' b'' c'') (Err (fault_of why))
-blames_told why a b c a' c' a'' b'' c'' sa sc it =
-    subst (λ (n : ℕ). BlamesRightly {T = Bool} (failures n b c) (failures a'' b'' c'') (Err (fault_of why))) sa
-    (subst (λ (n : ℕ). BlamesRightly {T = Bool} (failures a' b n) (failures a'' b'' c'') (Err (fault_of why))) sc (elim it [ inl failed ↦ by why failed | inr target ↦ not_of target ]))
-  where
-    by : (why : Halt) → HasFailed why (failures a' b c') (failures a'' b'' c'') → BlamesRightly {T = Bool} (failures a' b c') (failures a'' b'' c'') (Err (fault_of why))
-    by halt.Source failed = record { source = failed.0; root = failed.1; log = failed.2 }
-    by halt.Dest failed = record { source = failed.0; root = failed.1; log = failed.2 }
-    by halt.Log failed = record { source = failed.0; root = failed.1; log = failed.2 }
-    by halt.Memory failed = record { source = ap (λ (f : Failures). f.source) failed; root = ap (λ (f : Failures). f.dest) failed; log = ap (λ (f : Failures). f.log) failed }
-    by halt.NotPairtree failed = absurd failed
-    by halt.Prefix failed = absurd failed
-    by halt.StagingLeft failed = absurd failed
-    by halt.Target failed = absurd failed
-    by halt.Changed failed = absurd failed
-
-    not_of : (why ≡ halt.Target) × (failures a'' b'' c'' ≡ failures a' b c') → BlamesRightly {T = Bool} (failures a' b c') (failures a'' b'' c'') (Err (fault_of why))
-    not_of (is, same) = subst (λ (w : Halt). BlamesRightly {T = Bool} (failures a' b c') (failures a'' b'' c'') (Err (fault_of w))) (sym is)
-        (record { source = ap (λ (f : Failures). f.source) same; root = ap (λ (f : Failures). f.dest) same; log = ap (λ (f : Failures). f.log) same })
-
-pub ruleset auditing = (no_hand, surveys_again, can_compare, at_object, on_more, on_store, on_end, says_failed, says_layout, layout_fails, log_fails, surveys_on, blames_told, first_step, same_trees, same_end)
+pub ruleset auditing = (no_hand, surveys_again, can_compare, at_object, on_more, on_store, on_end, surveys_on, first_step, same_trees, same_end, same_layout)

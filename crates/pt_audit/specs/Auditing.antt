@@ -2,6 +2,7 @@
 use Rattle.std.specs.Prelude.{◌≡◌, ℕ, suc, ◌+◌, All, Bool, true, false, List, [], ◌∷◌, ◌++◌, drop, map, min, Option, Some, slice_get}
 use Rattle.std.specs.Option.{ForSome}
 use Rattle.pt_audit.specs.Counting.{counts_with, no_counts}
+use Rattle.pt_audit.specs.Layout.{IsOfLayout}
 use Rattle.pt_audit.specs.Lines as audit
 use Rattle.pt_audit.specs.declared.counts.Counts.{Counts}
 use Rattle.pt_compare.specs.Found.{IsFound, Sought}
@@ -21,7 +22,7 @@ use Rattle.pt_plan.specs.declared.phase.Phase.{Phase}
 use Rattle.pt_plan.specs.declared.phase.Phase.TheVariants as phase
 use Rattle.pt_state.specs.States.{job_of}
 use Rattle.pt_state.specs.declared.job.Job as own
-use Rattle.pt_survey.specs.Surveying.{IsSurvey, Surveys, sight_at}
+use Rattle.pt_survey.specs.Surveying.{IsSurvey, Surveys, is_before_sites, is_before_store, sight_at}
 use Rattle.pt_survey.specs.declared.survey.Sight.{Sight}
 use Rattle.pt_survey.specs.declared.survey.AtHand.{AtHand}
 use Rattle.pt_tree.specs.Failures.{greatest_count}
@@ -98,12 +99,17 @@ abbrev pub told_at : Phase → ℕ → ℕ
 told_at (phase.Line object) count = suc count
 told_at _ count = count
 
+-- where the root is told, it is one that a run could go on with
+abbrev pub CanGoOn : Option Forest → Running → Type 0
+CanGoOn root r = ForSome root (IsOfLayout (job_of r.state.job))
+
 -- a step of the survey was made, and of nothing is told yet that it came to
 pub record IsSeen (told : Option Reading) (source root : Option Forest) (first now : Option (List ℕ))
     (counts : Counts) (r : Running) : Type 0 where
   pub count : ℕ
   pub is : IsSurvey told count r
   pub so_far : HasToldOf (job_of r.state.job) source root first now count (counted counts r)
+  pub opened : is_before_sites r.phase ≡ false → CanGoOn root r
 
 -- a survey is under way that saw this by its last step
 pub record IsAt (told : Option Reading) (what : Sight) (r : Running) : Type 0 where
@@ -115,7 +121,9 @@ pub record IsUnderWay (told : Option Reading) (source root : Option Forest) (fir
     (counts : Counts) (r : Running) : Type 0 where
   pub count : ℕ
   pub is : IsSurvey told count r
-  pub so_far : HasToldOf (job_of r.state.job) source root first now (told_at r.phase count) (counted counts r)
+  pub so_far : HasToldOf (job_of r.state.job) source root first now
+      (told_at r.phase count) (counted counts r)
+  pub opened : is_before_store r.phase ≡ false → CanGoOn root r
 
 -- what is sought at the place of the object at hand
 abbrev pub sought_at_hand : own.Job → AtHand → Forest → Sought
@@ -160,7 +168,8 @@ EndsAs job source root first now counts =
     (λ old. (text : List ℕ) × (now ≡ Some (old ++ text)) × IsAuditLog job s r text counts)))
 
 -- a step leaves the audit under way, or ended with these counts
-abbrev pub GoesOn : Bool → Option Reading → Option Forest → Option Forest → Option (List ℕ) → Option (List ℕ) → Counts → Running → Type 0
+abbrev pub GoesOn : Bool → Option Reading → Option Forest → Option Forest → Option (List ℕ)
+    → Option (List ℕ) → Counts → Running → Type 0
 GoesOn true told source root first now counts r = IsUnderWay told source root first now counts r
 GoesOn false told source root first now counts r =
-    EndsAs (job_of r.state.job) source root first now (counted counts r)
+    EndsAs (job_of r.state.job) source root first now (counted counts r) × CanGoOn root r

@@ -1,12 +1,20 @@
--- Which device an audit blames: the root is the destination.
-use Rattle.std.specs.Prelude.{◌≡◌, ◌⊎◌, ℕ, Result, Ok, Err}
+-- Which device an audit blames, where the root is the destination, and what its faults say.
+use Rattle.std.specs.Prelude.{◌≡◌, ◌≢◌, ◌<◌, ◌⊎◌, ℕ, Option, None, Result, Ok, Err}
+use Rattle.std.specs.Option.{ForSome}
+use Rattle.pt_audit.specs.Layout.{IsOfAnother}
 use Rattle.pt_move.specs.Counting.{Counts}
+use Rattle.pt_move.specs.Outcome.{SaysRightly}
 use Rattle.pt_move.specs.declared.fault.Fault.{Fault}
+use Rattle.pt_move.specs.declared.fault.Fault.TheVariants as fault
 use Rattle.pt_plan.specs.Turn.{HasFailed}
 use Rattle.pt_plan.specs.World.{Failures}
 use Rattle.pt_plan.specs.declared.halt.Halt.{Halt}
 use Rattle.pt_plan.specs.declared.halt.Halt.TheVariants as halt
+use Rattle.pt_state.specs.States.{job_of}
+use Rattle.pt_state.specs.declared.job.Job as own
+use Rattle.pt_survey.specs.Surveying.{work_of_survey}
 use Rattle.pt_tree.specs.Failures.{HasRisen}
+use Rattle.pt_tree.specs.Forest.{Forest}
 
 -- how often each failed
 abbrev pub failures : ℕ → ℕ → ℕ → Failures
@@ -35,3 +43,16 @@ pub record BlamesRightly {T : Type 0} (old new : Failures) (result : Result T Fa
   pub source : Counts 1 old.source new.source result
   pub root : Counts 2 old.dest new.dest result
   pub log : Counts 3 old.log new.log result
+
+-- ---- what a fault says
+
+pub record AuditSays (job : own.Job) (source root : Option Forest) (f : Fault) : Type 0 where
+  -- a store is refused only for what it is
+  pub rightly : SaysRightly job source None f
+  -- the root is refused only where it is of another layout
+  pub target : f ≡ fault.Target → ForSome root (IsOfAnother (job_of job))
+  -- what else is in the destination never is
+  pub staging : f ≢ fault.StagingLeft
+  -- the limit is met only where it is less than the work
+  pub turns : f ≡ fault.Turns
+      → ForSome source (λ s. job.limits.turns < work_of_survey (job_of job) s)

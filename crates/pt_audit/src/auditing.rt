@@ -1,16 +1,17 @@
-#![tactic(auto, using(crate::proofs::Telling::auditing))]
+#![tactic(auto, using(crate::proofs::Telling::auditing, crate::proofs::Saying::saying))]
 //! A whole audit.
-ghost use Rattle.std.specs.Prelude.{◌≡◌, ℕ, IfErr, IfOk, List, None, OnOk, Option};
+ghost use Rattle.std.specs.Prelude.{◌≡◌, ℕ, IfErr, IfOk, List, OnOk, Option};
 ghost use Rattle.pt_audit.specs.Auditing.{CanCompare, EndsAs, GoesOn, IsAt, IsFoundAtHand, IsSeen, IsUnderWay, last_text};
+ghost use Rattle.std.specs.Option.{ForSome};
 ghost use Rattle.std.specs.Io.KnownBytes.{Appends};
-ghost use Rattle.pt_audit.specs.Failing.{BlamesRightly, FailsAs, TellFails, failures};
+ghost use Rattle.pt_audit.specs.Failing.{AuditSays, BlamesRightly, FailsAs, TellFails, failures};
+ghost use Rattle.pt_audit.specs.Layout.{IsOfLayout};
 ghost use Rattle.pt_move.specs.Fault.{fault_of};
 ghost use Rattle.pt_compare.specs.Root.{KeepsRoot, tree_in};
-ghost use Rattle.pt_move.specs.Outcome.{SaysRightly};
 ghost use Rattle.pt_state.specs.States.{job_of};
 ghost use Rattle.pt_plan.specs.World.{source_tree};
-ghost use Rattle.pt_survey.specs.Growing.{IsCounted, KeepsLog};
-ghost use Rattle.pt_survey.specs.Surveying.{IsHand, Surveys, sight_at};
+ghost use Rattle.pt_survey.specs.Growing.{KeepsLog};
+ghost use Rattle.pt_survey.specs.Surveying.{IsHand, Steps, Surveys, sight_at};
 ghost use Rattle.pt_survey.specs.declared.survey.Sight.TheVariants as sight;
 
 use crate::Counts;
@@ -29,8 +30,9 @@ use std::alloc::Global;
 ///
 /// The store is seen as a run with this job sees it; but each object is compared, also a second one of an identifier. Of the
 /// job's description of the version nothing is compared: moment, user and message may be whatever the inventory that stands
-/// gives. `Dest` is answered where the root can't be read, `Target` where it isn't one of this layout, and the other faults
-/// as by `migrate`. Nothing is made or changed, but that the log gets its lines.
+/// gives. `Dest` is answered where the root can't be read, `Target` where it isn't one of this layout, once the store was found
+/// to be one with a good prefix, `Turns` only where the limit is less than the steps of a whole survey, and the other faults as
+/// by `migrate`; `StagingLeft` never. Nothing is made or changed, but that the log gets its lines.
 pub fn audit<S: Source, R: Root, L: Log>(
     alloc: Global,
     source: &mut S,
@@ -40,13 +42,15 @@ pub fn audit<S: Source, R: Root, L: Log>(
 ) -> Result<Counts, Fault>
     ensures ends { IfOk result (EndsAs (job_of job) (tree_in (S.told source.old))
         (tree_in (R.told root.old)) (L.told log.old) (L.told log.new)) }
+    ensures layout { OnOk result (ForSome (tree_in (R.told root.old)) (IsOfLayout (job_of job))) }
     ensures source { KeepsRoot S.told S.keeps source.old source.new }
     ensures root { KeepsRoot R.told R.keeps root.old root.new }
     ensures log { KeepsLog L.told L.keeps log.old log.new }
     ensures blames { BlamesRightly
         (failures (S.failed source.old) (R.failed root.old) (L.failed log.old))
         (failures (S.failed source.new) (R.failed root.new) (L.failed log.new)) result }
-    ensures says { IfErr result (SaysRightly job (source_tree (S.told source.old)) None) }
+    ensures says { IfErr result (AuditSays job (source_tree (S.told source.old))
+        (tree_in (R.told root.old))) }
 {
     let mut survey = Survey::start(alloc, job);
     let mut counts = Counts::none();
@@ -73,15 +77,15 @@ fn go_on<S: Source, R: Root, L: Log>(
         → IfOk result (λ more. GoesOn more (S.told source.new) (tree_in (S.told source.old))
         (tree_in (R.told root.old)) first (L.told log.new) counts.new survey.new) }
     ensures still { OnOk result (Surveys (S.told source.new) survey.new
-        × IsCounted survey.old.state survey.new.state) }
+        × Steps (source_tree (S.told source.old)) survey.old survey.new) }
     ensures source { KeepsRoot S.told S.keeps source.old source.new }
     ensures root { KeepsRoot R.told R.keeps root.old root.new }
     ensures log { KeepsLog L.told L.keeps log.old log.new }
     ensures blames { BlamesRightly
         (failures (S.failed source.old) (R.failed root.old) (L.failed log.old))
         (failures (S.failed source.new) (R.failed root.new) (L.failed log.new)) result }
-    ensures says { IfErr result (SaysRightly survey.old.state.job
-        (source_tree (S.told source.old)) None) }
+    ensures says { IfErr result (AuditSays survey.old.state.job
+        (source_tree (S.told source.old)) (tree_in (R.told root.old))) }
 {
     let sight = survey.step(source, log)?;
     Ok(tell(alloc, survey, sight, counts, source, root, log)?)
@@ -110,13 +114,13 @@ fn tell<S: Source, R: Root, L: Log>(
     ensures fails { TellFails result
         (failures (S.failed source.old) (R.failed root.old) (L.failed log.old))
         (failures (S.failed source.new) (R.failed root.new) (L.failed log.new)) }
-    ensures says { IfErr result (λ why. SaysRightly survey.now.state.job
-        (source_tree (S.told source.old)) None (fault_of why)) }
+    ensures says { IfErr result (λ why. AuditSays survey.now.state.job
+        (source_tree (S.told source.old)) (tree_in (R.told root.old)) (fault_of why)) }
 {
     match sight {
         Sight::More => Ok(true),
         Sight::Store => {
-            check_layout(alloc, root, survey.job().layout)?;
+            check_layout(alloc, root, survey.job())?;
             Ok(true)
         }
         Sight::Object => {

@@ -1,49 +1,77 @@
-#![tactic(auto, using(pt_compare::proofs::Reading::calls))]
+#![tactic(auto, using(pt_compare::proofs::Reading::calls, crate::proofs::Layouts::layouts))]
 //! The storage root that stands has to be one of this layout, before anything is compared.
-ghost use Rattle.std.specs.Prelude.{◌≡◌, IfOk, OnOk};
+ghost use Rattle.std.specs.Prelude.{◌≡◌, ◌<◌, IfOk, OnOk, length};
 ghost use Rattle.std.specs.Option.{ForSome};
 ghost use Rattle.pt_audit.specs.Failing.{RootFailsAs};
+ghost use Rattle.pt_audit.specs.Layout.{IsFolder, IsSo, TellsFile, TellsLayout};
 ghost use Rattle.pt_compare.specs.Root.{KeepsRoot, tree_in};
+ghost use Rattle.pt_name.specs.Tuples.{IsLayout};
+ghost use Rattle.pt_plan.specs.TurnStart.{is_dir_kind, is_file_kind};
+ghost use Rattle.pt_tree.specs.Failures.{IsCounted};
+ghost use Rattle.pt_state.specs.States.{job_of};
 
 use pt_compare::{Root, standing};
-use pt_name::Layout;
+use pt_move::Job;
 use pt_object::root_files;
 use pt_plan::Halt;
 use pt_state::paths::{in_storage_root, path_of};
-use pt_tree::{Block, Kind, Known, NamePath};
+use pt_tree::{Block, Kind, Known, NamePath, TreeFault};
 use std::alloc::Global;
 
 /// Whether a run could go on with the root that stands: nothing stands at `ocfl`, or a directory with the three files of this
 /// layout (OCFL 1.1, "Root Structure"; extension 0003). `Target` where something else does; `Dest` where the root can't be
 /// read, or there is no folder for it; `Memory` where a growth was refused.
-pub(crate) fn check_layout<R: Root>(alloc: Global, root: &mut R, layout: Layout) -> Result<(), Halt>
+pub(crate) fn check_layout<R: Root>(alloc: Global, root: &mut R, job: &Job) -> Result<(), Halt>
+    requires { IsLayout job.now.layout }
+    ensures layout { ForSome (tree_in (R.told root.old)) (TellsLayout (job_of job.now) result) }
     ensures root { KeepsRoot R.told R.keeps root.old root.new }
     ensures failures { RootFailsAs result (R.failed root.old) (R.failed root.new) }
 {
-    let _entries = root.list(&NamePath::new(alloc)).map_err(Halt::of_dest)?;
+    let same = is_of_layout(alloc, root, job).map_err(Halt::of_dest)?;
+    if same { Ok(()) } else { Err(Halt::Target) }
+}
+
+// Whether nothing stands at `ocfl`, or a directory with the files of this layout.
+fn is_of_layout<R: Root>(alloc: Global, root: &mut R, job: &Job) -> Result<bool, TreeFault>
+    requires { IsLayout job.now.layout }
+    ensures layout { IfOk result (λ same. ForSome (tree_in (R.told root.old))
+        (IsSo (job_of job.now) same)) }
+    ensures root { KeepsRoot R.told R.keeps root.old root.new }
+    ensures failures { IsCounted (R.failed root.old) (R.failed root.new) result }
+{
+    let _entries = root.list(&NamePath::new(alloc))?;
     let top = path_of(alloc, &[Known::StorageRoot])?;
-    match standing(alloc, root, &top).map_err(Halt::of_dest)? {
-        None => Ok(()),
-        Some(Kind::Dir) => check_files(alloc, root, layout),
-        Some(_) => Err(Halt::Target),
+    let here = standing(alloc, root, &top)?;
+    if here.is_none() {
+        return Ok(true);
+    }
+    if is_dir(here) {
+        has_files(alloc, root, job)
+    } else {
+        Ok(false)
     }
 }
 
 // Whether the layout's files stand in the root, each with its bytes.
-fn check_files<R: Root>(alloc: Global, root: &mut R, layout: Layout) -> Result<(), Halt>
+fn has_files<R: Root>(alloc: Global, root: &mut R, job: &Job) -> Result<bool, TreeFault>
+    requires layout { IsLayout job.now.layout }
+    requires folder { ForSome (tree_in (R.told root.old)) IsFolder }
+    ensures layout { IfOk result (λ same. ForSome (tree_in (R.told root.old))
+        (IsSo (job_of job.now) same)) }
     ensures root { KeepsRoot R.told R.keeps root.old root.new }
-    ensures failures { RootFailsAs result (R.failed root.old) (R.failed root.new) }
+    ensures failures { IsCounted (R.failed root.old) (R.failed root.new) result }
 {
-    let files = root_files(alloc, layout)?;
+    let files = root_files(alloc, job.layout)?;
     for i in 0..3 {
         let Some((path, bytes)) = files.get(i) else {
-            return Ok(());
+            return Ok(true);
         };
-        if !has_file(alloc, root, path, bytes)? {
-            return Err(Halt::Target);
+        let same = has_file(alloc, root, path, bytes)?;
+        if !same {
+            return Ok(false);
         }
     }
-    Ok(())
+    Ok(true)
 }
 
 // Whether a file of these bytes, of which there are fewer than a block holds, stands at a path of the root.
@@ -52,16 +80,32 @@ fn has_file<R: Root>(
     root: &mut R,
     path: &NamePath,
     bytes: &[u8],
-) -> Result<bool, Halt>
+) -> Result<bool, TreeFault>
+    requires { length bytes.now < 8192 }
+    ensures there { IfOk result (λ same. ForSome (tree_in (R.told root.old))
+        (TellsFile path.now bytes.now same)) }
     ensures root { KeepsRoot R.told R.keeps root.old root.new }
-    ensures failures { RootFailsAs result (R.failed root.old) (R.failed root.new) }
+    ensures failures { IsCounted (R.failed root.old) (R.failed root.new) result }
 {
     let whole = in_storage_root(alloc, path)?;
-    let Some(Kind::File) = standing(alloc, root, &whole).map_err(Halt::of_dest)? else {
+    let here = standing(alloc, root, &whole)?;
+    if !is_file(here) {
         return Ok(false);
-    };
+    }
     let mut block = Block::new();
-    root.open(&whole).map_err(Halt::of_dest)?;
-    root.next(&mut block).map_err(Halt::of_dest)?;
+    root.open(&whole)?;
+    root.next(&mut block)?;
     Ok(block.as_slice() == bytes)
+}
+
+fn is_file(here: Option<Kind>) -> bool
+    ensures { result ≡ is_file_kind here }
+{
+    matches!(here, Some(Kind::File))
+}
+
+fn is_dir(here: Option<Kind>) -> bool
+    ensures { result ≡ is_dir_kind here }
+{
+    matches!(here, Some(Kind::Dir))
 }

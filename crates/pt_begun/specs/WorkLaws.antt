@@ -1,11 +1,13 @@
 -- A run makes no more turns than its work, where its source and its destination tell.
-use Rattle.std.specs.Prelude.{◌≡◌, ◌<◌, ◌≤◌, ℕ, ◌+◌, false, List, Some, Ok, Err}
+use Rattle.std.specs.Prelude.{◌≡◌, ◌<◌, ◌≤◌, ℕ, ◌+◌, Bool, false, List, map, Some, Ok, Err, slice_get, ⊤}
 use Rattle.std.specs.Option.{ForSome}
 use Rattle.pt_name.specs.Tuples.{IsLayout}
 use Rattle.pt_tree.specs.Forest.{Forest}
 use Rattle.pt_tree.specs.Source.{Reading}
 use Rattle.pt_tree.specs.Tree.{Tree}
 use Rattle.pt_plan.specs.Answer.{Answer}
+use Rattle.pt_plan.specs.Carried.{Marked, marked}
+use Rattle.pt_plan.specs.Items.{Item, items}
 use Rattle.pt_plan.specs.Job.{Job}
 use Rattle.pt_plan.specs.Roots.{root_in}
 use Rattle.pt_plan.specs.Run.{Counts, Held, Kept, Run, new_run, turning}
@@ -20,7 +22,7 @@ use Rattle.pt_plan.specs.World.{Answers, Calls, World}
 use Rattle.pt_plan.specs.declared.halt.Halt.{Halt}
 use Rattle.pt_plan.specs.declared.phase.Phase.{Phase}
 use Rattle.pt_plan.specs.declared.phase.Phase.TheVariants as phase
-use Rattle.pt_begun.specs.Begun.{Begun, IsFreeAt, IsPast, IsWorld, Start, start_of}
+use Rattle.pt_begun.specs.Begun.{Begun, IsPast, IsWorld, Start, start_of}
 use Rattle.pt_begun.specs.BegunHeld.{HeldAt}
 use Rattle.pt_begun.specs.BegunSource.{SourcePart}
 use Rattle.pt_begun.specs.EndLaws.{is_ended}
@@ -31,7 +33,7 @@ use Rattle.pt_begun.specs.WorkLeft.{left}
 
 -- the turns made and the most that are left are together no more than the work
 pub record IsWithinWork (job : Job) (source : Forest) (root : Tree) (count : ℕ) (run : Run) : Type 0 where
-  pub within : run.kept.counts.turns + left job source root count run.phase run.kept.held
+  pub within : run.kept.counts.turns + left job source (marked job source root) count run.phase run.kept.held
       ≤ work job source root
 
 -- a run of this job that began at this start is in progress, and, where source and destination tell, within its work
@@ -91,51 +93,62 @@ StopsWithinWork = (job : Job) (start : Start) (world : World) (run : Run)
 -- ---- the turns of each group
 
 -- a turn from this phase to that one lowers what is left
-abbrev pub Lowers : Job → Forest → Tree → ℕ → Phase → Held → Phase → Held → Type 0
-Lowers job source root count here held next after =
-    left job source root (done_after here held.trail next count) next after + 1
-    ≤ left job source root count here held
+abbrev pub Lowers : Job → Forest → List Marked → ℕ → Phase → Held → Phase → Held → Type 0
+Lowers job source marks count here held next after =
+    left job source marks (done_after here held.trail next count) next after + 1
+    ≤ left job source marks count here held
 
 -- the turns of the start
 abbrev pub StartingLowers : Type 0
 StartingLowers =
-    (job : Job) (past : Past) (source : Forest) (root : Tree) (prefix read : List ℕ)
+    (job : Job) (past : Past) (source : Forest) (marks : List Marked) (prefix read : List ℕ)
     (here next : Phase) (held : Held) (calls : Calls) → Starts job here prefix read calls (Ok next)
     → HeldAt job past here held
-    → Lowers job source root past.count here held next held
+    → Lowers job source marks past.count here held next held
 
--- the turns of the walk; the place of an object that is entered next isn't taken
+-- each item has its mark
+abbrev pub AreMarked : List Item → List Marked → Type 0
+AreMarked items marks = map (λ m. m.0) marks ≡ items
+
+-- the place of an object that is entered next isn't marked as taken
+abbrev pub EntersFree : Phase → List Marked → ℕ → Type 0
+EntersFree (phase.OpenObject object) marks count =
+    (item : Item) (taken : Bool) → slice_get marks count ≡ Some (item, taken) → taken ≡ false
+EntersFree _ marks count = ⊤
+
+-- the turns of the walk
 abbrev pub WalkingLowers : Type 0
 WalkingLowers =
-    (job : Job) (past : Past) (s new : Reading) (root : Tree) (prefix : List ℕ) (here next : Phase)
+    (job : Job) (past : Past) (s new : Reading) (marks : List Marked) (prefix : List ℕ) (here next : Phase)
     (held after : Held) (calls : Calls) → Walks job prefix here held after calls (Ok next)
     → Answers calls.asked (Some s) (Some new)
     → HeldAt job past here held → SourcePart job past here prefix held s
-    → IsFreeAt next job s.tree root (done_after here held.trail next past.count)
-    → Lowers job s.tree root past.count here held next after
+    → AreMarked (items job s.tree) marks
+    → EntersFree next marks (done_after here held.trail next past.count)
+    → Lowers job s.tree marks past.count here held next after
 
 -- the turns of the scan of an object
 abbrev pub ScanningLowers : Type 0
 ScanningLowers =
-    (job : Job) (past : Past) (s new : Reading) (root : Tree) (prefix : List ℕ) (here next : Phase)
+    (job : Job) (past : Past) (s new : Reading) (marks : List Marked) (prefix : List ℕ) (here next : Phase)
     (held after : Held) (calls : Calls) → Scans job here held after calls (Ok next)
     → Answers calls.asked (Some s) (Some new)
     → HeldAt job past here held → SourcePart job past here prefix held s
-    → Lowers job s.tree root past.count here held next after
+    → Lowers job s.tree marks past.count here held next after
 
 -- the turns that make an object
 abbrev pub MakingLowers : Type 0
 MakingLowers =
-    (job : Job) (past : Past) (s new : Reading) (root : Tree) (prefix : List ℕ) (here : Phase)
+    (job : Job) (past : Past) (s new : Reading) (marks : List Marked) (prefix : List ℕ) (here : Phase)
     (held after : Held) (calls : Calls) (next : Phase) → Makings job here held after calls (Ok next)
     → Answers calls.asked (Some s) (Some new)
     → HeldAt job past here held → SourcePart job past here prefix held s
-    → Lowers job s.tree root past.count here held next after
+    → Lowers job s.tree marks past.count here held next after
 
 -- the turns that bring an object to its place, and that tell of it and of the end
 abbrev pub PlacingLowers : Type 0
 PlacingLowers =
-    (job : Job) (counts : Counts) (past : Past) (source : Forest) (root : Tree) (here next : Phase)
+    (job : Job) (counts : Counts) (past : Past) (source : Forest) (marks : List Marked) (here next : Phase)
     (held after : Held) (calls : Calls) → Places job counts here held after calls (Ok next)
     → HeldAt job past here held
-    → Lowers job source root past.count here held next after
+    → Lowers job source marks past.count here held next after

@@ -1,18 +1,17 @@
--- The most turns that a run has still to make, where its source and its destination tell.
+-- The most turns that are still to be made, where the source tells: each item has its mark, whether its place is taken.
 use Rattle.std.specs.Prelude.{ℕ, suc, ◌+◌, ◌-◌, cond, drop, is_none, length, sum_by, take, List, [], ◌∷◌, ◌++◌}
 use Rattle.std.specs.List.{list_any}
 use Rattle.pt_object.specs.Distinct.{row_has_digest}
 use Rattle.pt_object.specs.declared.rows.Row.{Row}
 use Rattle.pt_tree.specs.Forest.{Forest}
 use Rattle.pt_tree.specs.Path.{Path}
-use Rattle.pt_tree.specs.Tree.{Tree}
 use Rattle.pt_walk.specs.Left.{bytes_at, inside_at}
 use Rattle.pt_walk.specs.Limits.{Bounds}
 use Rattle.pt_walk.specs.Object.{Entry, entry_cause, files_with}
 use Rattle.pt_walk.specs.Sites.{Listed}
 use Rattle.pt_walk.specs.Trail.{names_to, parent, sought, trail_path}
 use Rattle.pt_walk.specs.declared.frame.Frame.{Frame}
-use Rattle.pt_plan.specs.Carried.{marked}
+use Rattle.pt_plan.specs.Carried.{Marked}
 use Rattle.pt_plan.specs.Items.{outcome}
 use Rattle.pt_plan.specs.Job.{Job}
 use Rattle.pt_plan.specs.Run.{Held}
@@ -36,13 +35,13 @@ still_listed [] = 0
 still_listed (frame ∷ frames) = (length frame.listing - frame.place) + still_listed frames
 
 -- on the items from this one on
-abbrev pub items_left : Job → Forest → Tree → ℕ → ℕ
-items_left job source root count = sum_by (work_on_item job) (drop count (marked job source root))
+abbrev pub items_left : Job → List Marked → ℕ → ℕ
+items_left job marks count = sum_by (work_on_item job) (drop count marks)
 
 -- to walk on behind an object that is done, at the start of its site, and to tell the end
-abbrev pub after_object : Job → Forest → Tree → ℕ → List Frame → ℕ
-after_object job source root count site =
-    still_listed (sought 0 site) + items_left job source root (suc count) + 2
+abbrev pub after_object : Job → List Marked → ℕ → List Frame → ℕ
+after_object job marks count site =
+    still_listed (sought 0 site) + items_left job marks (suc count) + 2
 
 -- ---- the scan
 
@@ -71,31 +70,31 @@ abbrev pub to_leave : Object → List Frame → ℕ
 to_leave object trail = own_listings object trail + cond object.gathered (still_here (to_site object trail)) 0
 
 -- after its last entry: to make the object, if there is no cause against it, and what comes behind it
-abbrev pub after_scan : Job → Forest → Tree → ℕ → Object → List Frame → ℕ
-after_scan job source root count object site =
+abbrev pub after_scan : Job → Forest → List Marked → ℕ → Object → List Frame → ℕ
+after_scan job source marks count object site =
     work_by_outcome job object.id (outcome job.limits (object_at source object site))
-    + after_object job source root count site
+    + after_object job marks count site
 
 -- before it is entered
-abbrev pub before_scan : Job → Forest → Tree → ℕ → Object → List Frame → ℕ
-before_scan job source root count object site =
+abbrev pub before_scan : Job → Forest → List Marked → ℕ → Object → List Frame → ℕ
+before_scan job source marks count object site =
     work_to_scan job (Listed (inside_at (pairtree_of source) (trail_path site)))
-    (object_at source object site) + after_scan job source root count object site
+    (object_at source object site) + after_scan job source marks count object site
 
 -- to meet what is left of it, and after it
-abbrev pub in_scan : Job → Forest → Tree → ℕ → Object → Held → ℕ
-in_scan job source root count object held =
+abbrev pub in_scan : Job → Forest → List Marked → ℕ → Object → Held → ℕ
+in_scan job source marks count object held =
     to_meet job.limits (length (object_at source object (to_site object held.trail)).at)
     (length held.rows) (left_of source object held.trail) + to_leave object held.trail
-    + after_scan job source root count object (to_site object held.trail)
+    + after_scan job source marks count object (to_site object held.trail)
 
 -- to read on in the file at the innermost place, of which so many bytes were read, and to meet what is behind it
-abbrev pub in_file : Job → Forest → Tree → ℕ → Object → Held → ℕ → ℕ
-in_file job source root count object held bytes =
+abbrev pub in_file : Job → Forest → List Marked → ℕ → Object → Held → ℕ → ℕ
+in_file job source marks count object held bytes =
     reads (length (bytes_at (pairtree_of source) (names_to held.trail)) - bytes)
     + to_meet_behind job.limits (length (object_at source object (to_site object held.trail)).at)
     (length held.rows) (left_of source object held.trail) + to_leave object held.trail
-    + after_scan job source root count object (to_site object held.trail)
+    + after_scan job source marks count object (to_site object held.trail)
 
 -- ---- making
 
@@ -131,35 +130,35 @@ to_copy_at rows _ = 0
 -- ---- by the phase
 
 -- so many turns are left at a phase, where so many items are done and this is held
-abbrev pub left : Job → Forest → Tree → ℕ → Phase → Held → ℕ
-left job source root count phase.Begin held = 13 + items_left job source root count
-left job source root count (phase.Prefix here) held = 12 + items_left job source root count
-left job source root count phase.Staging held = 11 + items_left job source root count
-left job source root count phase.Root held = 10 + items_left job source root count
-left job source root count (phase.RootMake number) held = (6 - number) + 3 + items_left job source root count
-left job source root count phase.RootRename held = 3 + items_left job source root count
-left job source root count (phase.RootCheck number) held = (3 - number) + 2 + items_left job source root count
-left job source root count phase.OpenRoot held = 2 + items_left job source root count
-left job source root count phase.Judge held =
-    still_listed (parent held.trail) + items_left job source root count + 1
-left job source root count (phase.OpenObject object) held =
-    before_scan job source root count object (to_site object held.trail)
-left job source root count (phase.Scan object) held = in_scan job source root count object held
-left job source root count (phase.Read object bytes) held = in_file job source root count object held bytes
-left job source root count (phase.Make object here) held =
+abbrev pub left : Job → Forest → List Marked → ℕ → Phase → Held → ℕ
+left job source marks count phase.Begin held = 13 + items_left job marks count
+left job source marks count (phase.Prefix here) held = 12 + items_left job marks count
+left job source marks count phase.Staging held = 11 + items_left job marks count
+left job source marks count phase.Root held = 10 + items_left job marks count
+left job source marks count (phase.RootMake number) held = (6 - number) + 3 + items_left job marks count
+left job source marks count phase.RootRename held = 3 + items_left job marks count
+left job source marks count (phase.RootCheck number) held = (3 - number) + 2 + items_left job marks count
+left job source marks count phase.OpenRoot held = 2 + items_left job marks count
+left job source marks count phase.Judge held =
+    still_listed (parent held.trail) + items_left job marks count + 1
+left job source marks count (phase.OpenObject object) held =
+    before_scan job source marks count object (to_site object held.trail)
+left job source marks count (phase.Scan object) held = in_scan job source marks count object held
+left job source marks count (phase.Read object bytes) held = in_file job source marks count object held bytes
+left job source marks count (phase.Make object here) held =
     items_to_make job source object (to_site object held.trail) held.rows here
     + to_copy_at held.rows here + job.tuples.count + 2
-    + after_object job source root count (to_site object held.trail)
-left job source root count (phase.Copy object position bytes) held =
+    + after_object job marks count (to_site object held.trail)
+left job source marks count (phase.Copy object position bytes) held =
     (items_to_make job source object (to_site object held.trail) held.rows (part.Content position)
     - 1) + reads bytes + to_copy_from held.rows (position.row + 1) + job.tuples.count + 2
-    + after_object job source root count (to_site object held.trail)
-left job source root count (phase.Tuples object number) held = (job.tuples.count - number) + 2
-    + after_object job source root count (to_site object held.trail)
-left job source root count (phase.Rename object) held =
-    2 + after_object job source root count (to_site object held.trail)
-left job source root count (phase.Line object) held =
-    1 + after_object job source root count (to_site object held.trail)
-left job source root count phase.Walk held = still_listed held.trail + items_left job source root count + 2
-left job source root count phase.End held = 1
-left job source root count phase.Ended held = 0
+    + after_object job marks count (to_site object held.trail)
+left job source marks count (phase.Tuples object number) held = (job.tuples.count - number) + 2
+    + after_object job marks count (to_site object held.trail)
+left job source marks count (phase.Rename object) held =
+    2 + after_object job marks count (to_site object held.trail)
+left job source marks count (phase.Line object) held =
+    1 + after_object job marks count (to_site object held.trail)
+left job source marks count phase.Walk held = still_listed held.trail + items_left job marks count + 2
+left job source marks count phase.End held = 1
+left job source marks count phase.Ended held = 0

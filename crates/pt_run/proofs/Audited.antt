@@ -1,7 +1,8 @@
 -- What an audit over the devices of a machine says of what its systems keep.
 use Rattle.std.proofs.Common.{◌≡◌, ◌∙◌, ℕ, List, refl, subst}
-use Rattle.std.specs.Prelude.{IfOk, None, Option, Some, Result}
+use Rattle.std.specs.Prelude.{IfErr, IfOk, None, Option, Some, Result}
 use Rattle.pt_audit.specs.Auditing.{EndsAs}
+use Rattle.pt_audit.specs.Failing.{AuditSays}
 use Rattle.pt_audit.specs.declared.counts.Counts.{Counts}
 use Rattle.pt_compare.specs.Root.{tree_in}
 use Rattle.pt_folder.specs.SourceHeld.{told_of as source_told}
@@ -9,6 +10,7 @@ use Rattle.pt_ignore.specs.Ignoring.{told_without}
 use Rattle.pt_move.specs.declared.fault.Fault.{Fault}
 use Rattle.pt_plan.specs.Job.{Job}
 use Rattle.pt_run.specs.Audits.{root_tree, store_tree}
+use Rattle.pt_state.specs.declared.job.Job as own
 use Rattle.pt_tree.specs.Forest.{Forest}
 
 -- what is open for reading changes no tree
@@ -35,3 +37,8 @@ ends_as ran job {source} {store} {root} {folder} {first} {begun} {now} {last} so
     (subst (λ (l : Option (List ℕ)). IfOk ran (EndsAs job store folder l now)) first_is
     (subst (λ (t : Option Forest). IfOk ran (EndsAs job store t first now)) root_is
     (subst (λ (t : Option Forest). IfOk ran (EndsAs job t root first now)) source_is ends)))
+
+-- so does what it says
+pub says_as : (ran : Result Counts Fault) (job : own.Job) {source store root folder : Option Forest} → source ≡ store → root ≡ folder → IfErr ran (AuditSays job source root) → IfErr ran (AuditSays job store folder)
+says_as ran job {source} {store} {root} {folder} source_is root_is says =
+    subst (λ (t : Option Forest). IfErr ran (AuditSays job store t)) root_is (subst (λ (t : Option Forest). IfErr ran (AuditSays job t root)) source_is says)

@@ -1,7 +1,10 @@
 -- What an audit on a machine comes to.
-use Rattle.std.specs.Prelude.{◌≡◌, ◌+◌, ◌==◌, ℕ, if◌then◌else◌, IfErr, IfOk, List, None, Option, Result, Ok, Err}
+use Rattle.std.specs.Prelude.{◌≡◌, ◌+◌, ◌==◌, ℕ, if◌then◌else◌, IfErr, IfOk, List, None, OnOk, Option, Result, Ok, Err}
+use Rattle.std.specs.Option.{ForSome}
 use Rattle.std.specs.declared.io.Error.{Error}
 use Rattle.pt_audit.specs.Auditing.{EndsAs}
+use Rattle.pt_audit.specs.Failing.{AuditSays}
+use Rattle.pt_audit.specs.Layout.{IsOfLayout}
 use Rattle.pt_audit.specs.declared.counts.Counts.{Counts}
 use Rattle.pt_compare.specs.Root.{tree_in}
 use Rattle.pt_folder.specs.SourceHeld.{told_of as source_told}
@@ -10,7 +13,6 @@ use Rattle.pt_guard.specs.Paths.{Place}
 use Rattle.pt_guard.specs.declared.places.Folder.{Folder}
 use Rattle.pt_guard.specs.declared.places.Hold.{Hold}
 use Rattle.pt_ignore.specs.Ignoring.{told_without}
-use Rattle.pt_move.specs.Outcome.{SaysRightly}
 use Rattle.pt_move.specs.declared.fault.Fault.{Fault}
 use Rattle.pt_run.specs.Made.{Guarded}
 use Rattle.pt_run.specs.declared.auditing.WantedAudit.{WantedAudit}
@@ -32,14 +34,16 @@ store_tree ignored tree = tree_in (told_without ignored (source_told tree None))
 abbrev pub root_tree : Option Forest → Option Forest
 root_tree tree = tree_in (source_told tree None)
 
--- an audit was made over these folders of the systems, with what `audit` promises of it: where it ended well the output got its log, of both trees as they stood; and they stand
+-- an audit was made over these folders of the systems, with what `audit` promises of it: where it ended well the output got its log, of both trees as they stood, and the root is one that a run could go on with; and they stand
 pub record AuditsOver {S D W : Type 0} (forest : S → List ℕ → Option Forest)
     (folders : D → List ℕ → Option Forest) (contents : W → Option (List ℕ)) (wanted : WantedAudit)
     (store folder : List ℕ) (old new : Ground S D W) (status : ℕ) : Type 0 where
   pub ran : Result Counts Fault
   pub ends : IfOk ran (EndsAs (job_of wanted.job) (store_tree wanted.ignored (forest old.store store))
       (root_tree (folders old.folder folder)) (contents old.output) (contents new.output))
-  pub says : IfErr ran (SaysRightly wanted.job (store_tree wanted.ignored (forest old.store store)) None)
+  pub layout : OnOk ran (ForSome (root_tree (folders old.folder folder)) (IsOfLayout (job_of wanted.job)))
+  pub says : IfErr ran (AuditSays wanted.job (store_tree wanted.ignored (forest old.store store))
+      (root_tree (folders old.folder folder)))
   pub store_stays : store_tree wanted.ignored (forest new.store store)
       ≡ store_tree wanted.ignored (forest old.store store)
   pub root_stays : root_tree (folders new.folder folder) ≡ root_tree (folders old.folder folder)

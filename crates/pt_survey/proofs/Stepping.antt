@@ -1,5 +1,5 @@
 -- What a step of a survey needs, and that the survey goes on.
-use Rattle.std.proofs.Common.{◌≡◌, ◌≢◌, ◌<◌, ◌+◌, arith, ℕ, suc, true, false, List, [], ◌∷◌, refl, ap, sym, ◌∙◌, subst, take}
+use Rattle.std.proofs.Common.{◌≡◌, ◌≢◌, ◌<◌, ◌≤◌, ◌+◌, arith, ℕ, suc, true, false, List, [], ◌∷◌, refl, ap, sym, ◌∙◌, subst, take}
 use Rattle.std.specs.Prelude.{◌==◌, Option, None, Some, Result, Ok, Err, count_by, option_to_list}
 use Rattle.std.specs.Option.{ForSome}
 use Rattle.std.proofs.lemmas.Bool.{true≢false}
@@ -13,8 +13,10 @@ use Rattle.pt_plan.specs.Job.{Job}
 use Rattle.pt_plan.specs.Lines.{Done, End, Line, Present, Skipped, is_skipped, line_text}
 use Rattle.pt_plan.specs.Permits.{Permits}
 use Rattle.pt_plan.specs.Run.{Counts, Held, Kept, Run, new_run, turning}
-use Rattle.pt_plan.specs.Turn.{Did, FailsAtFirst, FailsLater, Follows, GoesOn as TurnGoesOn, IsRefused, LeavesSome, Stays, Make, Place, Scan, Start, Turn, Walk, counted as counted_with}
+use Rattle.pt_plan.specs.Turn.{Did, FailsAtFirst, FailsLater, Follows, GoesOn as TurnGoesOn, IsRefused, LeavesSome, Stays, Make, Place, Scan, Start, Turn, Walk, HasFailed, counted as counted_with}
+use Rattle.pt_plan.specs.TurnMake as make
 use Rattle.pt_plan.specs.TurnPlace as place
+use Rattle.pt_plan.specs.TurnStart as start
 use Rattle.pt_plan.specs.World.{Answers, Calls, Failures, LeavesFront, Puts, World, source_tree}
 use Rattle.pt_plan.specs.declared.halt.Halt.{Halt}
 use Rattle.pt_plan.specs.declared.halt.Halt.TheVariants as halt
@@ -38,17 +40,18 @@ use Rattle.pt_move.specs.Counting.{Rose}
 use Rattle.pt_move.specs.Fault.{fault_number, fault_of}
 use Rattle.pt_move.specs.declared.fault.Fault.TheVariants as fault
 use Rattle.pt_move.specs.Leaving.{TurnLeaves}
-use Rattle.pt_move.specs.Outcome.{SaysRightly}
+use Rattle.pt_move.specs.Outcome.{HoldsWithinBound, SaysRightly}
 use Rattle.pt_move.specs.Promises.{TurnKeeps}
 use Rattle.pt_move.proofs.Answering.{fed_going, fed_to_end, has_fed, left_by_turn, may_turn, stands_there, well_after}
 use Rattle.pt_move.proofs.Keeping.{keeps_after, tree_stays}
 use Rattle.pt_tree.specs.Failures.{HasRisen}
 use Rattle.pt_survey.specs.Bare.{bare}
-use Rattle.pt_survey.specs.Growing.{BlamesRightly, Grows, IsCounted, Leaves, grows_none}
+use Rattle.pt_survey.specs.Growing.{BlamesRightly, Grows, Leaves, grows_none}
 use Rattle.pt_plan.specs.TurnPlace.{done_line}
-use Rattle.pt_survey.specs.Surveying.{WasAtHand, GoesOn, HasAtHand, IsReady, IsSurvey, is_at_hand, Leads, Nothing, Skips, Sees, Surveys, is_looking, is_of_survey, no_start, passed, source_alone}
+use Rattle.pt_survey.specs.Surveying.{WasAtHand, GoesOn, HasAtHand, IsReady, IsSurvey, IsWithinWork, Steps, SurveySays, is_at_hand, is_before_sites, is_before_store, is_of_dest, Leads, Nothing, Skips, Sees, Surveys, is_looking, is_of_survey, no_start, passed, source_alone}
 use Rattle.pt_survey.proofs.Alone.{counted_alone, no_change, no_line}
 use Rattle.pt_survey.proofs.Seen.{has_at_hand, looks_on, looks_sees}
+use Rattle.pt_survey.proofs.Working.{is_left, within_on}
 
 -- ---- it is a run in progress over the source alone
 
@@ -77,16 +80,7 @@ permits_any job (phase.Read _ _) held r w v is may = may
 permits_any job phase.Walk held r w v is may = may
 permits_any job (phase.Line _) held r w v is may = may
 permits_any job phase.End held r w v is may = may
-permits_any job phase.Staging held r w v is may = absurd (true≢false (sym is))
-permits_any job phase.Root held r w v is may = absurd (true≢false (sym is))
-permits_any job (phase.RootMake _) held r w v is may = absurd (true≢false (sym is))
-permits_any job phase.RootRename held r w v is may = absurd (true≢false (sym is))
-permits_any job (phase.RootCheck _) held r w v is may = absurd (true≢false (sym is))
-permits_any job (phase.Make _ _) held r w v is may = absurd (true≢false (sym is))
-permits_any job (phase.Copy _ _ _) held r w v is may = absurd (true≢false (sym is))
-permits_any job (phase.Tuples _ _) held r w v is may = absurd (true≢false (sym is))
-permits_any job (phase.Rename _) held r w v is may = absurd (true≢false (sym is))
-permits_any job phase.Ended held r w v is may = absurd (true≢false (sym is))
+permits_any job _ held r w v is may = absurd (true≢false (sym is))
 
 module _ (told : Option Reading) (here : Phase) (s : State) where
   pub may_look : (w : Option Writing) → is_of_survey here ≡ true → Surveys told (record { phase = here; state = s }) → Permits (job_of s.job) here (held_of s []) told w
@@ -128,31 +122,7 @@ passed_past (phase.Make object part.Staging) it = record {
   quiet = tt;
   left = λ s e old f. absurd (cc);
 }
-passed_past (phase.Make object part.Declaration) it = it
-passed_past (phase.Make object part.Version) it = it
-passed_past (phase.Make object (part.Content _)) it = it
-passed_past (phase.Make object part.VersionInventory) it = it
-passed_past (phase.Make object part.VersionSidecar) it = it
-passed_past (phase.Make object part.Inventory) it = it
-passed_past (phase.Make object part.Sidecar) it = it
-passed_past phase.Begin it = it
-passed_past (phase.Prefix _) it = it
-passed_past phase.Root it = it
-passed_past (phase.RootMake _) it = it
-passed_past phase.RootRename it = it
-passed_past (phase.RootCheck _) it = it
-passed_past phase.OpenRoot it = it
-passed_past phase.Judge it = it
-passed_past (phase.OpenObject _) it = it
-passed_past (phase.Scan _) it = it
-passed_past (phase.Read _ _) it = it
-passed_past (phase.Copy _ _ _) it = it
-passed_past (phase.Tuples _ _) it = it
-passed_past (phase.Rename _) it = it
-passed_past (phase.Line _) it = it
-passed_past phase.Walk it = it
-passed_past phase.End it = it
-passed_past phase.Ended it = it
+passed_past _ it = it
 
 passed_well : (next : Phase) {s : State} → IsWell (record { phase = next; state = s }) → IsWell (record { phase = passed next; state = s })
 passed_well phase.Staging well = record {
@@ -163,31 +133,7 @@ passed_well (phase.Make object part.Staging) well = record {
   bounded = record { lines = well.bounded.lines; turns = well.bounded.turns; few = well.bounded.few; within = tt; prefix = well.bounded.prefix };
   fresh = λ begins. absurd (cc);
 }
-passed_well (phase.Make object part.Declaration) well = well
-passed_well (phase.Make object part.Version) well = well
-passed_well (phase.Make object (part.Content _)) well = well
-passed_well (phase.Make object part.VersionInventory) well = well
-passed_well (phase.Make object part.VersionSidecar) well = well
-passed_well (phase.Make object part.Inventory) well = well
-passed_well (phase.Make object part.Sidecar) well = well
-passed_well phase.Begin well = well
-passed_well (phase.Prefix _) well = well
-passed_well phase.Root well = well
-passed_well (phase.RootMake _) well = well
-passed_well phase.RootRename well = well
-passed_well (phase.RootCheck _) well = well
-passed_well phase.OpenRoot well = well
-passed_well phase.Judge well = well
-passed_well (phase.OpenObject _) well = well
-passed_well (phase.Scan _) well = well
-passed_well (phase.Read _ _) well = well
-passed_well (phase.Copy _ _ _) well = well
-passed_well (phase.Tuples _ _) well = well
-passed_well (phase.Rename _) well = well
-passed_well (phase.Line _) well = well
-passed_well phase.Walk well = well
-passed_well phase.End well = well
-passed_well phase.Ended well = well
+passed_well _ well = well
 
 -- ---- it goes on
 
@@ -224,13 +170,15 @@ module _ (here next : Phase) (s s' : State) (told told' : Option Reading) where
       (record { source = answers; dest = no_change calls.change; log = no_line calls.line }) counts it
 
   survey_on : {count : ℕ} (it : IsSurvey told count Before) (fed' : List ℕ) → s'.job ≡ s.job → HasBeenFed s.job.algorithm s'.hasher fed' → IsPast (job_of s.job) no_start (source_alone told') (record { phase = next; kept = kept_of s' fed' }) (later_of it.past it.fed)
+      → ForSome told' (λ r. IsWithinWork (job_of s.job) r.tree (later_of it.past it.fed).count (record { phase = passed next; kept = kept_of s' fed' }))
       → is_of_survey (passed next) ≡ true → IsSurvey told' (later_of it.past it.fed).count After
-  survey_on it fed' job was past stands = record {
+  survey_on it fed' job was past within stands = record {
     fed = fed';
     was = fed_to_end (passed next) s'.job.algorithm s'.hasher fed' (subst (λ j. HasBeenFed j.algorithm s'.hasher fed') (sym job) was);
     past = later_of it.past it.fed;
     seen = refl;
     is = subst (λ j. IsPast (job_of j) no_start (source_alone told') (record { phase = passed next; kept = kept_of s' fed' }) (later_of it.past it.fed)) (sym job) (passed_past next past);
+    within = subst (λ j. ForSome told' (λ r. IsWithinWork (job_of j) r.tree (later_of it.past it.fed).count (record { phase = passed next; kept = kept_of s' fed' }))) (sym job) within;
     stands = stands;
   }
 
@@ -249,7 +197,7 @@ looks here next s s' told told' w l l' a b c a' b' c' count looking it counted =
         → GoesOn told told' l l' count (record { phase = here; state = s }) (record { phase = passed next; state = s' })
     by fed' was (TurnGoesOn calls _ follows did counts) = record {
       next = later.count;
-      is = survey_on here next s s' told told' it fed' counted.0 was (past_on here next s s' told told' follows did.0.source counts it.is) (looks_on looking follows);
+      is = survey_on here next s s' told told' it fed' counted.0 was (past_on here next s s' told told' follows did.0.source counts it.is) (within_on here next s s' told told' follows did.0.source counts it.is it.within) (looks_on looking follows);
       saw = λ r e. record {
         line = calls.line;
         sees = subst (λ (n : ℕ). Sees (job_of s.job) r.tree n here (held_of s []) calls.line later.count) it.seen
@@ -288,7 +236,7 @@ passes object next s s' told told' w l a b c a' b' c' count it counted =
         let walks = line_follows follows in
         record {
           next = later.count;
-          is = survey_on (phase.Line object) next s s' told told' it fed' counted.0 was (past_on (phase.Line object) next s s' told told' follows did.0.source kept it.is) (ap (λ (p : Phase). is_of_survey (passed p)) walks.0);
+          is = survey_on (phase.Line object) next s s' told told' it fed' counted.0 was (past_on (phase.Line object) next s s' told told' follows did.0.source kept it.is) (within_on (phase.Line object) next s s' told told' follows did.0.source kept it.is it.within) (ap (λ (p : Phase). is_of_survey (passed p)) walks.0);
           saw = λ r e. record {
             line = None;
             sees = subst (λ (n : ℕ). Sees (job_of s.job) r.tree n (phase.Line object) (held_of s []) None later.count) it.seen
@@ -356,45 +304,63 @@ pub blames_halted : {T : Type 0} {s s' : State} {a c a' c' : ℕ} (why : Halt) �
 blames_halted halt.Source left = record { source_is = left.failures.0; log_is = left.failures.2; no_dest = λ is. absurd (cc) }
 blames_halted halt.Dest left = absurd (risen_none left.failures.1)
 blames_halted halt.Log left = record { source_is = left.failures.0; log_is = left.failures.2; no_dest = λ is. absurd (cc) }
-blames_halted halt.Memory left = record { source_is = ap (λ (f : Failures). f.source) left.failures; log_is = ap (λ (f : Failures). f.log) left.failures; no_dest = λ is. absurd (cc) }
-blames_halted halt.NotPairtree left = record { source_is = ap (λ (f : Failures). f.source) left.failures; log_is = ap (λ (f : Failures). f.log) left.failures; no_dest = λ is. absurd (cc) }
-blames_halted halt.Prefix left = record { source_is = ap (λ (f : Failures). f.source) left.failures; log_is = ap (λ (f : Failures). f.log) left.failures; no_dest = λ is. absurd (cc) }
-blames_halted halt.StagingLeft left = record { source_is = ap (λ (f : Failures). f.source) left.failures; log_is = ap (λ (f : Failures). f.log) left.failures; no_dest = λ is. absurd (cc) }
-blames_halted halt.Target left = record { source_is = ap (λ (f : Failures). f.source) left.failures; log_is = ap (λ (f : Failures). f.log) left.failures; no_dest = λ is. absurd (cc) }
-blames_halted halt.Changed left = record { source_is = ap (λ (f : Failures). f.source) left.failures; log_is = ap (λ (f : Failures). f.log) left.failures; no_dest = λ is. absurd (cc) }
+blames_halted _ left = record { source_is = ap (λ (f : Failures). f.source) left.failures; log_is = ap (λ (f : Failures). f.log) left.failures; no_dest = λ is. absurd (cc) }
 
 pub blames_none : {T : Type 0} {x : T} {s s' : State} {a c a' c' : ℕ} (next : Phase) → TurnLeaves s s' None None (record { source = a; dest = 0; log = c }) (record { source = a'; dest = 0; log = c' }) (Ok next) → BlamesRightly {T = T} a a' c c' (Ok x)
 blames_none next left = record { source_is = ap (λ (f : Failures). f.source) left.failures; log_is = ap (λ (f : Failures). f.log) left.failures; no_dest = tt }
 
 -- where it halts it says so rightly
-pub says_of_turn : (here : Phase) (s s' : State) (told told' : Option Reading) (w v : Option Writing) (l l' : Option (List ℕ)) (a b c a' b' c' : ℕ) (why : Halt) → Surveys told (record { phase = here; state = s }) → CountedTurn here s s' (world told w l a b c) (world told' v l' a' b' c') (Err why)
-    → SaysRightly s.job (source_tree told) None (fault_of why)
+-- no turn of a survey refuses a destination
+start_refuses : {job : Job} {here : Phase} {prefix read : List ℕ} {calls : Calls} {why : Halt} → start.Starts job here prefix read calls (Err why) → is_of_survey here ≡ true → is_of_dest (fault_of why) ≡ false
+start_refuses (start.IsNoStore _ _ _) is = refl
+start_refuses (start.IsNoPrefixFile _ _ _ _) is = refl
+start_refuses (start.IsNoPrefix _ _ _ _) is = refl
+start_refuses _ is = absurd (true≢false (sym is))
+
+refuses : {job : Job} {counts : Counts} {here : Phase} {prefix read : List ℕ} {held after : Held} {calls : Calls} {why : Halt} → Follows job counts here prefix held read after calls (Err why) → is_of_survey here ≡ true → is_of_dest (fault_of why) ≡ false
+refuses (Start _ _ _ _ _ _ turn) is = start_refuses turn is
+refuses (Walk _ _ _ _ _ _ turn) is = elim turn [ ]
+refuses (Scan _ _ _ _ _ _ turn) is = elim turn [ ]
+refuses (Make _ _ _ _ _ _ (make.ReadsMore _ _ _ _ _ _ _)) is = refl
+refuses (Make _ _ _ _ _ _ (make.ReadsOther _ _ _ _ _ _ _)) is = refl
+refuses (Place _ _ _ _ _ _ (place.IsInTheWay _ _ _ _ _)) is = absurd (true≢false (sym is))
+
+fails_rightly : (why : Halt) (a c a' c' : ℕ) → HasFailed why (record { source = a; dest = 0; log = c }) (record { source = a'; dest = 0; log = c' }) → is_of_dest (fault_of why) ≡ false
+fails_rightly halt.Source _ _ _ _ failed = refl
+fails_rightly halt.Dest _ _ _ _ failed = absurd (risen_none failed.1)
+fails_rightly halt.Log _ _ _ _ failed = refl
+fails_rightly halt.Memory _ _ _ _ failed = refl
+fails_rightly _ _ _ _ _ failed = absurd failed
+
+no_turns : (why : Halt) → fault_of why ≡ fault.Turns → ⊥
+no_turns halt.Source is = absurd (cc)
+no_turns _ is = absurd (cc)
+
+pub says_of_turn : (here : Phase) (s s' : State) (told told' : Option Reading) (w v : Option Writing) (l l' : Option (List ℕ)) (a c a' c' : ℕ) (why : Halt) → Surveys told (record { phase = here; state = s }) → CountedTurn here s s' (world told w l a 0 c) (world told' v l' a' 0 c') (Err why)
+    → SurveySays s.job (source_tree told) (fault_of why)
+unfolding Surveys TurnKeeps CountedTurn Did Stays LeavesSome
+says_of_turn here s s' told told' w v l l' a c a' c' why (count, it) counted = record {
+  rightly = (keeps_after here s s' (world told None None a 0 c) (world told' None None a' 0 c') (Err why) (going here it.stands) (counted_alone here s s' told told' w v l l' a 0 c a' 0 c' (Err why) counted) no_start (is_begun a 0 c it)).says.says;
+  no_dest = by (counted.1 it.fed (fed_going s.job.algorithm s.hasher it.fed (going here it.stands) it.was)).1.1;
+  turns = λ is. absurd (no_turns why is);
+}
+  where
+    by : {before after : Kept} {why : Halt} → Turn (job_of s.job) here before after (world told w l a 0 c) (world told' v l' a' 0 c') (Err why) → is_of_dest (fault_of why) ≡ false
+    by (IsRefused _ _ _ _ follows _ _) = refuses follows it.stands
+    by (FailsAtFirst why stays _) = fails_rightly why _ _ _ _ stays.3
+    by (FailsLater _ _ _ _ _ why _ left _ _) = fails_rightly why _ _ _ _ left.1
+
+-- what is held after it
+pub bound_of_turn : (here : Phase) (s s' : State) (told told' : Option Reading) (w v : Option Writing) (l l' : Option (List ℕ)) (a b c a' b' c' : ℕ) (answer : Answer) → Surveys told (record { phase = here; state = s }) → CountedTurn here s s' (world told w l a b c) (world told' v l' a' b' c') answer
+    → HoldsWithinBound s.job (source_tree told) s'
 unfolding Surveys TurnKeeps
-says_of_turn here s s' told told' w v l l' a b c a' b' c' why (count, it) counted =
-    (keeps_after here s s' (world told None None a b c) (world told' None None a' b' c') (Err why) (going here it.stands) (counted_alone here s s' told told' w v l l' a b c a' b' c' (Err why) counted) no_start (is_begun a b c it)).says.says
+bound_of_turn here s s' told told' w v l l' a b c a' b' c' answer (count, it) counted =
+    (keeps_after here s s' (world told None None a b c) (world told' None None a' b' c') answer (going here it.stands) (counted_alone here s s' told told' w v l l' a b c a' b' c' answer counted) no_start (is_begun a b c it)).bound
 
 -- an object that is at hand
 the_object : (here : Phase) → is_at_hand here ≡ true → (object : Object) × (here ≡ phase.Line object)
 the_object (phase.Line object) is = (object, refl)
-the_object phase.Begin is = absurd (true≢false (sym is))
-the_object (phase.Prefix _) is = absurd (true≢false (sym is))
-the_object phase.Staging is = absurd (true≢false (sym is))
-the_object phase.Root is = absurd (true≢false (sym is))
-the_object (phase.RootMake _) is = absurd (true≢false (sym is))
-the_object phase.RootRename is = absurd (true≢false (sym is))
-the_object (phase.RootCheck _) is = absurd (true≢false (sym is))
-the_object phase.OpenRoot is = absurd (true≢false (sym is))
-the_object phase.Judge is = absurd (true≢false (sym is))
-the_object (phase.OpenObject _) is = absurd (true≢false (sym is))
-the_object (phase.Scan _) is = absurd (true≢false (sym is))
-the_object (phase.Read _ _) is = absurd (true≢false (sym is))
-the_object (phase.Make _ _) is = absurd (true≢false (sym is))
-the_object (phase.Copy _ _ _) is = absurd (true≢false (sym is))
-the_object (phase.Tuples _ _) is = absurd (true≢false (sym is))
-the_object (phase.Rename _) is = absurd (true≢false (sym is))
-the_object phase.Walk is = absurd (true≢false (sym is))
-the_object phase.End is = absurd (true≢false (sym is))
-the_object phase.Ended is = absurd (true≢false (sym is))
+the_object _ is = absurd (true≢false (sym is))
 
 -- over whatever log
 pub passes_there : (here next : Phase) (s s' : State) (told told' : Option Reading) (w : Option Writing) (l : Option (List ℕ)) (a b c a' b' c' : ℕ) (count : ℕ) → is_at_hand here ≡ true → IsSurvey told count (record { phase = here; state = s })
@@ -412,24 +378,7 @@ looking_is told here s it off more = by here (of_survey told (record { phase = h
     by : (here : Phase) → is_of_survey here ≡ true → is_at_hand here ≡ false → here ≢ phase.End → is_looking here ≡ true
     by (phase.Line object) is off more = absurd (true≢false off)
     by phase.End is off more = absurd (more refl)
-    by phase.Begin is off more = is
-    by (phase.Prefix _) is off more = is
-    by phase.Staging is off more = is
-    by phase.Root is off more = is
-    by (phase.RootMake _) is off more = is
-    by phase.RootRename is off more = is
-    by (phase.RootCheck _) is off more = is
-    by phase.OpenRoot is off more = is
-    by phase.Judge is off more = is
-    by (phase.OpenObject _) is off more = is
-    by (phase.Scan _) is off more = is
-    by (phase.Read _ _) is off more = is
-    by (phase.Make _ _) is off more = is
-    by (phase.Copy _ _ _) is off more = is
-    by (phase.Tuples _ _) is off more = is
-    by (phase.Rename _) is off more = is
-    by phase.Walk is off more = is
-    by phase.Ended is off more = is
+    by _ is off more = is
 
 -- what it leaves
 pub leaves_ok : (here next : Phase) (s s' : State) (told told' : Option Reading) (v : Option Writing) (l l' : Option (List ℕ)) (a c a' c' : ℕ) → Surveys told (record { phase = here; state = s }) → CountedTurn here s s' (world told (Some bare) l a 0 c) (world told' v l' a' 0 c') (Ok next)
@@ -447,7 +396,7 @@ leaves_err here why s s' told told' v l l' a c a' c' it counted = record {
   tree = tree_of_turn here s s' told told' (Some bare) v l l' a 0 c a' 0 c' (Err why) it counted;
   grows = log_of_turn here s s' told told' (Some bare) v l l' a 0 c a' 0 c' (Err why) it counted;
   blames = blames_halted why (leaves_of_turn here s s' told told' (Some bare) v l l' a 0 c a' 0 c' (Err why) it counted);
-  says = says_of_turn here s s' told told' (Some bare) v l l' a 0 c a' 0 c' why it counted;
+  says = says_of_turn here s s' told told' (Some bare) v l l' a c a' c' why it counted;
 }
 
 -- of a turn that tells nothing, over a log that isn't touched
@@ -459,12 +408,7 @@ leaves_log l c {result = Err why} it = record { tree = it.tree; grows = grows_no
     never halt.Source is = refl
     never halt.Dest is = refl
     never halt.Log is = absurd (risen_none is)
-    never halt.Memory is = refl
-    never halt.NotPairtree is = refl
-    never halt.Prefix is = refl
-    never halt.StagingLeft is = refl
-    never halt.Target is = refl
-    never halt.Changed is = refl
+    never _ is = refl
 
 -- so it is where the object at hand was passed
 pub leaves_passed : (here next : Phase) (s s' : State) (told told' : Option Reading) (v : Option Writing) (l : Option (List ℕ)) (c a a' : ℕ) → Surveys told (record { phase = here; state = s }) → CountedTurn here s s' (world told (Some bare) None a 0 0) (world told' v None a' 0 0) (Ok next)
@@ -494,6 +438,8 @@ new_survey r job new layout told proper = record {
   is = subst (λ j. IsPast (job_of j) no_start (source_alone told) (run_of r []) no_past) (sym new.job_is)
       (subst (λ (run : Run). IsPast (job_of job) no_start (source_alone told) run no_past) (sym run_is)
       (new_past {world = source_alone told} layout (record { source = proper; dest = λ s e. absurd (cc) })));
+  within = subst (λ j. ForSome told (λ s. IsWithinWork (job_of j) s.tree 0 (run_of r []))) (sym new.job_is)
+      (subst (λ (run : Run). ForSome told (λ s. IsWithinWork (job_of job) s.tree 0 run)) (sym run_is) (λ s is. omega arith));
   stands = ap is_of_survey new.phase;
 }
   where
@@ -501,13 +447,21 @@ new_survey r job new layout told proper = record {
     run_is = λ i. record { phase = new.phase i; kept = new.kept i }
 
 -- a step that isn't made
-pub says_no_turn : (job : own.Job) (source : Option Forest) → SaysRightly job source None fault.Turns
-unfolding SaysRightly
-says_no_turn job source = (λ s e. tt, λ t e. absurd (cc), λ s t e f. absurd (cc))
+pub says_no_turn : (told : Option Reading) (r : Running) → Surveys told r → r.state.job.limits.turns ≤ r.state.counts.turns → SurveySays r.state.job (source_tree told) fault.Turns
+unfolding Surveys SaysRightly
+says_no_turn told r (count, it) most = record {
+  rightly = (λ s e. tt, λ t e. absurd (cc), λ s t e f. absurd (cc));
+  no_dest = refl;
+  turns = λ is s e. let less = is_left it (going r.phase it.stands) s e in omega (arith, most, less);
+}
 
-pub says_ended : (job : own.Job) (source : Option Forest) → SaysRightly job source None fault.Ended
+pub says_ended : (job : own.Job) (source : Option Forest) → SurveySays job source fault.Ended
 unfolding SaysRightly
-says_ended job source = (λ s e. tt, λ t e. absurd (cc), λ s t e f. absurd (cc))
+says_ended job source = record {
+  rightly = (λ s e. tt, λ t e. absurd (cc), λ s t e f. absurd (cc));
+  no_dest = refl;
+  turns = λ is. absurd (cc);
+}
 
 -- ---- by what a step makes of the answer
 
@@ -539,9 +493,43 @@ module _ (here : Phase) (why : Halt) (s s' : State) (told told' : Option Reading
   pub halt_leaves_log : answer ≡ Err why → IsReady told here s → CountedTurn here s s' (world told (Some bare) None a 0 0) (world told' v None a' 0 0) (Err why) → Leaves told told' l l a a' c c s.job answer
   halt_leaves_log is ready counted = subst (λ (r : Answer). Leaves told told' l l a a' c c s.job r) (sym is) (leaves_halted here why s s' told told' v l c a a' ready.under_way counted)
 
--- it is counted
-pub step_counted : (here : Phase) (s s' : State) (told told' : Option Reading) (v : Option Writing) (l l' : Option (List ℕ)) (a c a' c' : ℕ) (answer : Answer) → IsReady told here s → CountedTurn here s s' (world told (Some bare) l a 0 c) (world told' v l' a' 0 c') answer → IsCounted s s'
-unfolding CountedTurn
-step_counted here s s' told told' v l l' a c a' c' answer ready counted = (counted.0, (leaves_of_turn here s s' told told' (Some bare) v l l' a 0 c a' 0 c' answer ready.under_way counted).turns)
+-- ---- what holds of each step
 
-pub ruleset steps = (may_look, stands_so, fed_so, looking_is, new_survey, says_no_turn, says_ended, grows_none, step_looks, step_well, step_leaves, step_passes, step_leaves_log, halt_well, halt_leaves, halt_leaves_log, step_counted)
+-- the store is seen before its sites
+opens : {job : Job} {counts : Counts} (here : Phase) {next : Phase} {prefix read : List ℕ} {held after : Held} {calls : Calls} → is_before_store here ≡ true → Follows job counts here prefix held read after calls (Ok next) → is_before_sites (passed next) ≡ true
+opens phase.Begin is (Start _ _ _ _ _ _ (start.IsStore _ _ _)) = refl
+opens phase.Begin is (Walk _ _ _ _ _ _ turn) = elim turn [ ]
+opens phase.Begin is (Scan _ _ _ _ _ _ turn) = elim turn [ ]
+opens phase.Begin is (Make _ _ _ _ _ _ turn) = elim turn [ ]
+opens phase.Begin is (Place _ _ _ _ _ _ turn) = elim turn [ ]
+opens (phase.Prefix _) is (Start _ _ _ _ _ _ (start.HasNoPrefix _)) = refl
+opens (phase.Prefix _) is (Start _ _ _ _ _ _ (start.HasPrefix _ _ _)) = refl
+opens (phase.Prefix _) is (Walk _ _ _ _ _ _ turn) = elim turn [ ]
+opens (phase.Prefix _) is (Scan _ _ _ _ _ _ turn) = elim turn [ ]
+opens (phase.Prefix _) is (Make _ _ _ _ _ _ turn) = elim turn [ ]
+opens (phase.Prefix _) is (Place _ _ _ _ _ _ turn) = elim turn [ ]
+opens _ is _ = absurd (true≢false (sym is))
+
+module _ (here next : Phase) (s s' : State) (told told' : Option Reading) (w v : Option Writing) (l l' : Option (List ℕ)) (a b c a' b' c' : ℕ) where
+  steps_there : Surveys told (record { phase = here; state = s }) → CountedTurn here s s' (world told w l a b c) (world told' v l' a' b' c') (Ok next)
+      → Steps (source_tree told) (record { phase = here; state = s }) (record { phase = passed next; state = s' })
+  unfolding Surveys CountedTurn
+  steps_there (count, it) counted =
+      let under_way : Surveys told (record { phase = here; state = s }) = (count, it) in
+      let one = (leaves_of_turn here s s' told told' w v l l' a b c a' b' c' (Ok next) under_way counted).turns in
+      record {
+        job = counted.0;
+        counted = one;
+        work = λ f e. let less = is_left it (going here it.stands) f e in omega (arith, less, one);
+        bound = bound_of_turn here s s' told told' w v l l' a b c a' b' c' (Ok next) under_way counted;
+        order = by (counted.1 it.fed (fed_going s.job.algorithm s.hasher it.fed (going here it.stands) it.was)).1.1;
+      }
+    where
+      by : {before after : Kept} → Turn (job_of s.job) here before after (world told w l a b c) (world told' v l' a' b' c') (Ok next) → is_before_store here ≡ true → is_before_sites (passed next) ≡ true
+      by (TurnGoesOn calls _ follows did counts) is = opens here is follows
+
+  pub step_steps : (at : Phase) → at ≡ passed next → IsReady told here s → CountedTurn here s s' (world told w l a b c) (world told' v l' a' b' c') (Ok next)
+      → Steps (source_tree told) (record { phase = here; state = s }) (record { phase = at; state = s' })
+  step_steps at is ready counted = subst (λ (p : Phase). Steps (source_tree told) (record { phase = here; state = s }) (record { phase = p; state = s' })) (sym is) (steps_there ready.under_way counted)
+
+pub ruleset steps = (may_look, stands_so, fed_so, looking_is, new_survey, says_no_turn, says_ended, grows_none, step_looks, step_well, step_leaves, step_passes, step_leaves_log, halt_well, halt_leaves, halt_leaves_log, step_steps)

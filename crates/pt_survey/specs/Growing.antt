@@ -1,17 +1,16 @@
 -- A log in which what stood stands, and which device a step blames.
 use Rattle.std.proofs.Common.{◌≡◌, ◌≢◌, ◌∙◌, ap, append-nil, append_assoc, sym}
-use Rattle.std.specs.Prelude.{ℕ, ◌+◌, List, [], ◌++◌, Option, None, Some, IfErr, Result, Ok, Err}
+use Rattle.std.specs.Prelude.{ℕ, List, [], ◌++◌, Option, None, Some, IfErr, Result, Ok, Err}
 use Rattle.std.specs.Io.KnownBytes.{Appends}
 use Rattle.pt_move.specs.Counting.{Counts}
 use Rattle.pt_move.specs.Fault.{fault_of}
-use Rattle.pt_move.specs.Outcome.{SaysRightly}
 use Rattle.pt_move.specs.declared.fault.Fault.{Fault}
 use Rattle.pt_move.specs.declared.fault.Fault.TheVariants as fault
 use Rattle.pt_plan.specs.World.{source_tree}
 use Rattle.pt_plan.specs.declared.halt.Halt.{Halt}
 use Rattle.pt_plan.specs.declared.phase.Phase.{Phase}
 use Rattle.pt_state.specs.declared.job.Job.{Job}
-use Rattle.pt_state.specs.declared.state.State.{State}
+use Rattle.pt_survey.specs.Surveying.{SurveySays}
 use Rattle.pt_tree.specs.Source.{Reading}
 
 -- what stood in a log stands, and bytes may stand behind it
@@ -41,10 +40,6 @@ KeepsLog told keeps old new = keeps old new × Grows (told old) (told new)
 abbrev pub KeepsTree : {S : Type 0} → (S → Option Reading) → (S → S → Type 0) → S → S → Type 0
 KeepsTree told keeps old new = keeps old new × (source_tree (told new) ≡ source_tree (told old))
 
--- a step is counted, and the job stays
-abbrev pub IsCounted : State → State → Type 0
-IsCounted s s' = (s'.job ≡ s.job) × (s'.counts.turns ≡ s.counts.turns + 1)
-
 -- a halt as a fault
 abbrev pub fault_in : {T : Type 0} → Result T Halt → Result T Fault
 fault_in (Ok x) = Ok x
@@ -62,4 +57,4 @@ pub record Leaves (told told' : Option Reading) (old new : Option (List ℕ)) (s
   pub tree : source_tree told' ≡ source_tree told
   pub grows : Grows old new
   pub blames : BlamesRightly source source' log log' (fault_in result)
-  pub says : IfErr result (λ why. SaysRightly job (source_tree told) None (fault_of why))
+  pub says : IfErr result (λ why. SurveySays job (source_tree told) (fault_of why))

@@ -1,19 +1,23 @@
 -- A survey under way: the turns of a run that look at a store, over a destination in which nothing stands. Its neighbours are the source's, since nothing is made.
-use Rattle.std.specs.Prelude.{◌≡◌, ◌<◌, ℕ, suc, Bool, true, false, List, [], ◌∷◌, ◌++◌, ◌+◌, count_by, Option, None, Some, option_to_list, slice_get}
+use Rattle.std.specs.Prelude.{◌≡◌, ◌<◌, ◌≤◌, ℕ, suc, Bool, true, false, List, [], ◌∷◌, ◌++◌, ◌+◌, count_by, map, sum_by, Option, None, Some, option_to_list, slice_get}
 use Rattle.std.specs.Option.{ForSome}
 use Rattle.pt_begun.specs.Begun.{IsPast, Start}
 use Rattle.pt_begun.specs.Past.{Past}
+use Rattle.pt_begun.specs.WorkLeft.{left}
+use Rattle.pt_move.specs.Outcome.{HoldsWithinBound, SaysRightly}
 use Rattle.pt_move.specs.Running.{FedUntilEnd, IsWell, Running, run_of}
 use Rattle.pt_name.specs.Place.{place_of}
 use Rattle.pt_object.specs.FilePaths.{File}
 use Rattle.pt_object.specs.Object.{bytes_in, rows_of, stored_files}
 use Rattle.pt_plan.specs.Items.{Holds, Item, Named, PairtreeObject, items, outcome}
+use Rattle.pt_plan.specs.Carried.{Marked}
 use Rattle.pt_plan.specs.Job.{Job}
 use Rattle.pt_plan.specs.Lines.{Line, Skipped, is_skipped, line_by_verdict}
-use Rattle.pt_plan.specs.Run.{Held}
+use Rattle.pt_plan.specs.Run.{Held, Run}
 use Rattle.pt_plan.specs.TurnMake.{path_of_source}
 use Rattle.pt_plan.specs.TurnPlace.{done_line}
 use Rattle.pt_plan.specs.TurnWalk.{in_pairtree}
+use Rattle.pt_plan.specs.Work.{work_on_item}
 use Rattle.pt_plan.specs.World.{Puts, World}
 use Rattle.pt_plan.specs.declared.object.Object.{Object}
 use Rattle.pt_plan.specs.declared.phase.Part.{Part}
@@ -22,8 +26,11 @@ use Rattle.pt_plan.specs.declared.phase.Phase.{Phase}
 use Rattle.pt_plan.specs.declared.phase.Phase.TheVariants as phase
 use Rattle.pt_state.specs.Outside.{world}
 use Rattle.pt_state.specs.States.{held_of, job_of}
+use Rattle.pt_state.specs.declared.job.Job as own
 use Rattle.pt_state.specs.declared.state.State.{State}
 use Rattle.pt_move.specs.Carried.{IsCarried}
+use Rattle.pt_move.specs.declared.fault.Fault.{Fault}
+use Rattle.pt_move.specs.declared.fault.Fault.TheVariants as fault
 use Rattle.pt_survey.specs.declared.survey.AtHand.{AtHand}
 use Rattle.pt_survey.specs.declared.survey.Sight.{Sight}
 use Rattle.pt_survey.specs.declared.survey.Sight.TheVariants as sight
@@ -82,6 +89,25 @@ sight_at (phase.Line object) = sight.Object
 sight_at phase.End = sight.End
 sight_at _ = sight.More
 
+-- ---- how many steps it makes
+
+-- of no item the place is taken
+abbrev pub all_free : List Item → List Marked
+all_free items = map (λ item. (item, false)) items
+
+-- as many as a run over no root makes turns at most, where no identifier comes twice
+abbrev pub work_of_survey : Job → Forest → ℕ
+work_of_survey job source = 13 + sum_by (work_on_item job) (all_free (items job source))
+
+-- the steps made and the most that are left are together no more than that
+abbrev pub IsWithinWork : Job → Forest → ℕ → Run → Type 0
+IsWithinWork job source count run =
+    run.kept.counts.turns
+    + left job source (all_free (items job source)) count run.phase run.kept.held
+    ≤ work_of_survey job source
+
+-- ---- a survey under way
+
 -- a survey of a source that tells this is under way, and so many items were seen
 pub record IsSurvey (told : Option Reading) (count : ℕ) (r : Running) : Type 0 where
   pub fed : List ℕ
@@ -89,6 +115,7 @@ pub record IsSurvey (told : Option Reading) (count : ℕ) (r : Running) : Type 0
   pub past : Past
   pub seen : past.count ≡ count
   pub is : IsPast (job_of r.state.job) no_start (source_alone told) (run_of r fed) past
+  pub within : ForSome told (λ s. IsWithinWork (job_of r.state.job) s.tree past.count (run_of r fed))
   pub stands : is_of_survey r.phase ≡ true
 
 -- or of some number of items
@@ -100,6 +127,50 @@ pub record IsReady (told : Option Reading) (here : Phase) (s : State) : Type 0 w
   pub under_way : Surveys told (record { phase = here; state = s })
   pub well : IsWell (record { phase = here; state = s })
   pub within : s.counts.turns < s.job.limits.turns
+
+-- ---- each step
+
+-- the store wasn't seen yet
+abbrev pub is_before_store : Phase → Bool
+is_before_store phase.Begin = true
+is_before_store (phase.Prefix here) = true
+is_before_store _ = false
+
+-- nor its sites
+abbrev pub is_before_sites : Phase → Bool
+is_before_sites phase.OpenRoot = true
+is_before_sites here = is_before_store here
+
+pub record Steps (source : Option Forest) (before after : Running) : Type 0 where
+  -- the job stays
+  pub job : after.state.job ≡ before.state.job
+  -- a step more is counted
+  pub counted : after.state.counts.turns ≡ before.state.counts.turns + 1
+  -- of no more than its work
+  pub work : ForSome source
+      (λ s. after.state.counts.turns ≤ work_of_survey (job_of before.state.job) s)
+  -- no more is held than the source's bound
+  pub bound : HoldsWithinBound before.state.job source after.state
+  -- the store is seen before its sites
+  pub order : is_before_store before.phase ≡ true → is_before_sites after.phase ≡ true
+
+-- ---- what a step says that ends the survey
+
+-- a fault of a destination, of which a survey has none
+abbrev pub is_of_dest : Fault → Bool
+is_of_dest fault.Dest = true
+is_of_dest fault.StagingLeft = true
+is_of_dest fault.Target = true
+is_of_dest _ = false
+
+pub record SurveySays (job : own.Job) (source : Option Forest) (f : Fault) : Type 0 where
+  -- a store is refused only for what it is
+  pub rightly : SaysRightly job source None f
+  -- a destination is never refused
+  pub no_dest : is_of_dest f ≡ false
+  -- the limit is met only where it is less than the work
+  pub turns : f ≡ fault.Turns
+      → ForSome source (λ s. job.limits.turns < work_of_survey (job_of job) s)
 
 -- ---- what a step sees
 

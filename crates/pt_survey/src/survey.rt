@@ -2,17 +2,16 @@
 // A survey under way, made step by step.
 ghost use Rattle.std.specs.Option.{ForSome};
 ghost use Rattle.std.specs.Prelude.{◌≡◌, ◌≢◌, ℕ, true, Option, Some, None, IfErr, OnOk, IfOk};
-ghost use Rattle.pt_move.specs.Outcome.{SaysRightly};
 ghost use Rattle.pt_move.specs.Running.{IsNew};
 ghost use Rattle.pt_move.specs.Running.{IsWell};
 ghost use Rattle.pt_plan.specs.Answer.{phase_after};
-ghost use Rattle.pt_survey.specs.Growing.{BlamesRightly, IsCounted, KeepsLog, KeepsTree, Leaves};
+ghost use Rattle.pt_survey.specs.Growing.{BlamesRightly, KeepsLog, KeepsTree, Leaves};
 ghost use Rattle.pt_plan.specs.World.{source_tree};
 ghost use Rattle.pt_state.specs.Outside.{world};
 ghost use Rattle.pt_survey.specs.Bare.{bare};
 ghost use Rattle.pt_move.specs.Turning.{CountedTurn};
 ghost use Rattle.pt_plan.specs.declared.phase.Phase.TheVariants as phase;
-ghost use Rattle.pt_survey.specs.Surveying.{GoesOn, IsHand, IsReady, IsSurvey, Surveys, is_at_hand as is_at_hand_there, is_looking, passed as passed_phase, sight_at};
+ghost use Rattle.pt_survey.specs.Surveying.{GoesOn, IsHand, IsReady, IsSurvey, Steps, SurveySays, Surveys, is_at_hand as is_at_hand_there, is_looking, passed as passed_phase, sight_at};
 ghost use Rattle.pt_tree.specs.Forest.{is_proper};
 ghost use Rattle.pt_tree.specs.Source.{Reading};
 
@@ -97,13 +96,13 @@ impl Survey {
             → OnOk result (GoesOn (S.told source.old) (S.told source.new)
             (L.told log.old) (L.told log.new) count self.old self.new) }
         ensures sight { IfOk result (λ sight. sight ≡ sight_at self.new.phase) }
-        ensures counted { OnOk result (IsCounted self.old.state self.new.state) }
+        ensures steps { OnOk result (Steps (source_tree (S.told source.old)) self.old self.new) }
         ensures source { KeepsTree S.told S.keeps source.old source.new }
         ensures log { KeepsLog L.told L.keeps log.old log.new }
         ensures blames { BlamesRightly (S.failed source.old) (S.failed source.new)
             (L.failed log.old) (L.failed log.new) result }
-        ensures says { IfErr result (SaysRightly self.old.state.job
-            (source_tree (S.told source.old)) None) }
+        ensures says { IfErr result (SurveySays self.old.state.job
+            (source_tree (S.told source.old))) }
     {
         let here = match mem::replace(&mut self.phase, Phase::Ended) {
             Phase::Ended | Phase::End => return Err(Fault::Ended),
@@ -163,7 +162,9 @@ fn stepped<S: Source, L: Log>(
     ensures leaves { Leaves (S.told source.old) (S.told source.new) (L.told log.old) (L.told log.new)
         (S.failed source.old) (S.failed source.new) (L.failed log.old) (L.failed log.new)
         state.old.job result }
-    ensures counted { IsCounted state.old state.new }
+    ensures steps { IfOk result (λ next. Steps (source_tree (S.told source.old))
+        (record { phase = here; state = state.old })
+        (record { phase = next; state = state.new })) }
     ensures source_stays { S.keeps source.old source.new }
     ensures log_stays { L.keeps log.old log.new }
 {

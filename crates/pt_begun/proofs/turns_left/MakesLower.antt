@@ -11,8 +11,8 @@ use Rattle.pt_object.specs.declared.contents.Content.{Content}
 use Rattle.pt_object.specs.declared.rows.Row.{Row}
 use Rattle.pt_tree.specs.Forest.{Forest}
 use Rattle.pt_tree.specs.Source.{Reading, IsRead}
-use Rattle.pt_tree.specs.Tree.{Tree}
 use Rattle.pt_walk.specs.Left.{bytes_at}
+use Rattle.pt_plan.specs.Carried.{Marked}
 use Rattle.pt_plan.specs.Job.{Job}
 use Rattle.pt_plan.specs.Run.{Held, with_fed}
 use Rattle.pt_plan.specs.Store.{pairtree_of}
@@ -96,51 +96,51 @@ copy_lowers {job} {s} {prefix} {past} {object} {held} {position} {left} {byte} {
 
 -- ---- each turn
 
-after_sidecar : (job : Job) (source : Forest) (root : Tree) (count : ℕ) (object : Object) (held : Held) (flat : Bool) → 0 < items_to_make job source object (to_site object held.trail) held.rows part.Sidecar
-    → Lowers job source root count (phase.Make object part.Sidecar) held (cond flat (phase.Rename object) (phase.Tuples object 0)) (with_fed held [])
-after_sidecar job source root count object held true some = omega (arith, some)
-after_sidecar job source root count object held false some = omega (arith, some)
+after_sidecar : (job : Job) (source : Forest) (marks : List Marked) (count : ℕ) (object : Object) (held : Held) (flat : Bool) → 0 < items_to_make job source object (to_site object held.trail) held.rows part.Sidecar
+    → Lowers job source marks count (phase.Make object part.Sidecar) held (cond flat (phase.Rename object) (phase.Tuples object 0)) (with_fed held [])
+after_sidecar job source marks count object held true some = omega (arith, some)
+after_sidecar job source marks count object held false some = omega (arith, some)
 
 pub makes_lower : MakingLowers
 unfolding Answers IsRead
-makes_lower job past s new root prefix here held after calls next (MakesStaging was object) answers at part_is =
+makes_lower job past s new marks prefix here held after calls next (MakesStaging was object) answers at part_is =
     let b = bytes_there s.tree object (to_site object was.trail) in
     let less = one_less (next_staging job object was.rows b) refl in
     omega (arith, less)
-makes_lower job past s new root prefix here held after calls next (MakesDeclaration was object) answers at part_is =
+makes_lower job past s new marks prefix here held after calls next (MakesDeclaration was object) answers at part_is =
     let b = bytes_there s.tree object (to_site object was.trail) in
     let less = one_less (next_declaration job object was.rows b) refl in
     omega (arith, less)
-makes_lower job past s new root prefix here held after calls next (MakesVersion was object) answers at part_is =
+makes_lower job past s new marks prefix here held after calls next (MakesVersion was object) answers at part_is =
     let b = bytes_there s.tree object (to_site object was.trail) in
     let first : Position = record { row = 0; stored = 0; directories = 0 } in
     let less = one_less (next_version job object was.rows b)
     (made_at job object was.rows b first refl ∙ made_first job object was.rows b) in
     let few = no_more_to_copy was.rows first in
     omega (arith, less, few)
-makes_lower job past s new root prefix here held after calls next (PassesRow was object position row is other) answers at part_is =
+makes_lower job past s new marks prefix here held after calls next (PassesRow was object position row is other) answers at part_is =
     let b = bytes_there s.tree object (to_site object was.trail) in
     let same = ap length (made_at job object was.rows b (behind position) (stored_passed was.rows was.contents position row at.rows.contents at.rows.order is other at.numbers)) in
     let one = copy_next was.rows position.row is (passed_known at.rows.contents at.rows.order is other at.numbers) in
     let few = no_more_to_copy was.rows (behind position) in
     omega (arith, same, one, few)
-makes_lower job past s new root prefix here held after calls next (MakesFolder was object position row is stored more) answers at part_is =
+makes_lower job past s new marks prefix here held after calls next (MakesFolder was object position row is stored more) answers at part_is =
     let b = bytes_there s.tree object (to_site object was.trail) in
     let it = is_here job past object position was row at is stored in
     let within = ltb-true position.directories (length row.path) more in
     let less = one_less
     (folder_next job object was.rows was.contents b position row it within) (folder_made job object was.rows was.contents b position row it within) in
     omega (arith, less)
-makes_lower job past s new root prefix here held after calls next (OpensCopy was object position row is stored all) answers at part_is =
+makes_lower job past s new marks prefix here held after calls next (OpensCopy was object position row is stored all) answers at part_is =
     let b = bytes_there s.tree object (to_site object was.trail) in
     let it = is_here job past object position was row at is stored in
     let some = some_left (file_next job object was.rows was.contents b position row it (ltb-false position.directories (length row.path) all)) in
     let one = copied_next it in
     omega (arith, some, one)
-makes_lower job past s new root prefix here held after calls next (CopiesOn was object position left byte block fits) answers at part_is =
+makes_lower job past s new marks prefix here held after calls next (CopiesOn was object position left byte block fits) answers at part_is =
     let less = copy_lowers part_is (answers.0 s refl) in
     omega (arith, less)
-makes_lower job past s new root prefix here held after calls next (EndsCopy was object position row left is whole) answers at part_is =
+makes_lower job past s new marks prefix here held after calls next (EndsCopy was object position row left is whole) answers at part_is =
     let b = bytes_there s.tree object (to_site object was.trail) in
     let it = copy_here job past object position left was row at is in
     let stand = copy_stands was position row is at.numbers in
@@ -150,18 +150,18 @@ makes_lower job past s new root prefix here held after calls next (EndsCopy was 
     (made_at job object was.rows b later (stored_more was.rows was.contents position row it.are it.order it.is it.stored it.at) ∙ file_made job object was.rows was.contents b position row it stand) in
     let few = no_more_to_copy was.rows later in
     omega (arith, less, few)
-makes_lower job past s new root prefix here held after calls next (MakesVersionInventory was object) answers at part_is =
+makes_lower job past s new marks prefix here held after calls next (MakesVersionInventory was object) answers at part_is =
     let b = bytes_there s.tree object (to_site object was.trail) in
     let less = one_less (next_first job object was.rows b) (after_first job object was.rows b) in
     omega (arith, less)
-makes_lower job past s new root prefix here held after calls next (MakesVersionSidecar was object) answers at part_is =
+makes_lower job past s new marks prefix here held after calls next (MakesVersionSidecar was object) answers at part_is =
     let b = bytes_there s.tree object (to_site object was.trail) in
     let less = one_less (next_second job object was.rows b) (after_second job object was.rows b) in
     omega (arith, less)
-makes_lower job past s new root prefix here held after calls next (MakesInventory was object) answers at part_is =
+makes_lower job past s new marks prefix here held after calls next (MakesInventory was object) answers at part_is =
     let b = bytes_there s.tree object (to_site object was.trail) in
     let less = one_less (next_third job object was.rows b) (after_third job object was.rows b) in
     omega (arith, less)
-makes_lower job past s _ root _ _ _ _ _ _ (MakesSidecar was object) _ _ _ =
+makes_lower job past s _ marks _ _ _ _ _ _ (MakesSidecar was object) _ _ _ =
     let b = bytes_there s.tree object (to_site object was.trail) in
-    after_sidecar job s.tree root past.count object was (job.tuples.count == 0) (some_left (next_fourth job object was.rows b))
+    after_sidecar job s.tree marks past.count object was (job.tuples.count == 0) (some_left (next_fourth job object was.rows b))

@@ -2,9 +2,9 @@
 use Rattle.std.proofs.Common.{◌<◌, ℕ, ◌+◌, Bool, true, false, List, ap, arith, cond}
 use Rattle.std.specs.Prelude.{nat_lt}
 use Rattle.pt_tree.specs.Forest.{Forest}
-use Rattle.pt_tree.specs.Tree.{Tree}
 use Rattle.pt_walk.specs.Trail.{sought}
 use Rattle.pt_walk.specs.declared.frame.Frame.{Frame}
+use Rattle.pt_plan.specs.Carried.{Marked}
 use Rattle.pt_plan.specs.Job.{Job}
 use Rattle.pt_plan.specs.Run.{Held}
 use Rattle.pt_plan.specs.TurnPlace.{FindsTuple, MakesTuple, TellsDone}
@@ -14,15 +14,15 @@ use Rattle.pt_begun.proofs.source.InObject.{site_itself}
 use Rattle.pt_begun.specs.WorkLaws.{Lowers, PlacingLowers}
 use Rattle.pt_begun.specs.WorkLeft.{still_listed}
 
-passes_tuple : (job : Job) (source : Forest) (root : Tree) (count : ℕ) (held : Held) (object : Object) {number : ℕ} (more : Bool) → number < job.tuples.count
-    → Lowers job source root count (phase.Tuples object number) held (cond more (phase.Tuples object (number + 1)) (phase.Rename object)) held
-passes_tuple job source root count held object true within = omega (arith, within)
-passes_tuple job source root count held object false within = omega (arith, within)
+passes_tuple : (job : Job) (source : Forest) (marks : List Marked) (count : ℕ) (held : Held) (object : Object) {number : ℕ} (more : Bool) → number < job.tuples.count
+    → Lowers job source marks count (phase.Tuples object number) held (cond more (phase.Tuples object (number + 1)) (phase.Rename object)) held
+passes_tuple job source marks count held object true within = omega (arith, within)
+passes_tuple job source marks count held object false within = omega (arith, within)
 
 pub places_lower : PlacingLowers
-places_lower job _ past source root _ _ _ _ _ (MakesTuple was object number) at = passes_tuple job source root past.count was object (nat_lt (number + 1) job.tuples.count) at.numbers
-places_lower job _ past source root _ _ _ _ _ (FindsTuple was object number) at = passes_tuple job source root past.count was object (nat_lt (number + 1) job.tuples.count) at.numbers
-places_lower job counts past source root here next held after calls (TellsDone was object) at =
+places_lower job _ past source marks _ _ _ _ _ (MakesTuple was object number) at = passes_tuple job source marks past.count was object (nat_lt (number + 1) job.tuples.count) at.numbers
+places_lower job _ past source marks _ _ _ _ _ (FindsTuple was object number) at = passes_tuple job source marks past.count was object (nat_lt (number + 1) job.tuples.count) at.numbers
+places_lower job counts past source marks here next held after calls (TellsDone was object) at =
     let same = ap (λ (t : List Frame). still_listed (sought 0 t)) (site_itself object was.trail at.ends.1) in
     omega (arith, same)
-places_lower job counts past source root here next held after calls _ at = omega arith
+places_lower job counts past source marks here next held after calls _ at = omega arith

@@ -45,7 +45,7 @@ same_met job same = ap (λ (o : PairtreeObject). sum_by (λ (entry : Entry). wor
 
 pub scans_lower : ScanningLowers
 unfolding Answers IsListed IsRead
-scans_lower job past s new root prefix here next held after calls (StartsInSite was object gathered) answers at known =
+scans_lower job past s new marks prefix here next held after calls (StartsInSite was object gathered) answers at known =
     let t = was.trail in
     let stands = known.at.2 in
     let at_site = known.at.3 in
@@ -60,7 +60,7 @@ scans_lower job past s new root prefix here next held after calls (StartsInSite 
     let work = same_work job object same in
     let walk = site_sought object t at_site in
     omega (arith, few, none, all, leave, work, walk)
-scans_lower job past s new root prefix here next held after calls (EntersObject was object items apart shallow) answers at known =
+scans_lower job past s new marks prefix here next held after calls (EntersObject was object items apart shallow) answers at known =
     let t = was.trail in
     let stands = known.at.2 in
     let at_site = known.at.3 in
@@ -71,10 +71,10 @@ scans_lower job past s new root prefix here next held after calls (EntersObject 
     let none = ap (λ (n : ℕ). to_meet job.limits (length other.at) n (left_of s.tree object (entered items t))) (ap length known.at.0.rows) in
     let all = same_met job (ap (object_at s.tree object) site) in
     let leave = leave_directory object items t apart at_site in
-    let behind = ap (after_scan job s.tree root past.count object) site in
+    let behind = ap (after_scan job s.tree marks past.count object) site in
     omega (arith, few, none, all, leave, behind)
-scans_lower job past s new root prefix here next held after calls (IsTooDeep was object apart deep) answers at known = omega arith
-scans_lower job past s new root prefix here next held after calls (PassesShorty was object item e passed) answers at known =
+scans_lower job past s new marks prefix here next held after calls (IsTooDeep was object apart deep) answers at known = omega arith
+scans_lower job past s new marks prefix here next held after calls (PassesShorty was object item e passed) answers at known =
     let t = was.trail in
     let it = known.at.1 in
     let left = left_shorty s.tree object t item (pairtree_proper s.tree known.at.0.store known.proper) it.stands.fits e passed it.inside in
@@ -86,7 +86,7 @@ scans_lower job past s new root prefix here next held after calls (PassesShorty 
     let work = same_work job object same in
     let walk = (site_on object t).0 in
     omega (arith, meets, leave, work, walk)
-scans_lower job past s new root prefix here next held after calls (EntersDirectory was object name items e apart shallow) answers at known =
+scans_lower job past s new marks prefix here next held after calls (EntersDirectory was object name items e apart shallow) answers at known =
     let t = was.trail in
     let it = known.at.1 in
     let listed : listing_at (pairtree_of s.tree) (names_to t) ≡ Some items = sym (listing_in s.tree (names_to t) known.at.0.store) ∙ answers.0 s refl in
@@ -95,9 +95,9 @@ scans_lower job past s new root prefix here next held after calls (EntersDirecto
     let other = same_meets job (length was.rows) (left_of s.tree object (entered items t)) (ap (object_at s.tree object) site) in
     let own = own_entered object items t it.stands.within in
     let here_is = ap (λ (l : List Frame). cond object.gathered (still_here l) 0) site in
-    let behind = ap (after_scan job s.tree root past.count object) site in
+    let behind = ap (after_scan job s.tree marks past.count object) site in
     omega (arith, meets, other, own, here_is, behind)
-scans_lower job past s new root prefix here next held after calls (OpensFile was object name e room) answers at known =
+scans_lower job past s new marks prefix here next held after calls (OpensFile was object name e room) answers at known =
     let t = was.trail in
     let it = known.at.1 in
     let bytes = bytes_at (pairtree_of s.tree) (names_to t) in
@@ -105,20 +105,20 @@ scans_lower job past s new root prefix here next held after calls (OpensFile was
     let none : length bytes - 0 ≡ length bytes = omega arith in
     let whole = ap reads none in
     omega (arith, meets, whole)
-scans_lower job past s new root prefix here next held after calls (EndsSite was object e in_site) answers at known =
+scans_lower job past s new marks prefix here next held after calls (EndsSite was object e in_site) answers at known =
     let later = scans_source job past s s prefix here next held after calls (EndsSite was object e in_site) refl at known in
     let comes = comes_to s.tree object (to_site object was.trail) (pairtree_proper s.tree known.at.0.store known.proper) later.at.1.scanned at.rows known.bytes in
     let some = known.at.1.inside in
     omega (arith, comes, some)
-scans_lower job past s new root prefix here next held after calls (EndsObject was object e in_site own) answers at known =
+scans_lower job past s new marks prefix here next held after calls (EndsObject was object e in_site own) answers at known =
     let t = was.trail in
     let later = scans_source job past s s prefix here next held after calls (EndsObject was object e in_site own) refl at known in
     let below = below_site_of object t in_site known.at.1.stands.within in
     let comes = comes_to s.tree object (to_site object (parent t)) (pairtree_proper s.tree known.at.0.store known.proper) later.at.1.scanned at.rows later.bytes in
-    let behind = ap (after_scan job s.tree root past.count object) (site_parent object t below) in
+    let behind = ap (after_scan job s.tree marks past.count object) (site_parent object t below) in
     let some = known.at.1.inside in
     omega (arith, comes, behind, some)
-scans_lower job past s new root prefix here next held after calls (LeavesDirectory was object e in_site own) answers at known =
+scans_lower job past s new marks prefix here next held after calls (LeavesDirectory was object e in_site own) answers at known =
     let t = was.trail in
     let it = known.at.1 in
     let below = below_site_of object t in_site it.stands.within in
@@ -132,11 +132,11 @@ scans_lower job past s new root prefix here next held after calls (LeavesDirecto
     let work = same_work job object same in
     let walk = site_behind object t below in
     omega (arith, meets, leave, work, walk)
-scans_lower job past s new root prefix here next held after calls (ReadsOn was object bytes byte block short) answers at known =
+scans_lower job past s new marks prefix here next held after calls (ReadsOn was object bytes byte block short) answers at known =
     let whole = bytes_at (pairtree_of s.tree) (names_to was.trail) in
     let less = block_read known.at.2.read (answers.0 s refl) in
     omega (arith, less)
-scans_lower job past s new root prefix here next held after calls (EndsFile was object bytes) answers at known =
+scans_lower job past s new marks prefix here next held after calls (EndsFile was object bytes) answers at known =
     let t = was.trail in
     let it = known.at.1 in
     let file = known.at.2 in
@@ -154,4 +154,4 @@ scans_lower job past s new root prefix here next held after calls (EndsFile was 
     let work = same_work job object same in
     let walk = (site_on object t).0 in
     omega (arith, meets, moved, rows, leave, work, walk)
-scans_lower job past s new root prefix here next held after calls _ answers at known = let some = known.at.1.inside in omega (arith, some)
+scans_lower job past s new marks prefix here next held after calls _ answers at known = let some = known.at.1.inside in omega (arith, some)

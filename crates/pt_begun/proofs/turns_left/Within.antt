@@ -1,10 +1,12 @@
 -- A run makes no more turns than its work.
-use Rattle.std.proofs.Common.{◌≡◌, ◌<◌, ℕ, List, false, refl, ap, sym, ◌∙◌, subst, arith}
-use Rattle.std.specs.Prelude.{Option, None, Some, Ok}
+use Rattle.std.proofs.Common.{◌≡◌, ◌<◌, ℕ, List, [], ◌∷◌, ◌++◌, false, refl, ap, sym, ◌∙◌, subst, arith}
+use Rattle.std.specs.Prelude.{Option, None, Some, Ok, map}
 use Rattle.std.proofs.lemmas.Bool.{true≢false}
 use Rattle.pt_tree.specs.Forest.{Forest}
 use Rattle.pt_tree.specs.Source.{Reading}
 use Rattle.pt_tree.specs.Tree.{Tree}
+use Rattle.pt_plan.specs.Carried.{Marked, marked, marked_after}
+use Rattle.pt_plan.specs.Items.{Item, items}
 use Rattle.pt_plan.specs.Job.{Job}
 use Rattle.pt_plan.specs.Lines.{Done, End, Line, Present, Skipped}
 use Rattle.pt_plan.specs.Roots.{root_in}
@@ -19,9 +21,10 @@ use Rattle.pt_begun.specs.BegunSource.{SourcePart}
 use Rattle.pt_begun.specs.EndLaws.{is_ended}
 use Rattle.pt_begun.specs.Past.{Past, done_after, no_past, past_after}
 use Rattle.pt_begun.proofs.ends.NewRun.{new_past}
+use Rattle.pt_begun.proofs.source.InPairtree.{some_same}
 use Rattle.pt_begun.proofs.source.SourceKeeps.{tree_kept}
 use Rattle.pt_begun.proofs.ends.TurnKeeps.{told_source, turned}
-use Rattle.pt_begun.specs.WorkLaws.{BegunWithinWork, IsWithinWork, Lowers, NewRunIsWithinWork, TurnIsLeft, TurnKeepsWithinWork, TurnsAreWithinWork, WithinWorkIsBegun}
+use Rattle.pt_begun.specs.WorkLaws.{AreMarked, BegunWithinWork, EntersFree, IsWithinWork, Lowers, NewRunIsWithinWork, TurnIsLeft, TurnKeepsWithinWork, TurnsAreWithinWork, WithinWorkIsBegun}
 use Rattle.pt_begun.specs.WorkLeft.{left}
 use Rattle.pt_begun.proofs.turns_left.MakesLower.{makes_lower}
 use Rattle.pt_begun.proofs.turns_left.PlacesLower.{places_lower}
@@ -29,26 +32,36 @@ use Rattle.pt_begun.proofs.turns_left.ScansLower.{scans_lower}
 use Rattle.pt_begun.proofs.turns_left.StartsLower.{starts_lower}
 use Rattle.pt_begun.proofs.turns_left.WalksLower.{walks_lower}
 
+-- ---- the marks of a run
+
+marks_of : (job : Job) (root : Tree) (earlier others : List Item) → map (λ (m : Marked). m.0) (marked_after job root earlier others) ≡ others
+marks_of job root earlier [] = refl
+marks_of job root earlier (item ∷ others) = ap (λ (l : List Item). item ∷ l) (marks_of job root (earlier ++ item ∷ []) others)
+
+enters_free : (job : Job) (source : Forest) (root : Tree) (next : Phase) (count : ℕ) → IsFreeAt next job source root count → EntersFree next (marked job source root) count
+enters_free _ _ _ (phase.OpenObject _) _ (mine, is) = λ item taken found. ap (λ (m : Marked). m.1) (some_same (item, taken) (mine, false) (sym found ∙ is))
+enters_free _ _ _ _ _ free = tt
+
 -- ---- a turn lowers what is left
 
 -- the groups together
-follows_lower : {job : Job} {past : Past} {s : Reading} (new : Reading) (root : Tree) {counts : Counts} {here : Phase} {prefix : List ℕ} {held : Held} {read : List ℕ} {after : Held} {calls : Calls} {next : Phase} → Follows job counts here prefix held read after calls (Ok next)
-    → Answers calls.asked (Some s) (Some new) → HeldAt job past here held → SourcePart job past here prefix held s → IsFreeAt next job s.tree root (done_after here held.trail next past.count) → Lowers job s.tree root past.count here held next after
-follows_lower {job} {past} {s} _ root {here} {prefix} {held} {read} {calls} {next} (a_start _ _ _ _ _ _ turn) _ at _ _ = starts_lower job past s.tree root prefix read here next held calls turn at
-follows_lower {job} {past} {s} new root {here} {prefix} {held} {after} {calls} {next} (Walk _ _ _ _ _ _ turn) answers at known free = walks_lower job past s new root prefix here next held after calls turn answers at known free
-follows_lower {job} {past} {s} new root {here} {prefix} {held} {after} {calls} {next} (Scan _ _ _ _ _ _ turn) answers at known _ = scans_lower job past s new root prefix here next held after calls turn answers at known
-follows_lower {job} {past} {s} new root {here} {prefix} {held} {after} {calls} {next} (Make _ _ _ _ _ _ turn) answers at known _ = makes_lower job past s new root prefix here held after calls next turn answers at known
-follows_lower {job} {past} {s} _ root {counts} {here} {held} {after} {calls} {next} (Place _ _ _ _ _ _ turn) _ at _ _ = places_lower job counts past s.tree root here next held after calls turn at
+pub follows_lower : {job : Job} {past : Past} {s : Reading} (new : Reading) (marks : List Marked) → AreMarked (items job s.tree) marks → {counts : Counts} {here : Phase} {prefix : List ℕ} {held : Held} {read : List ℕ} {after : Held} {calls : Calls} {next : Phase} → Follows job counts here prefix held read after calls (Ok next)
+    → Answers calls.asked (Some s) (Some new) → HeldAt job past here held → SourcePart job past here prefix held s → EntersFree next marks (done_after here held.trail next past.count) → Lowers job s.tree marks past.count here held next after
+follows_lower {job} {past} {s} _ marks are {here} {prefix} {held} {read} {calls} {next} (a_start _ _ _ _ _ _ turn) _ at _ _ = starts_lower job past s.tree marks prefix read here next held calls turn at
+follows_lower {job} {past} {s} new marks are {here} {prefix} {held} {after} {calls} {next} (Walk _ _ _ _ _ _ turn) answers at known free = walks_lower job past s new marks prefix here next held after calls turn answers at known are free
+follows_lower {job} {past} {s} new marks are {here} {prefix} {held} {after} {calls} {next} (Scan _ _ _ _ _ _ turn) answers at known _ = scans_lower job past s new marks prefix here next held after calls turn answers at known
+follows_lower {job} {past} {s} new marks are {here} {prefix} {held} {after} {calls} {next} (Make _ _ _ _ _ _ turn) answers at known _ = makes_lower job past s new marks prefix here held after calls next turn answers at known
+follows_lower {job} {past} {s} _ marks are {counts} {here} {held} {after} {calls} {next} (Place _ _ _ _ _ _ turn) _ at _ _ = places_lower job counts past s.tree marks here next held after calls turn at
 
 -- before the end one turn is left at least
-some_left : (job : Job) (source : Forest) (root : Tree) (count : ℕ) (here : Phase) (held : Held) → is_ended here ≡ false → 0 < left job source root count here held
+pub some_left : (job : Job) (source : Forest) (marks : List Marked) (count : ℕ) (here : Phase) (held : Held) → is_ended here ≡ false → 0 < left job source marks count here held
 some_left _ _ _ _ phase.Ended _ not = absurd (true≢false not)
-some_left job source root count _ held not = omega arith
+some_left job source marks count _ held not = omega arith
 
 -- ---- the turns
 
 -- no line changes how many turns were made
-same_turns : (line : Option Line) (counts : Counts) → (counted line counts).turns ≡ counts.turns
+pub same_turns : (line : Option Line) (counts : Counts) → (counted line counts).turns ≡ counts.turns
 same_turns None _ = refl
 same_turns (Some (Done at bytes empty files id to)) _ = refl
 same_turns (Some (Present at id to)) _ = refl
@@ -86,7 +99,8 @@ turn_keeps_within_work job start old new run after next (past, is, within) (Goes
         let answers = subst (λ o. Answers calls.asked o (Some v)) told.1 asked in
         let tree = tree_kept calls.asked s v answers in
         let free = subst (λ (f : Forest). IsFreeAt next job f (root_in t) later.count) tree (is_later.items v same t some).places.next in
-        let lowers = follows_lower v (root_in t) turn answers is.held (is.source s told.1) free in
+        let enters = enters_free job s.tree (root_in t) next later.count free in
+        let lowers = follows_lower v (marked job s.tree (root_in t)) (marks_of job (root_in t) [] (items job s.tree)) turn answers is.held (is.source s told.1) enters in
         let was = (within s told.1 t some).within in
         let one = ap (λ (c : Counts). c.turns) counts ∙ same_turns calls.line (turning run.kept).counts in
         subst (λ (f : Forest). IsWithinWork job f (root_in t) later.count goes_on) (sym tree) (record { within = omega (arith, lowers, was, one) })
@@ -95,7 +109,7 @@ pub turn_is_left : TurnIsLeft
 unfolding BegunWithinWork
 turn_is_left job start world run s t (past, is, within) not told some =
     let was = (within s told t some).within in
-    let more = some_left job s.tree (root_in t) past.count run.phase run.kept.held not in
+    let more = some_left job s.tree (marked job s.tree (root_in t)) past.count run.phase run.kept.held not in
     omega (arith, was, more)
 
 pub turns_are_within_work : TurnsAreWithinWork
@@ -103,20 +117,20 @@ unfolding BegunWithinWork
 turns_are_within_work job start old new run after _ s t (past, is, within) not (GoesOn calls next turn did counts) told some =
     let was = (within s told t some).within in
     let one = ap (λ (c : Counts). c.turns) counts ∙ same_turns calls.line (turning run.kept).counts in
-    let more = some_left job s.tree (root_in t) past.count run.phase run.kept.held not in
+    let more = some_left job s.tree (marked job s.tree (root_in t)) past.count run.phase run.kept.held not in
     omega (arith, was, one, more)
 turns_are_within_work job start old new run after _ s t (past, is, within) not (IsRefused prefix held calls why turn did halted) told some =
     let was = (within s told t some).within in
     let one = ap (λ (c : Counts). c.turns) halted.counts in
-    let more = some_left job s.tree (root_in t) past.count run.phase run.kept.held not in
+    let more = some_left job s.tree (marked job s.tree (root_in t)) past.count run.phase run.kept.held not in
     omega (arith, was, one, more)
 turns_are_within_work job start old new run after _ s t (past, is, within) not (FailsAtFirst why stays halted) told some =
     let was = (within s told t some).within in
     let one = ap (λ (c : Counts). c.turns) halted.counts in
-    let more = some_left job s.tree (root_in t) past.count run.phase run.kept.held not in
+    let more = some_left job s.tree (marked job s.tree (root_in t)) past.count run.phase run.kept.held not in
     omega (arith, was, one, more)
 turns_are_within_work job start old new run after _ s t (past, is, within) not (FailsLater prefix held calls answer rows why turn leaves which halted) told some =
     let was = (within s told t some).within in
     let one = ap (λ (c : Counts). c.turns) halted.counts in
-    let more = some_left job s.tree (root_in t) past.count run.phase run.kept.held not in
+    let more = some_left job s.tree (marked job s.tree (root_in t)) past.count run.phase run.kept.held not in
     omega (arith, was, one, more)

@@ -1,5 +1,6 @@
 use Rattle.std.proofs.Common.{refl, rules, sym, ◌∙◌}
-use Rattle.pt_audit.proofs.Telling.{first_step, same_end, same_failures, same_trees, surveys_first}
+use Rattle.pt_audit.proofs.Telling.{first_step, same_end, same_layout, same_trees, surveys_first}
+use Rattle.pt_audit.proofs.Saying.{same_failures}
 use Rattle.pt_survey.specs.Growing.{grows_none, grows_on}
 use Rattle.pt_audit.proofs.auditing.audit.Goals as goal
 
@@ -37,7 +38,13 @@ pub returns-then-not-branch-clause-ends : goal.returns-then-not-branch-clause-en
 returns-then-not-branch-clause-ends g c =
     let was = c.loop-survey.invariant in
     let went = c.in_ok-go_on.ensures in
-    same_end c.in_ok-go_on.field-0 c.args.job _ _ _ _ _ _ _ _ c.with_skipped.result c.go_on.new.survey (search rules) (went.still.1.0 ∙ was.2) (search rules) (sym was.3.1) (sym was.4.1) (went.on _ was.0)
+    same_end c.in_ok-go_on.field-0 c.args.job _ _ _ _ _ _ _ _ c.with_skipped.result c.go_on.new.survey (search rules) (went.still.1.job ∙ was.2) (search rules) (sym was.3.1) (sym was.4.1) (went.on _ was.0)
+
+pub returns-then-not-branch-clause-layout : goal.returns-then-not-branch-clause-layout
+returns-then-not-branch-clause-layout g c =
+    let was = c.loop-survey.invariant in
+    let went = c.in_ok-go_on.ensures in
+    same_layout c.in_ok-go_on.field-0 c.args.job _ _ _ _ _ _ _ c.go_on.new.survey (search rules) (went.still.1.job ∙ was.2) (sym was.4.1) (went.on _ was.0)
 
 pub returns-then-not-branch-clause-source : goal.returns-then-not-branch-clause-source
 returns-then-not-branch-clause-source g c =
@@ -63,7 +70,7 @@ loop-survey-preserved g c =
     let went = c.in_ok-go_on.ensures in (
       same_trees c.in_ok-go_on.field-0 _ _ _ _ _ _ _ _ c.go_on.new.survey (search rules) went.source.1 went.root.1 (went.on _ was.0),
       went.still.0,
-      went.still.1.0 ∙ was.2,
+      went.still.1.job ∙ was.2,
       (g.met.S.Source.keeps_on _ _ _ was.3.0 went.source.0, went.source.1 ∙ was.3.1),
       (g.met.R.Source.keeps_on _ _ _ was.4.0 went.root.0, went.root.1 ∙ was.4.1),
       (g.met.L.Log.keeps_on _ _ _ was.5.0 went.log.0, grows_on _ _ _ was.5.1 went.log.1),

@@ -16,7 +16,7 @@ returns-in_err-tell-clause-log g c = (
 
 pub returns-clause-on : goal.returns-clause-on
 returns-clause-on g c = λ first it.
-    step_told c.in_ok-tell.field-0 _ _ _ _ first _ _ _ _ _ _ _ c.in_ok-sight.ensures.source.1 c.in_ok-sight.ensures.on c.in_ok-tell.ensures.on it
+    step_told c.in_ok-tell.field-0 _ _ _ _ first _ _ _ _ _ _ _ c.in_ok-sight.ensures.source.1 c.in_ok-sight.ensures.steps.order c.in_ok-sight.ensures.on c.in_ok-tell.ensures.on it
 
 pub returns-clause-log : goal.returns-clause-log
 returns-clause-log g c = (

@@ -1,7 +1,40 @@
-use Rattle.std.proofs.Common.{rules}
-use Rattle.pt_audit.proofs.Telling.{on_end}
+use Rattle.std.proofs.Common.{rules, subst}
+use Rattle.pt_audit.proofs.Saying.{has_layout, says_err, says_failed, says_layout}
+use Rattle.pt_audit.proofs.Telling.{on_end, on_store}
+use Rattle.pt_audit.specs.Auditing.{IsAt}
+use Rattle.pt_compare.specs.Root.{tree_in}
+use Rattle.pt_plan.specs.World.{source_tree}
 use Rattle.pt_audit.proofs.auditing.tell.Goals as goal
 
 pub returns-in_ok-tell_end-in-End-clause-on : goal.returns-in_ok-tell_end-in-End-clause-on
 returns-in_ok-tell_end-in-End-clause-on g c = λ first it.
     on_end _ c.args.sight _ first _ _ c.args.counts.now c.with_skipped.result c.args.survey.now c.in-End.is c.requires (search rules) c.in_ok-tell_end-in-End.ensures.told it
+
+pub check_layout-requires : goal.check_layout-requires
+check_layout-requires g c = has_layout _ c.args.sight c.args.survey.now c.job.result.now c.job.ensures c.requires
+
+pub returns-in_err-check_layout-in-Store-clause-says : goal.returns-in_err-check_layout-in-Store-clause-says
+returns-in_err-check_layout-in-Store-clause-says g c =
+    let why = c.in_err-check_layout-in-Store.field-0.0 in
+    says_err c.from_residual.result why c.args.survey.now.state.job (source_tree (g.S.Source.told c.args.source.now)) (tree_in (g.R.Source.told c.args.root.now)) (search rules)
+    (says_layout (g.S.Source.told c.args.source.now) _ c.args.survey.now why _ _ c.job.result.now c.job.ensures
+    (subst (λ w. IsAt (g.S.Source.told c.args.source.now) w c.args.survey.now) c.in-Store.is c.requires)
+    c.in_err-check_layout-in-Store.ensures.layout c.in_err-check_layout-in-Store.ensures.failures)
+
+pub returns-in_err-tell_object-in-Object-clause-says : goal.returns-in_err-tell_object-in-Object-clause-says
+returns-in_err-tell_object-in-Object-clause-says g c =
+    let why = c.in_err-tell_object-in-Object.field-0.0 in
+    says_err c.from_residual-in_err-tell_object-in-Object.result why c.args.survey.now.state.job (source_tree (g.S.Source.told c.args.source.now)) (tree_in (g.R.Source.told c.args.root.now)) (search rules)
+    (says_failed c.args.survey.now.state.job _ _ why _ _ c.in_err-tell_object-in-Object.ensures.fails)
+
+pub returns-in_err-tell_end-in-End-clause-says : goal.returns-in_err-tell_end-in-End-clause-says
+returns-in_err-tell_end-in-End-clause-says g c =
+    let why = c.in_err-tell_end-in-End.field-0.0 in
+    says_err c.from_residual-in_err-tell_end-in-End.result why c.args.survey.now.state.job (source_tree (g.S.Source.told c.args.source.now)) (tree_in (g.R.Source.told c.args.root.now)) (search rules)
+    (says_failed c.args.survey.now.state.job _ _ why _ _ c.in_err-tell_end-in-End.ensures.fails)
+
+pub returns-in_ok-check_layout-in-Store-clause-on : goal.returns-in_ok-check_layout-in-Store-clause-on
+returns-in_ok-check_layout-in-Store-clause-on g c = λ first it.
+    on_store {told = g.S.Source.told c.args.source.now} {root = tree_in (g.R.Source.told c.args.root.now)} {first = first} (g.L.Log.told c.args.log.now) c.args.counts.now c.args.survey.now c.job.result.now c.job.ensures
+    c.in_ok-check_layout-in-Store.ensures.layout
+    (subst (λ w. IsAt (g.S.Source.told c.args.source.now) w c.args.survey.now) c.in-Store.is c.requires) it

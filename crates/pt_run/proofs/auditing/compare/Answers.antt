@@ -1,9 +1,11 @@
 use Rattle.std.proofs.Common.{ap, sym, subst, ◌∙◌}
-use Rattle.std.specs.Prelude.{IfErr, None}
-use Rattle.pt_move.specs.Outcome.{SaysRightly}
+use Rattle.std.specs.Prelude.{IfErr, OnOk}
+use Rattle.std.specs.Option.{ForSome}
+use Rattle.pt_audit.specs.Failing.{AuditSays}
+use Rattle.pt_audit.specs.Layout.{IsOfLayout}
 use Rattle.pt_state.specs.States.{job_of}
 use Rattle.pt_survey.specs.Growing.{Grows}
-use Rattle.pt_run.proofs.Audited.{ends_as, root_is, store_is}
+use Rattle.pt_run.proofs.Audited.{ends_as, root_is, says_as, store_is}
 use Rattle.pt_run.proofs.auditing.compare.Goals as goal
 
 pub returns : goal.returns
@@ -28,7 +30,8 @@ returns g c =
     record {
       ran = c.audit-ran.result;
       ends = ends_as c.audit-ran.result (job_of wanted.job) store folder first (ap contents (sym output)) made.ends;
-      says = subst (λ t. IfErr c.audit-ran.result (SaysRightly wanted.job t None)) store made.says;
+      layout = subst (λ t. OnOk c.audit-ran.result (ForSome t (IsOfLayout (job_of wanted.job)))) folder made.layout;
+      says = says_as c.audit-ran.result wanted.job store folder made.says;
       store_stays = sym later ∙ made.source.1 ∙ store;
       root_stays = sym stands ∙ made.root.1 ∙ folder;
       grows = subst (λ l. Grows l (contents c.into_writer.result)) first (subst (Grows _) (ap contents (sym output)) made.log.1);

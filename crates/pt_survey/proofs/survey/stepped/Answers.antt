@@ -1,6 +1,6 @@
 use Rattle.std.proofs.Common.{rules}
 use Rattle.std.specs.Prelude.{None}
-use Rattle.pt_survey.proofs.Stepping.{halt_leaves, halt_leaves_log, halt_well, looking_is, step_leaves, step_leaves_log, step_looks, step_passes, step_well}
+use Rattle.pt_survey.proofs.Stepping.{halt_leaves, halt_leaves_log, halt_well, looking_is, step_leaves, step_leaves_log, step_looks, step_passes, step_steps, step_well}
 use Rattle.pt_survey.proofs.survey.stepped.Goals as goal
 
 pub returns-in_err-pass-clause-well : goal.returns-in_err-pass-clause-well
@@ -31,6 +31,10 @@ pub returns-in_ok-pass-clause-leaves : goal.returns-in_ok-pass-clause-leaves
 returns-in_ok-pass-clause-leaves g c =
     step_leaves_log c.args.here c.in_ok-pass.field-0 _ _ _ _ _ _ None _ _ _ 0 _ (search rules) c.requires.ready c.in_ok-pass.ensures.turn
 
+pub returns-in_ok-pass-clause-steps : goal.returns-in_ok-pass-clause-steps
+returns-in_ok-pass-clause-steps g c =
+    step_steps c.args.here c.in_ok-pass.field-0 _ _ _ _ _ _ None None _ _ _ _ _ _ _ (search rules) c.requires.ready c.in_ok-pass.ensures.turn
+
 pub returns-in_ok-look-clause-on : goal.returns-in_ok-look-clause-on
 returns-in_ok-look-clause-on g c = λ count it.
     step_looks c.args.here c.in_ok-look.field-0 _ _ _ _ _ _ _ _ _ _ _ _ count (search rules)
@@ -43,3 +47,7 @@ returns-in_ok-look-clause-well g c =
 pub returns-in_ok-look-clause-leaves : goal.returns-in_ok-look-clause-leaves
 returns-in_ok-look-clause-leaves g c =
     step_leaves c.args.here c.in_ok-look.field-0 _ _ _ _ _ _ _ _ _ _ _ _ (search rules) c.requires.ready c.in_ok-look.ensures.turn
+
+pub returns-in_ok-look-clause-steps : goal.returns-in_ok-look-clause-steps
+returns-in_ok-look-clause-steps g c =
+    step_steps c.args.here c.in_ok-look.field-0 _ _ _ _ _ _ _ _ _ _ _ _ _ _ _ (search rules) c.requires.ready c.in_ok-look.ensures.turn

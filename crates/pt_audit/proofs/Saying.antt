@@ -1,0 +1,127 @@
+-- What the faults of an audit say, and whom they blame.
+use Rattle.std.proofs.Common.{◌≡◌, ℕ, Bool, true, refl, ap, sym, ◌∙◌, subst, arith, inl, inr}
+use Rattle.std.specs.Prelude.{IfErr, Option, Some, Result, Ok, Err}
+use Rattle.std.specs.String.{string_bytes}
+use Rattle.std.specs.Option.{ForSome}
+use Rattle.pt_audit.specs.Auditing.{IsAt}
+use Rattle.pt_audit.specs.Failing.{AuditSays, BlamesRightly, FailsAs, RootFailsAs, TellFails, failures}
+use Rattle.pt_audit.specs.Layout.{IsOfAnother, TellsLayout}
+use Rattle.pt_begun.specs.BegunSource.{SourcePart}
+use Rattle.pt_move.specs.Fault.{fault_of}
+use Rattle.pt_move.specs.declared.fault.Fault.{Fault}
+use Rattle.pt_name.specs.Tuples.{IsLayout}
+use Rattle.std.proofs.lemmas.Bool.{true≢false}
+use Rattle.pt_move.specs.Outcome.{SaysRightly}
+use Rattle.pt_move.specs.Running.{Running}
+use Rattle.pt_move.proofs.Outcomes.{reading_of}
+use Rattle.pt_plan.specs.Store.{has_prefix, is_store}
+use Rattle.pt_plan.specs.Turn.{HasFailed}
+use Rattle.pt_plan.specs.World.{Failures, source_tree}
+use Rattle.pt_plan.specs.declared.halt.Halt.{Halt}
+use Rattle.pt_plan.specs.declared.halt.Halt.TheVariants as halt
+use Rattle.pt_plan.specs.declared.phase.Phase.{Phase}
+use Rattle.pt_plan.specs.declared.phase.Phase.TheVariants as phase
+use Rattle.pt_state.specs.States.{held_of, job_of}
+use Rattle.pt_state.specs.declared.job.Job as own
+use Rattle.pt_survey.specs.Surveying.{IsSurvey, SurveySays, is_of_dest, Surveys, sight_at}
+use Rattle.pt_survey.specs.declared.survey.Sight.{Sight}
+use Rattle.pt_survey.specs.declared.survey.Sight.TheVariants as sight
+use Rattle.pt_tree.specs.Failures.{HasRisen}
+use Rattle.pt_tree.specs.Forest.{Forest}
+use Rattle.pt_tree.specs.Source.{Reading}
+
+-- ---- what they say
+
+-- a device's fault and want of memory say nothing of source and root
+pub says_failed : (job : own.Job) (source root : Option Forest) (why : Halt) (old new : Failures) → HasFailed why old new → AuditSays job source root (fault_of why)
+unfolding SaysRightly
+says_failed job source root halt.Source old new it = record { rightly = (λ s e. tt, λ t e. absurd (cc), λ s t e f. absurd (cc)); target = λ is. absurd (cc); staging = λ is. absurd (cc); turns = λ is. absurd (cc) }
+says_failed job source root halt.Dest old new it = record { rightly = (λ s e. tt, λ t e. absurd (cc), λ s t e f. absurd (cc)); target = λ is. absurd (cc); staging = λ is. absurd (cc); turns = λ is. absurd (cc) }
+says_failed job source root halt.Log old new it = record { rightly = (λ s e. tt, λ t e. absurd (cc), λ s t e f. absurd (cc)); target = λ is. absurd (cc); staging = λ is. absurd (cc); turns = λ is. absurd (cc) }
+says_failed job source root halt.Memory old new it = record { rightly = (λ s e. tt, λ t e. absurd (cc), λ s t e f. absurd (cc)); target = λ is. absurd (cc); staging = λ is. absurd (cc); turns = λ is. absurd (cc) }
+says_failed job source root _ old new it = absurd it
+
+-- so an answer with it says
+pub says_err : (answer : Result Bool Halt) (why : Halt) (job : own.Job) (source root : Option Forest) → answer ≡ Err why → AuditSays job source root (fault_of why) → IfErr answer (λ w. AuditSays job source root (fault_of w))
+says_err answer why job source root is says = subst (λ (r : Result Bool Halt). IfErr r (λ w. AuditSays job source root (fault_of w))) (sym is) says
+
+-- what a survey says
+pub says_survey : (job : own.Job) (source root : Option Forest) (f : Fault) → SurveySays job source f → AuditSays job source root f
+says_survey job source root f says = record {
+  rightly = says.rightly;
+  target = λ is. absurd (true≢false (sym (ap is_of_dest is) ∙ says.no_dest));
+  staging = λ is. absurd (true≢false (sym (ap is_of_dest is) ∙ says.no_dest));
+  turns = says.turns;
+}
+
+-- the layout that a survey has
+pub has_layout : (told : Option Reading) (what : Sight) (r : Running) (job : own.Job) → job ≡ r.state.job → IsAt told what r → IsLayout job.layout
+unfolding Surveys
+has_layout told what r job same at = subst (λ (j : own.Job). IsLayout j.layout) (sym same) at.under_way.1.is.layout
+
+-- a root of another layout is told only of a store with a good prefix
+store_at : (here : Phase) → sight_at here ≡ sight.Store → here ≡ phase.OpenRoot
+store_at phase.OpenRoot is = refl
+store_at _ is = absurd (cc)
+
+pub says_layout : (told : Option Reading) (root : Option Forest) (r : Running) (why : Halt) (old new : ℕ) → (job : own.Job) → job ≡ r.state.job → IsAt told sight.Store r → ForSome root (TellsLayout {T = Unit {0}} (job_of job) (Err why)) → RootFailsAs {T = Unit {0}} (Err why) old new → AuditSays r.state.job (source_tree told) root (fault_of why)
+unfolding SaysRightly Surveys
+says_layout told root r halt.Dest old new job same at layout it = says_failed r.state.job (source_tree told) root halt.Dest (failures 0 old 0) (failures 0 new 0) (refl, it, refl)
+says_layout told root r halt.Memory old new job same at layout it = says_failed r.state.job (source_tree told) root halt.Memory (failures 0 old 0) (failures 0 old 0) refl
+says_layout told root r halt.Target old new job same at layout it = record {
+  rightly = (λ s e. started s e at.under_way, λ t e. absurd (cc), λ s t e f. absurd (cc));
+  target = λ is. subst (λ (j : own.Job). ForSome root (IsOfAnother (job_of j))) same layout;
+  staging = λ is. absurd (cc);
+  turns = λ is. absurd (cc);
+}
+  where
+    started : (s : Forest) → source_tree told ≡ Some s → (count : ℕ) × IsSurvey told count r → (is_store s ≡ true) × (has_prefix s ≡ true)
+    started s e (count, it) =
+        let had = reading_of told e in
+        let part = subst (λ (p : Phase). SourcePart (job_of r.state.job) it.past p (string_bytes r.state.prefix) (held_of r.state it.fed) had.0) (store_at r.phase (sym at.saw)) (it.is.source had.0 had.1) in
+        subst (λ (t : Forest). (is_store t ≡ true) × (has_prefix t ≡ true)) had.2 (part.at.2.store, part.at.2.good)
+says_layout told root r _ old new job same at layout it = absurd it
+
+pub layout_fails : (why : Halt) (a b c old new : ℕ) → RootFailsAs {T = Unit {0}} (Err why) old new → TellFails {T = Bool} (Err why) (failures a old c) (failures a new c)
+layout_fails halt.Dest a b c old new it = inl (refl, it, refl)
+layout_fails halt.Memory a b c old new it = inl (ap (λ (n : ℕ). failures a n c) it)
+layout_fails halt.Target a b c old new it = inr (refl, ap (λ (n : ℕ). failures a n c) it)
+layout_fails _ a b c old new it = absurd it
+
+-- the log's calls alone
+pub log_fails : (why : Halt) (a b old new : ℕ) → FailsAs {T = Unit {0}} (Err why) (failures 0 0 old) (failures 0 0 new) → HasFailed why (failures a b old) (failures a b new)
+log_fails halt.Source a b old new it = (rose it.0, refl, it.2)
+  where
+    rose : HasRisen 0 0 → HasRisen a a
+    rose it = absurd (omega (arith, it))
+log_fails halt.Dest a b old new it = (refl, rose it.1, it.2)
+  where
+    rose : HasRisen 0 0 → HasRisen b b
+    rose it = absurd (omega (arith, it))
+log_fails halt.Log a b old new it = (refl, refl, it.2)
+log_fails halt.Memory a b old new it = ap (λ (f : Failures). failures a b f.log) it
+log_fails _ a b old new it = absurd it
+
+-- ---- whom they blame
+
+pub same_failures : {a b c a' b' c' : ℕ} {x : Bool} → BlamesRightly {T = Bool} (failures a b c) (failures a' b' c') (Ok x) → failures a' b' c' ≡ failures a b c
+same_failures it = λ i. failures (it.source i) (it.root i) (it.log i)
+
+-- whom both blame
+pub blames_told : (why : Halt) (a b c a' c' a'' b'' c'' : ℕ) → a' ≡ a → c' ≡ c → TellFails {T = Bool} (Err why) (failures a' b c') (failures a'' b'' c'') → BlamesRightly {T = Bool} (failures a b c) (failures a'' b'' c'') (Err (fault_of why))
+blames_told why a b c a' c' a'' b'' c'' sa sc it =
+    subst (λ (n : ℕ). BlamesRightly {T = Bool} (failures n b c) (failures a'' b'' c'') (Err (fault_of why))) sa
+    (subst (λ (n : ℕ). BlamesRightly {T = Bool} (failures a' b n) (failures a'' b'' c'') (Err (fault_of why))) sc (elim it [ inl failed ↦ by why failed | inr target ↦ not_of target ]))
+  where
+    by : (why : Halt) → HasFailed why (failures a' b c') (failures a'' b'' c'') → BlamesRightly {T = Bool} (failures a' b c') (failures a'' b'' c'') (Err (fault_of why))
+    by halt.Source failed = record { source = failed.0; root = failed.1; log = failed.2 }
+    by halt.Dest failed = record { source = failed.0; root = failed.1; log = failed.2 }
+    by halt.Log failed = record { source = failed.0; root = failed.1; log = failed.2 }
+    by halt.Memory failed = record { source = ap (λ (f : Failures). f.source) failed; root = ap (λ (f : Failures). f.dest) failed; log = ap (λ (f : Failures). f.log) failed }
+    by _ failed = absurd failed
+
+    not_of : (why ≡ halt.Target) × (failures a'' b'' c'' ≡ failures a' b c') → BlamesRightly {T = Bool} (failures a' b c') (failures a'' b'' c'') (Err (fault_of why))
+    not_of (is, same) = subst (λ (w : Halt). BlamesRightly {T = Bool} (failures a' b c') (failures a'' b'' c'') (Err (fault_of w))) (sym is)
+        (record { source = ap (λ (f : Failures). f.source) same; root = ap (λ (f : Failures). f.dest) same; log = ap (λ (f : Failures). f.log) same })
+
+pub ruleset saying = (has_layout, says_failed, says_survey, says_layout, layout_fails, log_fails, blames_told)
