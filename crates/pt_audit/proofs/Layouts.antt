@@ -10,6 +10,7 @@ use Rattle.std.proofs.lemmas.List.{take_all}
 use Rattle.pt_begun.proofs.source.InPairtree.{some_same}
 use Rattle.pt_begun.proofs.source.RootChecks.{peeked_whole}
 use Rattle.pt_begun.proofs.Tests.{take_one}
+use Rattle.pt_begun.specs.BegunDest.{HasRootFiles}
 use Rattle.pt_begun.specs.RefusalLaws.{HasOtherFile, IsNoFolder}
 use Rattle.pt_compare.specs.Root.{IsSeen, kind_at, tree_in}
 use Rattle.pt_object.specs.Holding.{IsFree}
@@ -28,7 +29,7 @@ use Rattle.pt_tree.specs.Tree.{Bytes, Entry, Folder, bytes_of, entry_of}
 use Rattle.pt_tree.specs.declared.faults.TreeFault.{TreeFault}
 use Rattle.pt_tree.specs.declared.kind.Kind.{Kind}
 use Rattle.pt_tree.specs.declared.kind.Kind.TheVariants as kind
-use Rattle.pt_audit.specs.Layout.{HasFiles, IsFolder, IsOfAnother, IsOfLayout, IsSo, TellsFile, root_of}
+use Rattle.pt_audit.specs.Layout.{IsFolder, IsOfAnother, IsOfLayout, IsSo, TellsFile, root_of}
 
 abbrev IsSame : Option Entry → List ℕ → Bool → Type 0
 IsSame o bytes true = o ≡ Some (Bytes bytes)
@@ -133,18 +134,21 @@ file_told told after whole path bytes block x same short at opened read is test 
 -- ---- the three of them
 
 module _ (told : Option Forest) (job : Job) where
-  pub none_yet : ForSome told (HasFiles job 0)
+  abbrev Has : ℕ → Forest → Type 0
+  Has n f = HasRootFiles job (root_of f) n
+
+  pub none_yet : ForSome told (Has 0)
   none_yet = λ f e. All-nil (λ (file : RootFile). root_of f file.0 ≡ Some (Bytes file.1))
 
-  pub one_more : (n : ℕ) (path : Path) (bytes : List ℕ) → slice_get (root_files_of job.tuples) n ≡ Some (path, bytes) → ForSome told (TellsFile path bytes true) → ForSome told (HasFiles job n) → ForSome told (HasFiles job (n + 1))
+  pub one_more : (n : ℕ) (path : Path) (bytes : List ℕ) → slice_get (root_files_of job.tuples) n ≡ Some (path, bytes) → ForSome told (TellsFile path bytes true) → ForSome told (Has n) → ForSome told (Has (n + 1))
   one_more n path bytes is there files = λ f e.
       let next : n + 1 ≡ suc n = omega arith in
-      subst (λ (k : ℕ). HasFiles job k f) (sym next)
+      subst (λ (k : ℕ). HasRootFiles job (root_of f) k) (sym next)
       (subst (λ (l : List RootFile). All (λ (file : RootFile). root_of f file.0 ≡ Some (Bytes file.1)) l) (sym (take_one n (root_files_of job.tuples) (path, bytes) is))
       (All-push (λ (file : RootFile). root_of f file.0 ≡ Some (Bytes file.1)) (take n (root_files_of job.tuples)) (path, bytes) (files f e) (there f e)))
 
-  pub all_there : (n : ℕ) → 3 ≤ n → n ≤ 3 → ForSome told IsFolder → ForSome told (HasFiles job n) → ForSome told (IsOfLayout job)
-  all_there n least most folder files = λ f e. inr (folder f e, subst (λ (k : ℕ). HasFiles job k f) (let same : n ≡ 3 = omega (arith, least, most) in same) (files f e))
+  pub all_there : (n : ℕ) → 3 ≤ n → n ≤ 3 → ForSome told IsFolder → ForSome told (Has n) → ForSome told (IsOfLayout job)
+  all_there n least most folder files = λ f e. inr (folder f e, subst (λ (k : ℕ). HasRootFiles job (root_of f) k) (let same : n ≡ 3 = omega (arith, least, most) in same) (files f e))
 
   pub another : (n : ℕ) (path : Path) (bytes : List ℕ) → slice_get (root_files_of job.tuples) n ≡ Some (path, bytes) → ForSome told IsFolder → ForSome told (TellsFile path bytes false) → ForSome told (IsOfAnother job)
   another n path bytes is folder other = λ f e. HasOtherFile n (path, bytes) (folder f e) is (other f e)

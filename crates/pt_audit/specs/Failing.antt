@@ -1,5 +1,5 @@
 -- Which device an audit blames, where the root is the destination, and what its faults say.
-use Rattle.std.specs.Prelude.{◌≡◌, ◌≢◌, ◌<◌, ◌⊎◌, ℕ, Option, None, Result, Ok, Err}
+use Rattle.std.specs.Prelude.{◌≡◌, ◌≢◌, ◌⊎◌, ℕ, Option, None, Result, Ok, Err}
 use Rattle.std.specs.Option.{ForSome}
 use Rattle.pt_audit.specs.Layout.{IsOfAnother}
 use Rattle.pt_move.specs.Counting.{Counts}
@@ -12,7 +12,7 @@ use Rattle.pt_plan.specs.declared.halt.Halt.{Halt}
 use Rattle.pt_plan.specs.declared.halt.Halt.TheVariants as halt
 use Rattle.pt_state.specs.States.{job_of}
 use Rattle.pt_state.specs.declared.job.Job as own
-use Rattle.pt_survey.specs.Surveying.{work_of_survey}
+use Rattle.pt_survey.specs.Surveying.{MeetsLimit}
 use Rattle.pt_tree.specs.Failures.{HasRisen}
 use Rattle.pt_tree.specs.Forest.{Forest}
 
@@ -53,6 +53,4 @@ pub record AuditSays (job : own.Job) (source root : Option Forest) (f : Fault) :
   pub target : f ≡ fault.Target → ForSome root (IsOfAnother (job_of job))
   -- what else is in the destination never is
   pub staging : f ≢ fault.StagingLeft
-  -- the limit is met only where it is less than the work
-  pub turns : f ≡ fault.Turns
-      → ForSome source (λ s. job.limits.turns < work_of_survey (job_of job) s)
+  pub turns : MeetsLimit job source f

@@ -1,8 +1,8 @@
 -- Which storage root an audit goes on with: none, or one of the job's layout.
-use Rattle.std.specs.Prelude.{◌≡◌, ◌≢◌, ◌⊎◌, ℕ, Bool, true, false, All, List, [], take, Some, Result, Ok, Err, ⊤}
+use Rattle.std.specs.Prelude.{◌≡◌, ◌≢◌, ◌⊎◌, ℕ, Bool, true, false, List, [], Some, Result, Ok, Err, ⊤}
+use Rattle.pt_begun.specs.BegunDest.{HasRootFiles}
 use Rattle.pt_begun.specs.RefusalLaws.{IsBadTarget}
 use Rattle.pt_object.specs.Holding.{IsFree}
-use Rattle.pt_object.specs.RootFiles.{root_files_of}
 use Rattle.pt_plan.specs.Job.{Job}
 use Rattle.pt_plan.specs.Roots.{root_in}
 use Rattle.pt_plan.specs.declared.halt.Halt.{Halt}
@@ -15,17 +15,12 @@ use Rattle.pt_tree.specs.Tree.{Bytes, Folder, Tree, tree_of}
 abbrev pub root_of : Forest → Tree
 root_of standing = root_in (tree_of standing)
 
--- the first so many files of the layout stand in it, each with its bytes
-abbrev pub HasFiles : Job → ℕ → Forest → Type 0
-HasFiles job n standing =
-    All (λ file. root_of standing file.0 ≡ Some (Bytes file.1)) (take n (root_files_of job.tuples))
-
 abbrev pub IsFolder : Forest → Type 0
 IsFolder standing = root_of standing [] ≡ Some Folder
 
 -- nothing stands there; or a directory, with all three
 abbrev pub IsOfLayout : Job → Forest → Type 0
-IsOfLayout job standing = IsFree (root_of standing) [] ⊎ (IsFolder standing × HasFiles job 3 standing)
+IsOfLayout job standing = IsFree (root_of standing) [] ⊎ (IsFolder standing × HasRootFiles job (root_of standing) 3)
 
 -- something else does
 abbrev pub IsOfAnother : Job → Forest → Type 0

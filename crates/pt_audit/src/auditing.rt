@@ -31,8 +31,8 @@ use std::alloc::Global;
 /// The store is seen as a run with this job sees it; but each object is compared, also a second one of an identifier. Of the
 /// job's description of the version nothing is compared: moment, user and message may be whatever the inventory that stands
 /// gives. `Dest` is answered where the root can't be read, `Target` where it isn't one of this layout, once the store was found
-/// to be one with a good prefix, `Turns` only where the limit is less than the steps of a whole survey, and the other faults as
-/// by `migrate`; `StagingLeft` never. Nothing is made or changed, but that the log gets its lines.
+/// to be one with a good prefix, `Turns` only where the limit is less than a survey's work, and the other faults as by
+/// `migrate`; `StagingLeft` never. Nothing is made or changed, but that the log gets its lines.
 pub fn audit<S: Source, R: Root, L: Log>(
     alloc: Global,
     source: &mut S,

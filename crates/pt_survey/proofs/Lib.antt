@@ -2,3 +2,4 @@ pub mod Alone
 pub mod Seen
 pub mod Stepping
 pub mod Working
+pub mod Steps

@@ -48,7 +48,7 @@ use Rattle.pt_tree.specs.Failures.{HasRisen}
 use Rattle.pt_survey.specs.Bare.{bare}
 use Rattle.pt_survey.specs.Growing.{BlamesRightly, Grows, Leaves, grows_none}
 use Rattle.pt_plan.specs.TurnPlace.{done_line}
-use Rattle.pt_survey.specs.Surveying.{WasAtHand, GoesOn, HasAtHand, IsReady, IsSurvey, IsWithinWork, Steps, SurveySays, is_at_hand, is_before_sites, is_before_store, is_of_dest, Leads, Nothing, Skips, Sees, Surveys, is_looking, is_of_survey, no_start, passed, source_alone}
+use Rattle.pt_survey.specs.Surveying.{WasAtHand, GoesOn, HasAtHand, IsReady, IsSurvey, IsWithinWork, SurveySays, is_at_hand, is_of_dest, Leads, Nothing, Skips, Sees, Surveys, is_looking, is_of_survey, no_start, passed, source_alone}
 use Rattle.pt_survey.proofs.Alone.{counted_alone, no_change, no_line}
 use Rattle.pt_survey.proofs.Seen.{has_at_hand, looks_on, looks_sees}
 use Rattle.pt_survey.proofs.Working.{is_left, within_on}
@@ -493,43 +493,4 @@ module _ (here : Phase) (why : Halt) (s s' : State) (told told' : Option Reading
   pub halt_leaves_log : answer ≡ Err why → IsReady told here s → CountedTurn here s s' (world told (Some bare) None a 0 0) (world told' v None a' 0 0) (Err why) → Leaves told told' l l a a' c c s.job answer
   halt_leaves_log is ready counted = subst (λ (r : Answer). Leaves told told' l l a a' c c s.job r) (sym is) (leaves_halted here why s s' told told' v l c a a' ready.under_way counted)
 
--- ---- what holds of each step
-
--- the store is seen before its sites
-opens : {job : Job} {counts : Counts} (here : Phase) {next : Phase} {prefix read : List ℕ} {held after : Held} {calls : Calls} → is_before_store here ≡ true → Follows job counts here prefix held read after calls (Ok next) → is_before_sites (passed next) ≡ true
-opens phase.Begin is (Start _ _ _ _ _ _ (start.IsStore _ _ _)) = refl
-opens phase.Begin is (Walk _ _ _ _ _ _ turn) = elim turn [ ]
-opens phase.Begin is (Scan _ _ _ _ _ _ turn) = elim turn [ ]
-opens phase.Begin is (Make _ _ _ _ _ _ turn) = elim turn [ ]
-opens phase.Begin is (Place _ _ _ _ _ _ turn) = elim turn [ ]
-opens (phase.Prefix _) is (Start _ _ _ _ _ _ (start.HasNoPrefix _)) = refl
-opens (phase.Prefix _) is (Start _ _ _ _ _ _ (start.HasPrefix _ _ _)) = refl
-opens (phase.Prefix _) is (Walk _ _ _ _ _ _ turn) = elim turn [ ]
-opens (phase.Prefix _) is (Scan _ _ _ _ _ _ turn) = elim turn [ ]
-opens (phase.Prefix _) is (Make _ _ _ _ _ _ turn) = elim turn [ ]
-opens (phase.Prefix _) is (Place _ _ _ _ _ _ turn) = elim turn [ ]
-opens _ is _ = absurd (true≢false (sym is))
-
-module _ (here next : Phase) (s s' : State) (told told' : Option Reading) (w v : Option Writing) (l l' : Option (List ℕ)) (a b c a' b' c' : ℕ) where
-  steps_there : Surveys told (record { phase = here; state = s }) → CountedTurn here s s' (world told w l a b c) (world told' v l' a' b' c') (Ok next)
-      → Steps (source_tree told) (record { phase = here; state = s }) (record { phase = passed next; state = s' })
-  unfolding Surveys CountedTurn
-  steps_there (count, it) counted =
-      let under_way : Surveys told (record { phase = here; state = s }) = (count, it) in
-      let one = (leaves_of_turn here s s' told told' w v l l' a b c a' b' c' (Ok next) under_way counted).turns in
-      record {
-        job = counted.0;
-        counted = one;
-        work = λ f e. let less = is_left it (going here it.stands) f e in omega (arith, less, one);
-        bound = bound_of_turn here s s' told told' w v l l' a b c a' b' c' (Ok next) under_way counted;
-        order = by (counted.1 it.fed (fed_going s.job.algorithm s.hasher it.fed (going here it.stands) it.was)).1.1;
-      }
-    where
-      by : {before after : Kept} → Turn (job_of s.job) here before after (world told w l a b c) (world told' v l' a' b' c') (Ok next) → is_before_store here ≡ true → is_before_sites (passed next) ≡ true
-      by (TurnGoesOn calls _ follows did counts) is = opens here is follows
-
-  pub step_steps : (at : Phase) → at ≡ passed next → IsReady told here s → CountedTurn here s s' (world told w l a b c) (world told' v l' a' b' c') (Ok next)
-      → Steps (source_tree told) (record { phase = here; state = s }) (record { phase = at; state = s' })
-  step_steps at is ready counted = subst (λ (p : Phase). Steps (source_tree told) (record { phase = here; state = s }) (record { phase = p; state = s' })) (sym is) (steps_there ready.under_way counted)
-
-pub ruleset steps = (may_look, stands_so, fed_so, looking_is, new_survey, says_no_turn, says_ended, grows_none, step_looks, step_well, step_leaves, step_passes, step_leaves_log, halt_well, halt_leaves, halt_leaves_log, step_steps)
+pub ruleset steps = (may_look, stands_so, fed_so, looking_is, new_survey, says_no_turn, says_ended, grows_none, step_looks, step_well, step_leaves, step_passes, step_leaves_log, halt_well, halt_leaves, halt_leaves_log)

@@ -163,14 +163,17 @@ is_of_dest fault.StagingLeft = true
 is_of_dest fault.Target = true
 is_of_dest _ = false
 
+-- the limit is met only where it is less than the work
+abbrev pub MeetsLimit : own.Job → Option Forest → Fault → Type 0
+MeetsLimit job source f =
+    f ≡ fault.Turns → ForSome source (λ s. job.limits.turns < work_of_survey (job_of job) s)
+
 pub record SurveySays (job : own.Job) (source : Option Forest) (f : Fault) : Type 0 where
   -- a store is refused only for what it is
   pub rightly : SaysRightly job source None f
   -- a destination is never refused
   pub no_dest : is_of_dest f ≡ false
-  -- the limit is met only where it is less than the work
-  pub turns : f ≡ fault.Turns
-      → ForSome source (λ s. job.limits.turns < work_of_survey (job_of job) s)
+  pub turns : MeetsLimit job source f
 
 -- ---- what a step sees
 

@@ -1,6 +1,7 @@
 use Rattle.std.proofs.Common.{◌≡◌}
 use Rattle.std.specs.Option.{ForSome}
-use Rattle.pt_audit.specs.Layout.{HasFiles}
+use Rattle.pt_audit.specs.Layout.{root_of}
+use Rattle.pt_begun.specs.BegunDest.{HasRootFiles}
 use Rattle.pt_compare.specs.Root.{KeepsRoot, tree_in}
 use Rattle.pt_state.specs.States.{job_of}
 use Rattle.pt_audit.proofs.layout.has_files.Given as goal
@@ -9,4 +10,4 @@ abbrev pub invariant-loop-i : goal.invariant-loop-i
 invariant-loop-i g l =
     KeepsRoot g.R.Source.told g.R.Source.keeps l.initial.root l.root
     × (g.R.Source.failed l.root ≡ g.R.Source.failed l.initial.root)
-    × ForSome (tree_in (g.R.Source.told l.initial.root)) (HasFiles (job_of l.fn.job) l.i)
+    × ForSome (tree_in (g.R.Source.told l.initial.root)) (λ f. HasRootFiles (job_of l.fn.job) (root_of f) l.i)
