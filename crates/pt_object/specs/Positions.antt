@@ -3,7 +3,7 @@ use Rattle.std.specs.Prelude.{◌≡◌, ℕ, ◌+◌, ◌-◌, ◌<◌, ◌≤�
 
 -- how many positions a full row has
 abbrev pub row_length : ℕ
-row_length = 2048
+row_length = 4096
 
 -- every row is full but for the last, and that has at most as many
 pub record AreRows (rows : List (List ℕ)) : Type 0 where

@@ -7,7 +7,7 @@ use std::collections::VecDeque;
 use std::marker::Model;
 
 // How many positions a row has room for.
-pub(crate) const ROW: usize = 2048;
+pub(crate) const ROW: usize = 4096;
 
 // Positions in a block of memory for a whole row, seen as their list.
 #[derive(Debug, Drop)]
