@@ -11,7 +11,7 @@ ghost use Rattle.pt_compare.specs.Root.{KeepsRoot, tree_in};
 ghost use Rattle.pt_state.specs.States.{job_of};
 ghost use Rattle.pt_plan.specs.World.{source_tree};
 ghost use Rattle.pt_survey.specs.Growing.{KeepsLog};
-ghost use Rattle.pt_survey.specs.Surveying.{IsHand, Steps, Surveys, sight_at};
+ghost use Rattle.pt_survey.specs.Surveying.{Steps, Surveys, sight_at};
 ghost use Rattle.pt_survey.specs.declared.survey.Sight.TheVariants as sight;
 
 use crate::Counts;
@@ -201,7 +201,8 @@ fn found<S: Source, R: Root>(
 fn tell_end<L: Log>(alloc: Global, counts: Counts, log: &mut L) -> Result<(), Halt>
     ensures told { OnOk result (Appends (L.told log.old) (L.told log.new) (last_text counts)) }
     ensures log { KeepsLog L.told L.keeps log.old log.new }
-    ensures fails { FailsAs result (failures 0 0 (L.failed log.old)) (failures 0 0 (L.failed log.new)) }
+    ensures fails { FailsAs result (failures 0 0 (L.failed log.old))
+        (failures 0 0 (L.failed log.new)) }
 {
     let line = end_line(alloc, &counts)?;
     log.put(line.as_bytes()).map_err(Halt::of_log)

@@ -1,6 +1,6 @@
 #![tactic(auto, using(pt_compare::proofs::Reading::calls, crate::proofs::Layouts::layouts))]
 //! The storage root that stands has to be one of this layout, before anything is compared.
-ghost use Rattle.std.specs.Prelude.{◌≡◌, ◌<◌, IfOk, OnOk, length};
+ghost use Rattle.std.specs.Prelude.{◌≡◌, ◌<◌, IfOk, length};
 ghost use Rattle.std.specs.Option.{ForSome};
 ghost use Rattle.pt_audit.specs.Failing.{RootFailsAs};
 ghost use Rattle.pt_audit.specs.Layout.{IsFolder, IsSo, TellsFile, TellsLayout};

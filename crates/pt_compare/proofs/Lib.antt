@@ -17,3 +17,4 @@ pub mod Roots
 pub mod Single
 pub mod Steps
 pub mod Exact
+mod Ways

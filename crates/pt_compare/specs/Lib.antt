@@ -8,3 +8,4 @@ pub mod Marks
 pub mod Meeting
 pub mod Parts
 pub mod Root
+pub mod Ways

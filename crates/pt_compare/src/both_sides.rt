@@ -1,8 +1,8 @@
 #![tactic(auto, using(crate::proofs::Reading::reading, crate::proofs::Alike::alike))]
 //! The open file of a source, held against that of a root.
-ghost use Rattle.std.specs.Prelude.{◌≡◌, IfErr, IfOk};
+ghost use Rattle.std.specs.Prelude.{IfErr, IfOk};
 ghost use Rattle.pt_compare.specs.Meeting.{FailsAs, IsHalt, TellsAlike, both};
-ghost use Rattle.pt_compare.specs.Root.{KeepsRoot, Reads, tree_in};
+ghost use Rattle.pt_compare.specs.Root.{KeepsRoot, Reads};
 
 use crate::Root;
 use crate::stop::{Stop, of_root, of_source};

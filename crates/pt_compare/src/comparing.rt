@@ -1,10 +1,11 @@
 //! An object of a store, held against what stands at its place in a storage root.
-ghost use Rattle.std.specs.Prelude.{◌≡◌, ◌++◌, ◌∷◌, [], IfOk, map, true, All, IfErr, None, OnOk};
+ghost use Rattle.std.specs.Prelude.{◌≡◌, ◌≤◌, ◌++◌, IfOk, length, map, true, All, IfErr, None, OnOk};
 ghost use Rattle.std.specs.Option.{ForSome};
 ghost use Rattle.pt_compare.specs.Found.{HaltsAs, IsFound, IsLeft, MeetsInventories, MeetsObject, sought_of, texts_of_object};
 ghost use Rattle.pt_compare.specs.Marks.{inside, marks_of};
 ghost use Rattle.pt_compare.specs.Meeting.{FailsAs, FailsInRoot, MeetsFrom, MeetsIn, NotedStand, both};
-ghost use Rattle.pt_compare.specs.Parts.{content_items, files_of, first_items, fronts, last_items, leads_to_last, way_items};
+ghost use Rattle.pt_compare.specs.Parts.{content_items, files_of, first_items, fronts, last_items, way_items};
+ghost use Rattle.pt_compare.specs.Ways.{AreMet, common_names};
 ghost use Rattle.pt_compare.specs.Root.{KeepsRoot, tree_in};
 ghost use Rattle.pt_plan.specs.declared.halt.Halt.TheVariants as halt;
 ghost use Rattle.pt_object.specs.Distinct.{content_of_row, distinct};
@@ -18,7 +19,7 @@ use crate::stop::Stop;
 use crate::{Difference, Finding, Root, Scanned, Why, standing};
 use pt_object::{object_declaration, sidecar};
 use pt_plan::Halt;
-use pt_tree::{Known, NamePath, Source};
+use pt_tree::{Known, Name, NamePath, Source};
 use std::alloc::Global;
 
 /// Holds an object against what stands at its place, in the order in which a run makes it (OCFL 1.1, "Object Structure"): the
@@ -175,23 +176,46 @@ fn meet_way<R: Root>(
         (way_items last.now (fronts path.now))
         (marks_of entries.old) (marks_of entries.new) result }
 {
+    let whole = content_path(alloc, path, path.len())?;
+    let met = folders_met(last, &whole);
     for names in 0..path.len() {
-        let folder = content_path(alloc, path, names)?;
-        if leads_to(last, &folder) {
+        let is_met = names < met;
+        if is_met {
             continue;
         }
+        let folder = content_path(alloc, path, names)?;
         meet_folder(root, place, entries, folder)?;
     }
     Ok(())
 }
 
-// Whether a folder is on the way to the content that was met last.
-fn leads_to(last: &Option<NamePath>, folder: &NamePath) -> bool
-    ensures { result ≡ leads_to_last last.now folder.now }
+// How many of the folders on the way to a stored content are on the way to the one that was met last. The names are compared
+// once.
+fn folders_met(last: &Option<NamePath>, path: &NamePath) -> usize
+    ensures { AreMet last.now path.now result }
 {
-    match last {
-        Some(last) => last.is_within(folder),
-        None => false,
+    let Some(last) = last else {
+        return 0;
+    };
+    let alike = alike_names(path.names(), last.names());
+    alike.saturating_sub(1)
+}
+
+// How many names two paths begin with alike.
+fn alike_names(path: &[Name], other: &[Name]) -> usize
+    ensures alike { result ≡ common_names path.now other.now }
+    ensures within { result ≤ length path.now }
+{
+    let [name, path @ ..] = path else {
+        return 0;
+    };
+    let [first, other @ ..] = other else {
+        return 0;
+    };
+    if name == first {
+        1 + alike_names(path, other)
+    } else {
+        0
     }
 }
 

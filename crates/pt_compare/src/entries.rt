@@ -68,7 +68,8 @@ impl Entries {
     /// The path of the first, by the order of their texts; None where there is none.
     pub(crate) fn first(&self) -> Result<Option<NamePath>, MemoryFault>
         ensures first { IfOk result (λ first. MatchOption first (self.now ≡ [])
-            (λ path. (text : Vec ℕ) × (kind : Kind) × (later : Noted) × (self.now ≡ (text, (path, kind)) ∷ later))) }
+            (λ path. (text : Vec ℕ) × (kind : Kind) × (later : Noted)
+            × (self.now ≡ (text, (path, kind)) ∷ later))) }
         ensures noted { IfOk result (λ first. IfSome first
             (λ path. IsSome (marks_of self.now path))) }
     {

@@ -1,12 +1,11 @@
 //! Single entries of an object, held against what stands at its place: one that stands is taken out of what is noted.
 ghost use Rattle.std.specs.Prelude.{◌≡◌, ◌∷◌, [], OnOk, map};
-ghost use Rattle.std.specs.String.{string_bytes};
 ghost use Rattle.pt_compare.specs.Found.{texts_of_object};
 ghost use Rattle.pt_compare.specs.Marks.{is_kind_of, marks_of, without_mark};
 ghost use Rattle.pt_compare.specs.Meeting.{FailsAs, FailsInRoot, MeetsFrom, MeetsIn, MeetsTextIn, NotedStand, OpensIn, both, why_for};
 ghost use Rattle.pt_compare.specs.declared.difference.Why.TheVariants as why;
 ghost use Rattle.pt_compare.specs.declared.stop.Stop.TheVariants as stop;
-ghost use Rattle.pt_compare.specs.Root.{KeepsRoot, Reads, tree_in};
+ghost use Rattle.pt_compare.specs.Root.{KeepsRoot, tree_in};
 ghost use Rattle.pt_object.specs.Distinct.{content_of_row, distinct};
 ghost use Rattle.pt_object.specs.Script.{MakeFile, MakeFolder};
 ghost use Rattle.pt_tree.specs.Source.{CanOpen};

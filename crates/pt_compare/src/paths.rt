@@ -1,5 +1,5 @@
 //! The paths of an object, from its place on.
-ghost use Rattle.std.specs.Prelude.{◌≡◌, ◌++◌, ◌∷◌, ◌≤◌, [], IfOk, length, map, take};
+ghost use Rattle.std.specs.Prelude.{◌≡◌, ◌++◌, ◌≤◌, IfOk, length, map, take};
 ghost use Rattle.pt_compare.specs.Parts.{in_content};
 ghost use Rattle.pt_object.specs.Object.{sidecar_name as sidecar_name_of};
 ghost use Rattle.pt_tree.specs.Known.{known_text};

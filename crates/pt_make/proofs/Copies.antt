@@ -1,30 +1,15 @@
 -- The turns that copy a file, from their calls.
-use Rattle.std.proofs.Common.{◌≡◌, ◌<◌, ◌≤◌, ◌-◌, ◌==◌, ℕ, true, false, List, [], ◌∷◌, ◌++◌, length, refl, sym, subst, arith, ◌&&◌}
+use Rattle.std.proofs.Common.{◌≡◌, ◌<◌, ◌≤◌, ◌-◌, ◌==◌, ℕ, true, false, List, [], ◌∷◌, ◌++◌, length, refl, sym, arith, ◌&&◌}
 use Rattle.std.specs.Prelude.{Some, Ok, Err, IsErrAnd, slice_get}
 use Rattle.std.specs.Str.{bytes_eq}
 use Rattle.std.proofs.lemmas.Bool.{le-ltb, lt-ltb}
-use Rattle.pt_object.specs.Algorithm.{digest_of}
-use Rattle.pt_object.specs.Hasher.{HasBeenFed}
-use Rattle.pt_object.specs.declared.algorithm.Algorithm.{Algorithm}
-use Rattle.pt_object.specs.declared.contents.Content.{Content}
-use Rattle.pt_object.specs.declared.hasher.Hasher.{Hasher}
-use Rattle.pt_object.specs.declared.rows.Row.{Row}
-use Rattle.pt_plan.specs.Answer.{Answer}
-use Rattle.pt_plan.specs.Turn.{Did, LeavesSome, Make}
-use Rattle.pt_plan.specs.TurnMake.{Makings, CopiesOn, EndsCopy, ReadsMore, ReadsOther, behind_stored, content_at}
-use Rattle.pt_plan.specs.World.{Adds, Finishes, Reads, World, asks, does}
-use Rattle.pt_plan.specs.declared.halt.Halt.{Halt}
+use Rattle.pt_state.proofs.Words.{digest_of, HasBeenFed, Algorithm, Content, Hasher, Row, Answer, Did, LeavesSome, Make, content_at, Adds, Finishes, Reads, World, asks, does, Halt, Object, Part, Phase, Position, Turned, held_of, job_of}
+use Rattle.pt_state.specs.declared.state.State.{State}
 use Rattle.pt_plan.specs.declared.halt.Halt.TheVariants as halt
-use Rattle.pt_plan.specs.declared.object.Object.{Object}
-use Rattle.pt_plan.specs.declared.phase.Part.{Part}
-use Rattle.pt_plan.specs.declared.phase.Phase.{Phase}
 use Rattle.pt_plan.specs.declared.phase.Phase.TheVariants as phase
-use Rattle.pt_plan.specs.declared.phase.Position.{Position}
+use Rattle.pt_plan.specs.TurnMake.{Makings, CopiesOn, EndsCopy, ReadsMore, ReadsOther, behind_stored}
 use Rattle.pt_state.proofs.Together.{asked_then, asks_and, can_write_asked, then_did, then_leaves}
 use Rattle.pt_state.proofs.Turns.{KeepsAll, left_some, refused, went}
-use Rattle.pt_state.specs.Outside.{Turned}
-use Rattle.pt_state.specs.States.{held_of, job_of}
-use Rattle.pt_state.specs.declared.state.State.{State}
 use Rattle.pt_make.specs.Making.{IsAsRead, IsOther}
 
 -- ---- a block was read
@@ -50,7 +35,7 @@ pub ruleset reading = (turned_read, read_nothing, read_something, can_write_aske
 pub reads_more : (s s' : State) (a b : World) (object : Object) (position : Position) (left : ℕ) (block : List ℕ) → Did (asks (Reads block)) a b → 0 < length block → left < length block → KeepsAll s s' → Turned (phase.Copy object position left) s s' a b (Err halt.Changed)
 reads_more s s' a b object position left [] read some more keeps = absurd (omega (arith, some))
 reads_more s s' a b object position left (byte ∷ block) read some more keeps =
-    refused (phase.Copy object position left) s s' a b _ halt.Changed (λ fed was. Make _ _ (held_of s fed) (held_of s fed) _ _ (ReadsMore (held_of s fed) object position left byte block (lt-ltb left (length (byte ∷ block)) more))) read keeps
+    refused (phase.Copy object position left) s s' a b _ halt.Changed (λ fed was. Make (ReadsMore (held_of s fed) object position left byte block (lt-ltb left (length (byte ∷ block)) more))) read keeps
 
 -- a block that is within what is left is added and fed
 on : (s : State) (object : Object) (position : Position) (left : ℕ) (byte : ℕ) (block fed : List ℕ) → length (byte ∷ block) ≤ left
@@ -61,13 +46,13 @@ pub copies_on : (s s' : State) (a b c : World) (object : Object) (position : Pos
     → ((algorithm : Algorithm) (fed : List ℕ) → HasBeenFed algorithm s.hasher fed → HasBeenFed algorithm s'.hasher (fed ++ block)) → KeepsAll s s' → Turned (phase.Copy object position left) s s' a c (Ok (phase.Copy object position (left - length block)))
 copies_on s s' a b c object position left [] read added some most feeds keeps = absurd (omega (arith, some))
 copies_on s s' a b c object position left (byte ∷ block) read added some most feeds keeps =
-    went _ _ s s' a c (asks_and (Reads (byte ∷ block)) (Adds (byte ∷ block))) (λ fed. fed ++ byte ∷ block) (λ fed _. Make _ _ (held_of s fed) (held_of s (fed ++ byte ∷ block)) _ _ (on s object position left byte block fed most)) (then_did _ _ a b c read added) refl (λ fed was. feeds s.job.algorithm fed was) keeps
+    went _ _ s s' a c (asks_and (Reads (byte ∷ block)) (Adds (byte ∷ block))) (λ fed. fed ++ byte ∷ block) (λ fed _. Make (on s object position left byte block fed most)) (then_did _ _ a b c read added) refl (λ fed was. feeds s.job.algorithm fed was) keeps
 
 -- a part of the block was added
 pub copies_part : (s s' : State) (a b c : World) (object : Object) (position : Position) (left : ℕ) (block : List ℕ) (f : Halt) (result : Answer) → IsErrAnd result (λ h. h ≡ f) → Did (asks (Reads block)) a b → LeavesSome (does (Adds block)) f b c → 0 < length block → length block ≤ left → KeepsAll s s' → Turned (phase.Copy object position left) s s' a c result
 copies_part s s' a b c object position left [] f result is read part some most keeps = absurd (omega (arith, some))
 copies_part s s' a b c object position left (byte ∷ block) f result is read part some most keeps =
-    left_some _ s s' a c (asks_and (Reads (byte ∷ block)) (Adds (byte ∷ block))) _ f (λ fed. fed ++ byte ∷ block) result is (λ fed. Make _ _ (held_of s fed) (held_of s (fed ++ byte ∷ block)) _ _ (on s object position left byte block fed most)) (then_leaves _ _ f a b c read part) keeps
+    left_some _ s s' a c (asks_and (Reads (byte ∷ block)) (Adds (byte ∷ block))) _ f (λ fed. fed ++ byte ∷ block) result is (λ fed. Make (on s object position left byte block fed most)) (then_leaves _ _ f a b c read part) keeps
 
 pub ruleset copying = (reads_more, copies_on, copies_part)
 
@@ -85,23 +70,23 @@ pub ruleset comparing = (is_read_as, is_other)
 
 -- the digest of what the hasher was fed
 digest_fed : (s : State) (hasher : Hasher) (digest fed : List ℕ) → hasher ≡ s.hasher → ((algorithm : Algorithm) (fed : List ℕ) → HasBeenFed algorithm hasher fed → digest ≡ digest_of algorithm fed) → HasBeenFed s.job.algorithm s.hasher fed → digest ≡ digest_of s.job.algorithm fed
-digest_fed s hasher digest fed same ends was = ends s.job.algorithm fed (subst (λ (h : Hasher). HasBeenFed s.job.algorithm h fed) (sym same) was)
+digest_fed s hasher digest fed same ends was = ends s.job.algorithm fed (rw same was)
 
 pub reads_other : (s s' : State) (a b : World) (object : Object) (position : Position) (left : ℕ) (hasher : Hasher) (digest : List ℕ) → Did (asks (Reads [])) a b → IsOther s.rows position left digest → hasher ≡ s.hasher
     → ((algorithm : Algorithm) (fed : List ℕ) → HasBeenFed algorithm hasher fed → digest ≡ digest_of algorithm fed) → KeepsAll s s' → Turned (phase.Copy object position left) s s' a b (Err halt.Changed)
 unfolding IsOther
 reads_other s s' a b object position left hasher digest read (row, (at, differs)) same ends keeps =
     refused (phase.Copy object position left) s s' a b _ halt.Changed
-    (λ fed was. Make _ _ (held_of s fed) (held_of s fed) _ _ (ReadsOther (held_of s fed) object position row left at (subst (λ (x : List ℕ). ((left == 0) && bytes_eq x row.digest) ≡ false) (digest_fed s hasher digest fed same ends was) differs)))
+    (λ fed was. Make (ReadsOther (held_of s fed) object position row left at (rw (digest_fed s hasher digest fed same ends was) at differs)))
     read keeps
 
 pub copy_ended : (s s' : State) (a b c : World) (object : Object) (position : Position) (left : ℕ) (hasher : Hasher) (digest : List ℕ) (next : Part) → Did (asks (Reads [])) a b → Did (does Finishes) b c → IsAsRead s.rows s.contents position left digest next → hasher ≡ s.hasher
     → ((algorithm : Algorithm) (fed : List ℕ) → HasBeenFed algorithm hasher fed → digest ≡ digest_of algorithm fed) → HasBeenFed s.job.algorithm s'.hasher [] → KeepsAll s s' → Turned (phase.Copy object position left) s s' a c (Ok (phase.Make object next))
 unfolding IsAsRead
 copy_ended s s' a b c object position left hasher digest next read finished (row, (at, is, then)) same ends started keeps =
-    subst (λ (p : Part). Turned (phase.Copy object position left) s s' a c (Ok (phase.Make object p))) (sym then)
+    rw then
     (went (phase.Copy object position left) _ s s' a c (asks_and (Reads []) Finishes) (λ _. [])
-    (λ fed was. Make _ _ (held_of s fed) (held_of s []) _ _ (EndsCopy (held_of s fed) object position row left at (subst (λ (x : List ℕ). ((left == 0) && bytes_eq x row.digest) ≡ true) (digest_fed s hasher digest fed same ends was) is)))
+    (λ fed was. Make (EndsCopy (held_of s fed) object position row left at (rw (digest_fed s hasher digest fed same ends was) at is)))
     (then_did _ _ a b c read finished) refl (λ _ _. started) keeps)
 
 pub ruleset ending = (reads_other, asked_then, copy_ended)

@@ -1,31 +1,16 @@
 -- The turns that make an object's contents, from their calls.
-use Rattle.std.proofs.Common.{◌≡◌, ◌<◌, ◌≤◌, ◌-◌, ◌^◌, ℕ, [], ◌++◌, refl, sym, subst, ap, ◌∙◌, true, false, take, length, arith}
+use Rattle.std.proofs.Common.{◌≡◌, ◌<◌, ◌≤◌, ◌-◌, ◌^◌, ℕ, [], ◌++◌, refl, sym, ap, ◌∙◌, true, false, take, length, arith}
 use Rattle.std.specs.Prelude.{Option, None, Some, Ok, IsErrAnd, slice_get}
 use Rattle.std.specs.Option.{option_map}
 use Rattle.std.proofs.lemmas.Bool.{le-ltb, lt-ltb}
 use Rattle.std.proofs.lemmas.List.{take_all}
-use Rattle.pt_object.specs.Hasher.{HasBeenFed}
-use Rattle.pt_object.specs.Script.{MakeFolder}
-use Rattle.pt_object.specs.declared.rows.Row.{Row}
-use Rattle.pt_tree.specs.Dest.{Writing, MayMake, after_create}
-use Rattle.pt_tree.specs.Path.{Path}
-use Rattle.pt_tree.specs.Source.{Reading, CanOpen, after_open}
-use Rattle.pt_tree.specs.Tree.{Bytes, put}
-use Rattle.pt_plan.specs.Answer.{Answer}
-use Rattle.pt_plan.specs.Permits.{MayMakeContent, MayOpenRow}
-use Rattle.pt_plan.specs.Turn.{Did, HasFailed, LeavesSome, Make, Stays}
-use Rattle.pt_plan.specs.TurnMake.{MakesFolder, OpensCopy, PassesRow, behind, content_at, in_content, is_stored, path_of_source, with_folder}
-use Rattle.pt_plan.specs.TurnWalk.{in_pairtree}
-use Rattle.pt_plan.specs.World.{Answers, Calls, Changes, Creates, Failures, Makes, NewFile, Opens, Puts, World, asks, dest_tree, does, no_calls, source_tree}
-use Rattle.pt_plan.specs.declared.halt.Halt.{Halt}
-use Rattle.pt_plan.specs.declared.object.Object.{Object}
-use Rattle.pt_plan.specs.declared.phase.Part.{Part}
+use Rattle.pt_state.proofs.Words.{HasBeenFed, MakeFolder, Row, Writing, MayMake, after_create, Path, Reading, CanOpen, after_open, Bytes, Answer, Did, LeavesSome, Make, Stays, content_at, in_pairtree, Answers, Calls, Changes, Creates, Makes, NewFile, Opens, Puts, World, asks, dest_tree, does, no_calls, source_tree, Halt, Object, Part, Position, held_of, Turned}
+use Rattle.pt_state.specs.declared.state.State.{State}
 use Rattle.pt_plan.specs.declared.phase.Part.TheVariants as part
 use Rattle.pt_plan.specs.declared.phase.Phase.TheVariants as phase
-use Rattle.pt_plan.specs.declared.phase.Position.{Position}
-use Rattle.pt_state.specs.States.{held_of}
-use Rattle.pt_state.specs.Outside.{Turned}
-use Rattle.pt_state.specs.declared.state.State.{State}
+use Rattle.pt_tree.specs.Tree.{put}
+use Rattle.pt_plan.specs.Permits.{MayMakeContent, MayOpenRow}
+use Rattle.pt_plan.specs.TurnMake.{MakesFolder, OpensCopy, PassesRow, behind, in_content, is_stored, path_of_source, with_folder}
 use Rattle.pt_state.proofs.Together.{did_nothing}
 use Rattle.pt_state.proofs.Turns.{KeepsAll, keeps_same, left_some, went}
 use Rattle.pt_make.proofs.Turns.{made}
@@ -59,9 +44,9 @@ pub ruleset next_steps = (is_passed, is_next_folder, is_next_copy)
 pub passed_row : (s : State) (w : World) (object : Object) (position : Position) (next : Part) → IsPassed s position next → Turned (phase.Make object (part.Content position)) s s w w (Ok (phase.Make object next))
 unfolding IsPassed
 passed_row s w object position next (row, (at, other, then)) =
-    subst (λ (p : Part). Turned (phase.Make object (part.Content position)) s s w w (Ok (phase.Make object p))) (sym then)
+    rw then
     (went (phase.Make object (part.Content position)) (phase.Make object (content_at s.rows (behind position))) s s w w no_calls (λ fed. fed)
-    (λ fed _. Make (phase.Make object (part.Content position)) _ (held_of s fed) (held_of s fed) _ _ (PassesRow (held_of s fed) object position row at other)) (did_nothing w) refl (λ fed was. was) (keeps_same s))
+    (λ fed _. Make (PassesRow (held_of s fed) object position row at other)) (did_nothing w) refl (λ fed was. was) (keeps_same s))
 
 -- ---- a folder
 
@@ -71,23 +56,23 @@ few_folders s position path (row, (at, stored, less, few, is)) = few
 
 pub may_folder : (s : State) (reading : Option Reading) (writing : Option Writing) (object : Object) (position : Position) (path : Path) → MayMakeContent reading writing object (held_of s []) position → IsNextFolder s position path → MayMake writing path
 unfolding MayMakeContent IsNextFolder
-may_folder s reading writing object position path may (row, (at, stored, less, few, is)) = subst (λ (p : Path). MayMake writing p) (sym is) ((may row at stored).0 less)
+may_folder s reading writing object position path may (row, (at, stored, less, few, is)) = rw is ((may row at stored).0 less)
 
 pub made_folder : (s : State) (a b : World) (object : Object) (position : Position) (path : Path) → Did (does (Makes (MakeFolder path))) a b → IsNextFolder s position path → Turned (phase.Make object (part.Content position)) s s a b (Ok (phase.Make object (part.Content (with_folder position))))
 unfolding IsNextFolder
 made_folder s a b object position path did (row, (at, stored, less, few, is)) =
     made (phase.Make object (part.Content position)) (phase.Make object (part.Content (with_folder position))) s s a b (Makes (MakeFolder (in_content (take position.directories row.path)))) (λ fed. fed) (λ fed. MakesFolder (held_of s fed) object position row at stored less)
-    (subst (λ (p : Path). Did (does (Makes (MakeFolder p))) a b) is did) (λ fed was. was) (keeps_same s)
+    (rw is at did) (λ fed was. was) (keeps_same s)
 
 -- ---- a file, and the one that it is copied from
 
 pub may_create : (s : State) (reading : Option Reading) (writing : Option Writing) (object : Object) (position : Position) (copied : Copied) → MayMakeContent reading writing object (held_of s []) position → IsNextCopy s object position copied → MayMake writing copied.to
 unfolding MayMakeContent IsNextCopy
-may_create s reading writing object position copied may (row, (at, stored, most, there, here, same)) = subst (λ (p : Path). MayMake writing p) (sym there) ((may row at stored).1 most).0
+may_create s reading writing object position copied may (row, (at, stored, most, there, here, same)) = rw there ((may row at stored).1 most).0
 
 pub can_open_still : (a b : World) (to from : Path) → CanOpen a.source from → Did (does (Creates to)) a b → CanOpen b.source from
 unfolding Did Answers
-can_open_still a b to from can did = subst (λ (o : Option Reading). CanOpen o from) (sym did.0.source) can
+can_open_still a b to from can did = rw did.0.source can
 
 -- a file is made, and another opened
 abbrev opens_copy : Path → Path → Calls
@@ -108,10 +93,10 @@ pub copy_opened : (s s' : State) (a b c : World) (object : Object) (position : P
     → Turned (phase.Make object (part.Content position)) s s' a c (Ok (phase.Copy object position copied.length))
 unfolding IsNextCopy
 copy_opened s s' a b c object position copied created opened (row, (at, stored, most, there, here, same)) started keeps =
-    subst (λ (k : ℕ). Turned (phase.Make object (part.Content position)) s s' a c (Ok (phase.Copy object position k))) (sym same)
+    rw same
     (went (phase.Make object (part.Content position)) (phase.Copy object position row.length) s s' a c (opens_copy (in_content row.path) (in_pairtree (path_of_source object s.trail ++ row.path))) (λ _. [])
-    (λ fed _. Make (phase.Make object (part.Content position)) _ (held_of s fed) (held_of s []) _ _ (OpensCopy (held_of s fed) object position row at stored most))
-    (both_did _ _ a b c (subst (λ (p : Path). Did (does (Creates p)) a b) there created) (subst (λ (p : Path). Did (asks (Opens p)) b c) here opened)) refl (λ _ _. started) keeps)
+    (λ fed _. Make (OpensCopy (held_of s fed) object position row at stored most))
+    (both_did _ _ a b c (rw there at created) (rw here at opened)) refl (λ _ _. started) keeps)
 
 created_tree : (o : Option Writing) (p : Path) → dest_tree (option_map (after_create p) o) ≡ option_map (λ t. put t p (Bytes [])) (dest_tree o)
 created_tree None p = refl
@@ -128,7 +113,7 @@ left_new to from f a b c created stays = (
     dest = NewFile to (ap dest_tree (stays.1 ∙ created.0.dest) ∙ created_tree a.dest to);
     log = stays.2 ∙ created.0.log;
   },
-  subst (λ (x : Failures). HasFailed f x c.failures) created.1 stays.3,
+  rw created.1 at stays.3,
   stays.4,
 )
 
@@ -137,11 +122,11 @@ pub copy_unopened : (s s' : State) (a b c : World) (object : Object) (position :
 unfolding IsNextCopy
 copy_unopened s s' a b c object position copied f result is created stays (row, (at, stored, most, there, here, same)) keeps =
     left_some (phase.Make object (part.Content position)) s s' a c (opens_copy (in_content row.path) (in_pairtree (path_of_source object s.trail ++ row.path))) _ f (λ _. []) result is
-    (λ fed. Make (phase.Make object (part.Content position)) _ (held_of s fed) (held_of s []) _ _ (OpensCopy (held_of s fed) object position row at stored most))
-    (left_new _ _ f a b c (subst (λ (p : Path). Did (does (Creates p)) a b) there created) stays) keeps
+    (λ fed. Make (OpensCopy (held_of s fed) object position row at stored most))
+    (left_new _ _ f a b c (rw there at created) stays) keeps
 
 pub may_open_copy : (s : State) (w : World) (object : Object) (position : Position) (copied : Copied) → MayMakeContent w.source w.dest object (held_of s []) position → IsNextCopy s object position copied → CanOpen w.source copied.from
 unfolding MayMakeContent MayOpenRow IsNextCopy
-may_open_copy s w object position copied may (row, (at, stored, most, there, here, same)) = subst (λ (p : Path). CanOpen w.source p) (sym here) ((may row at stored).1 most).1
+may_open_copy s w object position copied may (row, (at, stored, most, there, here, same)) = rw here ((may row at stored).1 most).1
 
 pub ruleset next_parts = (passed_row, few_folders, may_folder, made_folder, may_create, may_open_copy, can_open_still, copy_opened, copy_unopened)

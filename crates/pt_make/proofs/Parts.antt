@@ -1,31 +1,20 @@
 -- The turns that make the folders of an object and its declaration, from their calls.
-use Rattle.std.proofs.Common.{◌≡◌, ℕ, List, [], ◌∷◌, ◌++◌, sym, subst}
+use Rattle.std.proofs.Common.{◌≡◌, ℕ, List, [], ◌∷◌, ◌++◌}
 use Rattle.std.specs.Prelude.{Option, Ok, IsErrAnd}
 use Rattle.pt_object.specs.Files.{object_declaration_bytes}
 use Rattle.pt_object.specs.Object.{object_declaration_name}
-use Rattle.pt_object.specs.Script.{Item, MakeFile, MakeFolder}
-use Rattle.pt_object.specs.Scripts.{staging}
-use Rattle.pt_tree.specs.Dest.{Writing, MayMake}
-use Rattle.pt_tree.specs.Path.{Path}
-use Rattle.pt_plan.specs.Answer.{Answer}
-use Rattle.pt_plan.specs.Turn.{Did, LeavesSome}
-use Rattle.pt_plan.specs.TurnMake.{MakesDeclaration, MakesStaging, MakesVersion, content_at, in_version}
-use Rattle.pt_plan.specs.World.{Makes, World, does}
-use Rattle.pt_plan.specs.declared.halt.Halt.{Halt}
-use Rattle.pt_plan.specs.declared.object.Object.{Object}
-use Rattle.pt_plan.specs.declared.phase.Part.{Part}
+use Rattle.pt_state.proofs.Words.{MakeFile, MakeFolder, staging, Writing, MayMake, Path, Answer, Did, LeavesSome, content_at, Makes, World, does, Halt, Object, Part, held_of, Turned}
+use Rattle.pt_state.specs.declared.state.State.{State}
 use Rattle.pt_plan.specs.declared.phase.Part.TheVariants as part
 use Rattle.pt_plan.specs.declared.phase.Phase.TheVariants as phase
-use Rattle.pt_state.specs.States.{held_of}
-use Rattle.pt_state.specs.Outside.{Turned}
-use Rattle.pt_state.specs.declared.state.State.{State}
+use Rattle.pt_plan.specs.TurnMake.{MakesDeclaration, MakesStaging, MakesVersion, in_version}
 use Rattle.pt_state.proofs.Turns.{keeps_same}
 use Rattle.pt_make.proofs.Turns.{left_part, made}
 
 pub made_staging : (s : State) (a b : World) (object : Object) (path : Path) → Did (does (Makes (MakeFolder path))) a b → path ≡ staging → Turned (phase.Make object part.Staging) s s a b (Ok (phase.Make object part.Declaration))
 made_staging s a b object path did is =
     made (phase.Make object part.Staging) (phase.Make object part.Declaration) s s a b (Makes (MakeFolder staging)) (λ fed. fed) (λ fed. MakesStaging (held_of s fed) object)
-    (subst (λ (p : Path). Did (does (Makes (MakeFolder p))) a b) is did) (λ fed was. was) (keeps_same s)
+    (rw is at did) (λ fed was. was) (keeps_same s)
 
 declaration : (path : Path) (bytes : List ℕ) → path ≡ staging ++ object_declaration_name ∷ [] → bytes ≡ object_declaration_bytes → MakeFile path bytes ≡ MakeFile (staging ++ object_declaration_name ∷ []) object_declaration_bytes
 declaration path bytes is same = λ i. MakeFile (is i) (same i)
@@ -34,24 +23,24 @@ pub made_declaration : (s : State) (a b : World) (object : Object) (path : Path)
     → Turned (phase.Make object part.Declaration) s s a b (Ok (phase.Make object part.Version))
 made_declaration s a b object path bytes did is same =
     made (phase.Make object part.Declaration) (phase.Make object part.Version) s s a b _ (λ fed. fed) (λ fed. MakesDeclaration (held_of s fed) object)
-    (subst (λ (item : Item). Did (does (Makes item)) a b) (declaration path bytes is same) did) (λ fed was. was) (keeps_same s)
+    (rw (declaration path bytes is same) at did) (λ fed was. was) (keeps_same s)
 
 pub left_declaration : (s : State) (a b : World) (object : Object) (path : Path) (bytes : List ℕ) (f : Halt) (result : Answer) → IsErrAnd result (λ h. h ≡ f) → LeavesSome (does (Makes (MakeFile path bytes))) f a b → path ≡ staging ++ object_declaration_name ∷ [] → bytes ≡ object_declaration_bytes
     → Turned (phase.Make object part.Declaration) s s a b result
 left_declaration s a b object path bytes f result is some at same =
     left_part (phase.Make object part.Declaration) (phase.Make object part.Version) s s a b _ (λ fed. fed) f result is (λ fed. MakesDeclaration (held_of s fed) object)
-    (subst (λ (item : Item). LeavesSome (does (Makes item)) f a b) (declaration path bytes at same) some) (keeps_same s)
+    (rw (declaration path bytes at same) at some) (keeps_same s)
 
 pub made_version : (s : State) (a b : World) (object : Object) (path : Path) (next : Part) → Did (does (Makes (MakeFolder path))) a b → path ≡ in_version [] → next ≡ content_at s.rows (record { row = 0; stored = 0; directories = 0 })
     → Turned (phase.Make object part.Version) s s a b (Ok (phase.Make object next))
 made_version s a b object path next did is then =
-    subst (λ (p : Part). Turned (phase.Make object part.Version) s s a b (Ok (phase.Make object p))) (sym then)
+    rw then
     (made (phase.Make object part.Version) (phase.Make object (content_at s.rows (record { row = 0; stored = 0; directories = 0 }))) s s a b (Makes (MakeFolder (in_version []))) (λ fed. fed) (λ fed. MakesVersion (held_of s fed) object)
-    (subst (λ (p : Path). Did (does (Makes (MakeFolder p))) a b) is did) (λ fed was. was) (keeps_same s))
+    (rw is at did) (λ fed was. was) (keeps_same s))
 
 -- at an equal path it may be made as well
 pub may_make_at : (told : Option Writing) (path at : Path) → MayMake told at → path ≡ at → MayMake told path
-may_make_at told path at may is = subst (λ (p : Path). MayMake told p) (sym is) may
+may_make_at told path at may is = rw is may
 
 pub may_staging : (told : Option Writing) (path : Path) → MayMake told staging → path ≡ staging → MayMake told path
 may_staging told path may is = may_make_at told path staging may is

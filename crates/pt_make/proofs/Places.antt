@@ -1,33 +1,25 @@
 -- The turns that bring an object to its place, from their calls.
-use Rattle.std.proofs.Common.{◌≡◌, ℕ, List, refl, sym, subst, ap, ◌∙◌, false}
+use Rattle.std.proofs.Common.{◌≡◌, ℕ, List, refl, sym, ap, ◌∙◌, false}
 use Rattle.std.specs.Prelude.{Option, None, Some, Ok, Err}
 use Rattle.std.specs.Option.{option_map}
-use Rattle.pt_object.specs.Script.{MakeFolder}
-use Rattle.pt_object.specs.Scripts.{staging}
-use Rattle.pt_tree.specs.Dest.{Writing, IsKindAt, MayMake, MayMove, after_mkdir}
-use Rattle.pt_tree.specs.Path.{Path}
-use Rattle.pt_tree.specs.Tree.{Entry, kind_of_entry}
-use Rattle.pt_tree.specs.declared.kind.Kind.{Kind}
+use Rattle.pt_state.proofs.Words.{MakeFolder, staging, Writing, IsKindAt, MayMake, Path, kind_of_entry, Kind, Did, Place, Answers, Change, Changes, Finds, Makes, Puts, Renames, World, does, Object, Phase, counts_of, held_of, job_of, Turned}
+use Rattle.pt_state.specs.declared.state.State.{State}
 use Rattle.pt_tree.specs.declared.kind.Kind.TheVariants as kind
+use Rattle.pt_plan.specs.declared.halt.Halt.TheVariants as halt
+use Rattle.pt_plan.specs.declared.phase.Phase.TheVariants as phase
+use Rattle.pt_tree.specs.Dest.{MayMove, after_mkdir}
+use Rattle.pt_tree.specs.Tree.{Entry}
 use Rattle.pt_plan.specs.Permits.{HasParent}
-use Rattle.pt_plan.specs.Turn.{Did, Place}
 use Rattle.pt_plan.specs.TurnPlace.{Places, MakesTuple, FindsTuple, IsInTheWay, RenamesObject, after_tuple, tuple_folder}
 use Rattle.pt_plan.specs.TurnStart.{is_dir_kind}
 use Rattle.pt_plan.specs.TurnWalk.{in_root}
-use Rattle.pt_plan.specs.World.{Answers, Change, Changes, Finds, FindsNoneAndMakes, Makes, Puts, Renames, World, does}
-use Rattle.pt_plan.specs.declared.halt.Halt.TheVariants as halt
-use Rattle.pt_plan.specs.declared.object.Object.{Object}
-use Rattle.pt_plan.specs.declared.phase.Phase.{Phase}
-use Rattle.pt_plan.specs.declared.phase.Phase.TheVariants as phase
-use Rattle.pt_state.specs.States.{counts_of, held_of, job_of}
-use Rattle.pt_state.specs.Outside.{Turned}
-use Rattle.pt_state.specs.declared.state.State.{State}
+use Rattle.pt_plan.specs.World.{FindsNoneAndMakes}
 use Rattle.pt_state.proofs.Together.{looked_then}
 use Rattle.pt_state.proofs.Turns.{keeps_same, refused, went}
 
 -- its call is made
 placed : (here next : Phase) (s : State) (a b : World) (change : Change) → ((fed : List ℕ) → Places (job_of s.job) (counts_of s.counts) here (held_of s fed) (held_of s fed) (does change) (Ok next)) → Did (does change) a b → Turned here s s a b (Ok next)
-placed here next s a b change places did = went here next s s a b (does change) (λ fed. fed) (λ fed _. Place here _ (held_of s fed) (held_of s fed) (does change) (Ok next) (places fed)) did refl (λ fed was. was) (keeps_same s)
+placed here next s a b change places did = went here next s s a b (does change) (λ fed. fed) (λ fed _. Place (places fed)) did refl (λ fed was. was) (keeps_same s)
 
 none_there : (o : Option Entry) → option_map kind_of_entry o ≡ None → o ≡ None
 none_there None is = refl
@@ -39,7 +31,7 @@ unfolding HasParent Did Changes IsKindAt MayMake
 may_make_found a b path here above did is = λ s e. let same = sym did.0.dest.1 ∙ e in record { absent = none_there (s.tree path) (did.0.dest.0 s same ∙ is); in_folder = above s same }
 
 pub parent_there : (a : Option Writing) (path at : Path) → HasParent a at → path ≡ at → HasParent a path
-parent_there a path at above is = subst (λ (p : Path). HasParent a p) (sym is) above
+parent_there a path at above is = rw is above
 
 -- it is found to be absent, and made
 found_and_made : (a b c : World) (path : Path) (here : Option Kind) → Did (does (Finds path here)) a b → Did (does (Makes (MakeFolder path))) b c → here ≡ None → Did (does (FindsNoneAndMakes path)) a c
@@ -47,7 +39,7 @@ unfolding Did Answers Changes Puts
 found_and_made a b c path here found made none = (
   record {
     source = made.0.source ∙ found.0.source;
-    dest = (subst (λ o. IsKindAt a.dest path o) none found.0.dest.0, made.0.dest ∙ ap (option_map (after_mkdir path)) found.0.dest.1);
+    dest = (rw none at found.0.dest.0, made.0.dest ∙ ap (option_map (after_mkdir path)) found.0.dest.1);
     log = made.0.log ∙ found.0.log;
   },
   made.1 ∙ found.1,
@@ -56,33 +48,33 @@ found_and_made a b c path here found made none = (
 pub made_tuple : (s : State) (a b c : World) (path : Path) (here : Option Kind) (object : Object) (number : ℕ) (next : Phase) → Did (does (Finds path here)) a b → Did (does (Makes (MakeFolder path))) b c → here ≡ None → path ≡ tuple_folder object number → next ≡ after_tuple (job_of s.job) object number
     → Turned (phase.Tuples object number) s s a c (Ok next)
 made_tuple s a b c path here object number next found made none is then =
-    subst (λ (p : Phase). Turned (phase.Tuples object number) s s a c (Ok p)) (sym then)
+    rw then
     (placed (phase.Tuples object number) (after_tuple (job_of s.job) object number) s a c (FindsNoneAndMakes (tuple_folder object number)) (λ fed. MakesTuple (held_of s fed) object number)
-    (subst (λ (p : Path). Did (does (FindsNoneAndMakes p)) a c) is (found_and_made a b c path here found made none)))
+    (rw is at (found_and_made a b c path here found made none)))
 
 -- what stands at a path
 found_at : (a b : World) (path at : Path) (here it : Option Kind) → Did (does (Finds path here)) a b → path ≡ at → here ≡ it → Did (does (Finds at it)) a b
-found_at a b path at here it found is same = subst (λ (p : Path). Did (does (Finds p it)) a b) is (subst (λ (o : Option Kind). Did (does (Finds path o)) a b) same found)
+found_at a b path at here it found is same = rw is at (rw same at found)
 
 pub found_tuple : (s : State) (a b : World) (path : Path) (here : Option Kind) (object : Object) (number : ℕ) (next : Phase) → Did (does (Finds path here)) a b → here ≡ Some kind.Dir → path ≡ tuple_folder object number → next ≡ after_tuple (job_of s.job) object number
     → Turned (phase.Tuples object number) s s a b (Ok next)
 found_tuple s a b path here object number next found dir is then =
-    subst (λ (p : Phase). Turned (phase.Tuples object number) s s a b (Ok p)) (sym then)
+    rw then
     (placed (phase.Tuples object number) (after_tuple (job_of s.job) object number) s a b (Finds (tuple_folder object number) (Some kind.Dir)) (λ fed. FindsTuple (held_of s fed) object number)
     (found_at a b path (tuple_folder object number) here (Some kind.Dir) found is dir))
 
 pub in_the_way : (s : State) (a b : World) (path : Path) (here : Option Kind) (it : Kind) (object : Object) (number : ℕ) → Did (does (Finds path here)) a b → here ≡ Some it → is_dir_kind (Some it) ≡ false → path ≡ tuple_folder object number
     → Turned (phase.Tuples object number) s s a b (Err halt.Target)
 in_the_way s a b path here it object number found some other is =
-    refused (phase.Tuples object number) s s a b (does (Finds (tuple_folder object number) (Some it))) halt.Target (λ fed was. Place (phase.Tuples object number) _ (held_of s fed) _ _ _ (IsInTheWay (held_of s fed) object number it other))
+    refused (phase.Tuples object number) s s a b (does (Finds (tuple_folder object number) (Some it))) halt.Target (λ fed was. Place (IsInTheWay (held_of s fed) object number it other))
     (found_at a b path (tuple_folder object number) here (Some it) found is some) (keeps_same s)
 
 pub renamed_object : (s : State) (a b : World) (from to : Path) (object : Object) → Did (does (Renames from to)) a b → from ≡ staging → to ≡ in_root object.place → Turned (phase.Rename object) s s a b (Ok (phase.Line object))
 renamed_object s a b from to object did is at =
     placed (phase.Rename object) (phase.Line object) s a b (Renames staging (in_root object.place)) (λ fed. RenamesObject (held_of s fed) object)
-    (subst (λ (p : Path). Did (does (Renames staging p)) a b) at (subst (λ (p : Path). Did (does (Renames p to)) a b) is did))
+    (rw (at) at (rw is at did))
 
 pub may_rename_object : (told : Option Writing) (from to : Path) (object : Object) → MayMove told staging (in_root object.place) → from ≡ staging → to ≡ in_root object.place → MayMove told from to
-may_rename_object told from to object may is same = subst (λ (p : Path). MayMove told from p) (sym same) (subst (λ (p : Path). MayMove told p (in_root object.place)) (sym is) may)
+may_rename_object told from to object may is same = rw same (rw is may)
 
 pub ruleset placing = (may_make_found, parent_there, looked_then, made_tuple, found_tuple, in_the_way, renamed_object, may_rename_object)

@@ -1,7 +1,8 @@
 -- How many names the folders of two paths share, name by name.
 use Rattle.std.proofs.Common.{◌≡◌, ◌<◌, ◌≤◌, ◌+◌, ◌-◌, ℕ, zero, suc, Bool, true, false, cond, not, List, [], ◌∷◌, drop, get_or, length, min, refl, sym, ap, ◌∙◌, arith}
 use Rattle.std.specs.Str.{bytes_eq}
-use Rattle.pt_tree.specs.Path.{Path, parent}
+use Rattle.pt_state.proofs.Words.{Path}
+use Rattle.pt_tree.specs.Path.{parent}
 use Rattle.pt_plan.specs.TurnMake.{shared}
 
 -- at a place that both folders have, whose names in the paths are these

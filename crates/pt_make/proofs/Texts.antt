@@ -1,27 +1,14 @@
 -- The turns that make an inventory and its sidecar, from their calls.
-use Rattle.std.proofs.Common.{◌≡◌, ℕ, List, [], ◌∷◌, ◌++◌, sym, subst, ap, ◌∙◌}
+use Rattle.std.proofs.Common.{◌≡◌, ℕ, List, [], ◌∷◌, ◌++◌, ap, ◌∙◌}
 use Rattle.std.specs.Prelude.{Option, Ok, IsErrAnd, map}
-use Rattle.pt_object.specs.Algorithm.{digest_of}
+use Rattle.pt_state.proofs.Words.{digest_of, HasBeenFed, Algorithm, Hasher, Writing, MayMake, Path, Answer, Did, LeavesSome, World, Halt, Object, Phase, held_of, job_of, Turned}
+use Rattle.pt_state.specs.declared.state.State.{State}
+use Rattle.pt_plan.specs.declared.phase.Part.TheVariants as part
+use Rattle.pt_plan.specs.declared.phase.Phase.TheVariants as phase
 use Rattle.pt_object.specs.Distinct.{content_of_row, distinct}
 use Rattle.pt_object.specs.Files.{sidecar_line, sidecar_text}
-use Rattle.pt_object.specs.Hasher.{HasBeenFed}
 use Rattle.pt_object.specs.Object.{inventory_name, sidecar_name}
-use Rattle.pt_object.specs.declared.algorithm.Algorithm.{Algorithm}
-use Rattle.pt_object.specs.declared.hasher.Hasher.{Hasher}
-use Rattle.pt_tree.specs.Dest.{Writing, MayMake}
-use Rattle.pt_tree.specs.Path.{Path}
-use Rattle.pt_plan.specs.Answer.{Answer}
-use Rattle.pt_plan.specs.Turn.{Did, LeavesSome}
 use Rattle.pt_plan.specs.TurnMake.{MakesInventory, MakesSidecar, MakesVersionInventory, MakesVersionSidecar, after_last}
-use Rattle.pt_plan.specs.World.{World}
-use Rattle.pt_plan.specs.declared.halt.Halt.{Halt}
-use Rattle.pt_plan.specs.declared.object.Object.{Object}
-use Rattle.pt_plan.specs.declared.phase.Part.TheVariants as part
-use Rattle.pt_plan.specs.declared.phase.Phase.{Phase}
-use Rattle.pt_plan.specs.declared.phase.Phase.TheVariants as phase
-use Rattle.pt_state.specs.States.{held_of, job_of}
-use Rattle.pt_state.specs.Outside.{Turned}
-use Rattle.pt_state.specs.declared.state.State.{State}
 use Rattle.pt_make.proofs.Parts.{may_make_at}
 use Rattle.pt_state.proofs.Together.{leaves_short}
 use Rattle.pt_state.proofs.Turns.{KeepsAll, keeps_same}
@@ -40,13 +27,6 @@ contents_of_rows s is = is
 pub fed_text : (a : Algorithm) (start hasher : Hasher) (text : List ℕ) → HasBeenFed a start [] → ((algorithm : Algorithm) (fed : List ℕ) → HasBeenFed algorithm start fed → HasBeenFed algorithm hasher (fed ++ text)) → HasBeenFed a hasher text
 fed_text a start hasher text started feeds = feeds a [] started
 
--- a file with these bytes
-pub file_is : (a b : World) (path : Path) (bytes text : List ℕ) → Did (makes_file path bytes) a b → bytes ≡ text → Did (makes_file path text) a b
-file_is a b path bytes text did is = subst (λ (t : List ℕ). Did (makes_file path t) a b) is did
-
-pub part_is : (a b : World) (path : Path) (bytes text : List ℕ) (f : Halt) → LeavesSome (makes_file path bytes) f a b → bytes ≡ text → LeavesSome (makes_file path text) f a b
-part_is a b path bytes text f some is = subst (λ (t : List ℕ). LeavesSome (makes_file path t) f a b) is some
-
 -- the digest of what a hasher was fed, of which this is a copy
 pub digest_is : (s : State) (object : Object) (hasher : Hasher) (digest : List ℕ) → HasFedInventory s object → ((algorithm : Algorithm) (fed : List ℕ) → HasBeenFed algorithm s.hasher fed → HasBeenFed algorithm hasher fed)
     → ((algorithm : Algorithm) (fed : List ℕ) → HasBeenFed algorithm hasher fed → digest ≡ digest_of algorithm fed) → digest ≡ digest_of s.job.algorithm (inventory_held s object)
@@ -58,7 +38,7 @@ pub ruleset digests = (digest_is)
 pub sidecar_is : (a : Algorithm) (digest fed line : List ℕ) → digest ≡ digest_of a fed → line ≡ sidecar_line digest → line ≡ sidecar_text a fed
 sidecar_is a digest fed line same is = is ∙ ap sidecar_line same
 
-pub ruleset files = (contents_of_rows, fed_text, file_is, part_is, leaves_short, sidecar_is)
+pub ruleset files = (contents_of_rows, fed_text, leaves_short, sidecar_is)
 
 -- ---- inventories
 
@@ -68,31 +48,31 @@ may_make_in told path at may is = may_make_at told path at may is
 pub made_version_inventory : (s s' : State) (a b : World) (object : Object) (here : Folder) (path : Path) (bytes : List ℕ) → here ≡ folder.Version → Did (makes_file path bytes) a b → path ≡ in_folder here (inventory_name ∷ []) → bytes ≡ inventory_held s object → HasBeenFed s.job.algorithm s'.hasher bytes → KeepsAll s s'
     → Turned (phase.Make object (inventory_part here)) s s' a b (Ok (phase.Make object part.VersionSidecar))
 made_version_inventory s s' a b object here path bytes which did is same fed keeps =
-    subst (λ (f : Folder). Turned (phase.Make object (inventory_part f)) s s' a b (Ok (phase.Make object part.VersionSidecar))) (sym which)
+    rw which
     (made (phase.Make object part.VersionInventory) (phase.Make object part.VersionSidecar) s s' a b _ (λ _. inventory_held s object) (λ fed. MakesVersionInventory (held_of s fed) object)
-    (subst (λ (p : Path). Did (makes_file p (inventory_held s object)) a b) (is ∙ ap (λ (f : Folder). in_folder f (inventory_name ∷ [])) which) (file_is a b path bytes (inventory_held s object) did same))
-    (λ _ _. subst (λ (t : List ℕ). HasBeenFed s.job.algorithm s'.hasher t) same fed) keeps)
+    (rw (is ∙ ap (λ (f : Folder). in_folder f (inventory_name ∷ [])) which) at (rw same at did))
+    (λ _ _. rw same at fed) keeps)
 
 pub made_top_inventory : (s s' : State) (a b : World) (object : Object) (here : Folder) (path : Path) (bytes : List ℕ) → here ≡ folder.Top → IsFedFor here s object → Did (makes_file path bytes) a b → path ≡ in_folder here (inventory_name ∷ []) → bytes ≡ inventory_held s object → s'.hasher ≡ s.hasher → KeepsAll s s'
     → Turned (phase.Make object (inventory_part here)) s s' a b (Ok (phase.Make object part.Sidecar))
 unfolding HasFedInventory
 made_top_inventory s s' a b object here path bytes which fed did is same hasher keeps =
-    subst (λ (f : Folder). Turned (phase.Make object (inventory_part f)) s s' a b (Ok (phase.Make object part.Sidecar))) (sym which)
+    rw which
     (made (phase.Make object part.Inventory) (phase.Make object part.Sidecar) s s' a b _ (λ _. inventory_held s object) (λ fed. MakesInventory (held_of s fed) object)
-    (subst (λ (p : Path). Did (makes_file p (inventory_held s object)) a b) (is ∙ ap (λ (f : Folder). in_folder f (inventory_name ∷ [])) which) (file_is a b path bytes (inventory_held s object) did same))
-    (λ _ _. subst (λ (h : Hasher). HasBeenFed s.job.algorithm h (inventory_held s object)) (sym hasher) was) keeps)
+    (rw (is ∙ ap (λ (f : Folder). in_folder f (inventory_name ∷ [])) which) at (rw same at did))
+    (λ _ _. rw hasher was) keeps)
   where
     was : HasFedInventory s object
-    was = subst (λ (f : Folder). IsFedFor f s object) which fed
+    was = rw which at fed
 
 pub left_inventory : (s s' : State) (a b : World) (object : Object) (here : Folder) (path : Path) (bytes : List ℕ) (f : Halt) (result : Answer) → IsErrAnd result (λ h. h ≡ f) → LeavesSome (makes_file path bytes) f a b → path ≡ in_folder here (inventory_name ∷ []) → bytes ≡ inventory_held s object → KeepsAll s s'
     → Turned (phase.Make object (inventory_part here)) s s' a b result
 left_inventory s s' a b object folder.Version path bytes f result is some at same keeps =
     left_part (phase.Make object part.VersionInventory) (phase.Make object part.VersionSidecar) s s' a b _ (λ _. inventory_held s object) f result is (λ fed. MakesVersionInventory (held_of s fed) object)
-    (subst (λ (p : Path). LeavesSome (makes_file p (inventory_held s object)) f a b) at (part_is a b path bytes (inventory_held s object) f some same)) keeps
+    (rw (at) at (rw same at some)) keeps
 left_inventory s s' a b object folder.Top path bytes f result is some at same keeps =
     left_part (phase.Make object part.Inventory) (phase.Make object part.Sidecar) s s' a b _ (λ _. inventory_held s object) f result is (λ fed. MakesInventory (held_of s fed) object)
-    (subst (λ (p : Path). LeavesSome (makes_file p (inventory_held s object)) f a b) at (part_is a b path bytes (inventory_held s object) f some same)) keeps
+    (rw (at) at (rw same at some)) keeps
 
 pub ruleset inventories = (may_make_in, contents_of_rows, made_version_inventory, made_top_inventory, left_inventory)
 
@@ -106,25 +86,25 @@ pub made_version_sidecar : (s : State) (a b : World) (object : Object) (here : F
     → Turned (phase.Make object (sidecar_part here)) s s a b (Ok (phase.Make object part.Inventory))
 unfolding HasFedInventory
 made_version_sidecar s a b object here path which fed did is =
-    subst (λ (f : Folder). Turned (phase.Make object (sidecar_part f)) s s a b (Ok (phase.Make object part.Inventory))) (sym which)
+    rw which
     (made (phase.Make object part.VersionSidecar) (phase.Make object part.Inventory) s s a b _ (λ _. inventory_held s object) (λ fed. MakesVersionSidecar (held_of s fed) object)
-    (subst (λ (p : Path). Did (makes_file p (sidecar_held s object)) a b) (is ∙ ap (λ (f : Folder). in_folder f (sidecar_name s.job.algorithm ∷ [])) which) did) (λ _ _. fed) (keeps_same s))
+    (rw (is ∙ ap (λ (f : Folder). in_folder f (sidecar_name s.job.algorithm ∷ [])) which) at did) (λ _ _. fed) (keeps_same s))
 
 pub made_top_sidecar : (s s' : State) (a b : World) (object : Object) (here : Folder) (path : Path) (next : Phase) → here ≡ folder.Top → Did (makes_file path (sidecar_held s object)) a b → path ≡ in_folder here (sidecar_name s.job.algorithm ∷ []) → next ≡ after_last (job_of s.job) object → HasBeenFed s.job.algorithm s'.hasher [] → KeepsAll s s'
     → Turned (phase.Make object (sidecar_part here)) s s' a b (Ok next)
 made_top_sidecar s s' a b object here path next which did is then started keeps =
-    subst (λ (p : Phase). Turned (phase.Make object (sidecar_part here)) s s' a b (Ok p)) (sym then)
-    (subst (λ (f : Folder). Turned (phase.Make object (sidecar_part f)) s s' a b (Ok (after_last (job_of s.job) object))) (sym which)
+    rw then
+    (rw which
     (made (phase.Make object part.Sidecar) (after_last (job_of s.job) object) s s' a b _ (λ _. []) (λ fed. MakesSidecar (held_of s fed) object)
-    (subst (λ (p : Path). Did (makes_file p (sidecar_held s object)) a b) (is ∙ ap (λ (f : Folder). in_folder f (sidecar_name s.job.algorithm ∷ [])) which) did) (λ _ _. started) keeps))
+    (rw (is ∙ ap (λ (f : Folder). in_folder f (sidecar_name s.job.algorithm ∷ [])) which) at did) (λ _ _. started) keeps))
 
 pub left_sidecar : (s s' : State) (a b : World) (object : Object) (here : Folder) (path : Path) (f : Halt) (result : Answer) → IsErrAnd result (λ h. h ≡ f) → LeavesSome (makes_file path (sidecar_held s object)) f a b → path ≡ in_folder here (sidecar_name s.job.algorithm ∷ []) → KeepsAll s s'
     → Turned (phase.Make object (sidecar_part here)) s s' a b result
 left_sidecar s s' a b object folder.Version path f result is left at keeps =
     left_part (phase.Make object part.VersionSidecar) (phase.Make object part.Inventory) s s' a b _ (λ _. inventory_held s object) f result is (λ fed. MakesVersionSidecar (held_of s fed) object)
-    (subst (λ (p : Path). LeavesSome (makes_file p (sidecar_held s object)) f a b) at left) keeps
+    (rw (at) at left) keeps
 left_sidecar s s' a b object folder.Top path f result is left at keeps =
     left_part (phase.Make object part.Sidecar) (after_last (job_of s.job) object) s s' a b _ (λ _. []) f result is (λ fed. MakesSidecar (held_of s fed) object)
-    (subst (λ (p : Path). LeavesSome (makes_file p (sidecar_held s object)) f a b) at left) keeps
+    (rw (at) at left) keeps
 
 pub ruleset sidecars = (may_make_in, made_version_sidecar, made_top_sidecar, left_sidecar)

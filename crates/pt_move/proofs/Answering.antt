@@ -1,23 +1,14 @@
 -- What a step answers, and what it leaves, from the turn that it made.
-use Rattle.std.proofs.Common.{◌≡◌, ◌≢◌, ◌<◌, ◌≤◌, ◌+◌, ◌==◌, Bool, cond, false, true, ℕ, List, [], refl, sym, subst, ap, ◌∙◌, arith, inl, inr}
+use Rattle.std.proofs.Common.{◌≡◌, ◌≢◌, ◌<◌, ◌≤◌, ◌+◌, ◌==◌, Bool, cond, false, true, ℕ, List, [], refl, sym, ap, ◌∙◌, arith, inl, inr}
 use Rattle.std.proofs.lemmas.Bool.{OnFalse_at, OnFalse_from}
 use Rattle.std.specs.Prelude.{Option, None, Some, Ok, Err}
-use Rattle.pt_object.specs.Hasher.{HasBeenFed}
-use Rattle.pt_object.specs.declared.algorithm.Algorithm.{Algorithm}
-use Rattle.pt_object.specs.declared.hasher.Hasher.{Hasher}
-use Rattle.pt_tree.specs.Dest.{Writing}
-use Rattle.pt_tree.specs.Source.{Reading}
-use Rattle.pt_plan.specs.Answer.{Answer, phase_after}
-use Rattle.pt_plan.specs.Job.{Job}
-use Rattle.pt_plan.specs.Permits.{Permits}
-use Rattle.pt_plan.specs.Run.{Held, Kept, Run, new_run}
-use Rattle.pt_plan.specs.World.{Failures, World, source_tree}
-use Rattle.pt_plan.specs.declared.halt.Halt.{Halt}
-use Rattle.pt_plan.specs.declared.halt.Halt.TheVariants as halt
-use Rattle.pt_plan.specs.declared.phase.Phase.{Phase}
-use Rattle.pt_plan.specs.declared.phase.Phase.TheVariants as phase
-use Rattle.pt_state.specs.States.{held_of, job_of, kept_of}
+use Rattle.pt_state.proofs.Words.{HasBeenFed, Algorithm, Hasher, Writing, Reading, Answer, phase_after, Job, Held, Run, new_run, Failures, World, source_tree, Halt, Phase, held_of, job_of, kept_of, IsLayout, Tree, counts_of}
 use Rattle.pt_state.specs.declared.state.State.{State}
+use Rattle.pt_state.specs.declared.job.Report.{Report}
+use Rattle.pt_plan.specs.declared.halt.Halt.TheVariants as halt
+use Rattle.pt_plan.specs.declared.phase.Phase.TheVariants as phase
+use Rattle.pt_plan.specs.declared.phase.Part.TheVariants as part
+use Rattle.pt_plan.specs.Permits.{Permits}
 use Rattle.pt_move.specs.Bounds.{IsBounded, IsWithin, most_calls}
 use Rattle.pt_move.specs.Stands.{Stands}
 use Rattle.pt_move.specs.Turning.{HasFed, CountedTurn}
@@ -35,23 +26,17 @@ use Rattle.pt_move.specs.declared.fault.Fault.TheVariants as fault
 use Rattle.pt_move.proofs.Going.{is_going}
 use Rattle.pt_move.proofs.Changes.{gains_same, moves_to}
 use Rattle.pt_move.proofs.Leaves.{turn_leaves}
-use Rattle.pt_state.specs.declared.job.Report.{Report}
 use Rattle.pt_move.proofs.Standing.{stands}
 use Rattle.pt_begun.specs.Begun.{Begun, IsWorld, Start, TellsAsBefore, start_of}
 use Rattle.pt_begun.specs.BegunDest.{DestPart, IsLeftBehind}
 use Rattle.pt_begun.proofs.faults.KeptNow.{kept_now}
 use Rattle.pt_begun.proofs.turns_left.EndsWithin.{stops_within_work}
 use Rattle.pt_begun.proofs.turns_left.Within.{new_run_is_within_work, within_work_is_begun}
-use Rattle.pt_begun.specs.WorkLaws.{BegunWithinWork}
-use Rattle.pt_name.specs.Tuples.{IsLayout}
-use Rattle.pt_tree.specs.Tree.{Tree}
 use Rattle.pt_begun.specs.BegunHeld.{HeldAt}
 use Rattle.pt_begun.specs.EndLaws.{is_ended}
 use Rattle.pt_begun.specs.Past.{Past}
 use Rattle.pt_begun.proofs.ends.Permitted.{begun_permits}
 use Rattle.pt_plan.specs.Permits.{MayMakeContent}
-use Rattle.pt_plan.specs.declared.phase.Part.TheVariants as part
-use Rattle.pt_state.specs.States.{counts_of}
 use Rattle.pt_state.specs.declared.job.Job as own
 use Rattle.pt_move.specs.Bounds.{lines_put}
 use Rattle.pt_move.specs.Leaving.{Blames}
@@ -130,7 +115,7 @@ bounded_fed {job} {here} s {fed} fed' bounded = record { lines = bounded.lines; 
 -- after a turn the run isn't to begin
 not_first : (s s' : State) (fed fed' : List ℕ) (here : Phase) (answer : Answer) → phase_after answer ≡ phase.Begin → IsBounded (job_of s.job) (phase_after answer) (kept_of s' fed') → s'.counts.turns ≡ s.counts.turns + 1 → ⊥
 not_first s s' fed fed' here answer begins bounded turns =
-    let none : s'.counts.turns ≡ 0 = subst (λ (p : Phase). IsWithin (job_of s.job) p (held_of s' fed') s'.counts.turns) begins bounded.within in
+    let none : s'.counts.turns ≡ 0 = rw begins at bounded.within in
     omega (arith, none, turns)
 
 pub well_after : (here : Phase) (s s' : State) (old new : World) (answer : Answer) → here ≢ phase.Ended → BeganSomewhere old (record { phase = here; state = s }) → IsWell (record { phase = here; state = s }) → s.counts.turns < s.job.limits.turns
@@ -141,7 +126,7 @@ well_after here s s' old new answer going (start, begun) well more turned =
     let was = fed_going s.job.algorithm s.hasher is.fed going is.was in
     let made = turned.1 is.fed was in
     record {
-      bounded = subst (λ j. IsBounded (job_of j) (phase_after answer) (kept_of s' [])) (sym turned.0)
+      bounded = rw turned.0
           (bounded_fed s' [] (turn_keeps_bounds (bounded_fed s is.fed well.bounded) more made.1.1));
       fresh = λ begins. absurd (not_first s s' is.fed made.0 here answer begins (turn_keeps_bounds (bounded_fed s is.fed well.bounded) more made.1.1)
           (turn_leaves {s = s} s' made.0 made.1.1).turns);
@@ -153,8 +138,8 @@ well_after here s s' old new answer going (start, begun) well more turned =
 pub begun_ends : (start : Start) (world : World) (r : Running) {t : Running} → t.phase ≡ phase.Ended → t.state ≡ r.state → IsBegun start world r → IsBegun start world t
 unfolding IsBegun
 begun_ends start world r {t} ended same is =
-    subst (λ (p : Phase). InProgress start (as_told world) (record { phase = p; state = t.state })) (sym ended)
-    (subst (λ (s : State). InProgress start (as_told world) (record { phase = phase.Ended; state = s })) (sym same)
+    rw ended
+    (rw same
     (record { fed = is.fed; was = tt; begun = stops_within_work (job_of r.state.job) start (as_told world) (run_of r is.fed) is.begun }))
 
 -- ---- what is left in the destination
@@ -200,9 +185,9 @@ ok_blames s s' old new next t left = record { source = ap (λ (f : Failures). f.
 none_blamed : (old new : World) (f : Fault) → new.failures ≡ old.failures → Rose (fault_number f == 1) old.failures.source new.failures.source ≡ (new.failures.source ≡ old.failures.source) → Rose (fault_number f == 2) old.failures.dest new.failures.dest ≡ (new.failures.dest ≡ old.failures.dest) → Rose (fault_number f == 3) old.failures.log new.failures.log ≡ (new.failures.log ≡ old.failures.log) → BlamesRightly {T = own_turn.Turn} old new (Err f)
 unfolding BlamesRightly
 none_blamed old new f same a b c = record {
-  source = subst (λ (P : Type 0). P) (sym a) (ap (λ (f : Failures). f.source) same);
-  dest = subst (λ (P : Type 0). P) (sym b) (ap (λ (f : Failures). f.dest) same);
-  log = subst (λ (P : Type 0). P) (sym c) (ap (λ (f : Failures). f.log) same);
+  source = rw a (ap (λ (f : Failures). f.source) same);
+  dest = rw b (ap (λ (f : Failures). f.dest) same);
+  log = rw c (ap (λ (f : Failures). f.log) same);
 }
 
 blames_by : (why : Halt) (old new : World) → Blames why old.failures new.failures → BlamesRightly {T = own_turn.Turn} old new (Err (fault_of why))
@@ -213,7 +198,7 @@ blames_by halt.Log old new is = record { source = is.0; dest = is.1; log = is.2 
 blames_by why old new is = none_blamed old new (fault_of why) is refl refl refl
 
 pub err_blames : (s s' : State) (old new : World) (why : Halt) (f : Fault) → f ≡ fault_of why → TurnLeaves s s' old.log new.log old.failures new.failures (Err why) → BlamesRightly {T = own_turn.Turn} old new (Err f)
-err_blames s s' old new why f is left = subst (λ f. BlamesRightly {T = own_turn.Turn} old new (Err f)) (sym is) (blames_by why old new left.failures)
+err_blames s s' old new why f is left = rw is (blames_by why old new left.failures)
 
 pub none_blamed_for_turns : (w : World) → BlamesRightly {T = own_turn.Turn} w w (Err fault.Turns)
 unfolding BlamesRightly
@@ -233,29 +218,29 @@ stays_halt halt.Source old new = tt
 stays_halt _ _ _ = tt
 
 pub err_answer : (old new : Running) (g g' : Option (List ℕ)) (F F' : Failures) (why : Halt) (f : Fault) → f ≡ fault_of why → IsTurn old → new.phase ≡ phase.Ended → TurnLeaves old.state new.state g g' F F' (Err why) → EndsAs old new (Err f)
-err_answer old new g g' F F' why f is turn ended left = subst (λ f. EndsAs old new (Err f)) (sym is) (counted_halt why new turn ended (left.turns, left.lines)).0
+err_answer old new g g' F F' why f is turn ended left = rw is (counted_halt why new turn ended (left.turns, left.lines)).0
 
 pub err_counted : (old new : Running) {g : Option (List ℕ)} (g' : Option (List ℕ)) (F F' : Failures) {why : Halt} {f : Fault} → f ≡ fault_of why → TurnLeaves old.state new.state g g' F F' (Err why) → IsCounted old new (Err f)
-err_counted old new g' F F' {why} {f} is left = subst (λ f. IsCounted old new (Err f)) (sym is) (by why)
+err_counted old new g' F F' {why} {f} is left = rw is (by why)
   where
     by : (why : Halt) → IsCounted old new (Err (fault_of why))
     by halt.Source = (left.turns, left.lines)
     by _ = (left.turns, left.lines)
 
 pub err_stays : {X : Type 0} (why : Halt) (f : Fault) (old new : X) → f ≡ fault_of why → StaysAs Any (Err f) old new
-err_stays why f old new is = subst (λ f. StaysAs Any (Err f) old new) (sym is) (stays_halt why old new)
+err_stays why f old new is = rw is (stays_halt why old new)
 
 new_bounded : (job : Job) → IsBounded job phase.Begin fresh_kept
 new_bounded job = record { lines = omega (arith); turns = omega (arith); few = record { rows = omega (arith); lengths = omega (arith) }; within = refl; prefix = omega (arith) }
 
 pub new_well : (job : own.Job) (r : Running) → IsNew job r → IsWell r
 new_well job r new = record {
-  bounded = subst (λ (k : Kept). IsBounded (job_of r.state.job) r.phase k) (sym new.kept) (subst (λ (p : Phase). IsBounded (job_of r.state.job) p fresh_kept) (sym new.phase) (new_bounded (job_of r.state.job)));
-  fresh = λ begins. record { kept = new.kept; fed = subst (λ j. HasBeenFed j.algorithm r.state.hasher []) (sym new.job_is) new.fed };
+  bounded = rw new.kept (rw new.phase (new_bounded (job_of r.state.job)));
+  fresh = λ begins. record { kept = new.kept; fed = rw new.job_is new.fed };
 }
 
 pub same_begun : (start : Start) (world : World) {r t : Running} → t ≡ r → IsBegun start world r → IsBegun start world t
-same_begun start world same is = subst (λ (x : Running). IsBegun start world x) (sym same) is
+same_begun start world same is = rw same is
 
 -- nothing was put
 pub told_nothing : {g : Option (List ℕ)} (g' : Option (List ℕ)) {c : Report} (c' : Report) → g' ≡ g → c' ≡ c → TellsFront g g' c c'
@@ -264,7 +249,7 @@ told_nothing g' c' same counts = (inl same, (ap (λ (k : Report). k.done) counts
 
 pub ended_well : (r : Running) (s : Running) → IsWell r → s.phase ≡ phase.Ended → s.state ≡ r.state → IsWell s
 ended_well r s well ended same = record {
-  bounded = subst (λ (p : Phase). IsBounded (job_of s.state.job) p (kept_of s.state [])) (sym ended) (subst (λ (t : State). IsBounded (job_of t.job) phase.Ended (kept_of t [])) (sym same) (record { lines = well.bounded.lines; turns = well.bounded.turns; few = record { rows = well.bounded.few.rows; lengths = well.bounded.few.lengths }; within = tt; prefix = well.bounded.prefix }));
+  bounded = rw ended (rw same (record { lines = well.bounded.lines; turns = well.bounded.turns; few = record { rows = well.bounded.few.rows; lengths = well.bounded.few.lengths }; within = tt; prefix = well.bounded.prefix }));
   fresh = λ begins. absurd (let no : phase.Ended ≡ phase.Begin = sym ended ∙ begins in cc);
 }
 
@@ -277,7 +262,7 @@ begun_somewhere {r} {world} (inl begins) well layout is = (
   record {
     fed = [];
     was = fed_to_end r.phase r.state.job.algorithm r.state.hasher [] (well.fresh begins).fed;
-    begun = subst (λ (run : Run). BegunWithinWork (job_of r.state.job) (start_of world) (as_told world) run) (sym run_is) (to_told (job_of r.state.job) (start_of world) world new_run (new_run_is_within_work (job_of r.state.job) world layout is));
+    begun = rw run_is (to_told (job_of r.state.job) (start_of world) world new_run (new_run_is_within_work (job_of r.state.job) world layout is));
   },
 )
   where
@@ -285,7 +270,7 @@ begun_somewhere {r} {world} (inl begins) well layout is = (
     run_is = λ i. record { phase = begins i; kept = (well.fresh begins).kept i }
 
 pub begun_seen : (r t : Running) (world : World) → t ≡ r → HasBegun world r → IsWell t → IsLayout t.state.job.layout → IsWorld world → BeganSomewhere world r
-begun_seen r t world same begun well layout is = begun_somewhere begun (subst (λ (x : Running). IsWell x) same well) (subst (λ (x : Running). IsLayout x.state.job.layout) same layout) is
+begun_seen r t world same begun well layout is = begun_somewhere begun (rw same at well) (rw same at layout) is
 
 pub has_begun : (start : Start) (world : World) (r : Running) → IsBegun start world r → HasBegun world r
 unfolding HasBegun
@@ -297,14 +282,14 @@ goes_on_after here next s s' old new (start, begun) on = inr (start, (on start b
 
 pub goes_on_halted : (here after : Phase) (s s' : State) (old new : World) (why : Halt) → after ≡ phase.Ended → BeganSomewhere old (record { phase = here; state = s }) → ((start : Start) → IsBegun start old (record { phase = here; state = s }) → TurnKeeps start old new s s' (Err why)) → HasBegun new (record { phase = after; state = s' })
 unfolding HasBegun BeganSomewhere TurnKeeps
-goes_on_halted here after s s' old new why ended (start, begun) on = inr (start, subst (λ (p : Phase). IsBegun start new (record { phase = p; state = s' })) (sym ended) (on start begun).begun)
+goes_on_halted here after s s' old new why ended (start, begun) on = inr (start, rw ended (on start begun).begun)
 
 pub goes_on_ended : (r t : Running) (world : World) → BeganSomewhere world r → t.phase ≡ phase.Ended → t.state ≡ r.state → HasBegun world t
 unfolding HasBegun BeganSomewhere
 goes_on_ended r t world (start, begun) ended same = inr (start, begun_ends start world r ended same begun)
 
 pub goes_on_same : (r t : Running) (world : World) → t ≡ r → HasBegun world r → HasBegun world t
-goes_on_same r t world same is = subst (λ (x : Running). HasBegun world x) (sym same) is
+goes_on_same r t world same is = rw same is
 
 pub begins_begun : (r : Running) (world : World) → r.phase ≡ phase.Begin → HasBegun world r
 unfolding HasBegun
@@ -319,7 +304,7 @@ leaves_more before after old new next job tree left = record { tree = tree; job 
 pub leaves_finished : (before after : Running) (old new : World) (next : Phase) → next ≡ phase.Ended → after.state.job ≡ before.state.job → source_tree new.source ≡ source_tree old.source → TurnLeaves before.state after.state old.log new.log old.failures new.failures (Ok next) → StepLeaves old new before after (Ok turn.Finished)
 unfolding StepLeaves
 leaves_finished before after old new next ended job tree left =
-    let last : TurnLeaves before.state after.state old.log new.log old.failures new.failures (Ok phase.Ended) = subst (λ (p : Phase). TurnLeaves before.state after.state old.log new.log old.failures new.failures (Ok p)) ended left in
+    let last : TurnLeaves before.state after.state old.log new.log old.failures new.failures (Ok phase.Ended) = rw ended at left in
     record { tree = tree; job = job; turns = (left.turns, left.lines); told = left.told; finished = last.ended; trail = left.trail; rows = left.rows; contents = left.contents }
 
 pub leaves_halted : (before after : Running) (old new : World) (why : Halt) (f : Fault) → f ≡ fault_of why → after.state.job ≡ before.state.job → source_tree new.source ≡ source_tree old.source → TurnLeaves before.state after.state old.log new.log old.failures new.failures (Err why) → StepLeaves old new before after (Err f)
@@ -363,7 +348,7 @@ turned_more here next s s' old new turned = turned
 
 pub turned_last : (here next : Phase) (s s' : State) (old new : World) → next ≡ phase.Ended → CountedTurn here s s' old new (Ok next) → MakesTurn old new (record { phase = here; state = s }) (record { phase = phase.Ended; state = s' }) (Ok turn.Finished)
 unfolding MakesTurn
-turned_last here next s s' old new ended turned = subst (λ (p : Phase). CountedTurn here s s' old new (Ok p)) ended turned
+turned_last here next s s' old new ended turned = rw ended at turned
 
 turned_by : (why : Halt) (before after : Running) (old new : World) → CountedTurn before.phase before.state after.state old new (Err why) → MakesTurn old new before after (Err (fault_of why))
 unfolding MakesTurn
@@ -371,7 +356,7 @@ turned_by halt.Source before after old new turned = (halt.Source, refl, turned)
 turned_by why _ _ _ _ turned = (why, refl, turned)
 
 pub turned_halted : (why : Halt) (f : Fault) (before after : Running) (old new : World) → f ≡ fault_of why → CountedTurn before.phase before.state after.state old new (Err why) → MakesTurn old new before after (Err f)
-turned_halted why f before after old new is turned = subst (λ f. MakesTurn old new before after (Err f)) (sym is) (turned_by why before after old new turned)
+turned_halted why f before after old new is turned = rw is (turned_by why before after old new turned)
 
 pub no_turn_at_limit : (before after : Running) (w : World) → IsWell before → before.state.job.limits.turns ≤ before.state.counts.turns → after.state ≡ before.state → MakesTurn w w before after (Err fault.Turns)
 unfolding MakesTurn

@@ -1,5 +1,5 @@
 -- Each turn keeps the numbers within their bounds.
-use Rattle.std.proofs.Common.{◌≡◌, ◌<◌, ◌≤◌, ◌*◌, ℕ, ◌+◌, ◌==◌, Bool, true, false, List, [], ◌∷◌, ◌++◌, refl, sym, subst, ap, ◌∙◌, inl, inr, length, cond, arith}
+use Rattle.std.proofs.Common.{◌≡◌, ◌<◌, ◌≤◌, ◌*◌, ℕ, ◌+◌, ◌==◌, Bool, true, false, List, [], ◌∷◌, ◌++◌, refl, sym, ap, ◌∙◌, inl, inr, length, cond, arith}
 use Rattle.std.specs.Prelude.{Option, None, Some, Ok, nat_lt, ◌||◌, if◌then◌else◌}
 use Rattle.std.specs.Str.{is_utf8}
 use Rattle.pt_name.specs.Prefix.{ends_line, kept_before, prefix_refusal, without_line_ends}
@@ -7,23 +7,15 @@ use Rattle.pt_name.specs.declared.prefix.PrefixFault.TheVariants as fault
 use Rattle.std.proofs.lemmas.Bool.{ltb-false, leb-false}
 use Rattle.std.proofs.lemmas.List.{length-append}
 use Rattle.std.proofs.lemmas.List.Sums.{sum_by-append}
-use Rattle.pt_object.specs.declared.rows.Row.{Row}
-use Rattle.pt_tree.specs.Listing.{Item}
-use Rattle.pt_plan.specs.Answer.{Answer, phase_after}
-use Rattle.pt_plan.specs.Job.{Job}
-use Rattle.pt_plan.specs.Lines.{Line, Done}
-use Rattle.pt_plan.specs.Run.{Counts, Held, Kept, turning, with_fed}
-use Rattle.pt_plan.specs.Turn.{Follows, FailsAtFirst, FailsLater, GoesOn, IsHalted, IsRefused, Make, Place, Scan, Start, Turn, Walk, counted}
+use Rattle.pt_state.proofs.Words.{Row, Item, Answer, phase_after, Job, Line, Done, Counts, Held, Kept, turning, Follows, FailsAtFirst, FailsLater, GoesOn, IsHalted, IsRefused, Make, Place, Scan, Start, Turn, Walk, counted, bytes_in_rows, Calls, World, Phase}
 use Rattle.pt_plan.specs.TurnMake as make
-use Rattle.pt_plan.specs.TurnPlace.{bytes_in_rows}
 use Rattle.pt_plan.specs.TurnPlace as place
-use Rattle.pt_plan.specs.TurnScan.{none_listed}
 use Rattle.pt_plan.specs.TurnScan as scan
 use Rattle.pt_plan.specs.TurnStart as start
 use Rattle.pt_plan.specs.TurnWalk as walk
-use Rattle.pt_plan.specs.World.{Calls, World}
-use Rattle.pt_plan.specs.declared.phase.Phase.{Phase}
 use Rattle.pt_plan.specs.declared.phase.Phase.TheVariants as phase
+use Rattle.pt_plan.specs.Run.{with_fed}
+use Rattle.pt_plan.specs.TurnScan.{none_listed}
 use Rattle.pt_move.specs.Bounds.{AreFew, IsBounded, IsWithin, lines_put}
 
 -- ---- lines
@@ -45,25 +37,25 @@ one_more job held rows row bytes few room short is more =
     let lengths = few.lengths in
     let limit = job.limits.file_bytes in
     let times : (length held.rows + 1) * limit ≡ length held.rows * limit + limit = omega (arith) in
-    record { rows = omega (arith, long, room); lengths = subst (λ (n : ℕ). bytes_in_rows rows ≤ n * limit) (sym long) (omega (arith, sum, lengths, short, is, times)) }
+    record { rows = omega (arith, long, room); lengths = rw long (omega (arith, sum, lengths, short, is, times)) }
 
 no_rows : (job : Job) (held : Held) → held.rows ≡ [] → AreFew job held
 no_rows job held none = record { rows = let long = ap length none in omega (arith, long); lengths = let sum = ap bytes_in_rows none in omega (arith, sum) }
 
 few_same : {job : Job} {held new : Held} → AreFew job held → new.rows ≡ held.rows → AreFew job new
-few_same {job} few same = record { rows = subst (λ (r : List Row). length r ≤ job.limits.files) (sym same) few.rows; lengths = subst (λ (r : List Row). bytes_in_rows r ≤ length r * job.limits.file_bytes) (sym same) few.lengths }
+few_same {job} few same = record { rows = rw same few.rows; lengths = rw same few.lengths }
 
 follows_few : {job : Job} {counts : Counts} {here : Phase} {prefix read : List ℕ} {held new : Held} {calls : Calls} {answer : Answer} (turns : ℕ) → Follows job counts here prefix held read new calls answer → AreFew job held → IsWithin job here held turns → AreFew job new
-follows_few _ (Start _ _ _ _ _ _ (start.IsStore _ _ _)) few _ = few
-follows_few _ (Walk _ _ _ _ _ _ (walk.OpensRoot _ _)) few _ = few_same few refl
-follows_few _ (Scan _ _ _ _ _ _ (scan.IsTooDeep _ _ _ _)) _ _ = no_rows _ _ refl
-follows_few _ (Scan _ _ _ _ _ _ (scan.MeetsDeep _ _ _ _ _ _)) _ _ = no_rows _ _ refl
-follows_few _ (Scan _ _ _ _ _ _ (scan.MeetsLimit _ _ _ _ _)) _ _ = no_rows _ _ refl
-follows_few _ (Scan _ _ _ _ _ _ (scan.MeetsOther _ _ _ _)) _ _ = no_rows _ _ refl
-follows_few _ (Scan _ _ _ _ _ _ (scan.IsTooLong _ _ _ _ _ _)) _ _ = no_rows _ _ refl
-follows_few {job} {held} _ (Scan _ _ _ _ _ _ (scan.EndsFile _ _ bytes)) few within = let more = one_more job held _ _ bytes few within.2 within.1 refl refl in record { rows = more.rows; lengths = more.lengths }
-follows_few _ (Make _ _ _ _ _ _ (make.MakesStaging _ _)) few _ = few
-follows_few _ (Place _ _ _ _ _ _ (place.TellsDone _ _)) _ _ = no_rows _ _ refl
+follows_few _ (Start (start.IsStore _ _ _)) few _ = few
+follows_few _ (Walk (walk.OpensRoot _ _)) few _ = few_same few refl
+follows_few _ (Scan (scan.IsTooDeep _ _ _ _)) _ _ = no_rows _ _ refl
+follows_few _ (Scan (scan.MeetsDeep _ _ _ _ _ _)) _ _ = no_rows _ _ refl
+follows_few _ (Scan (scan.MeetsLimit _ _ _ _ _)) _ _ = no_rows _ _ refl
+follows_few _ (Scan (scan.MeetsOther _ _ _ _)) _ _ = no_rows _ _ refl
+follows_few _ (Scan (scan.IsTooLong _ _ _ _ _ _)) _ _ = no_rows _ _ refl
+follows_few {job} {held} _ (Scan (scan.EndsFile _ _ bytes)) few within = let more = one_more job held _ _ bytes few within.2 within.1 refl refl in record { rows = more.rows; lengths = more.lengths }
+follows_few _ (Make (make.MakesStaging _ _)) few _ = few
+follows_few _ (Place (place.TellsDone _ _)) _ _ = no_rows _ _ refl
 follows_few _ _ few _ = few_same few refl
 
 -- ---- what the next phase counts
@@ -81,21 +73,21 @@ either_within job held turns true first second within _ = within
 either_within job held turns false first second _ within = within
 
 follows_within : {job : Job} {counts : Counts} {here : Phase} {prefix read : List ℕ} {held new : Held} {calls : Calls} {next : Phase} (turns : ℕ) → Follows job counts here prefix held read new calls (Ok next) → IsWithin job here held turns → IsWithin job next new (turns + 1)
-follows_within turns (Start _ _ _ _ _ _ (start.IsStore _ entries is)) within = omega (arith, within)
-follows_within {job} {held} turns (Start _ _ _ _ _ _ (start.MakesRoot _ number _ _)) _ = either_within job held (turns + 1) (number == 5) phase.RootRename (phase.RootMake (number + 1)) tt tt
-follows_within {job} {held} turns (Start _ _ _ _ _ _ (start.IsSame _ number _ _ _)) _ = either_within job held (turns + 1) (number == 2) phase.OpenRoot (phase.RootCheck (number + 1)) tt tt
-follows_within turns (Walk _ _ _ _ _ _ (walk.IsNew _ index id found)) _ = omega (arith)
-follows_within turns (Scan _ _ _ _ _ _ (scan.StartsInSite _ object gathered)) within = omega (arith, within)
-follows_within turns (Scan _ _ _ _ _ _ (scan.EntersObject _ object items apart shallow)) within = let one = none_few items in omega (arith, within, one)
-follows_within turns (Scan _ _ _ _ _ _ (scan.PassesShorty _ object item at passed)) within = omega (arith, within)
-follows_within turns (Scan _ _ _ _ _ _ (scan.EntersDirectory _ object name items at own shallow)) within = let one = none_few items in omega (arith, within, one)
-follows_within {job} {held} turns (Scan _ _ _ _ _ _ (scan.OpensFile _ object name at room)) within = (omega (arith, within), omega (arith), leb-false job.limits.files (length held.rows) (or_false _ _ room))
-follows_within turns (Scan _ _ _ _ _ _ (scan.LeavesDirectory _ object at site own)) within = omega (arith, within)
-follows_within {job} turns (Scan _ _ _ _ _ _ (scan.ReadsOn _ object bytes byte block short)) (few, was, room) = let within = ltb-false job.limits.file_bytes (bytes + length (byte ∷ block)) short in (omega (arith, few), omega (arith, within), room)
-follows_within turns (Scan _ _ _ _ _ _ (scan.EndsFile _ object bytes)) (few, was, room) = omega (arith, few)
-follows_within {job} {held} turns (Make _ _ _ _ _ _ (make.MakesSidecar _ object)) _ = either_within job (with_fed held []) (turns + 1) (job.tuples.count == 0) (phase.Rename object) (phase.Tuples object 0) tt tt
-follows_within {job} {held} turns (Place _ _ _ _ _ _ (place.MakesTuple _ object number)) _ = either_within job held (turns + 1) (nat_lt (number + 1) job.tuples.count) (phase.Tuples object (number + 1)) (phase.Rename object) tt tt
-follows_within {job} {held} turns (Place _ _ _ _ _ _ (place.FindsTuple _ object number)) _ = either_within job held (turns + 1) (nat_lt (number + 1) job.tuples.count) (phase.Tuples object (number + 1)) (phase.Rename object) tt tt
+follows_within turns (Start (start.IsStore _ entries is)) within = omega (arith, within)
+follows_within {job} {held} turns (Start (start.MakesRoot _ number _ _)) _ = either_within job held (turns + 1) (number == 5) phase.RootRename (phase.RootMake (number + 1)) tt tt
+follows_within {job} {held} turns (Start (start.IsSame _ number _ _ _)) _ = either_within job held (turns + 1) (number == 2) phase.OpenRoot (phase.RootCheck (number + 1)) tt tt
+follows_within turns (Walk (walk.IsNew _ index id found)) _ = omega (arith)
+follows_within turns (Scan (scan.StartsInSite _ object gathered)) within = omega (arith, within)
+follows_within turns (Scan (scan.EntersObject _ object items apart shallow)) within = let one = none_few items in omega (arith, within, one)
+follows_within turns (Scan (scan.PassesShorty _ object item at passed)) within = omega (arith, within)
+follows_within turns (Scan (scan.EntersDirectory _ object name items at own shallow)) within = let one = none_few items in omega (arith, within, one)
+follows_within {job} {held} turns (Scan (scan.OpensFile _ object name at room)) within = (omega (arith, within), omega (arith), leb-false job.limits.files (length held.rows) (or_false _ _ room))
+follows_within turns (Scan (scan.LeavesDirectory _ object at site own)) within = omega (arith, within)
+follows_within {job} turns (Scan (scan.ReadsOn _ object bytes byte block short)) (few, was, room) = let within = ltb-false job.limits.file_bytes (bytes + length (byte ∷ block)) short in (omega (arith, few), omega (arith, within), room)
+follows_within turns (Scan (scan.EndsFile _ object bytes)) (few, was, room) = omega (arith, few)
+follows_within {job} {held} turns (Make (make.MakesSidecar _ object)) _ = either_within job (with_fed held []) (turns + 1) (job.tuples.count == 0) (phase.Rename object) (phase.Tuples object 0) tt tt
+follows_within {job} {held} turns (Place (place.MakesTuple _ object number)) _ = either_within job held (turns + 1) (nat_lt (number + 1) job.tuples.count) (phase.Tuples object (number + 1)) (phase.Rename object) tt tt
+follows_within {job} {held} turns (Place (place.FindsTuple _ object number)) _ = either_within job held (turns + 1) (nat_lt (number + 1) job.tuples.count) (phase.Tuples object (number + 1)) (phase.Rename object) tt tt
 follows_within _ _ _ = tt
 
 -- ---- the prefix
@@ -120,7 +112,7 @@ good_length block is = let short = by (nat_lt 1024 (length block)) refl is in le
     by false e is = ltb-false 1024 (length block) e
 
 follows_prefix : {job : Job} {counts : Counts} {here : Phase} {prefix read : List ℕ} {held new : Held} {calls : Calls} {answer : Answer} → Follows job counts here prefix held read new calls answer → length prefix ≤ 1024 → length read ≤ 1024
-follows_prefix (Start _ _ _ _ _ _ (start.HasPrefix _ block is)) _ = good_length block is
+follows_prefix (Start (start.HasPrefix _ block is)) _ = good_length block is
 follows_prefix _ few = few
 
 -- ---- a whole turn
@@ -130,7 +122,7 @@ halted_bounds bounded more few same halted =
     let lines = bounded.lines in
     let put = ap lines_put halted.counts in
     let made = ap (λ (c : Counts). c.turns) halted.counts in
-    record { lines = omega (arith, lines, put, made); turns = omega (arith, more, made); few = few_same few (halted.rows_are ∙ sym same); within = tt; prefix = subst (λ (p : List ℕ). length p ≤ 1024) (sym halted.prefix) bounded.prefix }
+    record { lines = omega (arith, lines, put, made); turns = omega (arith, more, made); few = few_same few (halted.rows_are ∙ sym same); within = tt; prefix = rw halted.prefix bounded.prefix }
 
 pub turn_keeps_bounds : {job : Job} {here : Phase} {kept after : Kept} {old new : World} {answer : Answer} → IsBounded job here kept → kept.counts.turns < job.limits.turns → Turn job here (turning kept) after old new answer → IsBounded job (phase_after answer) after
 turn_keeps_bounds {job} {kept} {after} bounded more (GoesOn calls next follows did counts) =
@@ -143,7 +135,7 @@ turn_keeps_bounds {job} {kept} {after} bounded more (GoesOn calls next follows d
       turns = omega (arith, more, made);
       few = follows_few kept.counts.turns follows bounded.few bounded.within;
       prefix = follows_prefix follows bounded.prefix;
-      within = subst (λ (n : ℕ). IsWithin job next after.held n) (sym made) (follows_within kept.counts.turns follows bounded.within);
+      within = rw made (follows_within kept.counts.turns follows bounded.within);
     }
 turn_keeps_bounds bounded more (IsRefused prefix held calls why follows did halted) = halted_bounds bounded more bounded.few refl halted
 turn_keeps_bounds bounded more (FailsAtFirst why stays halted) = halted_bounds bounded more bounded.few refl halted

@@ -1,33 +1,18 @@
 -- What a turn changes of what is held, and which line it tells, by the lines of the table of turns.
-use Rattle.std.proofs.Common.{◌≡◌, ℕ, ◌+◌, ◌==◌, Bool, true, false, List, [], ◌∷◌, ◌++◌, drop, refl, sym, subst, ◌∙◌, inl, inr, cond, zero, suc}
+use Rattle.std.proofs.Common.{◌≡◌, ℕ, ◌+◌, ◌==◌, Bool, true, false, List, [], ◌∷◌, ◌++◌, drop, refl, ◌∙◌, inl, inr, cond, zero, suc}
 use Rattle.std.specs.Prelude.{Option, None, Some, Ok, Err, nat_lt, ⊤}
 use Rattle.pt_object.specs.Contents.{content_of, is_noted, noted}
-use Rattle.pt_object.specs.declared.contents.Content.{Content}
-use Rattle.pt_object.specs.declared.rows.Row.{Row}
-use Rattle.pt_name.specs.Share.{is_first}
-use Rattle.pt_tree.specs.Listing.{Item}
-use Rattle.pt_tree.specs.Path.{Path}
-use Rattle.pt_walk.specs.Trail.{advanced, entered, names_to, parent, sought}
-use Rattle.pt_walk.specs.declared.cause.Cause.{Cause}
+use Rattle.pt_state.proofs.Words.{Content, is_first, Item, Path, advanced, entered, names_to, parent, sought, Cause, Frame, Answer, Job, Line, End, Skipped, Counts, Held, Follows, Make, Place, Scan, Start, Walk, Calls, Halt, Phase}
 use Rattle.pt_walk.specs.declared.cause.Cause.TheVariants as cause
-use Rattle.pt_walk.specs.declared.frame.Frame.{Frame}
-use Rattle.pt_plan.specs.Answer.{Answer}
-use Rattle.pt_plan.specs.Job.{Job}
-use Rattle.pt_plan.specs.Lines.{Line, End, Skipped}
-use Rattle.pt_plan.specs.Run.{Counts, Held}
-use Rattle.pt_plan.specs.Turn.{Follows, Make, Place, Scan, Start, Walk}
 use Rattle.pt_plan.specs.TurnMake as make
-use Rattle.pt_plan.specs.TurnPlace.{last_line}
 use Rattle.pt_plan.specs.TurnPlace as place
 use Rattle.pt_plan.specs.TurnScan as scan
 use Rattle.pt_plan.specs.TurnStart as start
-use Rattle.pt_plan.specs.TurnWalk.{at_object}
 use Rattle.pt_plan.specs.TurnWalk as walk
-use Rattle.pt_plan.specs.World.{Calls}
-use Rattle.pt_plan.specs.declared.halt.Halt.{Halt}
 use Rattle.pt_plan.specs.declared.halt.Halt.TheVariants as halt
-use Rattle.pt_plan.specs.declared.phase.Phase.{Phase}
 use Rattle.pt_plan.specs.declared.phase.Phase.TheVariants as phase
+use Rattle.pt_plan.specs.TurnPlace.{last_line}
+use Rattle.pt_plan.specs.TurnWalk.{at_object}
 use Rattle.pt_move.specs.Held.{Gains, Moves, listings}
 
 -- ---- trails
@@ -54,7 +39,7 @@ unfolding Moves
 moves_same t = inr (0, refl)
 
 pub moves_to : {t : List Frame} (t' : List Frame) → t' ≡ t → Moves t t'
-moves_to {t} t' is = subst (λ (x : List Frame). Moves t x) (sym is) (moves_same t)
+moves_to {t} t' is = rw is (moves_same t)
 
 moves_entered : (items : List Item) (t : List Frame) → Moves t (entered items t)
 unfolding Moves
@@ -121,30 +106,30 @@ changes_trail : {held new : Held} → Moves held.trail new.trail → new.rows �
 changes_trail moves rows contents = record { trail = moves; rows = gains_same rows; contents = gains_same contents }
 
 changes_back : {held new : Held} → Moves held.trail new.trail → new.rows ≡ [] → new.contents ≡ [] → Changes held new
-changes_back {held} moves rows contents = record { trail = moves; rows = subst (λ (r : List Row). Gains held.rows r) (sym rows) (gains_empty held.rows); contents = subst (λ (r : List Content). Gains held.contents r) (sym contents) (gains_empty held.contents) }
+changes_back {held} moves rows contents = record { trail = moves; rows = rw rows (gains_empty held.rows); contents = rw contents (gains_empty held.contents) }
 
 pub follows_change : {job : Job} {counts : Counts} {here : Phase} {prefix read : List ℕ} {held new : Held} {calls : Calls} {answer : Answer} → Follows job counts here prefix held read new calls answer → Changes held new
-follows_change {held} (Walk _ _ _ _ _ _ (walk.OpensRoot _ items)) = changes_trail (moves_entered items held.trail) refl refl
-follows_change {held} (Walk _ _ _ _ _ _ (walk.IsNew _ index _ _)) = changes_trail (moves_object index held.trail) refl refl
-follows_change {held} (Walk _ _ _ _ _ _ (walk.IsPast _ _ _ _ _)) = changes_trail (moves_advanced held.trail) refl refl
-follows_change {held} (Walk _ _ _ _ _ _ (walk.IsDeep _ _ _ _ _ _)) = changes_trail (moves_advanced held.trail) refl refl
-follows_change {held} (Walk _ _ _ _ _ _ (walk.EntersSite _ _ items _ _ _ _)) = changes_trail (moves_entered items held.trail) refl refl
-follows_change {held} (Walk _ _ _ _ _ _ (walk.PassesEntry _ _ _ _)) = changes_trail (moves_advanced held.trail) refl refl
-follows_change {held} (Walk _ _ _ _ _ _ (walk.LeavesSite _ _ _)) = changes_trail (moves_past held.trail) refl refl
-follows_change {held} (Scan _ _ _ _ _ _ (scan.StartsInSite _ _ _)) = changes_trail (moves_sought 0 held.trail) refl refl
-follows_change {held} (Scan _ _ _ _ _ _ (scan.EntersObject _ _ items _ _)) = changes_trail (moves_entered items held.trail) refl refl
-follows_change {held} (Scan _ _ _ _ _ _ (scan.IsTooDeep _ _ _ _)) = changes_back (moves_left 0 _ held.trail) refl refl
-follows_change {held} (Scan _ _ _ _ _ _ (scan.PassesShorty _ _ _ _ _)) = changes_trail (moves_advanced held.trail) refl refl
-follows_change {held} (Scan _ _ _ _ _ _ (scan.EntersDirectory _ _ _ items _ _ _)) = changes_trail (moves_entered items held.trail) refl refl
-follows_change {held} (Scan _ _ _ _ _ _ (scan.MeetsDeep _ _ _ _ _ _)) = changes_back (moves_left 0 _ held.trail) refl refl
-follows_change {held} (Scan _ _ _ _ _ _ (scan.MeetsLimit _ _ _ _ _)) = changes_back (moves_left 0 _ held.trail) refl refl
-follows_change {held} (Scan _ _ _ _ _ _ (scan.MeetsOther _ _ _ _)) = changes_back (moves_left 0 _ held.trail) refl refl
-follows_change {held} (Scan _ _ _ _ _ _ (scan.EndsObject _ _ _ _ _)) = changes_trail (moves_parent held.trail) refl refl
-follows_change {held} (Scan _ _ _ _ _ _ (scan.LeavesDirectory _ _ _ _ _)) = changes_trail (moves_past held.trail) refl refl
-follows_change {held} (Scan _ _ _ _ _ _ (scan.IsTooLong _ _ _ _ _ _)) = changes_back (moves_left 0 _ held.trail) refl refl
-follows_change {held} (Scan _ _ _ _ _ _ (scan.EndsFile _ _ _)) = record { trail = moves_advanced held.trail; rows = gains_one held.rows _; contents = gains_noted held.contents _ _ }
-follows_change {held} (Make _ _ _ _ _ _ (make.MakesStaging _ _)) = changes_trail (moves_same held.trail) refl refl
-follows_change {held} (Place _ _ _ _ _ _ (place.TellsDone _ _)) = changes_back (moves_sought 0 held.trail) refl refl
+follows_change {held} (Walk (walk.OpensRoot _ items)) = changes_trail (moves_entered items held.trail) refl refl
+follows_change {held} (Walk (walk.IsNew _ index _ _)) = changes_trail (moves_object index held.trail) refl refl
+follows_change {held} (Walk (walk.IsPast _ _ _ _ _)) = changes_trail (moves_advanced held.trail) refl refl
+follows_change {held} (Walk (walk.IsDeep _ _ _ _ _ _)) = changes_trail (moves_advanced held.trail) refl refl
+follows_change {held} (Walk (walk.EntersSite _ _ items _ _ _ _)) = changes_trail (moves_entered items held.trail) refl refl
+follows_change {held} (Walk (walk.PassesEntry _ _ _ _)) = changes_trail (moves_advanced held.trail) refl refl
+follows_change {held} (Walk (walk.LeavesSite _ _ _)) = changes_trail (moves_past held.trail) refl refl
+follows_change {held} (Scan (scan.StartsInSite _ _ _)) = changes_trail (moves_sought 0 held.trail) refl refl
+follows_change {held} (Scan (scan.EntersObject _ _ items _ _)) = changes_trail (moves_entered items held.trail) refl refl
+follows_change {held} (Scan (scan.IsTooDeep _ _ _ _)) = changes_back (moves_left 0 _ held.trail) refl refl
+follows_change {held} (Scan (scan.PassesShorty _ _ _ _ _)) = changes_trail (moves_advanced held.trail) refl refl
+follows_change {held} (Scan (scan.EntersDirectory _ _ _ items _ _ _)) = changes_trail (moves_entered items held.trail) refl refl
+follows_change {held} (Scan (scan.MeetsDeep _ _ _ _ _ _)) = changes_back (moves_left 0 _ held.trail) refl refl
+follows_change {held} (Scan (scan.MeetsLimit _ _ _ _ _)) = changes_back (moves_left 0 _ held.trail) refl refl
+follows_change {held} (Scan (scan.MeetsOther _ _ _ _)) = changes_back (moves_left 0 _ held.trail) refl refl
+follows_change {held} (Scan (scan.EndsObject _ _ _ _ _)) = changes_trail (moves_parent held.trail) refl refl
+follows_change {held} (Scan (scan.LeavesDirectory _ _ _ _ _)) = changes_trail (moves_past held.trail) refl refl
+follows_change {held} (Scan (scan.IsTooLong _ _ _ _ _ _)) = changes_back (moves_left 0 _ held.trail) refl refl
+follows_change {held} (Scan (scan.EndsFile _ _ _)) = record { trail = moves_advanced held.trail; rows = gains_one held.rows _; contents = gains_noted held.contents _ _ }
+follows_change {held} (Make (make.MakesStaging _ _)) = changes_trail (moves_same held.trail) refl refl
+follows_change {held} (Place (place.TellsDone _ _)) = changes_back (moves_sought 0 held.trail) refl refl
 follows_change {held} _ = changes_trail (moves_same held.trail) refl refl
 
 -- ---- why a turn is refused
@@ -158,11 +143,11 @@ IsRefusal halt.Memory = ⊥
 IsRefusal _ = ⊤
 
 pub follows_refuse : {job : Job} {counts : Counts} {here : Phase} {prefix read : List ℕ} {held new : Held} {calls : Calls} {why : Halt} → Follows job counts here prefix held read new calls (Err why) → IsRefusal why × (calls.line ≡ None)
-follows_refuse (Start _ _ _ _ _ _ (start.IsNoStore _ _ _)) = (tt, refl)
-follows_refuse (Walk _ _ _ _ _ _ walks) = elim walks [ ]
-follows_refuse (Scan _ _ _ _ _ _ scans) = elim scans [ ]
-follows_refuse (Make _ _ _ _ _ _ (make.ReadsMore _ _ _ _ _ _ _)) = (tt, refl)
-follows_refuse (Place _ _ _ _ _ _ (place.IsInTheWay _ _ _ _ _)) = (tt, refl)
+follows_refuse (Start (start.IsNoStore _ _ _)) = (tt, refl)
+follows_refuse (Walk walks) = elim walks [ ]
+follows_refuse (Scan scans) = elim scans [ ]
+follows_refuse (Make (make.ReadsMore _ _ _ _ _ _ _)) = (tt, refl)
+follows_refuse (Place (place.IsInTheWay _ _ _ _ _)) = (tt, refl)
 follows_refuse _ = (tt, refl)
 
 -- ---- which line is told
@@ -178,12 +163,12 @@ skip_line counts true at why = tt
 skip_line counts false at why = tt
 
 pub follows_line : {job : Job} {counts : Counts} {here : Phase} {prefix read : List ℕ} {held new : Held} {calls : Calls} {answer : Answer} → Follows job counts here prefix held read new calls answer → LineOf counts calls.line
-follows_line (Start _ _ _ _ _ _ (start.IsStore _ _ _)) = tt
-follows_line {job} {counts} {held} (Walk _ _ _ _ _ _ (walk.IsPast _ _ _ _ _)) = skip_line counts (is_first job.share) (names_to held.trail) cause.Past
-follows_line {job} {counts} {held} (Walk _ _ _ _ _ _ (walk.IsDeep _ _ _ _ _ _)) = skip_line counts (is_first job.share) (names_to held.trail) cause.Limit
-follows_line (Scan _ _ _ _ _ _ (scan.StartsInSite _ _ _)) = tt
-follows_line (Make _ _ _ _ _ _ (make.MakesStaging _ _)) = tt
-follows_line (Place _ _ _ _ _ _ (place.TellsEnd _)) = (refl, refl, refl)
+follows_line (Start (start.IsStore _ _ _)) = tt
+follows_line {job} {counts} {held} (Walk (walk.IsPast _ _ _ _ _)) = skip_line counts (is_first job.share) (names_to held.trail) cause.Past
+follows_line {job} {counts} {held} (Walk (walk.IsDeep _ _ _ _ _ _)) = skip_line counts (is_first job.share) (names_to held.trail) cause.Limit
+follows_line (Scan (scan.StartsInSite _ _ _)) = tt
+follows_line (Make (make.MakesStaging _ _)) = tt
+follows_line (Place (place.TellsEnd _)) = (refl, refl, refl)
 follows_line _ = tt
 
 -- ---- the end
@@ -198,12 +183,12 @@ either_end counts true first second ends _ = ends
 either_end counts false first second _ ends = ends
 
 pub follows_end : {job : Job} {counts : Counts} {here : Phase} {prefix read : List ℕ} {held new : Held} {calls : Calls} {next : Phase} → Follows job counts here prefix held read new calls (Ok next) → EndsWith counts next calls.line
-follows_end {counts} (Start _ _ _ _ _ _ (start.MakesRoot _ number _ _)) = either_end counts (number == 5) phase.RootRename (phase.RootMake (number + 1)) tt tt
-follows_end {counts} (Start _ _ _ _ _ _ (start.IsSame _ number _ _ _)) = either_end counts (number == 2) phase.OpenRoot (phase.RootCheck (number + 1)) tt tt
-follows_end (Walk _ _ _ _ _ _ (walk.OpensRoot _ _)) = tt
-follows_end (Scan _ _ _ _ _ _ (scan.StartsInSite _ _ _)) = tt
-follows_end {job} {counts} (Make _ _ _ _ _ _ (make.MakesSidecar _ object)) = either_end counts (job.tuples.count == 0) (phase.Rename object) (phase.Tuples object 0) tt tt
-follows_end {job} {counts} (Place _ _ _ _ _ _ (place.MakesTuple _ object number)) = either_end counts (nat_lt (number + 1) job.tuples.count) (phase.Tuples object (number + 1)) (phase.Rename object) tt tt
-follows_end {job} {counts} (Place _ _ _ _ _ _ (place.FindsTuple _ object number)) = either_end counts (nat_lt (number + 1) job.tuples.count) (phase.Tuples object (number + 1)) (phase.Rename object) tt tt
-follows_end (Place _ _ _ _ _ _ (place.TellsEnd _)) = refl
+follows_end {counts} (Start (start.MakesRoot _ number _ _)) = either_end counts (number == 5) phase.RootRename (phase.RootMake (number + 1)) tt tt
+follows_end {counts} (Start (start.IsSame _ number _ _ _)) = either_end counts (number == 2) phase.OpenRoot (phase.RootCheck (number + 1)) tt tt
+follows_end (Walk (walk.OpensRoot _ _)) = tt
+follows_end (Scan (scan.StartsInSite _ _ _)) = tt
+follows_end {job} {counts} (Make (make.MakesSidecar _ object)) = either_end counts (job.tuples.count == 0) (phase.Rename object) (phase.Tuples object 0) tt tt
+follows_end {job} {counts} (Place (place.MakesTuple _ object number)) = either_end counts (nat_lt (number + 1) job.tuples.count) (phase.Tuples object (number + 1)) (phase.Rename object) tt tt
+follows_end {job} {counts} (Place (place.FindsTuple _ object number)) = either_end counts (nat_lt (number + 1) job.tuples.count) (phase.Tuples object (number + 1)) (phase.Rename object) tt tt
+follows_end (Place (place.TellsEnd _)) = refl
 follows_end _ = tt

@@ -1,17 +1,12 @@
 -- What the steps of a run say of the whole.
-use Rattle.std.proofs.Common.{◌≡◌, [], inl, sym, ◌∙◌, subst}
+use Rattle.std.proofs.Common.{◌≡◌, [], inl, sym, ◌∙◌}
 use Rattle.std.specs.Prelude.{Err, ◌≢◌}
-use Rattle.pt_name.specs.Tuples.{IsLayout}
-use Rattle.pt_object.specs.Hasher.{HasBeenFed}
-use Rattle.pt_plan.specs.Run.{Run, new_run}
-use Rattle.pt_plan.specs.World.{World}
+use Rattle.pt_state.proofs.Words.{IsLayout, new_run, World, job_of}
 use Rattle.pt_plan.specs.declared.phase.Phase.TheVariants as phase
 use Rattle.pt_begun.specs.Begun.{IsWorld, start_of}
 use Rattle.pt_begun.proofs.turns_left.Within.{new_run_is_within_work}
-use Rattle.pt_begun.specs.WorkLaws.{BegunWithinWork}
-use Rattle.pt_state.specs.States.{job_of}
 use Rattle.pt_state.specs.declared.job.Job.{Job}
-use Rattle.pt_move.specs.Running.{HasBegun, IsBegun, IsNew, Running, as_told, run_of}
+use Rattle.pt_move.specs.Running.{HasBegun, IsBegun, IsNew, Running, run_of}
 use Rattle.pt_move.proofs.Told.{to_told}
 use Rattle.pt_move.proofs.Answering.{fed_to_end, has_begun}
 use Rattle.pt_move.specs.Stepping.{EndsAs}
@@ -24,7 +19,7 @@ new_goes_on job r new ended = let both : phase.Begin ≡ phase.Ended = sym new.p
 
 -- a run that goes on isn't told that it has ended
 pub not_ended : (f : Fault) (old new : Running) → old.phase ≢ phase.Ended → EndsAs old new (Err f) → f ≢ fault.Ended
-not_ended f old new going ends is = absurd (going (told (subst (λ f. EndsAs old new (Err f)) is ends)))
+not_ended f old new going ends is = absurd (going (told (rw is at ends)))
   where
     told : (old.phase ≡ phase.Ended) × (new ≡ old) → old.phase ≡ phase.Ended
     told both = both.0
@@ -34,8 +29,8 @@ pub new_is_begun : (job : Job) (r : Running) (now : World) → IsNew job r → I
 unfolding IsBegun
 new_is_begun job r now new layout is = record {
   fed = [];
-  was = fed_to_end r.phase r.state.job.algorithm r.state.hasher [] (subst (λ j. HasBeenFed j.algorithm r.state.hasher []) (sym new.job_is) new.fed);
-  begun = subst (λ j. BegunWithinWork (job_of j) (start_of now) (as_told now) (run_of r [])) (sym new.job_is) (subst (λ (run : Run). BegunWithinWork (job_of job) (start_of now) (as_told now) run) (sym run_is) (to_told (job_of job) (start_of now) now new_run (new_run_is_within_work (job_of job) now layout is)));
+  was = fed_to_end r.phase r.state.job.algorithm r.state.hasher [] (rw new.job_is new.fed);
+  begun = rw new.job_is (rw run_is (to_told (job_of job) (start_of now) now new_run (new_run_is_within_work (job_of job) now layout is)));
 }
   where
     run_is : run_of r [] ≡ new_run
@@ -46,5 +41,3 @@ unfolding HasBegun
 new_has_begun job r now new = inl new.phase
 
 pub ruleset starting = (new_is_begun, new_has_begun)
-
-pub ruleset migrating = (new_goes_on, not_ended, has_begun)

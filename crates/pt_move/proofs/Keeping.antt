@@ -1,38 +1,26 @@
 -- That a run keeps its promises in a step, by what the step answers.
-use Rattle.std.proofs.Common.{◌≡◌, ◌≢◌, ◌<◌, ◌≤◌, ℕ, List, [], sym, subst, arith}
+use Rattle.std.proofs.Common.{◌≡◌, ◌≢◌, ◌<◌, ◌≤◌, ℕ, List, arith}
 use Rattle.std.specs.Prelude.{Option, Some, Ok, Err}
-use Rattle.pt_tree.specs.Forest.{Forest}
-use Rattle.pt_tree.specs.Source.{Reading}
-use Rattle.pt_tree.specs.Tree.{Tree}
-use Rattle.pt_plan.specs.Answer.{Answer, phase_after}
-use Rattle.pt_plan.specs.Job.{Job}
-use Rattle.pt_plan.specs.Roots.{root_in}
-use Rattle.pt_plan.specs.Run.{Run, turning}
-use Rattle.pt_plan.specs.Work.{work}
-use Rattle.pt_plan.specs.World.{World, source_tree}
-use Rattle.pt_plan.specs.declared.halt.Halt.{Halt}
+use Rattle.pt_state.proofs.Words.{Forest, Reading, Tree, Answer, phase_after, Job, Run, turning, World, source_tree, Halt, Phase, job_of, kept_of}
+use Rattle.pt_state.specs.declared.state.State.{State}
 use Rattle.pt_plan.specs.declared.halt.Halt.TheVariants as halt
-use Rattle.pt_plan.specs.declared.phase.Phase.{Phase}
 use Rattle.pt_plan.specs.declared.phase.Phase.TheVariants as phase
+use Rattle.pt_plan.specs.Roots.{root_in}
+use Rattle.pt_plan.specs.Work.{work}
 use Rattle.pt_begun.specs.Begun.{Begun, Start}
-use Rattle.pt_begun.specs.BegunSource.{IsWithinBound}
-use Rattle.pt_begun.specs.FaultLeft.{IsLeftByFault}
 use Rattle.pt_begun.proofs.ends.TurnEnds.{stops_leave}
 use Rattle.pt_begun.proofs.faults.StandingStill.{begun_stands_still}
 use Rattle.pt_begun.proofs.bounds.WithinBound.{begun_is_within_bound}
 use Rattle.pt_begun.proofs.turns_left.EndsWithin.{turn_tree}
 use Rattle.pt_begun.proofs.turns_left.Within.{turn_is_left, within_work_is_begun}
 use Rattle.pt_begun.specs.WorkLaws.{BegunWithinWork}
-use Rattle.pt_object.specs.Hasher.{HasBeenFed}
-use Rattle.pt_state.specs.States.{held_of, job_of, kept_of}
 use Rattle.pt_state.specs.Outside.{FedAfter}
 use Rattle.pt_state.specs.declared.job.Job as own
-use Rattle.pt_state.specs.declared.state.State.{State}
 use Rattle.pt_move.specs.Turning.{CountedTurn}
 use Rattle.pt_move.specs.Fault.{fault_of}
 use Rattle.pt_move.specs.Outcome.{FaultLeaves, HoldsWithinBound, IfEarly, IfLog, LeavesAll, LeavesNoStaging, MadeWithinWork, SaysRightly, StandsStillIn, WantsMemory}
 use Rattle.pt_move.specs.Promises.{IfHalted, Keeps, TurnKeeps, UnlessEnded}
-use Rattle.pt_move.specs.Running.{BeganSomewhere, FedUntilEnd, InProgress, IsBegun, LeavesBehind, Running, as_told, run_of}
+use Rattle.pt_move.specs.Running.{BeganSomewhere, FedUntilEnd, InProgress, IsBegun, Running, as_told, run_of}
 use Rattle.pt_move.specs.declared.fault.Fault.{Fault}
 use Rattle.pt_move.specs.declared.fault.Fault.TheVariants as fault
 use Rattle.pt_move.specs.declared.mover.Turn.TheVariants as turn
@@ -55,7 +43,7 @@ tree_stays here s s' old new answer going (start, begun) turned =
 -- ---- the turn in a step
 
 fed_after : (answer : Answer) (s s' : State) (fed : List ℕ) → s'.job ≡ s.job → FedAfter answer s.job.algorithm s'.hasher fed → FedUntilEnd (phase_after answer) s'.job.algorithm s'.hasher fed
-fed_after (Ok next) s s' fed job was = fed_to_end next s'.job.algorithm s'.hasher fed (subst (λ j. HasBeenFed j.algorithm s'.hasher fed) (sym job) was)
+fed_after (Ok next) s s' fed job was = fed_to_end next s'.job.algorithm s'.hasher fed (rw job was)
 fed_after (Err why) s s' fed job was = tt
 
 pub keeps_after : (here : Phase) (s s' : State) (old new : World) (answer : Answer) → here ≢ phase.Ended → CountedTurn here s s' old new answer
@@ -69,12 +57,12 @@ keeps_after here s s' old new answer going turned start is =
     let begun : IsBegun start new (record { phase = phase_after answer; state = s' }) = record {
       fed = made.0;
       was = fed_after answer s s' made.0 job made.1.0;
-      begun = subst (λ j. BegunWithinWork (job_of j) start (as_told new) (record { phase = phase_after answer; kept = kept_of s' made.0 })) (sym job)
+      begun = rw job
           (to_told (job_of s.job) start new (record { phase = phase_after answer; kept = kept_of s' made.0 }) (within_after s s' here is.fed made.0 old new start within going_on answer made.1.1));
     } in
     record {
       begun = begun;
-      leaves = subst (λ j. LeavesBehind j start.dest new.dest) job (leaves_behind start new (record { phase = phase_after answer; state = s' }) begun);
+      leaves = rw job at (leaves_behind start new (record { phase = phase_after answer; state = s' }) begun);
       stands = stands_after s s' here is.fed made.0 old new start within going_on made.1.1;
       work = work_after s s' here is.fed made.0 old new start within going_on made.1.1;
       bound = bound_after s s' here is.fed made.0 old new start within going_on made.1.1;
@@ -93,7 +81,7 @@ keeps_more start old new before s' next kept = record { begun = kept.begun; leav
 pub keeps_finished : (start : Start) (old new : World) (before : Running) (s' : State) (next : Phase) → next ≡ phase.Ended → TurnKeeps start old new before.state s' (Ok next) → Keeps start old new before (record { phase = phase.Ended; state = s' }) (Ok turn.Finished)
 unfolding Keeps TurnKeeps
 keeps_finished start old new before s' next ended kept = record {
-  begun = subst (λ (p : Phase). IsBegun start new (record { phase = p; state = s' })) ended kept.begun;
+  begun = rw ended at kept.begun;
   leaves = kept.leaves;
   stands = kept.stands;
   work = kept.work;
@@ -134,7 +122,7 @@ halted_so start old new before s' why kept = record {
 }
 
 pub keeps_halted : (start : Start) (old new : World) (before : Running) (s' : State) (why : Halt) (f : Fault) → f ≡ fault_of why → TurnKeeps start old new before.state s' (Err why) → Keeps start old new before (record { phase = phase.Ended; state = s' }) (Err f)
-keeps_halted start old new before s' why f is kept = subst (λ f. Keeps start old new before (record { phase = phase.Ended; state = s' }) (Err f)) (sym is) (halted_so start old new before s' why kept)
+keeps_halted start old new before s' why f is kept = rw is (halted_so start old new before s' why kept)
 
 -- ---- no turn was made
 
@@ -153,19 +141,19 @@ made_there : (start : Start) (now : World) (r : Running) → IsBegun start now r
 unfolding IsBegun MadeWithinWork
 made_there start now r is = λ f t source_is start_is.
     let reading = reading_of now.source {f = f} source_is in
-    subst (λ (f : Forest). r.state.counts.turns ≤ work (job_of r.state.job) f (root_in t)) reading.2 (so_far (job_of r.state.job) start (as_told now) (run_of r is.fed) {s = reading.0} {t = t} is.begun reading.1 start_is)
+    rw reading.2 at (so_far (job_of r.state.job) start (as_told now) (run_of r is.fed) {s = reading.0} {t = t} is.begun reading.1 start_is)
 
 bound_there : (start : Start) (now : World) (r : Running) → r.phase ≢ phase.Ended → IsBegun start now r → HoldsWithinBound r.state.job (source_tree now.source) r.state
 unfolding IsBegun HoldsWithinBound
 bound_there start now r going is = λ f source_is.
     let reading = reading_of now.source source_is in
-    subst (λ (f : Forest). IsWithinBound (job_of r.state.job) f (held_of r.state [])) reading.2 (begun_is_within_bound (job_of r.state.job) start (as_told now) (run_of r is.fed) reading.0 (going_on start (as_told now) r is) (is_going r.phase going) reading.1)
+    rw reading.2 at (begun_is_within_bound (job_of r.state.job) start (as_told now) (run_of r is.fed) reading.0 (going_on start (as_told now) r is) (is_going r.phase going) reading.1)
 
 left_there : (start : Start) (now : World) (r : Running) → IsBegun start now r → FaultLeaves r.state.job (source_tree now.source) start now.dest now.log
 unfolding IsBegun FaultLeaves
 left_there start now r is = λ f t w first last source_is start_is dest_is first_is last_is.
     let reading = reading_of now.source source_is in
-    subst (λ (f : Forest). IsLeftByFault (job_of r.state.job) f t w.tree first last) reading.2
+    rw reading.2 at
     (stops_leave (job_of r.state.job) start (as_told now) (run_of r is.fed) reading.0 t w first last (going_on start (as_told now) r is) reading.1 start_is dest_is first_is last_is)
 
 -- a limit of at least the work isn't reached
@@ -174,7 +162,7 @@ unfolding IsBegun WantsMemory
 good_there start now r going made is = λ f t source_is start_is good free enough none.
     let reading = reading_of now.source source_is in
     let less : r.state.counts.turns < work (job_of r.state.job) f (root_in t) =
-    subst (λ (f : Forest). r.state.counts.turns < work (job_of r.state.job) f (root_in t)) reading.2 (turn_is_left (job_of r.state.job) start (as_told now) (run_of r is.fed) reading.0 t is.begun (is_going r.phase going) reading.1 start_is) in
+    rw reading.2 at (turn_is_left (job_of r.state.job) start (as_told now) (run_of r is.fed) reading.0 t is.begun (is_going r.phase going) reading.1 start_is) in
     absurd (omega (arith, less, enough, made))
 
 -- a limit that was made is less than the work
@@ -183,11 +171,11 @@ unfolding IsBegun
 limit_there start now r going made is = λ f t source_is start_is.
     let reading = reading_of now.source source_is in
     let less : r.state.counts.turns < work (job_of r.state.job) f (root_in t) =
-    subst (λ (f : Forest). r.state.counts.turns < work (job_of r.state.job) f (root_in t)) reading.2 (turn_is_left (job_of r.state.job) start (as_told now) (run_of r is.fed) reading.0 t is.begun (is_going r.phase going) reading.1 start_is) in
+    rw reading.2 at (turn_is_left (job_of r.state.job) start (as_told now) (run_of r is.fed) reading.0 t is.begun (is_going r.phase going) reading.1 start_is) in
     omega (arith, less, made)
 
 same_counts : (job : own.Job) (source : Option Forest) (start : Option Tree) {s : State} (s' : State) → s' ≡ s → MadeWithinWork job source start s.counts → MadeWithinWork job source start s'.counts
-same_counts job source start s' same made = subst (λ (x : State). MadeWithinWork job source start x.counts) (sym same) made
+same_counts job source start s' same made = rw same made
 
 -- the limit of turns was made
 pub keeps_at_limit : (start : Start) (now : World) (before after : Running) → before.phase ≢ phase.Ended → before.state.job.limits.turns ≤ before.state.counts.turns → after.phase ≡ phase.Ended → after.state ≡ before.state → IsBegun start now before
@@ -198,7 +186,7 @@ keeps_at_limit start now before after going made ended same is = record {
   leaves = leaves_behind start now before is;
   stands = stands_there start now before is;
   work = same_counts before.state.job (source_tree now.source) start.dest after.state same (made_there start now before is);
-  bound = subst (λ (x : State). HoldsWithinBound before.state.job (source_tree now.source) x) (sym same) (bound_there start now before going is);
+  bound = rw same (bound_there start now before going is);
   left = left_there start now before is;
   ends = tt;
   states = tt;
@@ -215,7 +203,7 @@ keeps_ended start now before after same is = record {
   begun = same_begun start now same is;
   leaves = leaves_behind start now before is;
   stands = stands_there start now before is;
-  work = subst (λ (x : Running). MadeWithinWork before.state.job (source_tree now.source) start.dest x.state.counts) (sym same) (made_there start now before is);
+  work = rw same (made_there start now before is);
   bound = tt;
   left = left_there start now before is;
   ends = tt;

@@ -2,20 +2,14 @@
 use Rattle.std.proofs.Common.{◌≡◌, ℕ, List, true, refl}
 use Rattle.std.specs.Prelude.{Option, None, Some, Ok, Err, ⊤}
 use Rattle.pt_begun.specs.LogLaws.{may_tell}
-use Rattle.pt_plan.specs.Answer.{Answer}
-use Rattle.pt_plan.specs.Job.{Job}
-use Rattle.pt_plan.specs.Lines.{Line}
-use Rattle.pt_plan.specs.Run.{Counts, Held, Kept}
-use Rattle.pt_plan.specs.Turn.{FailsAtFirst, FailsLater, Follows, GoesOn, IsNotOfLog, IsRefused, LeavesSome, MayBlame, Make, Place, Scan, Start, Stays, Turn, Walk}
+use Rattle.pt_state.proofs.Words.{Answer, Job, Line, Counts, Held, Kept, FailsAtFirst, FailsLater, Follows, GoesOn, IsRefused, LeavesSome, Make, Place, Scan, Start, Stays, Turn, Walk, Calls, World, Halt, Phase}
 use Rattle.pt_plan.specs.TurnMake as make
 use Rattle.pt_plan.specs.TurnPlace as place
 use Rattle.pt_plan.specs.TurnScan as scan
 use Rattle.pt_plan.specs.TurnStart as start
 use Rattle.pt_plan.specs.TurnWalk as walk
-use Rattle.pt_plan.specs.World.{Calls, World}
-use Rattle.pt_plan.specs.declared.halt.Halt.{Halt}
 use Rattle.pt_plan.specs.declared.halt.Halt.TheVariants as halt
-use Rattle.pt_plan.specs.declared.phase.Phase.{Phase}
+use Rattle.pt_plan.specs.Turn.{IsNotOfLog, MayBlame}
 use Rattle.pt_move.proofs.Changes.{IsRefusal, follows_refuse}
 
 -- the answer blames the log only where lines may be told
@@ -26,16 +20,16 @@ BlamesLogLate here (Err why) = ⊤
 
 -- a turn that tells a line is made where lines may be told
 told_late : {job : Job} {counts : Counts} {here : Phase} {prefix read : List ℕ} {held new : Held} {calls : Calls} {answer : Answer} {line : Line} → Follows job counts here prefix held read new calls answer → calls.line ≡ Some line → may_tell here ≡ true
-told_late (Start _ _ _ _ _ _ (start.IsStore _ _ _)) tells = absurd (cc)
-told_late (Start _ _ _ _ _ _ _) tells = absurd (cc)
-told_late (Walk _ _ _ _ _ _ (walk.OpensRoot _ _)) _ = refl
-told_late (Scan _ _ _ _ _ _ (scan.StartsInSite _ _ _)) _ = refl
-told_late (Make _ _ _ _ _ _ (make.MakesStaging _ _)) tells = absurd (cc)
-told_late (Make _ _ _ _ _ _ _) tells = absurd (cc)
-told_late (Place _ _ _ _ _ _ (place.MakesTuple _ _ _)) tells = absurd (cc)
-told_late (Place _ _ _ _ _ _ (place.FindsTuple _ _ _)) tells = absurd (cc)
-told_late (Place _ _ _ _ _ _ (place.IsInTheWay _ _ _ _ _)) tells = absurd (cc)
-told_late (Place _ _ _ _ _ _ (place.RenamesObject _ _)) tells = absurd (cc)
+told_late (Start (start.IsStore _ _ _)) tells = absurd (cc)
+told_late (Start _) tells = absurd (cc)
+told_late (Walk (walk.OpensRoot _ _)) _ = refl
+told_late (Scan (scan.StartsInSite _ _ _)) _ = refl
+told_late (Make (make.MakesStaging _ _)) tells = absurd (cc)
+told_late (Make _) tells = absurd (cc)
+told_late (Place (place.MakesTuple _ _ _)) tells = absurd (cc)
+told_late (Place (place.FindsTuple _ _ _)) tells = absurd (cc)
+told_late (Place (place.IsInTheWay _ _ _ _ _)) tells = absurd (cc)
+told_late (Place (place.RenamesObject _ _)) tells = absurd (cc)
 told_late _ _ = refl
 
 -- a refusal isn't of the log

@@ -1,20 +1,12 @@
 -- What a turn of the run's definitions leaves.
-use Rattle.std.proofs.Common.{◌≡◌, ℕ, ◌+◌, List, refl, sym, subst, ap, ◌∙◌, inl, inr, arith}
+use Rattle.std.proofs.Common.{◌≡◌, ℕ, ◌+◌, List, refl, ap, ◌∙◌, inl, inr, arith}
 use Rattle.std.specs.Prelude.{Option, None, Some, Err}
-use Rattle.pt_object.specs.declared.rows.Row.{Row}
-use Rattle.pt_plan.specs.Answer.{Answer}
-use Rattle.pt_plan.specs.Job.{Job}
-use Rattle.pt_plan.specs.Lines.{Line, End}
-use Rattle.pt_plan.specs.Run.{Counts, turning}
-use Rattle.pt_plan.specs.Turn.{Did, FailsAtFirst, FailsLater, GoesOn, HasFailed, IsHalted, IsRefused, LeavesSome, Stays, Turn, counted}
-use Rattle.pt_plan.specs.World.{Failures, LeavesFront, Puts, World}
-use Rattle.pt_plan.specs.declared.halt.Halt.{Halt}
-use Rattle.pt_plan.specs.declared.halt.Halt.TheVariants as halt
-use Rattle.pt_plan.specs.declared.phase.Phase.{Phase}
-use Rattle.pt_plan.specs.declared.phase.Phase.TheVariants as phase
-use Rattle.pt_state.specs.States.{counts_of, kept_of}
+use Rattle.pt_state.proofs.Words.{Row, Answer, Job, Line, End, Counts, turning, Did, FailsAtFirst, FailsLater, GoesOn, HasFailed, IsHalted, IsRefused, LeavesSome, Stays, Turn, counted, Failures, Puts, World, Halt, Phase, counts_of, kept_of}
 use Rattle.pt_state.specs.declared.job.Report.{Report}
 use Rattle.pt_state.specs.declared.state.State.{State}
+use Rattle.pt_plan.specs.declared.halt.Halt.TheVariants as halt
+use Rattle.pt_plan.specs.declared.phase.Phase.TheVariants as phase
+use Rattle.pt_plan.specs.World.{LeavesFront}
 use Rattle.pt_move.specs.Bounds.{lines_put}
 use Rattle.pt_move.proofs.Bounding.{counted_more}
 use Rattle.pt_move.proofs.Changes.{EndsWith, IsRefusal, LineOf, follows_change, follows_end, follows_line, follows_refuse, gains_same, moves_to}
@@ -65,13 +57,13 @@ left_front (Some line) g g' c c' left is = (inr (line, left), same_lines c c' {c
 ended_with : (next : Phase) (line : Option Line) (g g' : Option (List ℕ)) (c c' : Report) → EndsWith (counted_turn c) next line → Puts line g g' → counts_of c' ≡ counted line (counted_turn c) → EndsBy next g g' c c'
 unfolding Puts GotLine counted_turn
 ended_with phase.Ended line g g' c c' ends put is =
-    (subst (λ (o : Option Line). Puts o g g') ends put, same_lines c c' {counts = _} (is ∙ ap (λ (o : Option Line). counted o (counted_turn c)) ends) refl refl refl)
+    (rw ends at put, same_lines c c' {counts = _} (is ∙ ap (λ (o : Option Line). counted o (counted_turn c)) ends) refl refl refl)
 ended_with _ _ _ _ _ _ _ _ _ = tt
 
 -- ---- rows
 
 gains_by : {A : Type 0} (xs : List A) {ys zs : List A} → zs ≡ ys → Gains xs ys → Gains xs zs
-gains_by xs is gains = subst (λ l. Gains xs l) (sym is) gains
+gains_by xs is gains = rw is gains
 
 -- ---- a halted turn
 
@@ -113,7 +105,7 @@ turn_leaves {s} s' {fed} fed' {old} {new} (GoesOn calls next follows did counts)
 turn_leaves {s} s' fed' {old} {new} (IsRefused prefix held calls why follows did halted) =
     let refused = follows_refuse follows in
     halted_leaves s' fed' new.log halted (gains_same refl) (refusal_blames why refused.0 did.1)
-    (left_front None old.log new.log s.counts s'.counts (subst (λ (o : Option Line). Puts o old.log new.log) refused.1 did.0.log) halted.counts)
+    (left_front None old.log new.log s.counts s'.counts (rw refused.1 at did.0.log) halted.counts)
 turn_leaves {s} s' fed' {old} {new} (FailsAtFirst why stays halted) =
     halted_leaves s' fed' new.log halted (gains_same refl) (failed_blames why _ _ stays.3) (left_front None old.log new.log s.counts s'.counts stays.2 halted.counts)
 turn_leaves {s} s' fed' {old} {new} (FailsLater prefix held calls answer rows why follows left which halted) =

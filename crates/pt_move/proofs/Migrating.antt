@@ -1,15 +1,12 @@
 -- What a whole run promises, from its steps.
-use Rattle.std.proofs.Common.{◌≡◌, ◌≢◌, ◌≤◌, refl, sym, subst, ◌∙◌}
+use Rattle.std.proofs.Common.{◌≡◌, ◌≢◌, refl, sym, ◌∙◌}
 use Rattle.std.specs.Prelude.{IsErrAnd, Ok, Err, Result}
 use Rattle.pt_begun.specs.Begun.{IsWorld, start_of}
-use Rattle.pt_name.specs.Tuples.{IsLayout}
-use Rattle.pt_plan.specs.World.{World, source_tree}
-use Rattle.pt_plan.specs.declared.phase.Phase.TheVariants as phase
-use Rattle.pt_state.specs.States.{counts_of}
-use Rattle.pt_state.specs.declared.job.Job.{Job}
+use Rattle.pt_state.proofs.Words.{IsLayout, World, source_tree}
 use Rattle.pt_state.specs.declared.job.Report.{Report}
-use Rattle.pt_move.specs.Bounds.{lines_put}
-use Rattle.pt_move.specs.Lines.{HasTold, HasToldAll}
+use Rattle.pt_plan.specs.declared.phase.Phase.TheVariants as phase
+use Rattle.pt_state.specs.declared.job.Job.{Job}
+use Rattle.pt_move.specs.Lines.{HasTold}
 use Rattle.pt_move.specs.Migrates.{Migrates}
 use Rattle.pt_move.specs.Running.{IsBegun, IsNew, IsWell, Running}
 use Rattle.pt_move.specs.Stepping.{Blamed, BlamesRightly, EndsAs, Steps}
@@ -64,7 +61,7 @@ module _ (job : Job) (first old new : World) (a b : Running) (so_far : SoFar job
   }
     where
       more : EndsAs a b (Ok turn.More)
-      more = subst (λ (t : Turn). EndsAs a b (Ok t)) is step.steps.answer
+      more = rw is at step.steps.answer
 
   -- it comes to its end
   pub migrates_whole : (t : Turn) (report : Report) → t ≡ turn.Finished → report ≡ b.state.counts → IsWell b → Stepped old new a b (Ok t) → Migrates job first new (Ok report)
@@ -84,12 +81,12 @@ module _ (job : Job) (first old new : World) (a b : Running) (so_far : SoFar job
     dest = blames.dest;
     log = blames.log;
     never_ended = tt;
-    told = subst (λ (c : Report). HasToldAll first.log new.log c) (sym counts) (step_all first old new a b so_far.told step.steps.leaves is);
+    told = rw counts (step_all first old new a b so_far.told step.steps.leaves is);
     told_front = tt;
     run = ran_whole job first old new a b so_far.same so_far.going so_far.ran is counts step.steps.leaves step.steps.turn;
     work = run_work (start_of first) a b old new job (source_tree first.source) so_far.begun so_far.same so_far.tree t is step.keeps report counts;
-    turns = subst (λ (c : Report). c.turns ≤ job.limits.turns) (sym counts) (subst (λ (j : Job). b.state.counts.turns ≤ j.limits.turns) (step_job old new a b (Ok t) step.steps.leaves ∙ so_far.same) well.bounded.turns);
-    lines = subst (λ (c : Report). lines_put (counts_of c) ≤ c.turns) (sym counts) well.bounded.lines;
+    turns = rw counts (rw (step_job old new a b (Ok t) step.steps.leaves ∙ so_far.same) at well.bounded.turns);
+    lines = rw counts well.bounded.lines;
   }
 
   halted : {f : Fault} → Stepped old new a b (Err f) → Migrates job first new (Err f)
@@ -123,4 +120,4 @@ module _ (job : Job) (first old new : World) (a b : Running) (so_far : SoFar job
   -- or it is halted
   pub migrates_halted : (f : Fault) (result : Result Report Fault) → IsErrAnd result (λ g. g ≡ f) → Stepped old new a b (Err f) → Migrates job first new result
   migrates_halted f (Ok report) is step = absurd is
-  migrates_halted f (Err g) is step = subst (λ g. Migrates job first new (Err g)) (sym is) (halted step)
+  migrates_halted f (Err g) is step = rw is (halted step)

@@ -1,26 +1,12 @@
 -- What a turn of a run leaves and says, from what it is of the definitions.
-use Rattle.std.proofs.Common.{◌≡◌, ◌≤◌, ℕ, List, [], false, true, refl, sym, subst, ap, ◌∙◌}
-use Rattle.std.specs.Prelude.{All, Option, None, Some, Ok, Err}
-use Rattle.pt_tree.specs.Forest.{Forest}
-use Rattle.pt_tree.specs.Source.{Reading}
-use Rattle.pt_tree.specs.Tree.{Tree}
-use Rattle.pt_plan.specs.Answer.{Answer, phase_after}
-use Rattle.pt_plan.specs.Carried.{IsStart, all_carried}
-use Rattle.pt_plan.specs.Job.{Job}
-use Rattle.pt_plan.specs.Roots.{root_in}
-use Rattle.pt_plan.specs.Run.{Kept, Run, turning}
-use Rattle.pt_plan.specs.Turn.{Turn}
-use Rattle.pt_plan.specs.WholeLaws.{HasItsFiles}
-use Rattle.pt_plan.specs.Work.{work}
-use Rattle.pt_plan.specs.World.{World, source_tree}
-use Rattle.pt_plan.specs.declared.halt.Halt.{Halt}
+use Rattle.std.proofs.Common.{◌≡◌, ℕ, List, false, true, refl, ap, ◌∙◌}
+use Rattle.std.specs.Prelude.{Option, None, Some, Ok, Err}
+use Rattle.pt_state.proofs.Words.{Forest, Reading, Tree, Answer, phase_after, Job, Kept, Run, turning, Turn, World, source_tree, Halt, Phase, job_of, kept_of}
+use Rattle.pt_state.specs.declared.state.State.{State}
 use Rattle.pt_plan.specs.declared.halt.Halt.TheVariants as halt
-use Rattle.pt_plan.specs.declared.phase.Phase.{Phase}
 use Rattle.pt_plan.specs.declared.phase.Phase.TheVariants as phase
 use Rattle.pt_begun.specs.Begun.{Begun, Start}
-use Rattle.pt_begun.specs.BegunSource.{IsWithinBound}
 use Rattle.pt_begun.specs.EndLaws.{is_ended}
-use Rattle.pt_begun.specs.FaultLeft.{IsLeftByFault}
 use Rattle.pt_begun.specs.RefusalLaws as law
 use Rattle.pt_begun.proofs.refusals.EarlyHalts.{early_leaves_dest, early_leaves_log}
 use Rattle.pt_begun.proofs.faults.LogHalts.{failed_log_leaves_no_staging}
@@ -38,10 +24,8 @@ use Rattle.pt_begun.proofs.bounds.TurnBound.{turn_is_within_bound}
 use Rattle.pt_begun.proofs.turns_left.EndsWithin.{turn_ends_within_work, turn_tree}
 use Rattle.pt_begun.proofs.turns_left.Within.{turn_keeps_within_work, turns_are_within_work, within_work_is_begun}
 use Rattle.pt_begun.specs.WorkLaws.{BegunWithinWork}
-use Rattle.pt_state.specs.States.{counts_of, held_of, job_of, kept_of}
-use Rattle.pt_state.specs.declared.state.State.{State}
 use Rattle.pt_move.specs.Fault.{fault_of}
-use Rattle.pt_move.specs.Outcome.{EndsWhole, FaultLeaves, HoldsWithinBound, IfEarly, IfLog, IsWhole, LeavesAll, LeavesNoStaging, MadeWithinWork, SaysOfBoth, SaysOfDest, SaysOfSource, SaysRightly, StandsStillIn, StatesAreFiles, WantsMemory}
+use Rattle.pt_move.specs.Outcome.{EndsWhole, FaultLeaves, HoldsWithinBound, IfEarly, IfLog, LeavesAll, LeavesNoStaging, MadeWithinWork, SaysOfBoth, SaysOfDest, SaysOfSource, SaysRightly, StandsStillIn, StatesAreFiles, WantsMemory}
 use Rattle.pt_move.specs.Promises.{AnswerSays}
 use Rattle.pt_move.specs.declared.fault.Fault.TheVariants as fault
 
@@ -109,20 +93,20 @@ module _ (s s' : State) (here : Phase) (fed fed' : List ℕ) (old new : World) (
   work_after {answer} turn = λ f t source_is start_is.
       let reading = reading_of old.source source_is in
       let few = turns_are_within_work job start old new run after answer reading.0 t within going turn reading.1 start_is in
-      subst (λ (f : Forest). s'.counts.turns ≤ work job f (root_in t)) reading.2 few
+      rw reading.2 at few
 
   pub bound_after : {answer : Answer} → MadeTurn answer → HoldsWithinBound s.job (source_tree old.source) s'
   unfolding HoldsWithinBound
   bound_after {answer} turn = λ f source_is.
       let reading = reading_of old.source source_is in
-      subst (λ (f : Forest). IsWithinBound job f (held_of s' [])) reading.2 (turn_is_within_bound job start old new run after answer reading.0 begun going turn reading.1)
+      rw reading.2 at (turn_is_within_bound job start old new run after answer reading.0 begun going turn reading.1)
 
   pub left_after : {answer : Answer} → MadeTurn answer → FaultLeaves s.job (source_tree old.source) start new.dest new.log
   unfolding FaultLeaves
   left_after {answer} turn = λ f t now first last source_is start_is dest_is first_is last_is.
       let reading = reading_of new.source (turn_tree job here (turning (kept_of s fed)) after old new answer turn ∙ source_is) in
       let later : Run = record { phase = phase_after answer; kept = after } in
-      subst (λ (f : Forest). IsLeftByFault job f t now.tree first last) reading.2
+      rw reading.2 at
       (stops_leave job start new later reading.0 t now first last (within_work_is_begun job start new later (within_after answer turn)) reading.1 start_is dest_is first_is last_is)
 
   -- the turn that ends the run
@@ -130,14 +114,14 @@ module _ (s s' : State) (here : Phase) (fed fed' : List ℕ) (old new : World) (
   unfolding EndsWhole
   end_whole turn = λ f t now first last source_is start_is dest_is first_is last_is.
       let reading = reading_of old.source source_is in
-      subst (λ (f : Forest). IsWhole job f t now first last (counts_of s'.counts)) reading.2
+      rw reading.2 at
       (ends_well job start old new run after reading.0 t now first last begun turn reading.1 start_is dest_is first_is last_is)
 
   end_states : MadeTurn (Ok phase.Ended) → StatesAreFiles s.job (source_tree old.source) start new.dest new.log
   unfolding StatesAreFiles
   end_states turn = λ f t now first last source_is start_is dest_is first_is last_is.
       let reading = reading_of old.source source_is in
-      subst (λ (f : Forest). All (HasItsFiles job now.tree) (all_carried job f (root_in t))) reading.2
+      rw reading.2 at
       (ends_with_states job start old new run after reading.0 t now first last begun turn reading.1 start_is dest_is first_is last_is)
 
   -- a turn that halts it
@@ -153,23 +137,23 @@ module _ (s s' : State) (here : Phase) (fed fed' : List ℕ) (old new : World) (
   halt_says {why} turn = (
     λ f source_is.
         let reading = reading_of old.source source_is in
-        of_source why f (subst (λ (f : Forest). law.SaysOfSource why f) reading.2 (refuses_rightly job start old new run after why reading.0 begun turn reading.1)),
+        of_source why f (rw reading.2 at (refuses_rightly job start old new run after why reading.0 begun turn reading.1)),
     λ t start_is.
         of_dest why t
-        (λ same. finds_staging job start old new run after t begun (subst (λ (h : Halt). MadeTurn (Err h)) same turn) start_is)
-        (λ same. finds_target job start old new run after t begun (subst (λ (h : Halt). MadeTurn (Err h)) same turn) start_is),
+        (λ same. finds_staging job start old new run after t begun (rw same at turn) start_is)
+        (λ same. finds_target job start old new run after t begun (rw same at turn) start_is),
     λ f t source_is start_is.
         let reading = reading_of old.source source_is in
         of_both why f t
-        (λ same. subst (λ (f : Forest). law.IsBadTarget job (root_in t) (law.IsCarriedOf job f (root_in t))) reading.2
-        (finds_target_of job start old new run after reading.0 t begun (subst (λ (h : Halt). MadeTurn (Err h)) same turn) reading.1 start_is).1),
+        (λ same. rw reading.2 at
+        (finds_target_of job start old new run after reading.0 t begun (rw same at turn) reading.1 start_is).1),
   )
 
   halt_good : {why : Halt} → MadeTurn (Err why) → WantsMemory s.job (source_tree old.source) start.dest old.failures new.failures (fault_of why)
   unfolding WantsMemory
   halt_good {why} turn = λ f t source_is start_is good free enough none.
       let reading = reading_of old.source source_is in
-      ap fault_of (nothing_is_refused job start old new run after why reading.0 t begun turn reading.1 start_is (subst (λ (f : Forest). IsStart job f (root_in t)) (sym reading.2) good) free none)
+      ap fault_of (nothing_is_refused job start old new run after why reading.0 t begun turn reading.1 start_is (rw reading.2 good) free none)
 
   unstaged_after : (why : Halt) → MadeTurn (Err why) → BlamesLogLate here (Err why) → IfLog (fault_of why) (LeavesNoStaging new.dest)
   unfolding LeavesNoStaging
@@ -179,6 +163,6 @@ module _ (s s' : State) (here : Phase) (fed fed' : List ℕ) (old new : World) (
   -- by the answer
   pub says_after : (answer : Answer) → MadeTurn answer → BlamesLogLate here answer → AnswerSays old start new s s' answer
   says_after (Ok next) turn late = λ ended.
-      let last : MadeTurn (Ok phase.Ended) = subst (λ (p : Phase). MadeTurn (Ok p)) ended turn in
+      let last : MadeTurn (Ok phase.Ended) = rw ended at turn in
       record { ends = end_whole last; states = end_states last }
   says_after (Err why) turn late = record { early = if_early why (LeavesAll start new.dest new.log) (leaves_all turn); unstaged = unstaged_after why turn late; says = halt_says turn; good = halt_good turn }

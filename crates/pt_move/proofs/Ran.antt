@@ -1,14 +1,9 @@
 -- What the steps of a run over the devices as one say of the whole.
-use Rattle.std.proofs.Common.{◌≡◌, ◌≢◌, ◌<◌, ◌-◌, ◌+◌, arith, List, [], ℕ, refl, sym, subst, ap, ◌∙◌}
+use Rattle.std.proofs.Common.{◌≡◌, ◌≢◌, ◌<◌, ◌-◌, ◌+◌, arith, List, [], ℕ, refl, ap, ◌∙◌, subst, sym}
 use Rattle.std.specs.Prelude.{Ok, Err, Result}
-use Rattle.pt_object.specs.Hasher.{HasBeenFed}
-use Rattle.pt_plan.specs.Run.{Run, new_run, turning}
-use Rattle.pt_plan.specs.Turn.{Turn}
-use Rattle.pt_plan.specs.declared.halt.Halt.{Halt}
-use Rattle.pt_plan.specs.declared.phase.Phase.{Phase}
+use Rattle.pt_state.proofs.Words.{HasBeenFed, new_run, Halt, Phase, Failures, World, source_tree, job_of, kept_of, Run, turning, Turn}
+use Rattle.pt_state.specs.declared.job.Report.{Report}
 use Rattle.pt_plan.specs.declared.phase.Phase.TheVariants as phase
-use Rattle.pt_plan.specs.World.{Failures, World, source_tree}
-use Rattle.pt_move.specs.Counting.{Counts}
 use Rattle.pt_move.specs.Lines.{HasTold, HasToldAll, HasToldFront}
 use Rattle.pt_move.specs.Fault.{fault_of}
 use Rattle.pt_move.specs.Running.{FedUntilEnd, IsNew, Running, run_of}
@@ -21,9 +16,7 @@ use Rattle.pt_move.specs.declared.mover.Turn.TheVariants as motion
 use Rattle.pt_move.proofs.Answering.{fed_going, fed_to_end}
 use Rattle.pt_move.proofs.Going.{is_going}
 use Rattle.pt_move.proofs.WholeLog as log
-use Rattle.pt_state.specs.States.{job_of, kept_of}
 use Rattle.pt_state.specs.declared.job.Job.{Job}
-use Rattle.pt_state.specs.declared.job.Report.{Report}
 use Rattle.pt_move.specs.Turning.{CountedTurn}
 
 pub step_tree : (old new : World) (a b : Running) (r : Result Motion Fault) → StepLeaves old new a b r → source_tree new.source ≡ source_tree old.source
@@ -58,16 +51,16 @@ blames_ok first old new t report same blames = record { source = blames.source �
 pub blames_err : (first old new : World) (f : Fault) → old.failures ≡ first.failures → BlamesRightly {T = Motion} old new (Err f) → BlamesRightly {T = Report} first new (Err f)
 unfolding BlamesRightly
 blames_err first old new f same blames = record {
-  source = subst (λ (k : Failures). Counts {T = Report} 1 k.source new.failures.source (Err f)) same blames.source;
-  dest = subst (λ (k : Failures). Counts {T = Report} 2 k.dest new.failures.dest (Err f)) same blames.dest;
-  log = subst (λ (k : Failures). Counts {T = Report} 3 k.log new.failures.log (Err f)) same blames.log;
+  source = rw same at blames.source;
+  dest = rw same at blames.dest;
+  log = rw same at blames.log;
 }
 
 -- a turn less is left to make
 pub smaller : (old new : World) (a b : Running) (t : Motion) → t ≡ motion.More → StepLeaves old new a b (Ok t) → EndsAs a b (Ok t) → b.state.job.limits.turns - b.state.counts.turns < a.state.job.limits.turns - a.state.counts.turns
 unfolding StepLeaves
 smaller old new a b t is left ends =
-    let made : EndsAs a b (Ok motion.More) = subst (λ (t : Motion). EndsAs a b (Ok t)) is ends in
+    let made : EndsAs a b (Ok motion.More) = rw is at ends in
     let within : a.state.counts.turns < a.state.job.limits.turns = made.0.within in
     let more : b.state.counts.turns ≡ a.state.counts.turns + 1 = left.turns.0 in
     let same : b.state.job.limits.turns ≡ a.state.job.limits.turns = ap (λ j. j.limits.turns) left.job in

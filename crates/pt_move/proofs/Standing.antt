@@ -1,33 +1,23 @@
 -- What a turn needs of what is held, from what holds of a run in progress whatever its devices tell; and that a turn keeps it.
-use Rattle.std.proofs.Common.{◌≡◌, ◌≢◌, ◌<◌, ◌≤◌, ℕ, List, refl, sym, subst, length, arith, true, false}
+use Rattle.std.proofs.Common.{◌≡◌, ◌≢◌, ◌<◌, ◌≤◌, ℕ, List, refl, length, arith, true, false}
 use Rattle.std.specs.Prelude.{Option, None, Some, IsSome, slice_get}
 use Rattle.std.specs.Option.{option_map_or}
 use Rattle.std.proofs.lemmas.Option.{slice_get_within}
-use Rattle.pt_object.specs.declared.contents.Content.{Content}
-use Rattle.pt_tree.specs.Path.{same_path}
-use Rattle.pt_plan.specs.declared.phase.Position.{Position}
-use Rattle.pt_object.specs.Hasher.{HasBeenFed}
-use Rattle.pt_tree.specs.Listing.{Item}
-use Rattle.pt_walk.specs.declared.frame.Frame.{Frame}
-use Rattle.pt_plan.specs.Run.{Held}
-use Rattle.pt_plan.specs.declared.object.Object.{Object}
-use Rattle.pt_plan.specs.declared.phase.Part.{Part}
+use Rattle.pt_state.proofs.Words.{Content, same_path, Position, HasBeenFed, Item, Frame, Held, Object, Part, Phase, held_of, job_of}
+use Rattle.pt_state.specs.declared.state.State.{State}
 use Rattle.pt_plan.specs.declared.phase.Part.TheVariants as part
-use Rattle.pt_plan.specs.declared.phase.Phase.{Phase}
 use Rattle.pt_plan.specs.declared.phase.Phase.TheVariants as phase
 use Rattle.pt_begun.specs.BegunHeld.{HeldAt}
 use Rattle.pt_begun.specs.Past.{Past}
 use Rattle.pt_begun.specs.PartsMade.{IsAtStoredRow}
 use Rattle.pt_make.specs.Making.{HasContentsOfRows, HasFedInventory, IsReadyFor}
 use Rattle.pt_scan.specs.Scanning.{IsSite}
-use Rattle.pt_state.specs.States.{held_of, job_of}
-use Rattle.pt_state.specs.declared.state.State.{State}
 use Rattle.pt_move.specs.Stands.{Stands}
 
 -- ---- what the code needs
 
 some_entry : {o : Option Item} {item : Item} → o ≡ Some item → IsSome o
-some_entry is = subst (λ (x : Option Item). IsSome x) (sym is) refl
+some_entry is = rw is refl
 
 as_site : (object : Object) (trail : List Frame) → 0 < object.site → length trail ≡ object.site → IsSite object trail
 unfolding IsSite
@@ -44,9 +34,9 @@ ready part.Declaration s was held = tt
 ready part.Version s was held = tt
 ready (part.Content position) s was held = held.numbers.within
 ready part.VersionInventory s was held = held.rows.contents
-ready part.VersionSidecar s was held = subst (λ (f : List ℕ). HasBeenFed s.job.algorithm s.hasher f) held.fed was
-ready part.Inventory s was held = (held.rows.contents, subst (λ (f : List ℕ). HasBeenFed s.job.algorithm s.hasher f) held.fed was)
-ready part.Sidecar s was held = subst (λ (f : List ℕ). HasBeenFed s.job.algorithm s.hasher f) held.fed was
+ready part.VersionSidecar s was held = rw held.fed at was
+ready part.Inventory s was held = (held.rows.contents, rw held.fed at was)
+ready part.Sidecar s was held = rw held.fed at was
 
 -- the row there is stored, so there is a content of that number
 stored_there : {held : Held} {position : Position} → IsAtStoredRow held position → position.stored < length held.contents
@@ -57,23 +47,15 @@ stored_there {held} {position} at = by (slice_get held.contents position.stored)
     by (Some content) is there = slice_get_within held.contents position.stored content is
 
 pub stands : (here : Phase) (s : State) {fed : List ℕ} {past : Past} → here ≢ phase.Ended → HasBeenFed s.job.algorithm s.hasher fed → HeldAt (job_of s.job) past here (held_of s fed) → Stands here s
-stands phase.Begin s going was held = tt
-stands (phase.Prefix here) s going was held = tt
-stands phase.Staging s going was held = tt
-stands phase.Root s going was held = tt
 stands (phase.RootMake item) s going was held = held.numbers
-stands phase.RootRename s going was held = tt
 stands (phase.RootCheck file) s going was held = held.numbers
 stands phase.OpenRoot s going was held = held.trail.none
-stands phase.Judge s going was held = tt
 stands (phase.OpenObject object) s going was held = (as_site object s.trail held.ends.0.some held.ends.1, held.trail.entry)
 stands (phase.Scan object) s going was held = (in_object object s.trail held.ends.0.some held.ends.1.within, held.ends.1.own)
 stands (phase.Read object bytes) s going was held = (in_object object s.trail held.ends.0.some held.ends.1.within, held.ends.1.own, some_entry {o = _} {item = held.trail.entry.0} held.trail.entry.1)
 stands (phase.Make object here) s {fed} {past} going was held = ready here {object = object} s {fed = fed} {past = past} was held
 stands (phase.Copy object position left) s {fed} going was held = (held.numbers.at.within, stored_there {held = held_of s fed} {position = position} held.numbers)
 stands (phase.Tuples object number) s going was held = held.numbers
-stands (phase.Rename object) s going was held = tt
 stands (phase.Line object) s going was held = let some = held.ends.0.some in let long = held.ends.1 in omega (arith, some, long)
-stands phase.Walk s going was held = tt
-stands phase.End s going was held = tt
 stands phase.Ended s going was held = absurd (going refl)
+stands _ _ _ _ _ = tt

@@ -1,8 +1,6 @@
 -- A run in progress has nothing to do with how often its devices failed.
 use Rattle.pt_begun.specs.Begun.{Start}
-use Rattle.pt_plan.specs.Job.{Job}
-use Rattle.pt_plan.specs.Run.{Run}
-use Rattle.pt_plan.specs.World.{World}
+use Rattle.pt_state.proofs.Words.{Job, Run, World}
 use Rattle.pt_begun.specs.WorkLaws.{BegunWithinWork}
 use Rattle.pt_move.specs.Running.{as_told}
 

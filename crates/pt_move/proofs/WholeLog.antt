@@ -6,17 +6,17 @@ use Rattle.std.proofs.Math.Seq.{take-append_seam, take-append-add}
 use Rattle.std.proofs.lemmas.List.{flat_map_more}
 use Rattle.std.proofs.lemmas.List.Sums.{sum_by-append}
 use Rattle.std.proofs.lemmas.List.{append-nil, append_assoc}
-use Rattle.pt_plan.specs.Lines.{Line, Done, Present, Skipped, End, end_line, is_done, is_present, is_skipped, line_text}
-use Rattle.pt_tree.specs.Log.{AppendsFront}
+use Rattle.pt_state.proofs.Words.{Line, Done, Present, Skipped, End, line_text, AppendsFront}
+use Rattle.pt_state.specs.declared.job.Report.{Report}
+use Rattle.pt_plan.specs.Lines.{end_line, is_done, is_present, is_skipped}
 use Rattle.pt_move.specs.Lines.{CountsLine, FinishTold, GotFront, GotLine, HasTold, IsReport, HasToldAll, HasToldFront, SameLines, TellsEnd, TellsFront, TellsLine}
 use Rattle.pt_move.specs.Running.{no_lines}
-use Rattle.pt_state.specs.declared.job.Report.{Report}
 use Rattle.pt_move.specs.declared.mover.Turn.{Turn}
 use Rattle.pt_move.specs.declared.mover.Turn.TheVariants as turn
 
 appends_nothing : (b : Option (List ℕ)) {a : Option (List ℕ)} → a ≡ b → Appends b a []
 appends_nothing None same = tt
-appends_nothing (Some xs) same = subst (λ o. Appends (Some xs) o []) (sym same) (sym (append-nil xs))
+appends_nothing (Some xs) same = rw same (sym (append-nil xs))
 
 appends_on : (b m a : Option (List ℕ)) (x y : List ℕ) → Appends b m x → Appends m a y → Appends b a (x ++ y)
 appends_on None m a x y p q = tt
@@ -54,7 +54,7 @@ told_on : (b m a : Option (List ℕ)) (told : List Line) (line : Line) → Appen
 told_on b m a told line first more = subst (Appends b a) (flat_map_more line_text [] told line) (appends_on b m a _ _ first more)
 
 same_log : (b : Option (List ℕ)) {m a : Option (List ℕ)} (xs : List ℕ) → a ≡ m → Appends b m xs → Appends b a xs
-same_log b xs same put = subst (λ o. Appends b o xs) (sym same) put
+same_log b xs same put = rw same put
 
 pub told_more : (b m a : Option (List ℕ)) (c c' : Report) → HasTold b m c → TellsLine m a c c' → HasTold b a c'
 unfolding HasTold TellsLine GotLine
@@ -72,7 +72,7 @@ told_all b m a c c' (told, (put, report)) (last, same) =
     (told, (appends_on b m a _ _ put (subst (λ l. Appends m a (line_text l)) (end_of told c report) last), report_same told c c' report same))
 
 pub told_finished : (t : Turn) (b m a : Option (List ℕ)) (c c' : Report) → HasTold b m c → FinishTold t m a c c' → t ≡ turn.Finished → HasToldAll b a c'
-told_finished t b m a c c' told last is = told_all b m a c c' told (subst (λ t. FinishTold t m a c c') is last)
+told_finished t b m a c c' told last is = told_all b m a c c' told (rw is at last)
 
 front_on : (b m a : Option (List ℕ)) (xs ys : List ℕ) → Appends b m xs → AppendsFront m a ys → AppendsFront b a (xs ++ ys)
 front_on b m a xs ys put (n, front) = (length xs + n, subst (Appends b a) (sym (take-append-add xs ys n)) (appends_on b m a xs (take n ys) put front))
@@ -83,5 +83,3 @@ told_front b m a c c' (told, (put, report)) (turn, same) = elim turn [
   | inl quiet ↦ (told, (End 0 0 0, (length (flat_map line_text told), subst (Appends b a) (sym (take-append_seam (flat_map line_text told) (line_text (End 0 0 0)))) (same_log b _ quiet put))))
   | inr (line, front) ↦ (told, (line, front_on b m a _ _ put front))
 ]
-
-pub ruleset whole_log = (told_none, told_more, told_finished, told_front)

@@ -18,28 +18,28 @@ use Rattle.pt_move_tests.specs.WorkedTurns.{EmptyStoreTurns, OneObjectTurns, at_
 
 pub empty_store_turns : EmptyStoreTurns
 empty_store_turns = (
-  Start _ _ _ _ _ _ (start.IsStore [] (listing_of empty_store) refl),
-  Start _ _ _ _ _ _ (start.HasNoPrefix []),
-  Start _ _ _ _ _ _ (start.HasNoStaging []),
-  Start _ _ _ _ _ _ (start.HasNoRoot []),
-  Start _ _ _ _ _ _ (start.MakesRoot [] 0 _ refl),
-  Start _ _ _ _ _ _ (start.MakesRoot [] 1 _ refl),
-  Start _ _ _ _ _ _ (start.MakesRoot [] 2 _ refl),
-  Start _ _ _ _ _ _ (start.MakesRoot [] 3 _ refl),
-  Start _ _ _ _ _ _ (start.MakesRoot [] 4 _ refl),
-  Start _ _ _ _ _ _ (start.MakesRoot [] 5 _ refl),
-  Start _ _ _ _ _ _ (start.RenamesRoot []),
-  Walk _ _ _ _ _ _ (walk.OpensRoot nothing_held []),
-  Walk _ _ _ _ _ _ (walk.LeadsOn at_empty_root refl),
-  Walk _ _ _ _ _ _ (walk.EndsWalk at_empty_root refl refl),
-  Place _ _ _ _ _ _ (place.TellsEnd at_empty_root),
+  Start (start.IsStore [] (listing_of empty_store) refl),
+  Start (start.HasNoPrefix []),
+  Start (start.HasNoStaging []),
+  Start (start.HasNoRoot []),
+  Start (start.MakesRoot [] 0 _ refl),
+  Start (start.MakesRoot [] 1 _ refl),
+  Start (start.MakesRoot [] 2 _ refl),
+  Start (start.MakesRoot [] 3 _ refl),
+  Start (start.MakesRoot [] 4 _ refl),
+  Start (start.MakesRoot [] 5 _ refl),
+  Start (start.RenamesRoot []),
+  Walk (walk.OpensRoot nothing_held []),
+  Walk (walk.LeadsOn at_empty_root refl),
+  Walk (walk.EndsWalk at_empty_root refl refl),
+  Place (place.TellsEnd at_empty_root),
 )
 
 pub one_object_turns : OneObjectTurns
 unfolding is_utf8 chars encode first_words schedule rounds compress hash_after digest_bytes sha256 digest_number
 one_object_turns = (
-  Walk _ _ _ _ _ _ (walk.IsNew at_site (Some 0) (codes "abc") refl),
-  Scan _ _ _ _ _ _ (scan.EntersObject at_site object_abc_under_way ((codes "a.txt", kind.File) ∷ []) refl refl),
-  Scan _ _ _ _ _ _ (scan.OpensFile at_file object_abc_under_way (codes "a.txt") refl refl),
-  Scan _ _ _ _ _ _ (scan.ReadsOn at_file object_abc_under_way 0 97 (98 ∷ 99 ∷ []) refl),
+  Walk (walk.IsNew at_site (Some 0) (codes "abc") refl),
+  Scan (scan.EntersObject at_site object_abc_under_way ((codes "a.txt", kind.File) ∷ []) refl refl),
+  Scan (scan.OpensFile at_file object_abc_under_way (codes "a.txt") refl refl),
+  Scan (scan.ReadsOn at_file object_abc_under_way 0 97 (98 ∷ 99 ∷ []) refl),
 )

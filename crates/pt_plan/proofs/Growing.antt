@@ -54,7 +54,7 @@ as_many job root earlier (item ∷ others) = ap (λ n. suc n) (as_many job root 
 pub all_items_are_all : AllItemsAreAll
 all_items_are_all job source root k h =
     let all : take k (marked job source root) ≡ marked job source root =
-    take_all k (marked job source root) (subst (λ (n : ℕ). n ≤ k) (sym (as_many job root [] (items job source))) h) in
+    take_all k (marked job source root) (rw (as_many job root [] (items job source)) h) in
     let objects : carried_among job source root k ≡ all_carried job source root = ap (carried job) all in
     let told : lines job source root k ≡ all_lines job source root = ap (flat_map (line_of job)) all in
     (objects, ap (λ (l : List Carried). with_objects job l (base job.tuples root)) objects, told, ap (λ (l : List Line). flat_map line_text l ++ line_text (end_line l)) (sym told))

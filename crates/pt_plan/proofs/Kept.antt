@@ -33,7 +33,7 @@ pub one_comes : (job : Job) (objects : List Carried) (object : Carried) (t : Tre
     → come_to_free_places job t (objects ++ object ∷ []) ≡ true
 one_comes job [] object t _ whole free =
     and_from _ _ whole
-    (and_from _ true (subst (λ (u : Tree). is_place_free job u object ≡ true) none free) refl)
+    (and_from _ true (rw (← none) free) refl)
   where
     none : with_objects job [] t ≡ t
     none = without_folders t
@@ -69,7 +69,7 @@ next_whole : (job : Job) (source : Forest) (root : Tree) (k : ℕ) (object : Car
 next_whole job source root k object proper more =
     let in_order = λ (c : Carried). comes_in_order c.files in
     let all : list_all in_order (carried_among job source root k ++ object ∷ []) ≡ true =
-    subst (λ (l : List Carried). list_all (λ (c : Carried). comes_in_order c.files) l ≡ true) more (carried_files_come_in_order job source root (suc k) proper) in
+    rw more at (carried_files_come_in_order job source root (suc k) proper) in
     let parts = and_parts (list_all in_order (carried_among job source root k)) (list_all in_order (object ∷ [])) (sym (list_all-append in_order (carried_among job source root k) (object ∷ [])) ∙ all) in
     let last = and_parts (comes_in_order object.files) true parts.1 in
     in_order_apart (paths_of object.files) (and_parts (part_in_order (paths_of object.files)) (list_all is_logical (paths_of object.files)) last.0).0
@@ -108,7 +108,7 @@ kept_left {job} {source} {start} proper gaps (Carrying k tuples object now _ is 
     Making (carried_among job source (root_in start) k) object tuples now (next_comes job source k proper gaps is (all_come job source k proper gaps)) (inl at)
 
 pub faults_leave_what_is_kept : FaultsLeaveWhatIsKept
-faults_leave_what_is_kept job _ start _ _ _ _ (inl same) = subst (λ (t : Tree). IsKept job start t) (sym same.0) kept.AsItWas
+faults_leave_what_is_kept job _ start _ _ _ _ (inl same) = rw same.0 kept.AsItWas
 faults_leave_what_is_kept _ _ _ _ _ proper gaps (inr left) = kept_left proper gaps left.1
 
 paths_of_rows : (all rows : List Row) (held : Path → List ℕ) → paths_of (map (λ (row : Row). (row.path, held (stored_path all row))) rows) ≡ row_paths rows

@@ -115,13 +115,13 @@ ends_later {job} {source} {root} k folders rooted target to =
     let stands : is_some (later []) ≡ true = top_later job first folders start (base_top job root) in
     let again : all_carried job source later ≡ rest = carried_again job source root later k (holds_items job source k folders rooted to) in
     let ready = base_ready target in
-    let split : list_all (is_way_free job start) (first ++ rest) ≡ true = subst (λ (l : List Carried). list_all (is_way_free job start) l ≡ true) (carried_in_two job source root k) ready.ways in
+    let split : list_all (is_way_free job start) (first ++ rest) ≡ true = rw (carried_in_two job source root k) at ready.ways in
     let parts = and_parts _ _ (sym (list_all-append (is_way_free job start) first rest) ∙ split) in
     record {
       rooted = λ none. absurd (false≢true (sym (ap is_some none) ∙ stands));
       target = inr (record {
         files = All-weaker (λ (file : File). start file.0 ≡ Some (Bytes file.1)) (λ (file : File). later file.0 ≡ Some (Bytes file.1)) (λ file e. stays_later job first folders start e) (root_files_of job.tuples) ready.files;
-        ways = subst (λ (l : List Carried). list_all (is_way_free job later) l ≡ true) (sym again) (ways_stay job first folders start rest parts.1);
+        ways = rw again (ways_stay job first folders start rest parts.1);
       });
       same =
           ap (λ (l : List Carried). with_objects job l (base job.tuples later)) again
@@ -158,7 +158,7 @@ ends_same : {job : Job} {source : Forest} {root : Tree} → IsRooted root → Is
 ends_same rooted target = record { rooted = rooted; target = target; same = refl }
 
 along : {job : Job} {source : Forest} {root later now : Tree} → now ≡ later → EndsAlike job source root later → EndsAlike job source root now
-along {job} {source} {root} same ends = subst (λ (t : Tree). EndsAlike job source root t) (sym same) ends
+along {job} {source} {root} same ends = rw same ends
 
 ends_left : {job : Job} {source : Forest} {start now : Tree} {log : List ℕ} → IsRooted (root_in start) → IsTarget job source (root_in start) → IsLeft job source start now log → EndsAlike job source (root_in start) (root_in now)
 ends_left rooted target AsItWas = ends_same rooted target

@@ -65,7 +65,7 @@ free_at : (job : Job) (prefix : List ℕ) (ways : List Site) (k : ℕ) {item : I
 free_at job prefix [] k is = absurd (cc)
 free_at job prefix (site ∷ ways) zero {item} is =
     let same : item_of job prefix site ≡ item = cc in
-    subst (λ (i : Item). free job i.verdict ≡ true) same (free_verdict job prefix site.0 site.1)
+    rw (← same) (free_verdict job prefix site.0 site.1)
 free_at job prefix (_ ∷ ways) (suc k) {item} is = free_at job prefix ways k is
 
 abbrev pub free_item : Job → Item → Bool
@@ -80,4 +80,4 @@ all_free job source = free_items job (prefix_of source) (sites_of job.limits.dep
 
 pub named_is_not_reserved : NamedIsNotReserved
 named_is_not_reserved job source k _ id _ is what =
-    not-true (is_reserved job id) (subst (λ (v : Verdict). free job v ≡ true) what (free_at job _ _ k is))
+    not-true (is_reserved job id) (rw what at (free_at job _ _ k is))

@@ -21,19 +21,19 @@ use Rattle.pt_plan.specs.declared.phase.Phase.{Phase}
 -- from the phase, the prefix and what is held to those after, with the calls and the answer: one of the lines of the groups
 pub data Follows (job : Job) (counts : Counts) : Phase → List ℕ → Held → List ℕ → Held → Calls
     → Answer → Type 0 where
-  Start : (here : Phase) (prefix read : List ℕ) (held : Held) (calls : Calls) (answer : Answer)
+  Start : {here : Phase} {prefix read : List ℕ} {held : Held} {calls : Calls} {answer : Answer}
       → Starts job here prefix read calls answer
       → Follows job counts here prefix held read held calls answer
-  Walk : (here : Phase) (prefix : List ℕ) (held new : Held) (calls : Calls) (answer : Answer)
+  Walk : {here : Phase} {prefix : List ℕ} {held new : Held} {calls : Calls} {answer : Answer}
       → Walks job prefix here held new calls answer
       → Follows job counts here prefix held prefix new calls answer
-  Scan : (here : Phase) (prefix : List ℕ) (held new : Held) (calls : Calls) (answer : Answer)
+  Scan : {here : Phase} {prefix : List ℕ} {held new : Held} {calls : Calls} {answer : Answer}
       → Scans job here held new calls answer
       → Follows job counts here prefix held prefix new calls answer
-  Make : (here : Phase) (prefix : List ℕ) (held new : Held) (calls : Calls) (answer : Answer)
+  Make : {here : Phase} {prefix : List ℕ} {held new : Held} {calls : Calls} {answer : Answer}
       → Makings job here held new calls answer
       → Follows job counts here prefix held prefix new calls answer
-  Place : (here : Phase) (prefix : List ℕ) (held new : Held) (calls : Calls) (answer : Answer)
+  Place : {here : Phase} {prefix : List ℕ} {held new : Held} {calls : Calls} {answer : Answer}
       → Places job counts here held new calls answer
       → Follows job counts here prefix held prefix new calls answer
 

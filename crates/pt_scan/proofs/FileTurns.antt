@@ -1,30 +1,17 @@
 -- The turns that read a file of an object, from their calls.
-use Rattle.std.proofs.Common.{◌≡◌, ◌<◌, ◌≤◌, ℕ, ◌+◌, List, [], ◌∷◌, ◌++◌, refl, sym, subst, ap, ◌∙◌, inr, length, arith}
+use Rattle.std.proofs.Common.{◌≡◌, ◌<◌, ◌≤◌, ℕ, ◌+◌, List, [], ◌∷◌, ◌++◌, refl, ap, ◌∙◌, inr, length, arith}
 use Rattle.std.specs.Prelude.{Ok, Err, IsErrAnd}
 use Rattle.std.specs.String.{string_bytes}
 use Rattle.std.proofs.lemmas.Bool.{lt-ltb, le-ltb}
-use Rattle.pt_object.specs.Algorithm.{digest_of}
-use Rattle.pt_object.specs.Contents.{noted}
-use Rattle.pt_object.specs.Hasher.{HasBeenFed}
-use Rattle.pt_object.specs.Rows.{row_of}
-use Rattle.pt_object.specs.declared.algorithm.Algorithm.{Algorithm}
-use Rattle.pt_tree.specs.Path.{Path}
-use Rattle.pt_walk.specs.Trail.{advanced, sought, trail_path}
-use Rattle.pt_walk.specs.declared.cause.Cause.TheVariants as cause
-use Rattle.pt_plan.specs.Answer.{Answer}
-use Rattle.pt_plan.specs.Lines.{Skipped}
-use Rattle.pt_plan.specs.Run.{Held, Kept}
-use Rattle.pt_plan.specs.Turn.{Did, FailsLater, GoesOn, LeavesSome, Scan, Turn}
-use Rattle.pt_plan.specs.TurnScan.{EndsFile, IsTooLong, ReadsOn, logical_path, to_site, with_file}
-use Rattle.pt_plan.specs.World.{Answers, Changes, ChangesNothing, Puts, Reads, Untouched, World, asks, dest_tree, tells}
-use Rattle.pt_plan.specs.declared.halt.Halt.{Halt}
-use Rattle.pt_plan.specs.declared.halt.Halt.TheVariants as halt
-use Rattle.pt_plan.specs.declared.object.Object.{Object}
-use Rattle.pt_plan.specs.declared.phase.Phase.{Phase}
-use Rattle.pt_plan.specs.declared.phase.Phase.TheVariants as phase
-use Rattle.pt_state.specs.Outside.{Turned}
-use Rattle.pt_state.specs.States.{counts_of, held_of, job_of, kept_of}
+use Rattle.pt_state.proofs.Words.{digest_of, HasBeenFed, Algorithm, Path, advanced, sought, trail_path, Answer, Skipped, Held, Kept, Did, FailsLater, GoesOn, LeavesSome, Scan, logical_path, to_site, Answers, Changes, Puts, Reads, Untouched, World, asks, dest_tree, tells, Halt, Object, Phase, Turned, counts_of, held_of, job_of, kept_of}
 use Rattle.pt_state.specs.declared.state.State.{State}
+use Rattle.pt_walk.specs.declared.cause.Cause.TheVariants as cause
+use Rattle.pt_plan.specs.declared.halt.Halt.TheVariants as halt
+use Rattle.pt_plan.specs.declared.phase.Phase.TheVariants as phase
+use Rattle.pt_object.specs.Contents.{noted}
+use Rattle.pt_object.specs.Rows.{row_of}
+use Rattle.pt_plan.specs.TurnScan.{EndsFile, IsTooLong, ReadsOn, with_file}
+use Rattle.pt_plan.specs.World.{ChangesNothing}
 use Rattle.pt_state.proofs.Together.{asked_tree}
 use Rattle.pt_state.proofs.Turns.{KeepsAll, left_told, short_asked, turned_on, went}
 use Rattle.pt_scan.proofs.HeldTurns.{all_kept, read_left, read_told, reads_and_tells}
@@ -45,9 +32,9 @@ pub read_on : (s s' : State) (a b : World) (object : Object) (bytes more : ℕ) 
     → ((algorithm : Algorithm) (fed : List ℕ) → HasBeenFed algorithm s.hasher fed → HasBeenFed algorithm s'.hasher (fed ++ block)) → KeepsAll s s' → Turned (phase.Read object bytes) s s' a b (Ok (phase.Read object more))
 read_on s s' a b object bytes more [] did some is short feeds keeps = absurd (omega (arith, some))
 read_on s s' a b object bytes more (byte ∷ block) did some is short feeds keeps =
-    subst (λ (m : ℕ). Turned (phase.Read object bytes) s s' a b (Ok (phase.Read object m))) (sym is)
+    rw is
     (went (phase.Read object bytes) (phase.Read object (bytes + length (byte ∷ block))) s s' a b (asks (Reads (byte ∷ block))) (λ fed. fed ++ byte ∷ block)
-    (λ fed was. Scan (phase.Read object bytes) (string_bytes s.prefix) (held_of s fed) (held_of s (fed ++ byte ∷ block)) _ _ (ReadsOn (held_of s fed) object bytes byte block (le-ltb s.job.limits.file_bytes (bytes + length (byte ∷ block)) (subst (λ (m : ℕ). m ≤ s.job.limits.file_bytes) is short))))
+    (λ fed was. Scan (ReadsOn (held_of s fed) object bytes byte block (le-ltb s.job.limits.file_bytes (bytes + length (byte ∷ block)) (rw is at short))))
     did refl (λ fed was. feeds s.job.algorithm fed was) keeps)
 
 -- ---- a file that is too long
@@ -57,7 +44,7 @@ pub read_gave_up : (object : Object) (bytes : ℕ) (block : List ℕ) (s s' : St
 read_gave_up object bytes [] s s' a b c did some long told back = absurd (omega (arith, some))
 read_gave_up object bytes (byte ∷ block) s s' a b c did some long told back =
     turned_on (phase.Read object bytes) phase.Walk s s' a c (reads_and_tells (byte ∷ block) (Skipped (trail_path (to_site object s.trail)) cause.Limit)) (sought 0 (to_site object s.trail)) [] []
-    (λ fed. Scan (phase.Read object bytes) (string_bytes s.prefix) (held_of s fed) _ _ _ (IsTooLong (held_of s fed) object bytes byte block (lt-ltb s.job.limits.file_bytes (bytes + length (byte ∷ block)) long)))
+    (λ fed. Scan (IsTooLong (held_of s fed) object bytes byte block (lt-ltb s.job.limits.file_bytes (bytes + length (byte ∷ block)) long)))
     (read_told _ _ a b c did told) back.trail back.rows back.contents (ap counts_of back.counts) back.prefix back.hasher back.job
 
 pub read_gave_front : (object : Object) (bytes : ℕ) (block : List ℕ) (s s' : State) (a b c : World) (f : Halt) (result : Answer) → IsErrAnd result (λ h. h ≡ f) → Did (asks (Reads block)) a b → 0 < length block → s.job.limits.file_bytes < bytes + length block
@@ -65,7 +52,7 @@ pub read_gave_front : (object : Object) (bytes : ℕ) (block : List ℕ) (s s' :
 read_gave_front object bytes [] s s' a b c f result is did some long front same = absurd (omega (arith, some))
 read_gave_front object bytes (byte ∷ block) s s' a b c f result is did some long front same =
     left_told (phase.Read object bytes) s s' a c (reads_and_tells (byte ∷ block) (Skipped (trail_path (to_site object s.trail)) cause.Limit)) (Ok phase.Walk) f _ result is
-    (λ fed. Scan (phase.Read object bytes) (string_bytes s.prefix) (held_of s fed) _ _ _ (IsTooLong (held_of s fed) object bytes byte block (lt-ltb s.job.limits.file_bytes (bytes + length (byte ∷ block)) long)))
+    (λ fed. Scan (IsTooLong (held_of s fed) object bytes byte block (lt-ltb s.job.limits.file_bytes (bytes + length (byte ∷ block)) long)))
     (read_left _ _ f a b c did front) (all_kept s s' same)
 
 -- ---- a file that was read to its end
@@ -88,8 +75,8 @@ noted_file s s' a b object bytes block path digest did none there digests trail 
         [],
         (
           fresh,
-          subst (λ (k : Kept). Turn job (phase.Read object bytes) (kept_of s fed) k a b (Ok (phase.Scan object))) (sym kept_is)
-              (GoesOn (asks (Reads [])) (phase.Scan object) (Scan (phase.Read object bytes) (string_bytes s.prefix) held new _ _ (EndsFile held object bytes)) (subst (λ (x : List ℕ). Did (asks (Reads x)) a b) (empty block none) did) refl),
+          rw kept_is
+              (GoesOn (asks (Reads [])) (phase.Scan object) (Scan (EndsFile held object bytes)) (rw (empty block none) at did) refl),
         ),
       ),
 )
@@ -116,12 +103,12 @@ noted_part s s' a b object bytes block path digest (Err f) is did none there dig
       let new : Held = with_file job object held bytes in
       let right = digests s.job.algorithm fed was in
       let rows_are : s'.rows ≡ new.rows = rows ∙ ap (λ (p : Path). s.rows ++ row_of p digest bytes ∷ []) there ∙ ap (λ (h : List ℕ). s.rows ++ row_of (logical_path object s.trail) h bytes ∷ []) right in
-      let read = none_read a b (subst (λ (x : List ℕ). Did (asks (Reads x)) a b) (empty block none) did) in (
+      let read = none_read a b (rw (empty block none) at did) in (
         fed,
         (
           tt,
-          subst (λ (f : Halt). Turn job (phase.Read object bytes) (kept_of s fed) (kept_of s' fed) a b (Err f)) (sym is)
-              (FailsLater (string_bytes s.prefix) new (asks (Reads [])) (Ok (phase.Scan object)) new.rows halt.Memory (Scan (phase.Read object bytes) (string_bytes s.prefix) held new _ _ (EndsFile held object bytes))
+          rw is
+              (FailsLater (string_bytes s.prefix) new (asks (Reads [])) (Ok (phase.Scan object)) new.rows halt.Memory (Scan (EndsFile held object bytes))
               read.0 (inr (refl, read.1))
               (record { prefix = prefix; trail = trail; rows_are = rows_are; contents = contents; counts = ap counts_of counts })),
         ),

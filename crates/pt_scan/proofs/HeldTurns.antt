@@ -1,26 +1,14 @@
 -- Turns that change what is held, from what their calls came to.
-use Rattle.std.proofs.Common.{◌≡◌, ℕ, List, refl, sym, subst, ap, ◌∙◌}
+use Rattle.std.proofs.Common.{◌≡◌, ℕ, List, refl, ap, ◌∙◌}
 use Rattle.std.specs.Prelude.{Option, Some, Ok}
 use Rattle.std.specs.String.{string_bytes}
-use Rattle.pt_tree.specs.Dest.{Writing}
-use Rattle.pt_tree.specs.Log.{AppendsFront}
-use Rattle.pt_tree.specs.Path.{Path}
-use Rattle.pt_tree.specs.Source.{Reading}
-use Rattle.pt_tree.specs.declared.kind.Kind.{Kind}
-use Rattle.pt_walk.specs.declared.frame.Frame.{Frame}
-use Rattle.pt_plan.specs.Lines.{Line, line_text}
-use Rattle.pt_plan.specs.Run.{with_trail}
-use Rattle.pt_plan.specs.Turn.{Did, Follows, HasFailed, LeavesSome, counted}
-use Rattle.pt_plan.specs.World.{Answers, AsksNothing, Calls, Change, Changes, ChangesNothing, Failures, Finds, LeavesPart, NewFile, OfFile, OfPiece, Puts, Reads, Untouched, World, asks, dest_tree, does, source_tree, tells}
-use Rattle.pt_plan.specs.declared.halt.Halt.{Halt}
-use Rattle.pt_plan.specs.declared.phase.Phase.{Phase}
+use Rattle.pt_state.proofs.Words.{Writing, Path, Kind, Frame, Line, with_trail, Did, Follows, LeavesSome, counted, Answers, Calls, Change, Changes, Finds, NewFile, OfPiece, Puts, Reads, Untouched, World, asks, dest_tree, does, source_tree, tells, Halt, Phase, Turned, counts_of, held_of, job_of}
+use Rattle.pt_state.specs.declared.job.Report.{Report}
+use Rattle.pt_state.specs.declared.state.State.{State}
+use Rattle.pt_plan.specs.World.{AsksNothing, ChangesNothing, LeavesPart, OfFile}
 use Rattle.pt_scan.specs.Scanning.{IsKept, Moved}
 use Rattle.pt_state.proofs.Together.{asked_tree}
 use Rattle.pt_state.proofs.Turns.{KeepsAll, keeps_all, turned_on}
-use Rattle.pt_state.specs.Outside.{Turned}
-use Rattle.pt_state.specs.States.{counts_of, held_of, job_of}
-use Rattle.pt_state.specs.declared.job.Report.{Report}
-use Rattle.pt_state.specs.declared.state.State.{State}
 
 -- ---- a line that is told after another call
 
@@ -31,9 +19,9 @@ pub read_told : (block : List ℕ) (line : Line) (a b c : World) → Did (asks (
 unfolding Did Answers Changes Puts
 read_told block line a b c first next = (
   record {
-    source = subst (λ (o : Option Reading). Answers (Reads block) a.source o) (sym next.0.source) first.0.source;
+    source = rw next.0.source first.0.source;
     dest = next.0.dest ∙ first.0.dest;
-    log = subst (λ (o : Option (List ℕ)). Puts (Some line) o c.log) first.0.log next.0.log;
+    log = rw first.0.log at next.0.log;
   },
   next.1 ∙ first.1,
 )
@@ -45,10 +33,10 @@ read_left block line f a b c first next = (
     read = first.0.source.0;
     found = tt;
     source = next.0.source ∙ asked_tree (Reads block) a.source b.source first.0.source;
-    dest = subst (λ (o : Option Writing). LeavesPart o c.dest ChangesNothing) first.0.dest next.0.dest;
-    log = subst (λ (o : Option (List ℕ)). AppendsFront o c.log (line_text line)) first.0.log next.0.log;
+    dest = rw first.0.dest at next.0.dest;
+    log = rw first.0.log at next.0.log;
   },
-  subst (λ (x : Failures). HasFailed f x c.failures) first.1 next.1,
+  rw first.1 at next.1,
   tt,
 )
 
@@ -61,7 +49,7 @@ looked_told path here line a b c first next = (
   record {
     source = next.0.source ∙ first.0.source;
     dest = (first.0.dest.0, next.0.dest ∙ first.0.dest.1);
-    log = subst (λ (o : Option (List ℕ)). Puts (Some line) o c.log) first.0.log next.0.log;
+    log = rw first.0.log at next.0.log;
   },
   next.1 ∙ first.1,
 )
@@ -80,9 +68,9 @@ looked_left path here line f a b c first next = (
     found = first.0.dest.0;
     source = next.0.source ∙ ap source_tree first.0.source;
     dest = Untouched _ (untouched b.dest c.dest ChangesNothing refl next.0.dest ∙ ap dest_tree first.0.dest.1);
-    log = subst (λ (o : Option (List ℕ)). AppendsFront o c.log (line_text line)) first.0.log next.0.log;
+    log = rw first.0.log at next.0.log;
   },
-  subst (λ (x : Failures). HasFailed f x c.failures) first.1 next.1,
+  rw first.1 at next.1,
   tt,
 )
 

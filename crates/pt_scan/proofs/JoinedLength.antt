@@ -2,7 +2,7 @@
 use Rattle.std.proofs.Common.{◌≡◌, ℕ, List, [], ◌∷◌, ◌++◌, ◌+◌, ◌<◌, ◌≤◌, ◌⊎◌, inl, inr, length, take, get_or, true, refl, arith, ap}
 use Rattle.std.proofs.lemmas.List.{length-append}
 use Rattle.pt_tree.specs.Name.{is_name}
-use Rattle.pt_tree.specs.Path.{Path, joined}
+use Rattle.pt_state.proofs.Words.{Path, joined}
 use Rattle.pt_tree.proofs.Joining.{joined_more}
 
 -- a slash stands before each name but the first

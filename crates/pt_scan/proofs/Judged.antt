@@ -1,5 +1,5 @@
 -- The turn that judges a site, from its calls.
-use Rattle.std.proofs.Common.{◌≡◌, ◌<◌, ℕ, Bool, ◌&&◌, ◌==◌, true, false, List, [], ◌∷◌, ◌++◌, refl, sym, subst, ap, ◌∙◌, length, cond, arith}
+use Rattle.std.proofs.Common.{◌≡◌, ◌<◌, ℕ, Bool, ◌&&◌, ◌==◌, true, false, List, [], ◌∷◌, ◌++◌, refl, sym, ap, ◌∙◌, length, cond, arith}
 use Rattle.std.specs.Global.{Global}
 use Rattle.std.specs.Prelude.{String, Option, None, Some, Result, Ok, Err, IsErrAnd, IfOk, IsTrue, slice_get, nat_le, is_none}
 use Rattle.std.specs.List.{concat}
@@ -12,38 +12,25 @@ use Rattle.std.proofs.lemmas.Str.{IsUtf8-from_is_utf8, IsUtf8-string_bytes, is_u
 use Rattle.pt_name.specs.Place.{place_of}
 use Rattle.pt_name.specs.Tuples.{Tuples}
 use Rattle.pt_name.specs.Reading.{GivesReading, before, hex_value, read_character, reading_of}
-use Rattle.pt_name.specs.Share.{holds, is_first}
+use Rattle.pt_state.proofs.Words.{is_first, Item, Path, same_path, Kind, is_dir_entry, names_to, trail_path, Cause, Frame, Answer, Job, Present, Skipped, with_trail, Did, LeavesSome, Walk, Finds, World, does, no_calls, tells, Halt, Phase, with_skipped, Turned, held_of, job_of}
+use Rattle.pt_state.specs.declared.state.State.{State}
+use Rattle.pt_walk.specs.declared.cause.Cause.TheVariants as cause
+use Rattle.pt_plan.specs.declared.halt.Halt.TheVariants as halt
+use Rattle.pt_plan.specs.declared.phase.Phase.TheVariants as phase
+use Rattle.pt_name.specs.Share.{holds}
 use Rattle.pt_name.specs.declared.reading.UncleanFault.TheVariants as unclean
-use Rattle.pt_tree.specs.Listing.{Item}
 use Rattle.pt_tree.specs.Name.{is_name}
-use Rattle.pt_tree.specs.Path.{Path, same_path}
-use Rattle.pt_tree.specs.declared.kind.Kind.{Kind}
 use Rattle.pt_walk.specs.Site.{found, found_at_top, non_shorties}
 use Rattle.pt_walk.specs.Sites.{at_of}
-use Rattle.pt_walk.specs.Trail.{has_place, innermost_listing, is_dir_entry, names_to, trail_path}
-use Rattle.pt_walk.specs.declared.cause.Cause.{Cause}
-use Rattle.pt_walk.specs.declared.cause.Cause.TheVariants as cause
-use Rattle.pt_walk.specs.declared.frame.Frame.{Frame}
+use Rattle.pt_walk.specs.Trail.{has_place, innermost_listing}
 use Rattle.pt_walk.specs.declared.site.Finding.{Finding}
 use Rattle.pt_walk.specs.declared.site.Finding.TheVariants as finding
 use Rattle.pt_walk.specs.declared.site.Form.{Form}
 use Rattle.pt_walk.proofs.Findings.{candidate as one_candidate}
-use Rattle.pt_plan.specs.Answer.{Answer}
 use Rattle.pt_plan.specs.Items.{Interior, Named, Skip, VerdictOn, ours}
-use Rattle.pt_plan.specs.Job.{Job, form_of}
-use Rattle.pt_plan.specs.Lines.{Present, Skipped}
-use Rattle.pt_plan.specs.Run.{with_trail}
-use Rattle.pt_plan.specs.Turn.{Did, LeavesSome, Walk}
+use Rattle.pt_plan.specs.Job.{form_of}
 use Rattle.pt_plan.specs.TurnWalk.{Walks, LeadsOn, IsSkipped, IsPresent, IsNew, at_object, found_at, has_object, identifier_at, identifier_by, in_root, judged_at, judged_by_finding, judged_by_identifier, path_of_object, unless_reserved}
-use Rattle.pt_plan.specs.World.{Finds, World, does, no_calls, tells}
-use Rattle.pt_plan.specs.declared.halt.Halt.{Halt}
-use Rattle.pt_plan.specs.declared.halt.Halt.TheVariants as halt
-use Rattle.pt_plan.specs.declared.phase.Phase.{Phase}
-use Rattle.pt_plan.specs.declared.phase.Phase.TheVariants as phase
-use Rattle.pt_state.specs.Lines.{with_present, with_skipped}
-use Rattle.pt_state.specs.Outside.{Turned}
-use Rattle.pt_state.specs.States.{held_of, job_of}
-use Rattle.pt_state.specs.declared.state.State.{State}
+use Rattle.pt_state.specs.Lines.{with_present}
 use Rattle.pt_state.proofs.LineTexts.{front_none}
 use Rattle.pt_state.proofs.Together.{did_nothing, looked_stays, looked_then}
 use Rattle.pt_state.proofs.Turns.{KeepsAll, left_told, stayed}
@@ -79,7 +66,7 @@ skips_site s why is = ap (judged_by_finding (job_of s.job) (string_bytes s.prefi
 pub led_on : (s s' : State) (w : World) → finding.Interior ≡ found_at (form_of (job_of s.job)) s.trail → Moved s.trail s.counts s s' → Turned phase.Judge s s' w w (Ok phase.Walk)
 led_on s s' w is to =
     moves phase.Judge phase.Walk s s' w w no_calls s.trail s.counts
-    (λ fed. Walk phase.Judge (string_bytes s.prefix) (held_of s fed) _ _ _ (LeadsOn (held_of s fed) (ap (λ (f : Finding). ours s.job.share (judged_by_finding (job_of s.job) (string_bytes s.prefix) (trail_path s.trail) f)) (sym is)))) (did_nothing w) refl to
+    (λ fed. Walk (LeadsOn (held_of s fed) (ap (λ (f : Finding). ours s.job.share (judged_by_finding (job_of s.job) (string_bytes s.prefix) (trail_path s.trail) f)) (sym is)))) (did_nothing w) refl to
 
 -- ---- a site that is passed over
 
@@ -95,17 +82,17 @@ skipped_other s why is other = ap (λ (v : VerdictOn (Option ℕ)). ours s.job.s
 pub passed_site : (s s' : State) (a b : World) (path : Path) (why : Cause) → PassesSite s why → true ≡ is_first s.job.share → Did (tells (Skipped path why)) a b → path ≡ trail_path s.trail → Moved s.trail (with_skipped s.counts) s s' → Turned phase.Judge s s' a b (Ok phase.Walk)
 passed_site s s' a b path why line first told is to =
     moves phase.Judge phase.Walk s s' a b (tells (Skipped (trail_path s.trail) why)) s.trail (with_skipped s.counts)
-    (λ fed. Walk phase.Judge (string_bytes s.prefix) (held_of s fed) _ _ _ (IsSkipped (held_of s fed) why (skipped_first s why line first))) (subst (λ (p : Path). Did (tells (Skipped p why)) a b) is told) refl to
+    (λ fed. Walk (IsSkipped (held_of s fed) why (skipped_first s why line first))) (rw is at told) refl to
 
 pub passed_site_front : (s s' : State) (a b : World) (path : Path) (why : Cause) (f : Halt) (result : Answer) → IsErrAnd result (λ h. h ≡ f) → PassesSite s why → true ≡ is_first s.job.share → LeavesSome (tells (Skipped path why)) f a b → path ≡ trail_path s.trail → KeepsAll s s' → Turned phase.Judge s s' a b result
 passed_site_front s s' a b path why f result is line first front there keeps =
     left_told phase.Judge s s' a b (tells (Skipped (trail_path s.trail) why)) _ f _ result is
-    (λ fed. Walk phase.Judge (string_bytes s.prefix) (held_of s fed) _ _ _ (IsSkipped (held_of s fed) why (skipped_first s why line first))) (subst (λ (p : Path). LeavesSome (tells (Skipped p why)) f a b) there front) keeps
+    (λ fed. Walk (IsSkipped (held_of s fed) why (skipped_first s why line first))) (rw there at front) keeps
 
 pub passed_site_quietly : (s s' : State) (w : World) (why : Cause) → PassesSite s why → false ≡ is_first s.job.share → Moved s.trail s.counts s s' → Turned phase.Judge s s' w w (Ok phase.Walk)
 passed_site_quietly s s' w why line other to =
     moves phase.Judge phase.Walk s s' w w no_calls s.trail s.counts
-    (λ fed. Walk phase.Judge (string_bytes s.prefix) (held_of s fed) _ _ _ (LeadsOn (held_of s fed) (skipped_other s why line other))) (did_nothing w) refl to
+    (λ fed. Walk (LeadsOn (held_of s fed) (skipped_other s why line other))) (did_nothing w) refl to
 
 -- ---- identifiers
 
@@ -133,12 +120,12 @@ object_below s site index is at = by s.trail site is at
 
     by : (trail : List Frame) (site : Path) → found_at (form_of (job_of s.job)) trail ≡ has_object index → site ≡ trail_path trail → 0 < length site
     by [] site is at = absurd (none index is)
-    by (frame ∷ frames) site is at = subst (λ (p : Path). 0 < length p) (sym at) (below frame.listing (names_to frames) (form_of (job_of s.job)) is)
+    by (frame ∷ frames) site is at = rw (at) (below frame.listing (names_to frames) (form_of (job_of s.job)) is)
 
 -- no name is empty, so names that are joined aren't
 pub names_some : (path : Path) (first : List ℕ) → Some first ≡ slice_get path 0 → IsTrue (is_name first) → 0 < length (concat path)
 names_some [] first is name = absurd (cc)
-names_some ([] ∷ path) first is name = absurd (let same : first ≡ [] = cc in let no : is_name [] ≡ true = subst (λ (n : List ℕ). is_name n ≡ true) same name in cc)
+names_some ([] ∷ path) first is name = absurd (let same : first ≡ [] = cc in let no : is_name [] ≡ true = rw same at name in cc)
 names_some ((byte ∷ bytes) ∷ path) first is name = omega (arith)
 
 -- what is read before more isn't empty
@@ -266,12 +253,9 @@ unfolding IsNamed
 passed_object s s' w index candidate found (named, place) other to =
     let judged = ap (λ (v : VerdictOn (Option ℕ)). ours s.job.share v) (by_object s index (Ok candidate.id) found named) ∙ ap (λ b. cond b (Named candidate.id index) Interior) (sym other) in
     moves phase.Judge phase.Walk s s' w w no_calls s.trail s.counts
-    (λ fed. Walk phase.Judge (string_bytes s.prefix) (held_of s fed) _ _ _ (LeadsOn (held_of s fed) judged)) (did_nothing w) refl to
+    (λ fed. Walk (LeadsOn (held_of s fed) judged)) (did_nothing w) refl to
 
 -- ---- an object whose place was asked for
-
-found_at_place : (path at : Path) (here : Option Kind) (a b : World) → path ≡ at → Did (does (Finds path here)) a b → Did (does (Finds at here)) a b
-found_at_place path at here a b is did = subst (λ (p : Path). Did (does (Finds p here)) a b) is did
 
 -- memory was short after it was asked for
 pub looked_short : (s s' : State) (a b : World) (path : Path) (here : Option Kind) (result : Answer) → IsErrAnd result (λ h. h ≡ halt.Memory) → Did (does (Finds path here)) a b → KeepsAll s s' → Turned phase.Judge s s' a b result
@@ -281,26 +265,26 @@ present_follows : (s : State) (index : Option ℕ) (candidate : Candidate) (here
     → Walks (job_of s.job) (string_bytes s.prefix) phase.Judge (held_of s fed) (held_of s fed) (finds_and_tells (in_root candidate.place) (Some here) (Present (path_of_object index s.trail) candidate.id candidate.place)) (Ok phase.Walk)
 unfolding IsNamed
 present_follows s index candidate here found (named, place) mine fed =
-    subst (λ (p : Path). Walks (job_of s.job) (string_bytes s.prefix) phase.Judge (held_of s fed) (held_of s fed) (finds_and_tells (in_root p) (Some here) (Present (path_of_object index s.trail) candidate.id p)) (Ok phase.Walk)) (sym place)
+    rw place
     (IsPresent (held_of s fed) index candidate.id here (named_at s index candidate found (named, place) mine))
 
 -- something stands there
 there_is : (path at : Path) (here : Option Kind) (it : Kind) (a b : World) → path ≡ at → here ≡ Some it → Did (does (Finds path here)) a b → Did (does (Finds at (Some it))) a b
-there_is path at here it a b there is did = subst (λ (o : Option Kind). Did (does (Finds at o)) a b) is (found_at_place path at here a b there did)
+there_is path at here it a b there is did = rw is at (rw there at did)
 
 pub told_present : (s s' : State) (a b c : World) (path at : Path) (here : Option Kind) (it : Kind) (index : Option ℕ) (candidate : Candidate) → FindsObject s index → IsNamed s (verdict.Carry candidate) → IsTrue (holds s.job.share candidate.id)
     → Did (does (Finds path here)) a b → here ≡ Some it → path ≡ in_root candidate.place → Did (tells (Present at candidate.id candidate.place)) b c → at ≡ path_of_object index s.trail → Moved s.trail (with_present s.counts) s s' → Turned phase.Judge s s' a c (Ok phase.Walk)
 told_present s s' a b c path at here it index candidate found named mine did is there told place to =
     moves phase.Judge phase.Walk s s' a c (finds_and_tells (in_root candidate.place) (Some it) (Present (path_of_object index s.trail) candidate.id candidate.place)) s.trail (with_present s.counts)
-    (λ fed. Walk phase.Judge (string_bytes s.prefix) (held_of s fed) _ _ _ (present_follows s index candidate it found named mine fed))
-    (looked_told (in_root candidate.place) (Some it) _ a b c (there_is path (in_root candidate.place) here it a b there is did) (subst (λ (p : Path). Did (tells (Present p candidate.id candidate.place)) b c) place told)) refl to
+    (λ fed. Walk (present_follows s index candidate it found named mine fed))
+    (looked_told (in_root candidate.place) (Some it) _ a b c (there_is path (in_root candidate.place) here it a b there is did) (rw place at told)) refl to
 
 pub told_present_front : (s s' : State) (a b c : World) (path at : Path) (here : Option Kind) (it : Kind) (index : Option ℕ) (candidate : Candidate) (f : Halt) (result : Answer) → IsErrAnd result (λ h. h ≡ f) → FindsObject s index → IsNamed s (verdict.Carry candidate) → IsTrue (holds s.job.share candidate.id)
     → Did (does (Finds path here)) a b → here ≡ Some it → path ≡ in_root candidate.place → LeavesSome (tells (Present at candidate.id candidate.place)) f b c → at ≡ path_of_object index s.trail → KeepsAll s s' → Turned phase.Judge s s' a c result
 told_present_front s s' a b c path at here it index candidate f result error found named mine did is there front place keeps =
     left_told phase.Judge s s' a c (finds_and_tells (in_root candidate.place) (Some it) (Present (path_of_object index s.trail) candidate.id candidate.place)) _ f _ result error
-    (λ fed. Walk phase.Judge (string_bytes s.prefix) (held_of s fed) _ _ _ (present_follows s index candidate it found named mine fed))
-    (looked_left (in_root candidate.place) (Some it) _ f a b c (there_is path (in_root candidate.place) here it a b there is did) (subst (λ (p : Path). LeavesSome (tells (Present p candidate.id candidate.place)) f b c) place front)) keeps
+    (λ fed. Walk (present_follows s index candidate it found named mine fed))
+    (looked_left (in_root candidate.place) (Some it) _ f a b c (there_is path (in_root candidate.place) here it a b there is did) (rw place at front)) keeps
 
 length-object : (index : Option ℕ) (trail : List Frame) → length (at_object index trail) ≡ length trail
 length-object None trail = refl
@@ -311,7 +295,7 @@ new_follows : (s : State) (index : Option ℕ) (candidate : Candidate) → Finds
     → Walks (job_of s.job) (string_bytes s.prefix) phase.Judge (held_of s fed) (with_trail (held_of s fed) (at_object index s.trail)) (does (Finds (in_root candidate.place) None)) (Ok (phase.OpenObject (record { id = candidate.id; place = candidate.place; gathered = is_none index; site = length s.trail; empty = 0 })))
 unfolding IsNamed
 new_follows s index candidate found (named, place) mine fed =
-    subst (λ (p : Path). Walks (job_of s.job) (string_bytes s.prefix) phase.Judge (held_of s fed) (with_trail (held_of s fed) (at_object index s.trail)) (does (Finds (in_root p) None)) (Ok (phase.OpenObject (record { id = candidate.id; place = p; gathered = is_none index; site = length s.trail; empty = 0 })))) (sym place)
+    rw place
     (IsNew (held_of s fed) index candidate.id (named_at s index candidate found (named, place) mine))
 
 pub found_new : (s s' : State) (a b : World) (path : Path) (here : Option Kind) (index : Option ℕ) (candidate : Candidate) (gathered : Bool) (site : ℕ) (next : Phase) → FindsObject s index → IsNamed s (verdict.Carry candidate) → IsTrue (holds s.job.share candidate.id)
@@ -320,10 +304,10 @@ pub found_new : (s s' : State) (a b : World) (path : Path) (here : Option Kind) 
 found_new s s' a b path here index candidate gathered site next found named mine did is there then gather deep to =
     let object_is : next ≡ phase.OpenObject (record { id = candidate.id; place = candidate.place; gathered = is_none index; site = length s.trail; empty = 0 }) =
     then ∙ (λ i. phase.OpenObject (record { id = candidate.id; place = candidate.place; gathered = gather i; site = (deep ∙ ap length to.trail_is ∙ length-object index s.trail) i; empty = 0 })) in
-    subst (λ (p : Phase). Turned phase.Judge s s' a b (Ok p)) (sym object_is)
+    rw object_is
     (moves phase.Judge _ s s' a b (does (Finds (in_root candidate.place) None)) (at_object index s.trail) s.counts
-    (λ fed. Walk phase.Judge (string_bytes s.prefix) (held_of s fed) _ _ _ (new_follows s index candidate found named mine fed))
-    (subst (λ (o : Option Kind). Did (does (Finds (in_root candidate.place) o)) a b) is (found_at_place path (in_root candidate.place) here a b there did)) refl to)
+    (λ fed. Walk (new_follows s index candidate found named mine fed))
+    (rw is at (rw there at did)) refl to)
 
 -- ---- the trail at the object
 

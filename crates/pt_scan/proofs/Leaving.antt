@@ -1,8 +1,7 @@
 -- Leaving listings one by one.
 use Rattle.std.proofs.Common.{◌≡◌, ℕ, ◌+◌, ◌-◌, ◌<◌, ◌≤◌, List, [], ◌∷◌, length, drop, refl, ap, ◌∙◌, arith, zero, suc}
 use Rattle.std.proofs.lemmas.List.{length-drop}
-use Rattle.pt_walk.specs.Trail.{parent}
-use Rattle.pt_walk.specs.declared.frame.Frame.{Frame}
+use Rattle.pt_state.proofs.Words.{parent, Frame}
 
 parent-drop : (n : ℕ) (t : List Frame) → parent (drop n t) ≡ drop (suc n) t
 parent-drop zero [] = refl

@@ -1,16 +1,13 @@
 -- Paths in an object, from the trail that leads to where the scan stands.
-use Rattle.std.proofs.Common.{◌≡◌, ◌<◌, ◌≤◌, ℕ, ◌+◌, ◌-◌, ◌==◌, Bool, true, false, List, [], ◌∷◌, ◌++◌, refl, sym, subst, ap, ◌∙◌, length, cond, drop, take, arith, zero, suc}
+use Rattle.std.proofs.Common.{◌≡◌, ◌<◌, ◌≤◌, ℕ, ◌+◌, ◌-◌, ◌==◌, Bool, true, false, List, [], ◌∷◌, ◌++◌, refl, sym, ap, ◌∙◌, length, cond, drop, take, arith, zero, suc}
 use Rattle.std.specs.Prelude.{Option, None, Some, IsSome, ◌&&◌, option_to_list}
 use Rattle.std.specs.Option.{option_map}
 use Rattle.std.proofs.lemmas.List.{length-append, length-drop, length-take-le, take_all}
 use Rattle.std.proofs.lemmas.Bool.{and_parts, eq-eqb}
-use Rattle.pt_tree.specs.Listing.{Item}
-use Rattle.pt_tree.specs.Path.{Path}
-use Rattle.pt_walk.specs.Trail.{are_outer, current_entry, entry_at, is_dir_entry, is_frame, is_trail, name_at, names_to, parent, trail_path}
-use Rattle.pt_walk.specs.declared.frame.Frame.{Frame}
+use Rattle.pt_state.proofs.Words.{Item, Path, current_entry, is_dir_entry, names_to, parent, trail_path, Frame, logical_path, to_site, Object}
+use Rattle.pt_walk.specs.Trail.{are_outer, entry_at, is_frame, is_trail, name_at}
 use Rattle.pt_walk.proofs.TrailSteps.{path_splits}
-use Rattle.pt_plan.specs.TurnScan.{is_in_site, logical_path, own_listings, to_site}
-use Rattle.pt_plan.specs.declared.object.Object.{Object}
+use Rattle.pt_plan.specs.TurnScan.{is_in_site, own_listings}
 use Rattle.pt_scan.specs.Scanning.{IsSite}
 
 -- ---- plain lists
@@ -134,7 +131,7 @@ taken_long n xs names is long = sym (ap (λ (p : Path). length (take n p)) is �
 -- around the listing that is left there is another, left for a directory
 pub left_some : (object : Object) (trail left : List Frame) (in_site : Bool) → is_trail trail ≡ true → IsSite object trail → 0 < own_listings object trail → in_site ≡ is_in_site object trail → in_site ≡ false → left ≡ parent trail → IsSome (current_entry left)
 unfolding IsSite
-left_some object trail left in_site is (some, long) own place not left_is = subst (λ (t : List Frame). IsSome (current_entry t)) (sym left_is) (by trail is long own (sym place ∙ not))
+left_some object trail left in_site is (some, long) own place not left_is = rw left_is (by trail is long own (sym place ∙ not))
   where
     entry : (o : Option Item) → is_dir_entry o ≡ true → IsSome o
     entry None is = absurd (cc)

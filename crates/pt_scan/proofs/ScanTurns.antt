@@ -1,40 +1,24 @@
 -- The turns of the scan of an object, from their calls.
-use Rattle.std.proofs.Common.{◌≡◌, ◌<◌, ◌≤◌, ℕ, ◌+◌, ◌-◌, ◌==◌, ◌&&◌, Bool, true, false, List, [], ◌∷◌, refl, sym, subst, ap, ◌∙◌, length, cond, drop, arith}
+use Rattle.std.proofs.Common.{◌≡◌, ◌<◌, ◌≤◌, ℕ, ◌+◌, ◌-◌, ◌==◌, ◌&&◌, Bool, true, false, List, [], ◌∷◌, refl, sym, ap, ◌∙◌, length, cond, drop, arith}
 use Rattle.std.specs.Prelude.{Option, None, Some, Ok, IsErrAnd, IsSome, nat_le, nat_lt, not, ◌||◌}
 use Rattle.std.specs.String.{string_bytes}
 use Rattle.std.proofs.lemmas.Bool.{lt-ltb, le-ltb, le-leb, lt-leb}
 use Rattle.std.proofs.Math.Dec.{eqb-suc-zero}
-use Rattle.pt_object.specs.Hasher.{HasBeenFed}
-use Rattle.pt_tree.specs.Listing.{Item}
-use Rattle.pt_tree.specs.Path.{Path, joined}
-use Rattle.pt_tree.specs.declared.kind.Kind.{Kind}
-use Rattle.pt_tree.specs.declared.kind.Kind.TheVariants as kind
-use Rattle.pt_walk.specs.Site.{is_shorty}
-use Rattle.pt_walk.specs.Trail.{advanced, current_entry, entered, has_place, is_dir_entry, names_to, parent, sought, trail_path}
-use Rattle.pt_walk.specs.declared.cause.Cause.{Cause}
-use Rattle.pt_walk.specs.declared.cause.Cause.TheVariants as cause
-use Rattle.pt_walk.specs.declared.frame.Frame.{Frame}
-use Rattle.pt_plan.specs.Answer.{Answer}
-use Rattle.pt_plan.specs.Lines.{Skipped}
-use Rattle.pt_plan.specs.Permits.{MayEnter, MayOpen}
-use Rattle.pt_plan.specs.TurnScan.{StartsInSite, EntersObject, IsTooDeep, PassesShorty, EntersDirectory, MeetsDeep, OpensFile, MeetsLimit, MeetsOther, EndsSite, EndsObject, LeavesDirectory, is_in_site, logical_path, none_listed, to_site, with_directory}
-use Rattle.pt_plan.specs.TurnWalk.{in_pairtree}
-use Rattle.pt_plan.specs.declared.halt.Halt.{Halt}
-use Rattle.pt_plan.specs.declared.halt.Halt.TheVariants as halt
-use Rattle.pt_plan.specs.declared.object.Object.{Object}
-use Rattle.pt_plan.specs.declared.phase.Part.TheVariants as part
-use Rattle.pt_plan.specs.declared.phase.Phase.{Phase}
-use Rattle.pt_plan.specs.declared.phase.Phase.TheVariants as phase
-use Rattle.pt_state.specs.Lines.{with_skipped}
-use Rattle.pt_state.specs.States.{counts_of, held_of}
+use Rattle.pt_state.proofs.Words.{HasBeenFed, Item, Path, joined, Kind, advanced, current_entry, entered, is_dir_entry, names_to, parent, sought, trail_path, Cause, Frame, Answer, Skipped, logical_path, to_site, in_pairtree, Halt, Object, Phase, with_skipped, counts_of, held_of, Did, LeavesSome, Scan, Stays, Lists, Opens, World, asks, no_calls, tells, Turned, Reading, CanOpen}
 use Rattle.pt_state.specs.declared.state.State.{State}
-use Rattle.pt_plan.specs.Turn.{Did, LeavesSome, Scan, Stays}
-use Rattle.pt_plan.specs.World.{Lists, Opens, World, asks, no_calls, tells}
+use Rattle.pt_tree.specs.declared.kind.Kind.TheVariants as kind
+use Rattle.pt_walk.specs.declared.cause.Cause.TheVariants as cause
+use Rattle.pt_plan.specs.declared.halt.Halt.TheVariants as halt
+use Rattle.pt_plan.specs.declared.phase.Part.TheVariants as part
+use Rattle.pt_plan.specs.declared.phase.Phase.TheVariants as phase
+use Rattle.pt_walk.specs.Site.{is_shorty}
+use Rattle.pt_walk.specs.Trail.{has_place}
+use Rattle.pt_plan.specs.Permits.{MayEnter, MayOpen}
+use Rattle.pt_plan.specs.TurnScan.{StartsInSite, EntersObject, IsTooDeep, PassesShorty, EntersDirectory, MeetsDeep, OpensFile, MeetsLimit, MeetsOther, EndsSite, EndsObject, LeavesDirectory, is_in_site, none_listed, with_directory}
 use Rattle.pt_state.proofs.LineTexts.{front_none}
 use Rattle.pt_state.proofs.Together.{asked_stays, did_nothing}
 use Rattle.pt_state.proofs.Turns.{KeepsAll, left_told, stayed, turned_on, went}
-use Rattle.pt_state.specs.Outside.{Turned}
-use Rattle.pt_tree.specs.Source.{Reading, CanList, CanOpen}
+use Rattle.pt_tree.specs.Source.{CanList}
 use Rattle.pt_scan.specs.Scanning.{Enters, EntersNext, GivesUp, IsAtDirectory, IsAtFile, IsBackAtSite, IsKept, IsSite, MeetsDirectory, Moved}
 use Rattle.pt_scan.proofs.HeldTurns.{all_kept, is_kept, moved, moves}
 
@@ -44,15 +28,15 @@ pub back_at : (object : Object) (s s' : State) (left : List Frame) → left ≡ 
 back_at object s s' left is trail job rows contents counts prefix hasher = record { job = job; prefix = prefix; trail = trail ∙ ap (sought 0) is; rows = rows; contents = contents; counts = counts; hasher = hasher }
 
 pub has_entered : (s s' : State) (a b : World) (path : Path) (items : List Item) (is_empty : Bool) → Did (asks (Lists path items)) a b → path ≡ in_pairtree (names_to s.trail) → is_empty ≡ (length items == 0) → Moved (entered items s.trail) s.counts s s' → Enters s s' a b is_empty
-has_entered s s' a b path items is_empty did is empty to = record { items = items; listed = subst (λ (p : Path). Did (asks (Lists p items)) a b) is did; empty = empty; moved = to }
+has_entered s s' a b path items is_empty did is empty to = record { items = items; listed = rw is at did; empty = empty; moved = to }
 
 -- memory was short before the source was called, or after it was listed
 pub unasked : (w : World) (f : Halt) → f ≡ halt.Memory → Stays f w w
 unfolding Stays
-unasked w f is = subst (λ (f : Halt). Stays f w w) (sym is) (refl, refl, refl, refl, tt)
+unasked w f is = rw is (refl, refl, refl, refl, tt)
 
 pub listed_unentered : (a b : World) (path : Path) (items : List Item) (f : Halt) → f ≡ halt.Memory → Did (asks (Lists path items)) a b → Stays f a b
-listed_unentered a b path items f is did = subst (λ (f : Halt). Stays f a b) (sym is) (asked_stays (Lists path items) a b did)
+listed_unentered a b path items f is did = rw is (asked_stays (Lists path items) a b did)
 
 pub may_list_entry : (told : Option Reading) (trail : List Frame) (path : Path) → MayEnter told trail → is_dir_entry (current_entry trail) ≡ true → path ≡ in_pairtree (names_to trail) → CanList told path
 unfolding MayEnter
@@ -60,7 +44,7 @@ may_list_entry told trail path may is there = by (current_entry trail) refl is
   where
     by : (o : Option Item) → current_entry trail ≡ o → is_dir_entry o ≡ true → CanList told path
     by None at is = absurd (cc)
-    by (Some (name, kind.Dir)) at is = subst (λ (p : Path). CanList told p) (sym there) (may name at)
+    by (Some (name, kind.Dir)) at is = rw there (may name at)
     by (Some (name, kind.File)) at is = absurd (cc)
     by (Some (name, kind.Other)) at is = absurd (cc)
 
@@ -71,21 +55,21 @@ pub gave_up : (here : Phase) (object : Object) (why : Cause) (s s' : State) (a b
 unfolding GivesUp
 gave_up here object why s s' a b line got back =
     turned_on here phase.Walk s s' a b (tells (Skipped (trail_path (to_site object s.trail)) why)) (sought 0 (to_site object s.trail)) [] []
-    (λ fed. Scan here (string_bytes s.prefix) (held_of s fed) _ _ _ (line fed)) got back.trail back.rows back.contents (ap counts_of back.counts) back.prefix back.hasher back.job
+    (λ fed. Scan (line fed)) got back.trail back.rows back.contents (ap counts_of back.counts) back.prefix back.hasher back.job
 
 -- a part of the line was put
 pub gave_front : (here : Phase) (object : Object) (why : Cause) (s s' : State) (a b : World) (f : Halt) (result : Answer) → IsErrAnd result (λ h. h ≡ f) → GivesUp here object why s → LeavesSome (tells (Skipped (trail_path (to_site object s.trail)) why)) f a b → IsKept s s' → Turned here s s' a b result
 unfolding GivesUp
-gave_front here object why s s' a b f result is line front same = left_told here s s' a b (tells (Skipped (trail_path (to_site object s.trail)) why)) (Ok phase.Walk) f _ result is (λ fed. Scan here (string_bytes s.prefix) (held_of s fed) _ _ _ (line fed)) front (all_kept s s' same)
+gave_front here object why s s' a b f result is line front same = left_told here s s' a b (tells (Skipped (trail_path (to_site object s.trail)) why)) (Ok phase.Walk) f _ result is (λ fed. Scan (line fed)) front (all_kept s s' same)
 
 -- ---- a directory
 
 pub entered_next : (here : Phase) (object object' : Object) (s s' : State) (a b : World) (is_empty : Bool) → EntersNext here object s → Enters s s' a b is_empty → object' ≡ record object { empty = object.empty + cond is_empty 1 0 } → Turned here s s' a b (Ok (phase.Scan object'))
 unfolding EntersNext
 entered_next here object object' s s' a b is_empty line did is =
-    subst (λ (o : Object). Turned here s s' a b (Ok (phase.Scan o))) (sym (is ∙ ap (λ (e : ℕ). record object { empty = object.empty + e }) (ap (λ (b : Bool). cond b 1 0) did.empty ∙ counted did.items)))
+    rw (is ∙ ap (λ (e : ℕ). record object { empty = object.empty + e }) (ap (λ (b : Bool). cond b 1 0) did.empty ∙ counted did.items))
     (moves here (phase.Scan (with_directory object did.items)) s s' a b (asks (Lists (in_pairtree (names_to s.trail)) did.items)) (entered did.items s.trail) s.counts
-    (λ fed. Scan here (string_bytes s.prefix) (held_of s fed) _ _ _ (line fed did.items))
+    (λ fed. Scan (line fed did.items))
     did.listed refl did.moved)
   where
     counted : (items : List Item) → cond (length items == 0) 1 0 ≡ none_listed items
@@ -100,7 +84,7 @@ enter_failed here s s' a b f result is stays same = stayed here s s' a b f resul
 pub begun_in_site : (s s' : State) (a : World) (object : Object) → true ≡ object.gathered → Moved (sought 0 s.trail) s.counts s s' → Turned (phase.OpenObject object) s s' a a (Ok (phase.Scan object))
 begun_in_site s s' a object is to =
     moves (phase.OpenObject object) (phase.Scan object) s s' a a no_calls (sought 0 s.trail) s.counts
-    (λ fed. Scan (phase.OpenObject object) (string_bytes s.prefix) (held_of s fed) _ _ _ (StartsInSite (held_of s fed) object (sym is))) (did_nothing a) refl to
+    (λ fed. Scan (StartsInSite (held_of s fed) object (sym is))) (did_nothing a) refl to
 
 pub meets_own : (s : State) (object : Object) → object.gathered ≡ false → MeetsDirectory (phase.OpenObject object) object s
 unfolding GivesUp EntersNext
@@ -117,7 +101,7 @@ site_there object (frame ∷ frames) (some, long) = le-leb 0 (length frame.listi
 pub passed_in_site : (s s' : State) (a : World) (object : Object) (name : List ℕ) (it : Kind) (in_site : Bool) → Some (name, it) ≡ current_entry s.trail → in_site ≡ is_in_site object s.trail → true ≡ (in_site && is_shorty (name, it)) → Moved (advanced s.trail) s.counts s s' → Turned (phase.Scan object) s s' a a (Ok (phase.Scan object))
 passed_in_site s s' a object name it in_site at place is to =
     moves (phase.Scan object) (phase.Scan object) s s' a a no_calls (advanced s.trail) s.counts
-    (λ fed. Scan (phase.Scan object) (string_bytes s.prefix) (held_of s fed) _ _ _ (PassesShorty (held_of s fed) object (name, it) (sym at) (ap (λ (b : Bool). b && is_shorty (name, it)) (sym place) ∙ sym is)))
+    (λ fed. Scan (PassesShorty (held_of s fed) object (name, it) (sym at) (ap (λ (b : Bool). b && is_shorty (name, it)) (sym place) ∙ sym is)))
     (did_nothing a) refl to
 
 pub at_directory : (object : Object) (trail : List Frame) (name : List ℕ) (it : Kind) (in_site : Bool) → Some (name, it) ≡ current_entry trail → it ≡ kind.Dir → in_site ≡ is_in_site object trail → false ≡ (in_site && is_shorty (name, it)) → IsAtDirectory object trail
@@ -151,7 +135,7 @@ too_deep here object s meets deep = meets.deep deep
 
 pub file_some : (trail : List Frame) → IsAtFile trail → IsSome (current_entry trail)
 unfolding IsAtFile
-file_some trail (name, at) = subst (λ (o : Option Item). IsSome o) (sym at) refl
+file_some trail (name, at) = rw (at) refl
 
 pub one_too_many : (s : State) (object : Object) → IsAtFile s.trail → s.job.limits.files ≤ length s.rows → GivesUp (phase.Scan object) object cause.Limit s
 unfolding IsAtFile GivesUp
@@ -171,15 +155,15 @@ path_too_long s object names most longer (name, at) is limit there long = λ fed
 
 pub may_open_entry : (told : Option Reading) (trail : List Frame) (entry path : Path) → MayOpen told trail → IsAtFile trail → entry ≡ names_to trail → path ≡ in_pairtree entry → CanOpen told path
 unfolding MayOpen IsAtFile
-may_open_entry told trail entry path may (name, at) names there = subst (λ (p : Path). CanOpen told p) (sym (there ∙ ap in_pairtree names)) (may name at)
+may_open_entry told trail entry path may (name, at) names there = rw (there ∙ ap in_pairtree names) (may name at)
 
 pub opened_file : (s s' : State) (a b : World) (object : Object) (entry path names : Path) (most : ℕ) (longer : Bool) → IsAtFile s.trail → length s.rows < s.job.limits.files → longer ≡ nat_lt most (length (joined names)) → most ≡ s.job.limits.path_bytes → names ≡ logical_path object s.trail → longer ≡ false
     → Did (asks (Opens path)) a b → entry ≡ names_to s.trail → path ≡ in_pairtree entry → HasBeenFed s.job.algorithm s'.hasher [] → KeepsAll s s' → Turned (phase.Scan object) s s' a b (Ok (phase.Read object 0))
 unfolding IsAtFile
 opened_file s s' a b object entry path names most longer (name, at) few is limit logical_at short did entry_at there fed_none keeps =
     went (phase.Scan object) (phase.Read object 0) s s' a b (asks (Opens (in_pairtree (names_to s.trail)))) (λ fed. [])
-    (λ fed was. Scan (phase.Scan object) (string_bytes s.prefix) (held_of s fed) (held_of s []) _ _ (OpensFile (held_of s fed) object name at (neither _ _ (lt-leb s.job.limits.files (length s.rows) few) (long_is s object names most longer is limit logical_at ∙ short))))
-    (subst (λ (p : Path). Did (asks (Opens p)) a b) (there ∙ ap in_pairtree entry_at) did) refl (λ fed was. fed_none) keeps
+    (λ fed was. Scan (OpensFile (held_of s fed) object name at (neither _ _ (lt-leb s.job.limits.files (length s.rows) few) (long_is s object names most longer is limit logical_at ∙ short))))
+    (rw (there ∙ ap in_pairtree entry_at) at did) refl (λ fed was. fed_none) keeps
   where
     neither : (a b : Bool) → a ≡ false → b ≡ false → (a || b) ≡ false
     neither a b e f = ap (λ (x : Bool). x || b) e ∙ f
@@ -189,18 +173,18 @@ opened_file s s' a b object entry path names most longer (name, at) few is limit
 pub ended_site : (s s' : State) (a : World) (object : Object) (in_site : Bool) → current_entry s.trail ≡ None → in_site ≡ is_in_site object s.trail → in_site ≡ true → Moved s.trail s.counts s s' → Turned (phase.Scan object) s s' a a (Ok (phase.Make object part.Staging))
 ended_site s s' a object in_site at place is to =
     moves (phase.Scan object) (phase.Make object part.Staging) s s' a a no_calls s.trail s.counts
-    (λ fed. Scan (phase.Scan object) (string_bytes s.prefix) (held_of s fed) _ _ _ (EndsSite (held_of s fed) object at (sym place ∙ is))) (did_nothing a) refl to
+    (λ fed. Scan (EndsSite (held_of s fed) object at (sym place ∙ is))) (did_nothing a) refl to
 
 pub ended_object : (s s' : State) (a : World) (object : Object) (in_site : Bool) (left : List Frame) → current_entry s.trail ≡ None → in_site ≡ is_in_site object s.trail → in_site ≡ false → left ≡ parent s.trail → true ≡ (not object.gathered && (length left == object.site)) → Moved left s.counts s s' → Turned (phase.Scan object) s s' a a (Ok (phase.Make object part.Staging))
 ended_object s s' a object in_site left at place outside is own to =
     moves (phase.Scan object) (phase.Make object part.Staging) s s' a a no_calls (parent s.trail) s.counts
-    (λ fed. Scan (phase.Scan object) (string_bytes s.prefix) (held_of s fed) _ _ _ (EndsObject (held_of s fed) object at (sym place ∙ outside) (ap (λ (t : List Frame). not object.gathered && (length t == object.site)) (sym is) ∙ sym own)))
-    (did_nothing a) refl (subst (λ (t : List Frame). Moved t s.counts s s') is to)
+    (λ fed. Scan (EndsObject (held_of s fed) object at (sym place ∙ outside) (ap (λ (t : List Frame). not object.gathered && (length t == object.site)) (sym is) ∙ sym own)))
+    (did_nothing a) refl (rw is at to)
 
 pub left_directory : (s s' : State) (a : World) (object : Object) (in_site : Bool) (left : List Frame) → current_entry s.trail ≡ None → in_site ≡ is_in_site object s.trail → in_site ≡ false → left ≡ parent s.trail → false ≡ (not object.gathered && (length left == object.site)) → Moved (advanced left) s.counts s s' → Turned (phase.Scan object) s s' a a (Ok (phase.Scan object))
 left_directory s s' a object in_site left at place outside is own to =
     moves (phase.Scan object) (phase.Scan object) s s' a a no_calls (advanced (parent s.trail)) s.counts
-    (λ fed. Scan (phase.Scan object) (string_bytes s.prefix) (held_of s fed) _ _ _ (LeavesDirectory (held_of s fed) object at (sym place ∙ outside) (ap (λ (t : List Frame). not object.gathered && (length t == object.site)) (sym is) ∙ sym own)))
-    (did_nothing a) refl (subst (λ (t : List Frame). Moved (advanced t) s.counts s s') is to)
+    (λ fed. Scan (LeavesDirectory (held_of s fed) object at (sym place ∙ outside) (ap (λ (t : List Frame). not object.gathered && (length t == object.site)) (sym is) ∙ sym own)))
+    (did_nothing a) refl (rw is at to)
 
 pub ruleset scanning = (front_none, ended_site, ended_object, left_directory, opened_file, is_kept, moved, back_at, has_entered, unasked, listed_unentered, may_list_entry, gave_up, gave_front, entered_next, enter_failed, begun_in_site, meets_own, site_there, passed_in_site, at_directory, at_file, meets_other, directory_is, meets_inner, too_deep, file_some, one_too_many, path_too_long, may_open_entry)

@@ -1,34 +1,20 @@
 -- The turns of the walk, from their calls.
-use Rattle.std.proofs.Common.{◌≡◌, ◌<◌, ◌≤◌, ℕ, Bool, true, false, List, [], ◌∷◌, refl, sym, subst, ap, ◌∙◌, length, cond, ◌==◌}
+use Rattle.std.proofs.Common.{◌≡◌, ◌<◌, ◌≤◌, ℕ, Bool, true, false, List, [], ◌∷◌, refl, sym, ap, ◌∙◌, length, cond, ◌==◌}
 use Rattle.std.specs.Prelude.{Option, None, Some, Ok, IsErrAnd, IsSome}
-use Rattle.std.specs.String.{string_bytes}
 use Rattle.std.proofs.lemmas.Bool.{lt-ltb, le-ltb}
-use Rattle.pt_name.specs.Share.{is_first}
-use Rattle.pt_tree.specs.Listing.{Item}
-use Rattle.pt_tree.specs.Path.{Path, last_name, parent as parent_of, split_path}
-use Rattle.pt_tree.specs.Source.{Reading, CanList}
-use Rattle.pt_tree.specs.declared.kind.Kind.{Kind}
+use Rattle.pt_state.proofs.Words.{is_first, Item, Path, Reading, Kind, advanced, current_entry, entered, is_dir_entry, names_to, parent, trail_path, Cause, Frame, Answer, Line, Skipped, Did, LeavesSome, Walk, in_pairtree, Lists, World, asks, no_calls, tells, Halt, with_skipped, Turned, held_of}
+use Rattle.pt_state.specs.declared.state.State.{State}
 use Rattle.pt_tree.specs.declared.kind.Kind.TheVariants as kind
+use Rattle.pt_walk.specs.declared.cause.Cause.TheVariants as cause
+use Rattle.pt_plan.specs.declared.phase.Phase.TheVariants as phase
+use Rattle.pt_tree.specs.Path.{last_name, parent as parent_of, split_path}
+use Rattle.pt_tree.specs.Source.{CanList}
 use Rattle.pt_walk.specs.Site.{is_shorty}
 use Rattle.pt_walk.specs.Sites.{at_of, is_last}
-use Rattle.pt_walk.specs.Trail.{advanced, current_entry, entered, is_dir_entry, names_to, parent, trail_path}
-use Rattle.pt_walk.specs.declared.cause.Cause.{Cause}
-use Rattle.pt_walk.specs.declared.cause.Cause.TheVariants as cause
 use Rattle.pt_walk.specs.declared.site.At.TheVariants as at
-use Rattle.pt_walk.specs.declared.frame.Frame.{Frame}
-use Rattle.pt_plan.specs.Answer.{Answer}
-use Rattle.pt_plan.specs.Lines.{Line, Skipped}
 use Rattle.pt_plan.specs.Permits.{MayEnter}
-use Rattle.pt_plan.specs.Run.{with_trail}
-use Rattle.pt_plan.specs.Turn.{Did, LeavesSome, Walk}
-use Rattle.pt_plan.specs.TurnWalk.{Walks, OpensRoot, IsPast, IsDeep, EntersSite as EntersSiteOf, PassesEntry, LeavesSite, EndsWalk, in_pairtree}
-use Rattle.pt_plan.specs.World.{Calls, Lists, World, asks, no_calls, tells, tells_if}
-use Rattle.pt_plan.specs.declared.halt.Halt.{Halt}
-use Rattle.pt_plan.specs.declared.phase.Phase.TheVariants as phase
-use Rattle.pt_state.specs.Lines.{with_skipped}
-use Rattle.pt_state.specs.Outside.{Turned}
-use Rattle.pt_state.specs.States.{held_of, job_of}
-use Rattle.pt_state.specs.declared.state.State.{State}
+use Rattle.pt_plan.specs.TurnWalk.{OpensRoot, IsPast, IsDeep, EntersSite as EntersSiteOf, PassesEntry, LeavesSite, EndsWalk}
+use Rattle.pt_plan.specs.World.{tells_if}
 use Rattle.pt_state.proofs.LineTexts.{front_none}
 use Rattle.pt_state.proofs.Together.{did_nothing}
 use Rattle.pt_state.proofs.Turns.{KeepsAll, left_told, short_asked}
@@ -38,34 +24,30 @@ use Rattle.pt_scan.specs.Walking.{EntersSite, IsAtShorty, PassesShorty}
 
 -- ---- a listing that is entered
 
--- the source was listed at this path
-listed_at : (path at : Path) (items : List Item) (a b : World) → path ≡ at → Did (asks (Lists path items)) a b → Did (asks (Lists at items)) a b
-listed_at path at items a b is did = subst (λ (p : Path). Did (asks (Lists p items)) a b) is did
-
 pub opened_root : (s s' : State) (a b : World) (path : Path) (items : List Item) → Did (asks (Lists path items)) a b → path ≡ in_pairtree [] → Moved (entered items s.trail) s.counts s s' → Turned phase.OpenRoot s s' a b (Ok phase.Judge)
 opened_root s s' a b path items did is to =
     moves phase.OpenRoot phase.Judge s s' a b (asks (Lists (in_pairtree []) items)) (entered items s.trail) s.counts
-    (λ fed. Walk phase.OpenRoot (string_bytes s.prefix) (held_of s fed) _ _ _ (OpensRoot (held_of s fed) items)) (listed_at path (in_pairtree []) items a b is did) refl to
+    (λ fed. Walk (OpensRoot (held_of s fed) items)) (rw is at did) refl to
 
 pub may_list_root : (told : Option Reading) (path at : Path) → CanList told at → path ≡ at → CanList told path
-may_list_root told path at may is = subst (λ (p : Path). CanList told p) (sym is) may
+may_list_root told path at may is = rw is may
 
 -- ---- entries that are no shorties, and ends
 
 pub passed_entry : (s s' : State) (w : World) (name : List ℕ) (kind : Kind) → Some (name, kind) ≡ current_entry s.trail → false ≡ is_shorty (name, kind) → Moved (advanced s.trail) s.counts s s' → Turned phase.Walk s s' w w (Ok phase.Walk)
 passed_entry s s' w name kind at is to =
     moves phase.Walk phase.Walk s s' w w no_calls (advanced s.trail) s.counts
-    (λ fed. Walk phase.Walk (string_bytes s.prefix) (held_of s fed) _ _ _ (PassesEntry (held_of s fed) (name, kind) (sym at) (sym is))) (did_nothing w) refl to
+    (λ fed. Walk (PassesEntry (held_of s fed) (name, kind) (sym at) (sym is))) (did_nothing w) refl to
 
 pub left_site : (s s' : State) (w : World) → None ≡ current_entry s.trail → 1 < length s.trail → Moved (advanced (parent s.trail)) s.counts s s' → Turned phase.Walk s s' w w (Ok phase.Walk)
 left_site s s' w at more to =
     moves phase.Walk phase.Walk s s' w w no_calls (advanced (parent s.trail)) s.counts
-    (λ fed. Walk phase.Walk (string_bytes s.prefix) (held_of s fed) _ _ _ (LeavesSite (held_of s fed) (sym at) (lt-ltb 1 (length s.trail) more))) (did_nothing w) refl to
+    (λ fed. Walk (LeavesSite (held_of s fed) (sym at) (lt-ltb 1 (length s.trail) more))) (did_nothing w) refl to
 
 pub ended_walk : (s s' : State) (w : World) → None ≡ current_entry s.trail → length s.trail ≤ 1 → Moved s.trail s.counts s s' → Turned phase.Walk s s' w w (Ok phase.End)
 ended_walk s s' w at few to =
     moves phase.Walk phase.End s s' w w no_calls s.trail s.counts
-    (λ fed. Walk phase.Walk (string_bytes s.prefix) (held_of s fed) _ _ _ (EndsWalk (held_of s fed) (sym at) (le-ltb 1 (length s.trail) few))) (did_nothing w) refl to
+    (λ fed. Walk (EndsWalk (held_of s fed) (sym at) (le-ltb 1 (length s.trail) few))) (did_nothing w) refl to
 
 -- ---- where a site stands
 
@@ -92,11 +74,11 @@ shorty_is_dir trail (name, (at, is)) = ap is_dir_entry at
 
 pub shorty_is_some : (trail : List Frame) → IsAtShorty trail → IsSome (current_entry trail)
 unfolding IsAtShorty
-shorty_is_some trail (name, (at, is)) = subst (λ (o : Option Item). IsSome o) (sym at) refl
+shorty_is_some trail (name, (at, is)) = rw (at) refl
 
 pub may_enter_shorty : (told : Option Reading) (trail : List Frame) (path : Path) → MayEnter told trail → IsAtShorty trail → path ≡ in_pairtree (names_to trail) → CanList told path
 unfolding IsAtShorty MayEnter
-may_enter_shorty told trail path may (name, (at, is)) there = subst (λ (p : Path). CanList told p) (sym there) (may name at)
+may_enter_shorty told trail path may (name, (at, is)) there = rw there (may name at)
 
 pub is_past : (s : State) (site : Path) → IsAtShorty s.trail → site ≡ trail_path s.trail → true ≡ is_last (at_of site) → PassesShorty s cause.Past
 unfolding IsAtShorty PassesShorty
@@ -118,15 +100,15 @@ pub passed_shorty : (s s' : State) (a b : World) (path : Path) (why : Cause) →
 unfolding PassesShorty
 passed_shorty s s' a b path why line first got is to =
     moves phase.Walk phase.Walk s s' a b (tells (Skipped (names_to s.trail) why)) (advanced s.trail) (with_skipped s.counts)
-    (λ fed. Walk phase.Walk (string_bytes s.prefix) (held_of s fed) _ _ _ (subst (λ (c : Calls). Walks (job_of s.job) (string_bytes s.prefix) phase.Walk (held_of s fed) (with_trail (held_of s fed) (advanced s.trail)) c (Ok phase.Walk)) (sym (is_told (is_first s.job.share) (Skipped (names_to s.trail) why) first)) (line fed)))
-    (subst (λ (p : Path). Did (tells (Skipped p why)) a b) is got) refl to
+    (λ fed. Walk (rw (is_told (is_first s.job.share) (Skipped (names_to s.trail) why) first) (line fed)))
+    (rw is at got) refl to
 
 pub passed_front : (s s' : State) (a b : World) (path : Path) (why : Cause) (f : Halt) (result : Answer) → IsErrAnd result (λ h. h ≡ f) → PassesShorty s why → true ≡ is_first s.job.share → LeavesSome (tells (Skipped path why)) f a b → path ≡ names_to s.trail → KeepsAll s s' → Turned phase.Walk s s' a b result
 unfolding PassesShorty
 passed_front s s' a b path why f result is line first front there keeps =
-    left_told phase.Walk s s' a b (tells (Skipped (names_to s.trail) why)) _ f _ result is
-    (λ fed. Walk phase.Walk (string_bytes s.prefix) (held_of s fed) _ _ _ (subst (λ (c : Calls). Walks (job_of s.job) (string_bytes s.prefix) phase.Walk (held_of s fed) (with_trail (held_of s fed) (advanced s.trail)) c (Ok phase.Walk)) (sym (is_told (is_first s.job.share) (Skipped (names_to s.trail) why) first)) (line fed)))
-    (subst (λ (p : Path). LeavesSome (tells (Skipped p why)) f a b) there front) keeps
+    left_told phase.Walk s s' a b (tells (Skipped (names_to s.trail) why)) (Ok phase.Walk) f _ result is
+    (λ fed. Walk (rw (← (is_told (is_first s.job.share) (Skipped (names_to s.trail) why) first)) at (line fed)))
+    (rw there at front) keeps
 
 -- in another share nothing is
 pub passed_quietly : (s s' : State) (w : World) (why : Cause) → PassesShorty s why → false ≡ is_first s.job.share → Moved (advanced s.trail) s.counts s s' → Turned phase.Walk s s' w w (Ok phase.Walk)
@@ -134,12 +116,12 @@ unfolding PassesShorty
 passed_quietly s s' w why line other to =
     let quiet : no_calls ≡ tells_if (is_first s.job.share) (Skipped (names_to s.trail) why) = ap (λ b. tells_if b (Skipped (names_to s.trail) why)) other in
     moves phase.Walk phase.Walk s s' w w no_calls (advanced s.trail) s.counts
-    (λ fed. Walk phase.Walk (string_bytes s.prefix) (held_of s fed) _ _ _ (subst (λ (c : Calls). Walks (job_of s.job) (string_bytes s.prefix) phase.Walk (held_of s fed) (with_trail (held_of s fed) (advanced s.trail)) c (Ok phase.Walk)) (sym quiet) (line fed))) (did_nothing w) refl to
+    (λ fed. Walk (rw quiet (line fed))) (did_nothing w) refl to
 
 pub entered_site : (s s' : State) (a b : World) (path : Path) (items : List Item) → EntersSite s → Did (asks (Lists path items)) a b → path ≡ in_pairtree (names_to s.trail) → Moved (entered items s.trail) s.counts s s' → Turned phase.Walk s s' a b (Ok phase.Judge)
 unfolding EntersSite
 entered_site s s' a b path items line did is to =
     moves phase.Walk phase.Judge s s' a b (asks (Lists (in_pairtree (names_to s.trail)) items)) (entered items s.trail) s.counts
-    (λ fed. Walk phase.Walk (string_bytes s.prefix) (held_of s fed) _ _ _ (line fed items)) (listed_at path (in_pairtree (names_to s.trail)) items a b is did) refl to
+    (λ fed. Walk (line fed items)) (rw is at did) refl to
 
 pub ruleset walking = (at_split, moved, short_asked, opened_root, may_list_root, passed_entry, left_site, ended_walk, at_shorty, shorty_is_dir, shorty_is_some, may_enter_shorty, is_past, is_deep, enters_site, front_none, passed_shorty, passed_front, passed_quietly, entered_site)

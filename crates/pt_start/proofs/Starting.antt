@@ -1,5 +1,5 @@
 -- The turns of the start, from their calls.
-use Rattle.std.proofs.Common.{◌≡◌, ◌<◌, ◌≤◌, ◌-◌, ◌+◌, ℕ, zero, suc, List, [], ◌∷◌, ◌++◌, refl, sym, subst, ap, ◌∙◌, true, false, drop, length, arith}
+use Rattle.std.proofs.Common.{◌≡◌, ◌<◌, ◌≤◌, ◌-◌, ◌+◌, ℕ, zero, suc, List, [], ◌∷◌, ◌++◌, refl, sym, ap, ◌∙◌, true, false, drop, length, arith}
 use Rattle.std.specs.Prelude.{Option, None, Some, Result, Ok, Err, IsErrAnd, IfOk, IsSome, slice_get, cond, Bool}
 use Rattle.std.specs.Option.{option_map}
 use Rattle.std.specs.Str.{bytes_eq}
@@ -7,35 +7,25 @@ use Rattle.std.specs.String.{string_bytes}
 use Rattle.pt_name.specs.Prefix.{prefix_refusal, without_line_ends}
 use Rattle.pt_name.specs.Tuples.{Tuples}
 use Rattle.pt_object.proofs.Ways.{same_name}
-use Rattle.pt_object.specs.Hasher.{HasBeenFed}
+use Rattle.pt_state.proofs.Words.{MakeFile, MakeFolder, staging, Answer, Did, Follows, GoesOn, LeavesSome, Start, Calls, Changes, Finds, Lists, Makes, Renames, World, asks, does, no_calls, Halt, Phase, Turned, counts_of, held_of, job_of, Writing, IsKindAt, MayMake, Path, Reading, CanOpen, Bytes, kind_of_entry, Kind}
+use Rattle.pt_state.specs.declared.state.State.{State}
+use Rattle.pt_plan.specs.declared.halt.Halt.TheVariants as halt
+use Rattle.pt_plan.specs.declared.phase.Phase.TheVariants as phase
+use Rattle.pt_tree.specs.declared.kind.Kind.TheVariants as kind
 use Rattle.pt_object.specs.RootFiles.{root_files_of}
-use Rattle.pt_object.specs.Script.{Item, MakeFile, MakeFolder}
-use Rattle.pt_object.specs.Scripts.{root_script, staging}
-use Rattle.pt_plan.specs.Answer.{Answer}
+use Rattle.pt_object.specs.Script.{Item}
+use Rattle.pt_object.specs.Scripts.{root_script}
 use Rattle.pt_plan.specs.Permits.{MayMakeRootItem, MayOpenPrefix}
 use Rattle.pt_plan.specs.Roots.{storage_root}
-use Rattle.pt_plan.specs.Run.{Held}
 use Rattle.pt_plan.specs.Store.{prefix_file}
-use Rattle.pt_plan.specs.Turn.{Did, Follows, GoesOn, LeavesSome, Start}
 use Rattle.pt_plan.specs.TurnStart.{Starts, IsStore, IsNoStore, HasNoPrefix, IsNoPrefixFile, HasPrefix, IsNoPrefix, HasNoStaging, HasStaging, HasNoRoot, HasRoot, IsNoRoot, MakesRoot, RenamesRoot, IsSame, IsNoFile, Differs, after_file, after_item, is_dir_kind, is_file_kind, kind_in, lists_store}
-use Rattle.pt_plan.specs.World.{Calls, Changes, Finds, Lists, Makes, OpensAndReads, Peeks, Renames, World, asks, does, no_calls}
-use Rattle.pt_plan.specs.declared.halt.Halt.{Halt}
-use Rattle.pt_plan.specs.declared.halt.Halt.TheVariants as halt
-use Rattle.pt_plan.specs.declared.phase.Phase.{Phase}
-use Rattle.pt_plan.specs.declared.phase.Phase.TheVariants as phase
+use Rattle.pt_plan.specs.World.{OpensAndReads, Peeks}
 use Rattle.pt_start.specs.Starting.{IsRootFile, IsRootItem, PrefixFails, kind_if_named}
 use Rattle.pt_state.proofs.Together.{did_nothing, looked_same, looked_then}
 use Rattle.pt_state.proofs.Turns.{KeepsAll, keeps_same, left_some, refused, short_asked, turns, went}
-use Rattle.pt_state.specs.Outside.{Turned}
-use Rattle.pt_state.specs.States.{counts_of, held_of, job_of}
-use Rattle.pt_state.specs.declared.state.State.{State}
-use Rattle.pt_tree.specs.Dest.{Writing, CanPeek, IsKindAt, MayMake, MayMove}
+use Rattle.pt_tree.specs.Dest.{CanPeek, MayMove}
 use Rattle.pt_tree.specs.Listing.{Item as Entry}
-use Rattle.pt_tree.specs.Path.{Path}
-use Rattle.pt_tree.specs.Source.{Reading, CanOpen}
-use Rattle.pt_tree.specs.Tree.{Entry as TreeEntry, Bytes, Folder, Special, bytes_of, kind_of_entry}
-use Rattle.pt_tree.specs.declared.kind.Kind.{Kind}
-use Rattle.pt_tree.specs.declared.kind.Kind.TheVariants as kind
+use Rattle.pt_tree.specs.Tree.{Entry as TreeEntry, Folder, Special, bytes_of}
 
 -- ---- a turn of the start leaves what is held
 
@@ -45,13 +35,13 @@ StartsAt here s calls answer = Starts (job_of s.job) here (string_bytes s.prefix
 
 goes : (here next : Phase) (s s' : State) (w w' : World) (calls : Calls) → StartsAt here s calls (Ok next) → Did calls w w' → calls.line ≡ None → KeepsAll s s' → s'.hasher ≡ s.hasher → Turned here s s' w w' (Ok next)
 goes here next s s' w w' calls starts did quiet keeps same =
-    went here next s s' w w' calls (λ fed. fed) (λ fed _. Start here _ _ (held_of s fed) calls (Ok next) starts) did quiet (λ fed was. subst (λ h. HasBeenFed s.job.algorithm h fed) (sym same) was) keeps
+    went here next s s' w w' calls (λ fed. fed) (λ fed _. Start starts) did quiet (λ fed was. rw same was) keeps
 
 halts : (here : Phase) (s s' : State) (w w' : World) (calls : Calls) (why : Halt) → StartsAt here s calls (Err why) → Did calls w w' → KeepsAll s s' → Turned here s s' w w' (Err why)
-halts here s s' w w' calls why starts did keeps = refused here s s' w w' calls why (λ fed _. Start here _ _ (held_of s fed) calls (Err why) starts) did keeps
+halts here s s' w w' calls why starts did keeps = refused here s s' w w' calls why (λ fed _. Start starts) did keeps
 
 leaves : (here : Phase) (s s' : State) (w w' : World) (calls : Calls) (answer : Answer) (f : Halt) (result : Answer) → IsErrAnd result (λ g. g ≡ f) → StartsAt here s calls answer → LeavesSome calls f w w' → KeepsAll s s' → Turned here s s' w w' result
-leaves here s s' w w' calls answer f result is starts some keeps = left_some here s s' w w' calls answer f (λ fed. fed) result is (λ fed. Start here _ _ (held_of s fed) calls answer starts) some keeps
+leaves here s s' w w' calls answer f result is starts some keeps = left_some here s s' w w' calls answer f (λ fed. fed) result is (λ fed. Start starts) some keeps
 
 -- ---- the top
 
@@ -93,12 +83,12 @@ pub ruleset finding_kind = (kind_found, kind_passed, kind_past)
 
 pub is_store : (s : State) (w w' : World) (top : Path) (entries : List Entry) (here : Option Kind) → top ≡ [] → Did (asks (Lists top entries)) w w' → true ≡ lists_store entries → here ≡ kind_in entries prefix_file → Turned phase.Begin s s w w' (Ok (phase.Prefix here))
 is_store s w w' top entries here at did is same =
-    subst (λ k. Turned phase.Begin s s w w' (Ok (phase.Prefix k))) (sym same)
-    (goes phase.Begin _ s s w w' (asks (Lists [] entries)) (IsStore _ entries (sym is)) (subst (λ (p : Path). Did (asks (Lists p entries)) w w') at did) refl (keeps_same s) refl)
+    rw same
+    (goes phase.Begin _ s s w w' (asks (Lists [] entries)) (IsStore _ entries (sym is)) (rw (at) at did) refl (keeps_same s) refl)
 
 pub is_no_store : (s : State) (w w' : World) (top : Path) (entries : List Entry) → top ≡ [] → Did (asks (Lists top entries)) w w' → false ≡ lists_store entries → Turned phase.Begin s s w w' (Err halt.NotPairtree)
 is_no_store s w w' top entries at did is =
-    halts phase.Begin s s w w' (asks (Lists [] entries)) halt.NotPairtree (IsNoStore _ entries (sym is)) (subst (λ (p : Path). Did (asks (Lists p entries)) w w') at did) (keeps_same s)
+    halts phase.Begin s s w w' (asks (Lists [] entries)) halt.NotPairtree (IsNoStore _ entries (sym is)) (rw (at) at did) (keeps_same s)
 
 -- ---- the prefix
 
@@ -119,8 +109,8 @@ has_prefix s s' w w' path block at did good prefix job trail rows contents count
   λ fed was. (
     fed,
     (
-      subst (λ h. HasBeenFed s.job.algorithm h fed) (sym hasher) was,
-      GoesOn (asks (OpensAndReads (prefix_file ∷ []) block)) phase.Staging (follows fed) (subst (λ (p : Path). Did (asks (OpensAndReads p block)) w w') at did) (ap counts_of counts),
+      rw hasher was,
+      GoesOn (asks (OpensAndReads (prefix_file ∷ []) block)) phase.Staging (follows fed) (rw (at) at did) (ap counts_of counts),
     ),
   ),
 )
@@ -130,51 +120,42 @@ has_prefix s s' w w' path block at did good prefix job trail rows contents count
 
     follows : (fed : List ℕ) → Follows (job_of s.job) (counts_of s.counts) (phase.Prefix (Some kind.File)) (string_bytes s.prefix) (held_of s fed) (string_bytes s'.prefix) (held_of s' fed) (asks (OpensAndReads (prefix_file ∷ []) block)) (Ok phase.Staging)
     follows fed =
-        subst (λ (h : Held). Follows (job_of s.job) (counts_of s.counts) (phase.Prefix (Some kind.File)) (string_bytes s.prefix) (held_of s fed) (string_bytes s'.prefix) h (asks (OpensAndReads (prefix_file ∷ []) block)) (Ok phase.Staging)) (sym (same fed))
-        (subst (λ (p : List ℕ). Follows (job_of s.job) (counts_of s.counts) (phase.Prefix (Some kind.File)) (string_bytes s.prefix) (held_of s fed) p (held_of s fed) (asks (OpensAndReads (prefix_file ∷ []) block)) (Ok phase.Staging)) (sym prefix)
-        (Start _ _ _ (held_of s fed) _ _ (HasPrefix (string_bytes s.prefix) block good)))
+        rw (same fed)
+        (rw prefix
+        (Start (HasPrefix (string_bytes s.prefix) block good)))
 
 pub bad_prefix : (s s' : State) (w w' : World) (path : Path) (block : List ℕ) (f : Halt) (result : Answer) → IsErrAnd result (λ g. g ≡ f) → path ≡ prefix_file ∷ [] → Did (asks (OpensAndReads path block)) w w' → PrefixFails block f → KeepsAll s s' → Turned (phase.Prefix (Some kind.File)) s s' w w' result
 bad_prefix s s' w w' path block f (Ok next) is at did fails keeps = absurd is
-bad_prefix s s' w w' path block f (Err g) is at did fails keeps = subst (λ (g : Halt). Turned (phase.Prefix (Some kind.File)) s s' w w' (Err g)) (sym is) (by f fails)
+bad_prefix s s' w w' path block f (Err g) is at did fails keeps = rw is (by f fails)
   where
     there : Did (asks (OpensAndReads (prefix_file ∷ []) block)) w w'
-    there = subst (λ (p : Path). Did (asks (OpensAndReads p block)) w w') at did
+    there = rw (at) at did
 
     by : (f : Halt) → PrefixFails block f → Turned (phase.Prefix (Some kind.File)) s s' w w' (Err f)
     by halt.Prefix fails = halts (phase.Prefix (Some kind.File)) s s' w w' (asks (OpensAndReads (prefix_file ∷ []) block)) halt.Prefix (IsNoPrefix _ block fails.0 fails.1) there keeps
     by halt.Memory fails = short_asked (phase.Prefix (Some kind.File)) s s' w w' (OpensAndReads (prefix_file ∷ []) block) (Err halt.Memory) refl there keeps
-    by halt.Source fails = absurd fails
-    by halt.Dest fails = absurd fails
-    by halt.Log fails = absurd fails
-    by halt.NotPairtree fails = absurd fails
-    by halt.StagingLeft fails = absurd fails
-    by halt.Target fails = absurd fails
-    by halt.Changed fails = absurd fails
+    by _ fails = absurd fails
 
 pub may_open_prefix : (told : Option Reading) (here : Option Kind) (path : Path) → MayOpenPrefix told here → here ≡ Some kind.File → path ≡ prefix_file ∷ [] → CanOpen told path
 unfolding MayOpenPrefix
-may_open_prefix told here path may is at = subst (λ (p : Path). CanOpen told p) (sym at) (may is)
+may_open_prefix told here path may is at = rw (at) (may is)
 
 -- ---- staging and the root
 
-found_at : (path at : Path) (here : Option Kind) (w w' : World) → path ≡ at → Did (does (Finds path here)) w w' → Did (does (Finds at here)) w w'
-found_at path at here w w' is did = subst (λ (p : Path). Did (does (Finds p here)) w w') is did
-
 pub no_staging : (s : State) (w w' : World) (path : Path) → path ≡ staging → Did (does (Finds path None)) w w' → Turned phase.Staging s s w w' (Ok phase.Root)
-no_staging s w w' path is did = goes phase.Staging phase.Root s s w w' _ (HasNoStaging _) (found_at path staging None w w' is did) refl (keeps_same s) refl
+no_staging s w w' path is did = goes phase.Staging phase.Root s s w w' _ (HasNoStaging _) (rw is at did) refl (keeps_same s) refl
 
 pub staging_left : (s : State) (w w' : World) (path : Path) (here : Kind) → path ≡ staging → Did (does (Finds path (Some here))) w w' → Turned phase.Staging s s w w' (Err halt.StagingLeft)
-staging_left s w w' path here is did = halts phase.Staging s s w w' _ halt.StagingLeft (HasStaging _ here) (found_at path staging (Some here) w w' is did) (keeps_same s)
+staging_left s w w' path here is did = halts phase.Staging s s w w' _ halt.StagingLeft (HasStaging _ here) (rw is at did) (keeps_same s)
 
 pub no_root : (s : State) (w w' : World) (path : Path) → path ≡ storage_root → Did (does (Finds path None)) w w' → Turned phase.Root s s w w' (Ok (phase.RootMake 0))
-no_root s w w' path is did = goes phase.Root (phase.RootMake 0) s s w w' _ (HasNoRoot _) (found_at path storage_root None w w' is did) refl (keeps_same s) refl
+no_root s w w' path is did = goes phase.Root (phase.RootMake 0) s s w w' _ (HasNoRoot _) (rw is at did) refl (keeps_same s) refl
 
 pub has_root : (s : State) (w w' : World) (path : Path) → path ≡ storage_root → Did (does (Finds path (Some kind.Dir))) w w' → Turned phase.Root s s w w' (Ok (phase.RootCheck 0))
-has_root s w w' path is did = goes phase.Root (phase.RootCheck 0) s s w w' _ (HasRoot _) (found_at path storage_root (Some kind.Dir) w w' is did) refl (keeps_same s) refl
+has_root s w w' path is did = goes phase.Root (phase.RootCheck 0) s s w w' _ (HasRoot _) (rw is at did) refl (keeps_same s) refl
 
 pub is_no_root : (s : State) (w w' : World) (path : Path) (here : Kind) → path ≡ storage_root → is_dir_kind (Some here) ≡ false → Did (does (Finds path (Some here))) w w' → Turned phase.Root s s w w' (Err halt.Target)
-is_no_root s w w' path here is other did = halts phase.Root s s w w' _ halt.Target (IsNoRoot _ here other) (found_at path storage_root (Some here) w w' is did) (keeps_same s)
+is_no_root s w w' path here is other did = halts phase.Root s s w w' _ halt.Target (IsNoRoot _ here other) (rw is at did) (keeps_same s)
 
 -- ---- a new root
 
@@ -235,7 +216,7 @@ makes_item s item it is = MakesRoot _ item it is
 
 pub made_item : (s : State) (w w' : World) (number : ℕ) (item : Item) (next : Phase) → Did (does (Makes item)) w w' → IsRootItem s.job.layout number item → next ≡ after_item number → Turned (phase.RootMake number) s s w w' (Ok next)
 made_item s w w' number item next did is then =
-    subst (λ (p : Phase). Turned (phase.RootMake number) s s w w' (Ok p)) (sym then) (goes (phase.RootMake number) _ s s w w' _ (makes_item s number item is) did refl (keeps_same s) refl)
+    rw then (goes (phase.RootMake number) _ s s w w' _ (makes_item s number item is) did refl (keeps_same s) refl)
 
 pub left_item : (s : State) (w w' : World) (number : ℕ) (item : Item) (f : Halt) (result : Answer) → IsErrAnd result (λ g. g ≡ f) → LeavesSome (does (Makes item)) f w w' → IsRootItem s.job.layout number item → Turned (phase.RootMake number) s s w w' result
 left_item s w w' number item f result is part it = leaves (phase.RootMake number) s s w w' _ _ f result is (makes_item s number item it) part (keeps_same s)
@@ -243,10 +224,10 @@ left_item s w w' number item f result is part it = leaves (phase.RootMake number
 pub renamed_root : (s : State) (w w' : World) (from to : Path) → Did (does (Renames from to)) w w' → from ≡ staging → to ≡ storage_root → Turned phase.RootRename s s w w' (Ok phase.OpenRoot)
 renamed_root s w w' from to did is at =
     goes phase.RootRename phase.OpenRoot s s w w' (does (Renames staging storage_root)) (RenamesRoot _)
-    (subst (λ (p : Path). Did (does (Renames staging p)) w w') at (subst (λ (p : Path). Did (does (Renames p to)) w w') is did)) refl (keeps_same s) refl
+    (rw (at) at (rw is at did)) refl (keeps_same s) refl
 
 pub may_rename_root : (told : Option Writing) (from to : Path) → MayMove told staging storage_root → from ≡ staging → to ≡ storage_root → MayMove told from to
-may_rename_root told from to may is at = subst (λ (p : Path). MayMove told from p) (sym at) (subst (λ (p : Path). MayMove told p storage_root) (sym is) may)
+may_rename_root told from to may is at = rw (at) (rw is may)
 
 -- ---- the root that stands
 
@@ -274,19 +255,19 @@ can_peek_file w w' path here did is = λ s e. by (s.tree path) (did.0.dest.0 s (
 pub no_file : (s : State) (w w' : World) (number : ℕ) (whole : Path) (bytes : List ℕ) (here : Option Kind) → Did (does (Finds whole here)) w w' → IsRootFile s.job.layout number whole bytes → false ≡ is_file_kind here → Turned (phase.RootCheck number) s s w w' (Err halt.Target)
 unfolding IsRootFile
 no_file s w w' number whole bytes here did file is =
-    halts (phase.RootCheck number) s s w w' _ halt.Target (IsNoFile _ number file.0 bytes here file.1.1 (sym is)) (found_at whole (storage_root ++ file.0) here w w' file.1.0 did) (keeps_same s)
+    halts (phase.RootCheck number) s s w w' _ halt.Target (IsNoFile _ number file.0 bytes here file.1.1 (sym is)) (rw file.1.0 at did) (keeps_same s)
 
 -- it was found, and then peeked into
 peeked : (a b c : World) (whole : Path) (at : Path) (here : Option Kind) (block : List ℕ) → whole ≡ at → Did (does (Finds whole here)) a b → Did (does (Peeks whole block)) b c → Did (does (Peeks at block)) a c
-peeked a b c whole at here block is found read = subst (λ (p : Path). Did (does (Peeks p block)) a c) is (subst (λ (x : World). Did (does (Peeks whole block)) x c) (looked_same whole here a b found) read)
+peeked a b c whole at here block is found read = rw is at (rw (looked_same whole here a b found) at read)
 
 pub same_file : (s s' : State) (a b c : World) (number : ℕ) (whole : Path) (bytes block : List ℕ) (here : Option Kind) (next : Phase) → Did (does (Finds whole here)) a b → Did (does (Peeks whole block)) b c → IsRootFile s.job.layout number whole bytes → bytes_eq block bytes ≡ true → next ≡ after_file number → KeepsAll s s' → s'.hasher ≡ s.hasher
     → Turned (phase.RootCheck number) s s' a c (Ok next)
 unfolding IsRootFile
 same_file s s' a b c number whole bytes block here next found read file eq then keeps same =
-    subst (λ (p : Phase). Turned (phase.RootCheck number) s s' a c (Ok p)) (sym then)
+    rw then
     (goes (phase.RootCheck number) _ s s' a c (does (Peeks (storage_root ++ file.0) bytes)) (IsSame _ number file.0 bytes file.1.1)
-    (subst (λ (l : List ℕ). Did (does (Peeks (storage_root ++ file.0) l)) a c) (same_name block bytes eq) (peeked a b c whole (storage_root ++ file.0) here block file.1.0 found read)) refl keeps same)
+    (rw (same_name block bytes eq) at (peeked a b c whole (storage_root ++ file.0) here block file.1.0 found read)) refl keeps same)
 
 pub other_file : (s s' : State) (a b c : World) (number : ℕ) (whole : Path) (bytes block : List ℕ) (here : Option Kind) → Did (does (Finds whole here)) a b → Did (does (Peeks whole block)) b c → IsRootFile s.job.layout number whole bytes → bytes_eq block bytes ≡ false → KeepsAll s s' → Turned (phase.RootCheck number) s s' a c (Err halt.Target)
 unfolding IsRootFile

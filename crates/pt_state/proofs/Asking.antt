@@ -3,22 +3,17 @@ use Rattle.std.proofs.Common.{◌≡◌, ℕ, List, refl, sym, subst, ap, arith}
 use Rattle.std.specs.Prelude.{Option, None, Some, Err, IsTrue, IsSome}
 use Rattle.std.specs.Io.KnownBytes.{Appends}
 use Rattle.std.specs.Option.{option_map}
-use Rattle.pt_object.specs.Script.{MakeFolder}
+use Rattle.pt_state.proofs.Words.{MakeFolder, Line, line_text, Did, HasFailed, LeavesSome, Stays, Adds, Answers, Asked, Change, Changes, Creates, Failures, Finds, Finishes, Lists, Makes, OfPiece, Opens, Puts, Reads, Renames, Untouched, asks, does, source_tree, tells, Halt, Writing, IsKindAt, after_create, AppendsFront, Path, Reading, after_open, Bytes, kind_of_entry, Kind}
 use Rattle.pt_plan.specs.Halts.{dest_halt, log_halt, source_halt}
-use Rattle.pt_plan.specs.Lines.{Line, line_text}
-use Rattle.pt_plan.specs.Turn.{Did, HasFailed, IsNotOfLog, LeavesSome, Stays}
-use Rattle.pt_plan.specs.World.{Adds, Answers, Asked, Change, Changes, Creates, Failures, Finds, Finishes, Lists, Makes, OfPiece, Opens, Peeks, Puts, Reads, Renames, Untouched, asks, does, source_tree, tells}
-use Rattle.pt_plan.specs.declared.halt.Halt.{Halt}
-use Rattle.pt_tree.specs.Dest.{Writing, CanPeek, IsKindAt, IsPeeked, LeavesPart, after_append, after_create, after_finish, after_mkdir, after_rename}
+use Rattle.pt_plan.specs.Turn.{IsNotOfLog}
+use Rattle.pt_plan.specs.World.{Peeks}
+use Rattle.pt_tree.specs.Dest.{CanPeek, IsPeeked, LeavesPart, after_append, after_finish, after_mkdir, after_rename}
 use Rattle.pt_tree.specs.Failures.{IsCounted, IsOneMoreCall}
 use Rattle.pt_tree.specs.Listing.{Item as Entry, names_rise}
-use Rattle.pt_tree.specs.Log.{AppendsFront}
-use Rattle.pt_tree.specs.Path.{Path}
-use Rattle.pt_tree.specs.Source.{Reading, IsListed, IsRead, after_next, after_open}
-use Rattle.pt_tree.specs.Tree.{Entry as TreeEntry, Bytes, Folder, Special, bytes_of, kind_of_entry}
+use Rattle.pt_tree.specs.Source.{IsListed, IsRead, after_next}
+use Rattle.pt_tree.specs.Tree.{Entry as TreeEntry, Folder, Special, bytes_of}
 use Rattle.pt_tree.specs.declared.faults.TreeFault.{TreeFault}
 use Rattle.pt_tree.specs.declared.faults.TreeFault.TheVariants as tree
-use Rattle.pt_tree.specs.declared.kind.Kind.{Kind}
 use Rattle.pt_tree.specs.declared.kind.Kind.TheVariants as kind
 use Rattle.pt_state.specs.Counting.{AtMostCalls, calls_none}
 use Rattle.pt_state.specs.Outside.{world}
@@ -62,7 +57,7 @@ source_not_log tree.Memory = tt
 
 pub stays_source : (r r' : Option Reading) (w : Option Writing) (g : Option (List ℕ)) (n n' d l : ℕ) (f : TreeFault) (h : Halt) → h ≡ source_halt f → r' ≡ r → IsCounted {T = Unit {0}} n n' (Err f) → Stays h (world r w g n d l) (world r' w g n' d l)
 unfolding Stays
-stays_source r r' w g n n' d l f h is same count = (ap source_tree same, refl, refl, subst (λ (x : Halt). HasFailed x (failures n d l) (failures n' d l)) (sym is) (source_counted f n n' d l count), subst IsNotOfLog (sym is) (source_not_log f))
+stays_source r r' w g n n' d l f h is same count = (ap source_tree same, refl, refl, rw is (source_counted f n n' d l count), subst IsNotOfLog (sym is) (source_not_log f))
 
 -- ---- the destination
 
@@ -119,18 +114,18 @@ dest_not_log tree.Memory = tt
 
 pub stays_dest : (r : Option Reading) (w w' : Option Writing) (g : Option (List ℕ)) (n d d' l : ℕ) (f : TreeFault) (h : Halt) → h ≡ dest_halt f → w' ≡ w → IsCounted {T = Unit {0}} d d' (Err f) → Stays h (world r w g n d l) (world r w' g n d' l)
 unfolding Stays
-stays_dest r w w' g n d d' l f h is same count = (refl, same, refl, subst (λ (x : Halt). HasFailed x (failures n d l) (failures n d' l)) (sym is) (dest_counted f n d d' l count), subst IsNotOfLog (sym is) (dest_not_log f))
+stays_dest r w w' g n d d' l f h is same count = (refl, same, refl, rw is (dest_counted f n d d' l count), subst IsNotOfLog (sym is) (dest_not_log f))
 
 pub leaves_piece : (r : Option Reading) (w w' : Option Writing) (g : Option (List ℕ)) (n d d' l : ℕ) (piece : List ℕ) (f : TreeFault) (h : Halt) → h ≡ dest_halt f → LeavesPart w w' piece → IsCounted {T = Unit {0}} d d' (Err f) → LeavesSome (does (Adds piece)) h (world r w g n d l) (world r w' g n d' l)
 unfolding LeavesSome
 leaves_piece r w w' g n d d' l piece f h is left count =
-    (record { read = tt; found = tt; source = refl; dest = OfPiece piece left.count left.left; log = refl }, subst (λ (x : Halt). HasFailed x (failures n d l) (failures n d' l)) (sym is) (dest_counted f n d d' l count), subst IsNotOfLog (sym is) (dest_not_log f))
+    (record { read = tt; found = tt; source = refl; dest = OfPiece piece left.count left.left; log = refl }, rw is (dest_counted f n d d' l count), subst IsNotOfLog (sym is) (dest_not_log f))
 
 -- ---- the log
 
 pub did_put : (r : Option Reading) (w : Option Writing) (g g' : Option (List ℕ)) (n d l l' : ℕ) (line : Line) (text : List ℕ) → text ≡ line_text line → Appends g g' text → l' ≡ l → Did (tells line) (world r w g n d l) (world r w g' n d l')
 unfolding Did Answers Changes Puts
-did_put r w g g' n d l l' line text is put count = (record { source = refl; dest = refl; log = subst (λ (t : List ℕ). Appends g g' t) is put }, ap (λ (k : ℕ). failures n d k) count)
+did_put r w g g' n d l l' line text is put count = (record { source = refl; dest = refl; log = rw is at put }, ap (λ (k : ℕ). failures n d k) count)
 
 log_counted : (f : TreeFault) (n d l l' : ℕ) → IsCounted {T = Unit {0}} l l' (Err f) → HasFailed (log_halt f) (failures n d l) (failures n d l')
 log_counted tree.Device n d l l' is = (refl, refl, is)
@@ -139,6 +134,6 @@ log_counted tree.Memory n d l l' is = ap (λ (k : ℕ). failures n d k) is
 pub leaves_front : (r : Option Reading) (w : Option Writing) (g g' : Option (List ℕ)) (n d l l' : ℕ) (line : Line) (text : List ℕ) (f : TreeFault) (h : Halt) → text ≡ line_text line → h ≡ log_halt f → AppendsFront g g' text → IsCounted {T = Unit {0}} l l' (Err f) → LeavesSome (tells line) h (world r w g n d l) (world r w g' n d l')
 unfolding LeavesSome
 leaves_front r w g g' n d l l' line text f h is why front count =
-    (record { read = tt; found = tt; source = refl; dest = Untouched _ refl; log = subst (λ (t : List ℕ). AppendsFront g g' t) is front }, subst (λ (x : Halt). HasFailed x (failures n d l) (failures n d l')) (sym why) (log_counted f n d l l' count), tt)
+    (record { read = tt; found = tt; source = refl; dest = Untouched _ refl; log = rw is at front }, rw why (log_counted f n d l l' count), tt)
 
 pub ruleset answering = (did_list, did_open, did_next, stays_source, did_kind, did_peek, did_mkdir, did_create, did_append, did_finish, did_rename, stays_dest, leaves_piece, did_put, leaves_front)

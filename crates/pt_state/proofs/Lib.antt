@@ -1,5 +1,5 @@
-pub mod Extending
 pub mod Asking
 pub mod Together
 pub mod Turns
 pub mod LineTexts
+pub mod Words

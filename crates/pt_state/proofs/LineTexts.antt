@@ -1,12 +1,10 @@
 -- The text of a line, from the JSON that was put.
-use Rattle.std.proofs.Common.{◌≡◌, List, ℕ, [], ◌∷◌, ◌++◌, false, refl, sym, subst, ap, ◌∙◌}
+use Rattle.std.proofs.Common.{◌≡◌, List, ℕ, [], ◌∷◌, ◌++◌, false, refl, sym, ap, ◌∙◌}
 use Rattle.std.specs.Prelude.{Some, Option, None}
 use Rattle.std.specs.Io.KnownBytes.{Appends}
 use Rattle.std.proofs.lemmas.List.{append-nil}
-use Rattle.pt_plan.specs.Lines.{Line, Done, Present, Skipped, End, line_text, line_tree}
-use Rattle.pt_plan.specs.Turn.{HasFailed, LeavesSome}
-use Rattle.pt_plan.specs.World.{Untouched, World, tells}
-use Rattle.pt_plan.specs.declared.halt.Halt.{Halt}
+use Rattle.pt_state.proofs.Words.{Line, Done, Present, Skipped, End, line_text, LeavesSome, Untouched, World, tells, Halt}
+use Rattle.pt_plan.specs.Lines.{line_tree}
 use Rattle.pt_plan.specs.declared.halt.Halt.TheVariants as halt
 use Rattle.pt_state.specs.Lines.{IsTreeOf}
 use Rattle.serde_json.specs.Data.{Data}
@@ -37,6 +35,6 @@ appends_nothing (Some xs) = sym (append-nil xs)
 -- memory was short before anything was put
 pub front_none : (line : Line) (w : World) (why : Halt) → why ≡ halt.Memory → LeavesSome (tells line) why w w
 unfolding LeavesSome
-front_none line w why is = (record { read = tt; found = tt; source = refl; dest = Untouched _ refl; log = (0, appends_nothing w.log) }, subst (λ (x : Halt). HasFailed x w.failures w.failures) (sym is) refl, tt)
+front_none line w why is = (record { read = tt; found = tt; source = refl; dest = Untouched _ refl; log = (0, appends_nothing w.log) }, rw is refl, tt)
 
 pub ruleset texts = (is_tree, no_float, text_is, front_none)

@@ -1,19 +1,16 @@
 -- What several calls of a turn came to.
-use Rattle.std.proofs.Common.{◌≡◌, ℕ, List, [], ◌++◌, Bool, true, false, refl, sym, subst, ap, ◌∙◌, take, length, cond, arith}
+use Rattle.std.proofs.Common.{◌≡◌, ℕ, List, [], ◌++◌, Bool, true, false, refl, sym, ap, ◌∙◌, take, length, cond, arith}
 use Rattle.std.proofs.lemmas.List.{take_all}
-use Rattle.std.specs.Prelude.{Option, None, Some, IsSome}
+use Rattle.std.specs.Prelude.{Option, None, Some}
 use Rattle.std.specs.Option.{option_map}
-use Rattle.pt_object.specs.Script.{MakeFile, done}
+use Rattle.pt_state.proofs.Words.{MakeFile, Did, LeavesSome, Stays, Adds, Answers, Asked, Calls, Change, Changes, Creates, Finds, Finishes, Lists, Makes, NewFile, OfPiece, Opens, Puts, Reads, Untouched, World, asks, dest_tree, does, no_calls, source_tree, Halt, Writing, after_create, Path, same_path, Reading, CanOpen, after_open, Bytes, Tree, Kind}
+use Rattle.pt_object.specs.Script.{done}
 use Rattle.pt_object.proofs.Ways.{path_itself}
-use Rattle.pt_plan.specs.Turn.{Did, HasFailed, LeavesSome, Stays}
-use Rattle.pt_plan.specs.World.{Adds, Answers, Asked, AsksNothing, Calls, Change, Changes, Creates, Failures, Finds, Finishes, LeavesPart, Lists, Makes, NewFile, OfFile, OfPiece, Opens, OpensAndReads, Puts, Reads, Untouched, WasRead, World, after_make, asks, dest_tree, does, no_calls, source_tree}
-use Rattle.pt_plan.specs.declared.halt.Halt.{Halt}
+use Rattle.pt_plan.specs.World.{AsksNothing, LeavesPart, OfFile, OpensAndReads, WasRead, after_make}
 use Rattle.pt_plan.specs.declared.halt.Halt.TheVariants as halt
-use Rattle.pt_tree.specs.Dest.{Writing, CanWrite, added_to, after_append, after_create, after_finish}
-use Rattle.pt_tree.specs.Path.{Path, same_path}
-use Rattle.pt_tree.specs.Source.{Reading, CanOpen, CanRead, IsRead, after_next, after_open}
-use Rattle.pt_tree.specs.Tree.{Bytes, Tree, edited_by, put}
-use Rattle.pt_tree.specs.declared.kind.Kind.{Kind}
+use Rattle.pt_tree.specs.Dest.{CanWrite, added_to, after_append, after_finish}
+use Rattle.pt_tree.specs.Source.{CanRead, after_next}
+use Rattle.pt_tree.specs.Tree.{edited_by, put}
 
 -- ---- a question leaves all as it was
 
@@ -46,7 +43,7 @@ looked_stays p here a b did = (ap source_tree did.0.source, did.0.dest.1, did.0.
 -- then a further call failed, and nothing was changed
 stays_then : (f : Halt) (a b c : World) → Stays halt.Memory a b → Stays f b c → Stays f a c
 unfolding Stays
-stays_then f a b c first next = (next.0 ∙ first.0, next.1 ∙ first.1, next.2 ∙ first.2, subst (λ (x : Failures). HasFailed f x c.failures) first.3 next.3, next.4)
+stays_then f a b c first next = (next.0 ∙ first.0, next.1 ∙ first.1, next.2 ∙ first.2, rw first.3 at next.3, next.4)
 
 pub asked_then : (asked : Asked) (f : Halt) (a b c : World) → Did (asks asked) a b → Stays f b c → Stays f a c
 asked_then asked f a b c first next = stays_then f a b c (asked_stays asked a b first) next
@@ -73,8 +70,8 @@ pub then_did : (asked : Asked) (change : Change) (a b c : World) → Did (asks a
 unfolding Did Answers Changes Puts
 then_did asked change a b c first next = (
   record {
-    source = subst (λ (o : Option Reading). Answers asked a.source o) (sym next.0.source) first.0.source;
-    dest = subst (λ (o : Option Writing). Changes change o c.dest) first.0.dest next.0.dest;
+    source = rw next.0.source first.0.source;
+    dest = rw first.0.dest at next.0.dest;
     log = next.0.log ∙ first.0.log;
   },
   next.1 ∙ first.1,
@@ -96,10 +93,10 @@ then_leaves asked change f a b c first next = (
     read = was_read asked a.source b.source first.0.source;
     found = tt;
     source = next.0.source ∙ asked_tree asked a.source b.source first.0.source;
-    dest = subst (λ (o : Option Writing). LeavesPart o c.dest change) first.0.dest next.0.dest;
+    dest = rw first.0.dest at next.0.dest;
     log = next.0.log ∙ first.0.log;
   },
-  subst (λ (x : Failures). HasFailed f x c.failures) first.1 next.1,
+  rw first.1 at next.1,
   next.2,
 )
 
@@ -111,7 +108,7 @@ leaves_none change f a b stays = (record { read = tt; found = tt; source = stays
 -- memory was short before anything was called
 pub leaves_short : (change : Change) (why : Halt) (w : World) → why ≡ halt.Memory → LeavesSome (does change) why w w
 unfolding Stays
-leaves_short change why w is = leaves_none change why w w (subst (λ (x : Halt). Stays x w w) (sym is) (refl, refl, refl, refl, tt))
+leaves_short change why w is = leaves_none change why w w (rw is (refl, refl, refl, refl, tt))
 
 -- ---- files of the source
 
@@ -121,13 +118,13 @@ some_mapped f (Some x) y is = (x, (refl, cc))
 
 pub can_read_opened : (a b : World) (p : Path) → CanOpen a.source p → Did (asks (Opens p)) a b → CanRead b.source
 unfolding CanOpen CanRead Did Answers
-can_read_opened a b p can did = λ s e. let from = some_mapped (after_open p) a.source s (sym e ∙ did.0.source) in subst (λ (r : Reading). IsSome r.unread) (sym from.1.1) (can from.0 from.1.0)
+can_read_opened a b p can did = λ s e. let from = some_mapped (after_open p) a.source s (sym e ∙ did.0.source) in rw from.1.1 (can from.0 from.1.0)
 
 pub opens_and_reads : (a b c : World) (p : Path) (block : List ℕ) → Did (asks (Opens p)) a b → Did (asks (Reads block)) b c → Did (asks (OpensAndReads p block)) a c
 unfolding Did Answers Changes Puts
 opens_and_reads a b c p block first next = (
   record {
-    source = (subst (λ o. IsRead o block) first.0.source next.0.source.0, next.0.source.1 ∙ ap (option_map after_next) first.0.source);
+    source = (rw first.0.source at next.0.source.0, next.0.source.1 ∙ ap (option_map after_next) first.0.source);
     dest = next.0.dest ∙ first.0.dest;
     log = next.0.log ∙ first.0.log;
   },
@@ -161,15 +158,15 @@ none_of_file (Some s) p = refl
 
 pub can_write_created : (a b : World) (p : Path) → Did (does (Creates p)) a b → CanWrite b.dest
 unfolding CanWrite Did Changes
-can_write_created a b p did = λ s e. let from = some_mapped (after_create p) a.dest s (sym e ∙ did.0.dest) in subst (λ (w : Writing). IsSome w.writing) (sym from.1.1) refl
+can_write_created a b p did = λ s e. let from = some_mapped (after_create p) a.dest s (sym e ∙ did.0.dest) in rw from.1.1 refl
 
 pub can_write_added : (a b : World) (piece : List ℕ) → CanWrite a.dest → Did (does (Adds piece)) a b → CanWrite b.dest
 unfolding CanWrite Did Changes
-can_write_added a b piece can did = λ s e. let from = some_mapped (after_append piece) a.dest s (sym e ∙ did.0.dest) in subst (λ (w : Writing). IsSome w.writing) (sym from.1.1) (can from.0 from.1.0)
+can_write_added a b piece can did = λ s e. let from = some_mapped (after_append piece) a.dest s (sym e ∙ did.0.dest) in rw from.1.1 (can from.0 from.1.0)
 
 pub can_write_asked : (asked : Asked) (a b : World) → CanWrite a.dest → Did (asks asked) a b → CanWrite b.dest
 unfolding Did Changes
-can_write_asked asked a b can did = subst (λ (o : Option Writing). CanWrite o) (sym did.0.dest) can
+can_write_asked asked a b can did = rw did.0.dest can
 
 pub makes_file : (a b c d : World) (p : Path) (bytes : List ℕ) → Did (does (Creates p)) a b → Did (does (Adds bytes)) b c → Did (does Finishes) c d → Did (does (Makes (MakeFile p bytes))) a d
 unfolding Did Answers Changes Puts
@@ -200,7 +197,7 @@ leaves_of_append a b c p bytes f first next = (
     dest = keeps_file a.dest b.dest c.dest p bytes (Adds bytes) refl first.0.dest next.0.dest;
     log = next.0.log ∙ first.0.log;
   },
-  subst (λ (x : Failures). HasFailed f x c.failures) first.1 next.1,
+  rw first.1 at next.1,
   next.2,
 )
 
@@ -215,7 +212,7 @@ leaves_unfinished a b c d p bytes f first next last =
         dest = OfFile p bytes (length bytes) (ap dest_tree (last.1 ∙ next.0.dest ∙ ap (option_map (after_append bytes)) first.0.dest) ∙ part_file a.dest p bytes ∙ ap (λ (l : List ℕ). option_map (done (MakeFile p l)) (dest_tree a.dest)) (sym whole));
         log = last.2 ∙ next.0.log ∙ first.0.log;
       },
-      subst (λ (x : Failures). HasFailed f x d.failures) (next.1 ∙ first.1) last.3,
+      rw (next.1 ∙ first.1) at last.3,
       last.4,
     )
 

@@ -1,24 +1,12 @@
 -- A turn of all that a run holds, from what its calls came to.
-use Rattle.std.proofs.Common.{◌≡◌, ℕ, List, refl, sym, subst, ap, inl}
+use Rattle.std.proofs.Common.{◌≡◌, ℕ, List, refl, sym, ap, inl}
 use Rattle.std.specs.Prelude.{Option, None, Ok, Err, IsErrAnd}
 use Rattle.std.specs.String.{string_bytes}
-use Rattle.pt_object.specs.Hasher.{HasBeenFed}
-use Rattle.pt_object.specs.declared.contents.Content.{Content}
-use Rattle.pt_object.specs.declared.hasher.Hasher.{Hasher}
-use Rattle.pt_object.specs.declared.rows.Row.{Row}
-use Rattle.pt_plan.specs.Answer.{Answer}
-use Rattle.pt_plan.specs.Lines.{Line}
-use Rattle.pt_plan.specs.Run.{Held, Kept}
-use Rattle.pt_plan.specs.Turn.{Did, FailsAtFirst, FailsLater, Follows, GoesOn, IsHalted, IsRefused, LeavesSome, Stays, Turn, counted}
-use Rattle.pt_plan.specs.World.{Asked, Calls, World, asks}
-use Rattle.pt_plan.specs.declared.halt.Halt.{Halt}
-use Rattle.pt_plan.specs.declared.halt.Halt.TheVariants as halt
-use Rattle.pt_plan.specs.declared.phase.Phase.{Phase}
-use Rattle.pt_walk.specs.declared.frame.Frame.{Frame}
-use Rattle.pt_state.proofs.Together.{asked_stays}
-use Rattle.pt_state.specs.Outside.{TakesTurn, TakesTurnAt, Turned}
-use Rattle.pt_state.specs.States.{counts_of, held_of, job_of, kept_of}
+use Rattle.pt_state.proofs.Words.{HasBeenFed, Content, Row, Answer, Line, Held, Kept, Did, FailsAtFirst, FailsLater, Follows, GoesOn, IsHalted, IsRefused, LeavesSome, Stays, counted, Asked, Calls, World, asks, Halt, Phase, Frame, Turned, counts_of, held_of, job_of, kept_of}
 use Rattle.pt_state.specs.declared.state.State.{State}
+use Rattle.pt_plan.specs.declared.halt.Halt.TheVariants as halt
+use Rattle.pt_state.proofs.Together.{asked_stays}
+use Rattle.pt_state.specs.Outside.{TakesTurn, TakesTurnAt}
 
 -- ---- what is kept
 
@@ -56,7 +44,7 @@ went here next s s' w w' calls now follows did quiet feeds keeps = (
     now fed,
     (
       feeds fed was,
-      subst (λ (k : Kept). Turn (job_of s.job) here (kept_of s fed) k w w' (Ok next)) (sym (kept_same s s' (now fed) keeps))
+      rw (kept_same s s' (now fed) keeps)
           (GoesOn calls next (follows fed was) did (sym (ap (λ (o : Option Line). counted o (counts_of s.counts)) quiet))),
     ),
   ),
@@ -72,7 +60,7 @@ refused here s s' w w' calls why follows did keeps = (keeps.job, λ fed was. (fe
 pub stayed : (here : Phase) (s s' : State) (w w' : World) (f : Halt) (result : Answer) → IsErrAnd result (λ h. h ≡ f) → Stays f w w' → KeepsAll s s' → Turned here s s' w w' result
 unfolding Turned
 stayed here s s' w w' f (Ok next) is stays keeps = absurd is
-stayed here s s' w w' f (Err h) is stays keeps = (keeps.job, λ fed was. (fed, (tt, subst (λ (h : Halt). Turn (job_of s.job) here (kept_of s fed) (kept_of s' fed) w w' (Err h)) (sym is) (FailsAtFirst f stays (halted_as s s' fed fed keeps)))))
+stayed here s s' w w' f (Err h) is stays keeps = (keeps.job, λ fed was. (fed, (tt, rw is (FailsAtFirst f stays (halted_as s s' fed fed keeps)))))
 
 -- memory was short before anything was called
 pub short : (here : Phase) (s s' : State) (w : World) (result : Answer) → IsErrAnd result (λ h. h ≡ halt.Memory) → KeepsAll s s' → Turned here s s' w w result
@@ -94,7 +82,7 @@ left_some here s s' w w' calls answer f now (Err h) is follows some keeps = (
     fed,
     (
       tt,
-      subst (λ (h : Halt). Turn (job_of s.job) here (kept_of s fed) (kept_of s' fed) w w' (Err h)) (sym is)
+      rw is
           (FailsLater (string_bytes s.prefix) (held_of s (now fed)) calls answer s.rows f (follows fed) some (inl refl) (halted_as s s' fed fed keeps)),
     ),
   ),
@@ -113,7 +101,7 @@ turned_fed here next s s' a b calls trail rows contents now feeds follows did tr
   λ fed was.
       let kept : Kept = record { prefix = string_bytes s.prefix; held = record { trail = trail; rows = rows; contents = contents; fed = now fed }; counts = counted calls.line (counts_of s.counts) } in
       let kept_is : kept_of s' (now fed) ≡ kept = λ i. record { prefix = prefix i; held = record { trail = trail_is i; rows = rows_are i; contents = contents_are i; fed = now fed }; counts = counts i } in
-      (now fed, (feeds fed was, subst (λ (k : Kept). Turn (job_of s.job) here (kept_of s fed) k a b (Ok next)) (sym kept_is) (GoesOn calls next (follows fed) did refl))),
+      (now fed, (feeds fed was, rw kept_is (GoesOn calls next (follows fed) did refl))),
 )
 
 -- and the hasher is as it was
@@ -121,7 +109,7 @@ pub turned_on : (here next : Phase) (s s' : State) (a b : World) (calls : Calls)
     → ((fed : List ℕ) → Follows (job_of s.job) (counts_of s.counts) here (string_bytes s.prefix) (held_of s fed) (string_bytes s.prefix) (record { trail = trail; rows = rows; contents = contents; fed = fed }) calls (Ok next))
     → Did calls a b → s'.trail ≡ trail → s'.rows ≡ rows → s'.contents ≡ contents → counts_of s'.counts ≡ counted calls.line (counts_of s.counts) → string_bytes s'.prefix ≡ string_bytes s.prefix → s'.hasher ≡ s.hasher → s'.job ≡ s.job → Turned here s s' a b (Ok next)
 turned_on here next s s' a b calls trail rows contents follows did trail_is rows_are contents_are counts prefix hasher job =
-    turned_fed here next s s' a b calls trail rows contents (λ fed. fed) (λ fed was. subst (λ (h : Hasher). HasBeenFed s.job.algorithm h fed) (sym hasher) was) follows did trail_is rows_are contents_are counts prefix job
+    turned_fed here next s s' a b calls trail rows contents (λ fed. fed) (λ fed was. rw hasher was) follows did trail_is rows_are contents_are counts prefix job
 
 -- a part of its line was put
 pub left_told : (here : Phase) (s s' : State) (a b : World) (calls : Calls) (answer : Answer) (f : Halt) (held : List ℕ → Held) (result : Answer) → IsErrAnd result (λ h. h ≡ f)
@@ -129,7 +117,7 @@ pub left_told : (here : Phase) (s s' : State) (a b : World) (calls : Calls) (ans
 unfolding Turned
 left_told here s s' a b calls answer f held (Ok x) is follows some keeps = absurd is
 left_told here s s' a b calls answer f held (Err h) is follows some keeps =
-    (keeps.job, λ fed was. (fed, (tt, subst (λ (h : Halt). Turn (job_of s.job) here (kept_of s fed) (kept_of s' fed) a b (Err h)) (sym is) (FailsLater (string_bytes s.prefix) (held fed) calls answer s.rows f (follows fed) some (inl refl) (halted_as s s' fed fed keeps)))))
+    (keeps.job, λ fed was. (fed, (tt, rw is (FailsLater (string_bytes s.prefix) (held fed) calls answer s.rows f (follows fed) some (inl refl) (halted_as s s' fed fed keeps)))))
 
 -- ---- turns over all devices as one
 

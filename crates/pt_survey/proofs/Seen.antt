@@ -212,33 +212,33 @@ placing_is_none (place.TellsEnd _) = refl
 
 pub looks_sees : {job : Job} {counts : Counts} {past : Past} {s : Reading} {prefix read : List ℕ} {here next : Phase} {held after : Held} {calls : Calls} → is_looking here ≡ true → Follows job counts here prefix held read after calls (Ok next) → is_trail held.trail ≡ true → SourcePart job past here prefix held s
     → (new : Option Reading) → Answers calls.asked (Some s) new → (w : Option Writing) → Changes calls.change (Some bare) w → Sees job s.tree past.count here held calls.line (done_after here held.trail next past.count)
-looks_sees _ (Start _ _ _ _ _ _ (start.IsStore _ _ _)) _ _ _ _ _ _ = Nothing refl
-looks_sees _ (Start _ _ _ _ _ _ (start.HasNoPrefix _)) _ _ _ _ _ _ = Nothing refl
-looks_sees _ (Start _ _ _ _ _ _ (start.HasPrefix _ _ _)) _ _ _ _ _ _ = Nothing refl
-looks_sees is (Start _ _ _ _ _ _ (start.HasNoStaging _)) _ _ _ _ _ _ = absurd (true≢false (sym is))
-looks_sees is (Start _ _ _ _ _ _ (start.HasNoRoot _)) _ _ _ _ _ _ = absurd (true≢false (sym is))
-looks_sees is (Start _ _ _ _ _ _ (start.HasRoot _)) _ _ _ _ _ _ = absurd (true≢false (sym is))
-looks_sees is (Start _ _ _ _ _ _ (start.MakesRoot _ _ _ _)) _ _ _ _ _ _ = absurd (true≢false (sym is))
-looks_sees is (Start _ _ _ _ _ _ (start.RenamesRoot _)) _ _ _ _ _ _ = absurd (true≢false (sym is))
-looks_sees is (Start _ _ _ _ _ _ (start.IsSame _ _ _ _ _)) _ _ _ _ _ _ = absurd (true≢false (sym is))
-looks_sees _ (Walk _ _ _ _ _ _ turn) is_one part _ _ w change = walk_sees w turn is_one part change
-looks_sees _ (Scan _ _ _ _ _ _ turn) is_one part new answers _ _ = scan_sees turn is_one part new answers
-looks_sees is (Make _ _ _ _ _ _ turn) _ _ _ _ _ _ = absurd (true≢false (sym is ∙ making_is_none turn))
-looks_sees is (Place _ _ _ _ _ _ turn) _ _ _ _ _ _ = absurd (true≢false (sym is ∙ placing_is_none turn))
+looks_sees _ (Start (start.IsStore _ _ _)) _ _ _ _ _ _ = Nothing refl
+looks_sees _ (Start (start.HasNoPrefix _)) _ _ _ _ _ _ = Nothing refl
+looks_sees _ (Start (start.HasPrefix _ _ _)) _ _ _ _ _ _ = Nothing refl
+looks_sees is (Start (start.HasNoStaging _)) _ _ _ _ _ _ = absurd (true≢false (sym is))
+looks_sees is (Start (start.HasNoRoot _)) _ _ _ _ _ _ = absurd (true≢false (sym is))
+looks_sees is (Start (start.HasRoot _)) _ _ _ _ _ _ = absurd (true≢false (sym is))
+looks_sees is (Start (start.MakesRoot _ _ _ _)) _ _ _ _ _ _ = absurd (true≢false (sym is))
+looks_sees is (Start (start.RenamesRoot _)) _ _ _ _ _ _ = absurd (true≢false (sym is))
+looks_sees is (Start (start.IsSame _ _ _ _ _)) _ _ _ _ _ _ = absurd (true≢false (sym is))
+looks_sees _ (Walk turn) is_one part _ _ w change = walk_sees w turn is_one part change
+looks_sees _ (Scan turn) is_one part new answers _ _ = scan_sees turn is_one part new answers
+looks_sees is (Make turn) _ _ _ _ _ _ = absurd (true≢false (sym is ∙ making_is_none turn))
+looks_sees is (Place turn) _ _ _ _ _ _ = absurd (true≢false (sym is ∙ placing_is_none turn))
 
 -- ---- where a turn that looks leads
 
 pub looks_on : {job : Job} {counts : Counts} {prefix read : List ℕ} {here next : Phase} {held after : Held} {calls : Calls} → is_looking here ≡ true → Follows job counts here prefix held read after calls (Ok next) → is_of_survey (passed next) ≡ true
-looks_on _ (Start _ _ _ _ _ _ (start.IsStore _ _ _)) = refl
-looks_on _ (Start _ _ _ _ _ _ (start.HasNoPrefix _)) = refl
-looks_on _ (Start _ _ _ _ _ _ (start.HasPrefix _ _ _)) = refl
-looks_on is (Start _ _ _ _ _ _ (start.HasNoStaging _)) = absurd (true≢false (sym is))
-looks_on is (Start _ _ _ _ _ _ (start.HasNoRoot _)) = absurd (true≢false (sym is))
-looks_on is (Start _ _ _ _ _ _ (start.HasRoot _)) = absurd (true≢false (sym is))
-looks_on is (Start _ _ _ _ _ _ (start.MakesRoot _ _ _ _)) = absurd (true≢false (sym is))
-looks_on is (Start _ _ _ _ _ _ (start.RenamesRoot _)) = absurd (true≢false (sym is))
-looks_on is (Start _ _ _ _ _ _ (start.IsSame _ _ _ _ _)) = absurd (true≢false (sym is))
-looks_on _ (Walk _ _ _ _ _ _ turn) = walk_on turn
+looks_on _ (Start (start.IsStore _ _ _)) = refl
+looks_on _ (Start (start.HasNoPrefix _)) = refl
+looks_on _ (Start (start.HasPrefix _ _ _)) = refl
+looks_on is (Start (start.HasNoStaging _)) = absurd (true≢false (sym is))
+looks_on is (Start (start.HasNoRoot _)) = absurd (true≢false (sym is))
+looks_on is (Start (start.HasRoot _)) = absurd (true≢false (sym is))
+looks_on is (Start (start.MakesRoot _ _ _ _)) = absurd (true≢false (sym is))
+looks_on is (Start (start.RenamesRoot _)) = absurd (true≢false (sym is))
+looks_on is (Start (start.IsSame _ _ _ _ _)) = absurd (true≢false (sym is))
+looks_on _ (Walk turn) = walk_on turn
   where
     walk_on : {job : Job} {prefix : List ℕ} {here next : Phase} {held new : Held} {calls : Calls} → Walks job prefix here held new calls (Ok next) → is_of_survey (passed next) ≡ true
     walk_on (OpensRoot _ _) = refl
@@ -252,7 +252,7 @@ looks_on _ (Walk _ _ _ _ _ _ turn) = walk_on turn
     walk_on (PassesEntry _ _ _ _) = refl
     walk_on (LeavesSite _ _ _) = refl
     walk_on (EndsWalk _ _ _) = refl
-looks_on _ (Scan _ _ _ _ _ _ turn) = scan_on turn
+looks_on _ (Scan turn) = scan_on turn
   where
     scan_on : {job : Job} {here next : Phase} {held new : Held} {calls : Calls} → Scans job here held new calls (Ok next) → is_of_survey (passed next) ≡ true
     scan_on (IsTooDeep _ _ _ _) = refl
@@ -270,5 +270,5 @@ looks_on _ (Scan _ _ _ _ _ _ turn) = scan_on turn
     scan_on (LeavesDirectory _ _ _ _ _) = refl
     scan_on (ReadsOn _ _ _ _ _ _) = refl
     scan_on (EndsFile _ _ _) = refl
-looks_on is (Make _ _ _ _ _ _ turn) = absurd (true≢false (sym is ∙ making_is_none turn))
-looks_on is (Place _ _ _ _ _ _ turn) = absurd (true≢false (sym is ∙ placing_is_none turn))
+looks_on is (Make turn) = absurd (true≢false (sym is ∙ making_is_none turn))
+looks_on is (Place turn) = absurd (true≢false (sym is ∙ placing_is_none turn))

@@ -213,11 +213,11 @@ at_hand_seen it {same} is = WasAtHand (record { item = it.item; is = it.is; line
 
 -- the turn that passes it
 line_follows : {job : Job} {counts : Counts} {object : Object} {next : Phase} {prefix read : List ℕ} {held after : Held} {calls : Calls} → Follows job counts (phase.Line object) prefix held read after calls (Ok next) → (next ≡ phase.Walk) × (calls.line ≡ Some (done_line object held))
-line_follows (Start _ _ _ _ _ _ turn) = elim turn [ ]
-line_follows (Walk _ _ _ _ _ _ turn) = elim turn [ ]
-line_follows (Scan _ _ _ _ _ _ turn) = elim turn [ ]
-line_follows (Make _ _ _ _ _ _ turn) = elim turn [ ]
-line_follows (Place _ _ _ _ _ _ (place.TellsDone _ _)) = (refl, refl)
+line_follows (Start turn) = elim turn [ ]
+line_follows (Walk turn) = elim turn [ ]
+line_follows (Scan turn) = elim turn [ ]
+line_follows (Make turn) = elim turn [ ]
+line_follows (Place (place.TellsDone _ _)) = (refl, refl)
 
 -- the object at hand is passed
 pub passes : (object : Object) (next : Phase) (s s' : State) (told told' : Option Reading) (w : Option Writing) (l : Option (List ℕ)) (a b c a' b' c' : ℕ) (count : ℕ) → IsSurvey told count (record { phase = phase.Line object; state = s })
@@ -318,12 +318,12 @@ start_refuses (start.IsNoPrefix _ _ _ _) is = refl
 start_refuses _ is = absurd (true≢false (sym is))
 
 refuses : {job : Job} {counts : Counts} {here : Phase} {prefix read : List ℕ} {held after : Held} {calls : Calls} {why : Halt} → Follows job counts here prefix held read after calls (Err why) → is_of_survey here ≡ true → is_of_dest (fault_of why) ≡ false
-refuses (Start _ _ _ _ _ _ turn) is = start_refuses turn is
-refuses (Walk _ _ _ _ _ _ turn) is = elim turn [ ]
-refuses (Scan _ _ _ _ _ _ turn) is = elim turn [ ]
-refuses (Make _ _ _ _ _ _ (make.ReadsMore _ _ _ _ _ _ _)) is = refl
-refuses (Make _ _ _ _ _ _ (make.ReadsOther _ _ _ _ _ _ _)) is = refl
-refuses (Place _ _ _ _ _ _ (place.IsInTheWay _ _ _ _ _)) is = absurd (true≢false (sym is))
+refuses (Start turn) is = start_refuses turn is
+refuses (Walk turn) is = elim turn [ ]
+refuses (Scan turn) is = elim turn [ ]
+refuses (Make (make.ReadsMore _ _ _ _ _ _ _)) is = refl
+refuses (Make (make.ReadsOther _ _ _ _ _ _ _)) is = refl
+refuses (Place (place.IsInTheWay _ _ _ _ _)) is = absurd (true≢false (sym is))
 
 fails_rightly : (why : Halt) (a c a' c' : ℕ) → HasFailed why (record { source = a; dest = 0; log = c }) (record { source = a'; dest = 0; log = c' }) → is_of_dest (fault_of why) ≡ false
 fails_rightly halt.Source _ _ _ _ failed = refl

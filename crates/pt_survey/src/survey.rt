@@ -159,7 +159,8 @@ fn stepped<S: Source, L: Log>(
         (L.told log.old) (L.told log.new) count (record { phase = here; state = state.old })
         (record { phase = next; state = state.new })) }
     ensures well { IsWell (record { phase = phase_after result; state = state.new }) }
-    ensures leaves { Leaves (S.told source.old) (S.told source.new) (L.told log.old) (L.told log.new)
+    ensures leaves { Leaves (S.told source.old) (S.told source.new)
+        (L.told log.old) (L.told log.new)
         (S.failed source.old) (S.failed source.new) (L.failed log.old) (L.failed log.new)
         state.old.job result }
     ensures steps { IfOk result (λ next. Steps (source_tree (S.told source.old))

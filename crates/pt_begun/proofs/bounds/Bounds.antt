@@ -38,7 +38,7 @@ one_behind (_ ∷ xs) it = let later = one_behind xs it in record { index = suc 
 
 one_in_all : {X : Type 0} → (h : X → List ℕ) {x : X} {n : ℕ} (xs : List X) (k : ℕ) → slice_get xs k ≡ Some x → IsOne n (h x) → IsOne n (flat_map h xs)
 one_in_all h [] k is it = absurd (cc)
-one_in_all h {x} {n} (y ∷ xs) zero is it = one_in_front (flat_map h xs) (subst (λ z. IsOne n (h z)) (sym (let same : y ≡ x = cc in same)) it)
+one_in_all h {x} {n} (y ∷ xs) zero is it = one_in_front (flat_map h xs) (rw (let same : y ≡ x = cc in same) it)
 one_in_all h (y ∷ xs) (suc k) is it = one_behind (h y) (one_in_all h xs k is it)
 
 -- ---- the greatest number
@@ -79,8 +79,8 @@ pub object_within : (job : Job) (source : Forest) {path : Path} (count : ℕ) {i
 object_within job source {path} count {object} {directory} site named shallow one =
     within_item job source count site
     (one_behind (listed top path ∷ [])
-    (subst (λ (v : Verdict). IsOne n (held_by_verdict job top v)) (sym named)
-    (subst (λ (b : Bool). IsOne n (cond b [] (held_in_object job top object))) (sym shallow)
+    (rw named
+    (rw shallow
     (record { index = one.index; is = get_map (λ (p : Path). listed top (object.at ++ p) + records_of job (files (scanned job.limits object))) ([] ∷ dirs (scanned job.limits object)) one.index directory one.is }))))
   where
     top : Forest
@@ -112,7 +112,7 @@ front_records job object front left all good =
     let more = before_bad job.limits (length object.at) (0 + length (files front)) left in
     let same : files (scanned job.limits object) ≡ files front ++ files more = ap files (scanned_front job object front left all good) ∙ (counts front more).0 in
     let fewer = fewer_records job (files front) (files more) in
-    subst (λ (l : List File). records_of job (files front) ≤ records_of job l) (sym same) fewer
+    rw same fewer
 
 dirs_in_turn : (first later : List Entry) → dirs (first ++ later) ≡ dirs first ++ dirs later
 dirs_in_turn [] _ = refl
@@ -125,6 +125,6 @@ one_directory job object front left {path} inside all good =
     let more = before_bad job.limits (length object.at) (0 + length (files (front ++ (path, Dir inside) ∷ []))) left in
     let same : dirs (scanned job.limits object) ≡ (dirs front ++ path ∷ []) ++ dirs more =
     ap dirs (scanned_front job object (front ++ (path, Dir inside) ∷ []) left all good) ∙ dirs_in_turn (front ++ (path, Dir inside) ∷ []) more ∙ ap (λ (l : List Path). l ++ dirs more) (dirs_in_turn front ((path, Dir inside) ∷ [])) in
-    subst (λ (l : List Path). IsOne path ([] ∷ l)) (sym same)
+    rw same
     (one_behind ([] ∷ [])
     (one_in_front (dirs more) (one_behind (dirs front) (record { index = 0; is = refl }))))

@@ -73,15 +73,15 @@ few_with_file {job} {past} {prefix} {held} {object} {bytes} {s} new at known ans
 
 follows_few : {job : Job} {past : Past} {counts : Counts} {here : Phase} {prefix : List ℕ} {held : Held} {read : List ℕ} {new : Held} {calls : Calls} {answer : Answer} {s : Reading} (now : Option Reading) → Follows job counts here prefix held read new calls answer
     → HeldAt job past here held → SourcePart job past here prefix held s → Answers calls.asked (Some s) now → IsWithinBound job s.tree held → AreFew job s.tree held new.rows
-follows_few {s} _ (Walk _ _ _ _ _ _ (OpensRoot _ _)) _ _ _ few = few
-follows_few {job} {s} _ (Scan _ _ _ _ _ _ (IsTooDeep was _ _ _)) _ _ _ few = few_none job s.tree was few
-follows_few {job} {s} _ (Scan _ _ _ _ _ _ (MeetsDeep was _ _ _ _ _)) _ _ _ few = few_none job s.tree was few
-follows_few {job} {s} _ (Scan _ _ _ _ _ _ (MeetsLimit was _ _ _ _)) _ _ _ few = few_none job s.tree was few
-follows_few {job} {s} _ (Scan _ _ _ _ _ _ (MeetsOther was _ _ _)) _ _ _ few = few_none job s.tree was few
-follows_few {job} {s} _ (Scan _ _ _ _ _ _ (IsTooLong was _ _ _ _ _)) _ _ _ few = few_none job s.tree was few
-follows_few now (Scan _ _ _ _ _ _ (EndsFile _ _ _)) at known answers _ = few_with_file now at known answers
-follows_few _ (Make _ _ _ _ _ _ (MakesStaging _ _)) _ _ _ few = few
-follows_few {job} {s} _ (Place _ _ _ _ _ _ (TellsDone was _)) _ _ _ few = few_none job s.tree was few
+follows_few {s} _ (Walk (OpensRoot _ _)) _ _ _ few = few
+follows_few {job} {s} _ (Scan (IsTooDeep was _ _ _)) _ _ _ few = few_none job s.tree was few
+follows_few {job} {s} _ (Scan (MeetsDeep was _ _ _ _ _)) _ _ _ few = few_none job s.tree was few
+follows_few {job} {s} _ (Scan (MeetsLimit was _ _ _ _)) _ _ _ few = few_none job s.tree was few
+follows_few {job} {s} _ (Scan (MeetsOther was _ _ _)) _ _ _ few = few_none job s.tree was few
+follows_few {job} {s} _ (Scan (IsTooLong was _ _ _ _ _)) _ _ _ few = few_none job s.tree was few
+follows_few now (Scan (EndsFile _ _ _)) at known answers _ = few_with_file now at known answers
+follows_few _ (Make (MakesStaging _ _)) _ _ _ few = few
+follows_few {job} {s} _ (Place (TellsDone was _)) _ _ _ few = few_none job s.tree was few
 follows_few _ _ _ _ _ few = few
 
 halted_few : (job : Job) (source : Forest) {rows : List Row} {before after : Kept} → IsHalted rows before after → AreFew job source before.held rows → IsWithinBound job source after.held
@@ -102,7 +102,7 @@ halted_is_within_bound job _ _ new run _ _ s (past, is) not (FailsLater _ _ call
     (elim which [
       | inl same ↦ subst (AreFew job s.tree run.kept.held) (sym same) few
       | inr more ↦ subst (AreFew job s.tree run.kept.held) (sym more.0)
-          (follows_few new.source turn is.held (is.source s told) (subst (λ o. Answers calls.asked o new.source) told more.1) few)
+          (follows_few new.source turn is.held (is.source s told) (rw told at more.1) few)
     ])
   where
     few : IsWithinBound job s.tree run.kept.held

@@ -29,16 +29,16 @@ answered (OpensAndReads path _) s answers = (after_next (after_open path s), ans
 -- a source that told tells after a turn that goes on, and the same tree
 tells_on : {old new : World} (run : Run) {after : Kept} {job : Job} {next : Phase} {s : Reading} → Turn job run.phase (turning run.kept) after old new (Ok next) → old.source ≡ Some s → (v : Reading) × (new.source ≡ Some v) × (v.tree ≡ s.tree)
 unfolding Did
-tells_on {new} _ {s} (GoesOn calls _ _ did _) told = answered calls.asked s (subst (λ o. Answers calls.asked o new.source) told did.0.source)
+tells_on {new} _ {s} (GoesOn calls _ _ did _) told = answered calls.asked s (rw told at did.0.source)
 
 goes_within : {job : Job} (start : Start) {old new : World} (run : Run) {after : Kept} {next : Phase} {s : Reading} → Begun job start old run → is_ended run.phase ≡ false → Turn job run.phase (turning run.kept) after old new (Ok next) → old.source ≡ Some s
     → (last : Bool) → is_ended next ≡ last → IsWithinBound job s.tree after.held
 goes_within {job} start {old} {new} run {after} {next} begun _ turn told false more =
     let v = tells_on run turn told in
-    subst (λ (f : Forest). IsWithinBound job f after.held) v.2
+    rw v.2 at
     (begun_is_within_bound job start new (record { phase = next; kept = after }) v.0 (turn_keeps_begun job start old new run after next begun turn) more v.1)
 goes_within {job} start {old} run {s} begun going (GoesOn _ _ turn _ _) told true ended =
-    subst (λ (h : Held). IsWithinBound job s.tree h) (sym (last_turn turn ended).held_is)
+    rw (last_turn turn ended).held_is
     (begun_is_within_bound job start old run s begun going told)
 
 pub turn_is_within_bound : TurnIsWithinBound

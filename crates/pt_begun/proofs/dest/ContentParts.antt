@@ -57,7 +57,7 @@ leads_as rows bytes n folder = ap (λ (l : List File). leads_to (take n l) folde
 pub new_folders : {rows : List Row} (bytes : Path → List ℕ) {position : Position} (row : Row) → slice_get (distinct rows) position.stored ≡ Some row → IsAtRow rows position
     → list_all (is_new_folder (take position.stored (contents_of rows bytes))) (drop position.directories (folders_above (stored_at row))) ≡ true
 new_folders {rows} bytes {position} row is at =
-    let here = subst (λ (o : Option Path). AreNewFrom (take position.stored (content_paths rows)) position.directories o) (get_map stored_at (distinct rows) position.stored row is) at.new in
+    let here = rw (get_map stored_at (distinct rows) position.stored row is) at at.new in
     all_then (λ folder. not (is_above_one (take position.stored (content_paths rows)) folder)) (is_new_folder (take position.stored (contents_of rows bytes)))
     (λ folder h. ap not (leads_as rows bytes position.stored folder) ∙ h) (drop position.directories (folders_above (stored_at row))) here
 

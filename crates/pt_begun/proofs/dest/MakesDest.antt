@@ -58,7 +58,7 @@ pub item_may : (job : Job) (start : Tree) (placed : List Carried) (object : Obje
     → IsMakingObject job start placed object front 0 now → CanMake now.tree (item_path item)
 item_may job start placed object rows bytes front item now tree order next it =
     let root = root_on_way job start placed object.place 0 in
-    subst (λ (t : Tree). CanMake t (item_path item)) (sym it.tree)
+    rw it.tree
     (next_may front item _ (script_may job start root object rows bytes tree it.root.free order) next)
 
 -- with it
@@ -72,7 +72,7 @@ with_item job start placed object front item old new is it = record {
 
 -- what is made may be said otherwise
 said : {job : Job} {start : Tree} {placed : List Carried} {object : Object} {items others : List Item} {now : Writing} → items ≡ others → IsMakingObject job start placed object items 0 now → IsMakingObject job start placed object others 0 now
-said {job} {start} {placed} {object} {now} same it = subst (λ (l : List Item). IsMakingObject job start placed object l 0 now) same it
+said {job} {start} {placed} {object} {now} same it = rw same at it
 
 -- a part was made
 part_made : {job : Job} {past : Past} {start : Tree} {object : Object} {here : Part} {held after : Held} {old new : Writing} {item : Item} {next : Part} → HeldAt job past (phase.Make object here) held → after.rows ≡ held.rows → Some new ≡ Some (after_make item old)
@@ -100,7 +100,7 @@ copy_here job past object position left held row at is = record { are = at.rows.
 pub copy_stands : (held : Held) (position : Position) (row : Row) → slice_get held.rows position.row ≡ Some row → IsAtStoredRow held position → length row.path ≤ position.directories
 copy_stands held position row is it =
     let same : it.row ≡ row = some_same it.row row (sym it.is_row ∙ is) in
-    subst (λ (r : Row). length r.path ≤ position.directories) same it.stand
+    rw same at it.stand
 
 -- ---- a file is copied
 

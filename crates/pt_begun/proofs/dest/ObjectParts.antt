@@ -130,7 +130,7 @@ module _ (job : Job) (object : Object) (rows : List Row) (bytes : Path → List 
   -- of the last four
   last_next : (here : Part) (front : List Item) (item : Item) (rest : List Item) → made_before job object rows bytes here ≡ map (item_in staging) front → upto_contents ++ last_four ≡ front ++ item ∷ rest → IsNext script (made_before job object rows bytes here) (item_in staging item)
   last_next here front item rest before same =
-      subst (λ (l : List Item). IsNext script l (item_in staging item)) (sym before) (next_in staging all_items front item (record { rest = rest; is = split_items ∙ same }))
+      rw before (next_in staging all_items front item (record { rest = rest; is = split_items ∙ same }))
 
   pub next_first : IsNext script (made_before job object rows bytes part.VersionInventory) (inventory_file job object rows (in_version []))
   next_first = last_next part.VersionInventory upto_contents version_inventory (version_sidecar ∷ own_inventory ∷ own_sidecar ∷ []) before_first refl

@@ -93,7 +93,7 @@ module _ (job : Job) (start : Tree) (placed : List Carried) (place : Path) (n : 
       by true above =
           let beyond = ltb-true n i above in
           let same : suc n ≡ i = omega (arith, beyond, within) in
-          subst (λ k. root_on_way job start placed place (suc n) (take k place) ≡ Some Folder) same last
+          rw (← same) last
       by false below = first i (ltb-false n i below)
 
   made_folders : (name : List ℕ) → take (suc n) place ≡ take n place ++ name ∷ [] → root_on_way job start placed place n (take (suc n) place) ≡ None → HasFoldersTo job start placed place n → HasFoldersTo job start placed place (suc n)

@@ -29,7 +29,7 @@ taken_front (x ∷ front) others = ap (λ l. x ∷ l) (taken_front front others)
 -- so it may be made after them
 pub next_may : {script : List Item} (front : List Item) (item : Item) (t : Tree) → CanBeMadeInTurn script t → IsNext script front item → CanMake (made front t) (item_path item)
 next_may front item t can next =
-    subst (λ (l : List Item). CanMake (made l t) (item_path item)) (ap (take (length front)) next.is ∙ taken_front front (item ∷ next.rest))
+    rw (ap (take (length front)) next.is ∙ taken_front front (item ∷ next.rest)) at
     (can (length front) item (ap (λ (l : List Item). slice_get l (length front)) next.is ∙ get_behind front (item ∷ next.rest)))
 
 -- below a folder

@@ -63,7 +63,7 @@ fresh_start tree free = record { top = tree.top; free = free }
 
 pub root_item_made : (job : Job) (start : Tree) (number : ℕ) (item : Item) (now : Writing) → IsTree start → slice_get (root_script job.tuples) number ≡ Some item → IsMakingRoot start (take number (root_script job.tuples)) now → CanMake now.tree (item_path item)
 root_item_made job start number item now tree is it =
-    subst (λ (t : Tree). CanMake t (item_path item)) (sym it.tree) (root_script_can_be_made job.tuples start (fresh_start tree it.free) number item is)
+    rw it.tree (root_script_can_be_made job.tuples start (fresh_start tree it.free) number item is)
 
 whole_root : (job : Job) {start : Tree} {now : Writing} → IsTree start → IsMakingRoot start (root_script job.tuples) now → now.tree ≡ in_place start staging (root_of job.tuples)
 whole_root job {start} tree it = it.tree ∙ root_script_makes_the_root job.tuples start (fresh_start tree it.free)
@@ -71,7 +71,7 @@ whole_root job {start} tree it = it.tree ∙ root_script_makes_the_root job.tupl
 -- it may be moved
 pub root_may_move : (job : Job) (start : Tree) (now : Writing) → IsTree start → IsMakingRoot start (root_script job.tuples) now → CanMove now.tree staging storage_root
 root_may_move job start now tree it =
-    subst (λ (t : Tree). CanMove t staging storage_root) (sym (whole_root job tree it))
+    rw (whole_root job tree it)
     (record { stands = refl; target = record { absent = it.root []; in_folder = tree.top }; apart = refl })
 
 new_base : (job : Job) (start : Tree) → IsFree start storage_root → base job.tuples (root_in start) ≡ root_of job.tuples
@@ -128,7 +128,7 @@ checked_next job past start held {old} number path bytes layout file read part =
     let files = one_more_file job (root_in start) number path bytes file here part.at.files in
     after_root_file (λ p. DestAfter job past (phase.RootCheck number) p held held start old) number
     (λ last.
-    let all : HasRootFiles job (root_in start) 3 = subst (λ (n : ℕ). HasRootFiles job (root_in start) (n + 1)) (eqb-true number 2 last) files in
+    let all : HasRootFiles job (root_in start) 3 = rw (eqb-true number 2 last) at files in
     record { started = part.started; tree = part.tree; at = record { root = record { free = part.at.free; root = inr all }; came = refl; tree = part.at.tree ∙ own_root job start part.started all } })
     (λ more. record { started = part.started; tree = part.tree; at = record { free = part.at.free; top = part.at.top; files = files; tree = part.at.tree } })
 
@@ -146,7 +146,7 @@ starts_dest job past start old new prefix read here next held calls layout (HasR
 starts_dest job past start old new prefix read here next held calls layout (MakesRoot was number item is) change at part = made_next job past start held old new number item change is part
 starts_dest job past start old new prefix read here next held calls layout (RenamesRoot was) change at part =
     let is = some_same new (after_rename staging storage_root old) change in
-    subst (λ (w : Writing). DestAfter job past here next held held start w) (sym is)
+    rw is
     (record {
       started = part.started;
       tree = tree_moved _ _ part.tree (root_may_move job start old part.started part.at);

@@ -27,4 +27,4 @@ pub ends_with_states : EndsWithStates
 ends_with_states job start old new run after s t now first last begun turn source_is start_is dest_is first_is last_is =
     let well = well_told job start old run begun source_is start_is in
     let ends = ends_well job start old new run after s t now first last begun turn source_is start_is dest_is first_is last_is in
-    subst (λ (u : Tree). All (HasItsFiles job u) (all_carried job s.tree (root_in t))) (sym ends.0.2.tree) (carried_have_their_files job s.tree t well.0 well.1)
+    rw ends.0.2.tree (carried_have_their_files job s.tree t well.0 well.1)

@@ -52,14 +52,14 @@ pub record IsLastTurn (counts : Counts) (here : Phase) (held after : Held) (call
   pub held_is : after ≡ held
 
 pub last_turn : {job : Job} {counts : Counts} {here : Phase} {prefix : List ℕ} {held : Held} {read : List ℕ} {after : Held} {calls : Calls} {next : Phase} → Follows job counts here prefix held read after calls (Ok next) → is_ended next ≡ true → IsLastTurn counts here held after calls
-last_turn (a_start _ _ _ _ _ _ (MakesRoot _ number _ _)) ended = absurd (true≢false (sym ended ∙ either_not (number == 5) phase.RootRename (phase.RootMake (number + 1)) refl refl))
-last_turn (a_start _ _ _ _ _ _ (IsSame _ number _ _ _)) ended = absurd (true≢false (sym ended ∙ either_not (number == 2) phase.OpenRoot (phase.RootCheck (number + 1)) refl refl))
-last_turn (Walk _ _ _ _ _ _ (OpensRoot _ _)) ended = absurd (cc)
-last_turn (Scan _ _ _ _ _ _ (StartsInSite _ _ _)) ended = absurd (cc)
-last_turn {job} (Make _ _ _ _ _ _ (MakesSidecar _ object)) ended = absurd (true≢false (sym ended ∙ either_not (job.tuples.count == 0) (phase.Rename object) (phase.Tuples object 0) refl refl))
-last_turn {job} (Place _ _ _ _ _ _ (MakesTuple _ object number)) ended = absurd (true≢false (sym ended ∙ either_not (nat_lt (number + 1) job.tuples.count) (phase.Tuples object (number + 1)) (phase.Rename object) refl refl))
-last_turn {job} (Place _ _ _ _ _ _ (FindsTuple _ object number)) ended = absurd (true≢false (sym ended ∙ either_not (nat_lt (number + 1) job.tuples.count) (phase.Tuples object (number + 1)) (phase.Rename object) refl refl))
-last_turn (Place _ _ _ _ _ _ (TellsEnd _)) _ = record { phase_is = refl; calls_are = refl; held_is = refl }
+last_turn (a_start (MakesRoot _ number _ _)) ended = absurd (true≢false (sym ended ∙ either_not (number == 5) phase.RootRename (phase.RootMake (number + 1)) refl refl))
+last_turn (a_start (IsSame _ number _ _ _)) ended = absurd (true≢false (sym ended ∙ either_not (number == 2) phase.OpenRoot (phase.RootCheck (number + 1)) refl refl))
+last_turn (Walk (OpensRoot _ _)) ended = absurd (cc)
+last_turn (Scan (StartsInSite _ _ _)) ended = absurd (cc)
+last_turn {job} (Make (MakesSidecar _ object)) ended = absurd (true≢false (sym ended ∙ either_not (job.tuples.count == 0) (phase.Rename object) (phase.Tuples object 0) refl refl))
+last_turn {job} (Place (MakesTuple _ object number)) ended = absurd (true≢false (sym ended ∙ either_not (nat_lt (number + 1) job.tuples.count) (phase.Tuples object (number + 1)) (phase.Rename object) refl refl))
+last_turn {job} (Place (FindsTuple _ object number)) ended = absurd (true≢false (sym ended ∙ either_not (nat_lt (number + 1) job.tuples.count) (phase.Tuples object (number + 1)) (phase.Rename object) refl refl))
+last_turn (Place (TellsEnd _)) _ = record { phase_is = refl; calls_are = refl; held_is = refl }
 last_turn _ ended = absurd (cc)
 
 -- ---- all items are done

@@ -36,16 +36,16 @@ use Rattle.pt_begun.proofs.ends.TurnKeeps.{told_log}
 
 pub refused_same : {job : Job} {counts : Counts} {here : Phase} {prefix : List ℕ} {held : Held} {read : List ℕ} {after : Held} {calls : Calls} {why : Halt} {old new : Option Writing} → Follows job counts here prefix held read after calls (Err why) → Changes calls.change old new → new ≡ old
 unfolding Changes
-refused_same (a_start _ _ _ _ _ _ (HasStaging _ _)) change = change.1
-refused_same (a_start _ _ _ _ _ _ (IsNoRoot _ _ _)) change = change.1
-refused_same (a_start _ _ _ _ _ _ (IsNoFile _ _ _ _ _ _ _)) change = change.1
-refused_same (a_start _ _ _ _ _ _ (Differs _ _ _ _ _ _ _)) change = change.2
-refused_same (a_start _ _ _ _ _ _ _) change = change
-refused_same (Walk _ _ _ _ _ _ turn) _ = elim turn [ ]
-refused_same (Scan _ _ _ _ _ _ turn) _ = elim turn [ ]
-refused_same (Make _ _ _ _ _ _ (ReadsMore _ _ _ _ _ _ _)) change = change
-refused_same (Make _ _ _ _ _ _ (ReadsOther _ _ _ _ _ _ _)) change = change
-refused_same (Place _ _ _ _ _ _ (IsInTheWay _ _ _ _ _)) change = change.1
+refused_same (a_start (HasStaging _ _)) change = change.1
+refused_same (a_start (IsNoRoot _ _ _)) change = change.1
+refused_same (a_start (IsNoFile _ _ _ _ _ _ _)) change = change.1
+refused_same (a_start (Differs _ _ _ _ _ _ _)) change = change.2
+refused_same (a_start _) change = change
+refused_same (Walk turn) _ = elim turn [ ]
+refused_same (Scan turn) _ = elim turn [ ]
+refused_same (Make (ReadsMore _ _ _ _ _ _ _)) change = change
+refused_same (Make (ReadsOther _ _ _ _ _ _ _)) change = change
+refused_same (Place (IsInTheWay _ _ _ _ _)) change = change.1
 
 -- ---- which devices tell
 
@@ -107,14 +107,14 @@ module _ (job : Job) (past : Past) (start : Start) (old new : World) (run : Run)
   dest_ends is some none = by start.dest old.dest refl refl is.dest
     where
       by : (o : Option Tree) (w : Option Writing) → start.dest ≡ o → old.dest ≡ w → TellsAsBefore start.dest old.dest DestHere → Ended
-      by None None a b tells = subst (λ o. TellsAsBefore o new.dest DestEnded) (sym a) (subst (λ o. TellsAsBefore None o DestEnded) (sym (none b)) tt)
-      by None (Some w) a b tells = absurd (subst (λ o. TellsAsBefore None o DestHere) b (subst (λ o. TellsAsBefore o old.dest DestHere) a tells))
-      by (Some t) None a b tells = absurd (subst (λ o. TellsAsBefore (Some t) o DestHere) b (subst (λ o. TellsAsBefore o old.dest DestHere) a tells))
+      by None None a b tells = rw a (rw (none b) tt)
+      by None (Some w) a b tells = absurd (rw b at (rw a at tells))
+      by (Some t) None a b tells = absurd (rw b at (rw a at tells))
       by (Some t) (Some w) a b tells =
-          let known = subst (λ o. TellsAsBefore (Some t) o DestHere) b (subst (λ o. TellsAsBefore o old.dest DestHere) a tells) in
+          let known = rw b at (rw a at tells) in
           let it = some w t a b known in
-          subst (λ o. TellsAsBefore o new.dest DestEnded) (sym a)
-          (subst (λ o. TellsAsBefore (Some t) o DestEnded) (sym it.1) (record { started = known.started; tree = it.2.tree; at = it.2.left }))
+          rw a
+          (rw it.1 (record { started = known.started; tree = it.2.tree; at = it.2.left }))
 
   ends : a_past job start old run past → after.held.trail ≡ run.kept.held.trail → after.counts ≡ (turning run.kept).counts → source_tree new.source ≡ source_tree old.source → Ended → ((l : List ℕ) → old.log ≡ Some l → (now : List ℕ) × (new.log ≡ Some now)) → Leaves
       → a_past job start new (record { phase = phase.Ended; kept = after }) past
@@ -128,14 +128,14 @@ module _ (job : Job) (past : Past) (start : Start) (old new : World) (run : Run)
     items = λ v same t some.
         let s = same_tree old.source source same in
         let it = is.items s.0 s.1 t some in
-        subst (λ (f : Forest). ItemsPart job past phase.Ended after.counts f (root_in t)) (sym s.2)
-        (subst (λ c. ItemsPart job past phase.Ended c s.0.tree (root_in t)) (sym counts)
+        rw s.2
+        (rw counts
         (record { places = record { placed = tt; next = tt }; lines_are = record { done = it.lines_are.done; present = it.lines_are.present; skipped = it.lines_are.skipped } }));
     log = λ v same t some. log_at v same t some start.log refl;
     quiet = quiet_at start.log refl;
     left = λ v same t some now told first is_first last is_last.
         let s = same_tree old.source source same in
-        subst (λ (f : Forest). IsLeftByFault job f t now.tree first last) (sym s.2) (leaves s.0 t now first last s.1 some told is_first is_last);
+        rw s.2 (leaves s.0 t now first last s.1 some told is_first is_last);
   }
     where
       quiet_at : (o : Option (List ℕ)) → start.log ≡ o → TellsStill o new.log (IsQuiet phase.Ended)
@@ -143,7 +143,7 @@ module _ (job : Job) (past : Past) (start : Start) (old new : World) (run : Run)
       quiet_at (Some first) is_first =
           let had = log_tells (IsQuiet run.phase) start.log old.log is_first is.quiet in
           let now = log had.0 had.1 in
-          subst (λ o. TellsStill (Some first) o (IsQuiet phase.Ended)) (sym now.1) tt
+          rw now.1 tt
 
       log_at : (v : Reading) → new.source ≡ Some v → (t : Tree) → start.dest ≡ Some t → (o : Option (List ℕ)) → start.log ≡ o → TellsStill o new.log (HasTold job v.tree (root_in t) past phase.Ended)
       log_at v same t some None none = tt
@@ -151,7 +151,7 @@ module _ (job : Job) (past : Past) (start : Start) (old new : World) (run : Run)
           let s = same_tree old.source source same in
           let had = log_tells (HasTold job s.0.tree (root_in t) past run.phase) start.log old.log is_first (is.log s.0 s.1 t some) in
           let now = log had.0 had.1 in
-          subst (λ o. TellsStill (Some first) o (HasTold job v.tree (root_in t) past phase.Ended)) (sym now.1) tt
+          rw now.1 tt
 
   -- nothing of the destination was changed
   same_ends : a_past job start old run past → new.dest ≡ old.dest → Ended
@@ -173,7 +173,7 @@ module _ (job : Job) (past : Past) (start : Start) (old new : World) (run : Run)
 
       by : (b : Bool) → is_ended here ≡ b → IsLeftByFault job s.tree t now.tree first last
       by false runs = same_leaves job past start old run s t first (tells_all job past start old run s t first is (ap is_ended at ∙ runs) source_is start_is first_is) dest_is last_is
-      by true over = at_end here over (subst (λ (p : Phase). LeftAt p job s.tree t now.tree first last) at (is.left s source_is t start_is now (sym dest_is) first first_is last (sym last_is)))
+      by true over = at_end here over (rw (at) at (is.left s source_is t start_is now (sym dest_is) first first_is last (sym last_is)))
 
   pub halted_left : {after : Kept} {why : Halt} → a_past job start old run past → Turn job run.phase (turning run.kept) after old new (Err why) → old.source ≡ Some s → start.dest ≡ Some t → new.dest ≡ Some now → start.log ≡ Some first → new.log ≡ Some last → IsLeftByFault job s.tree t now.tree first last
   unfolding Did Stays LeavesSome
@@ -201,7 +201,7 @@ turn_ends_begun job start old new run after _ (past, is) (IsRefused prefix held 
   past,
   ends job past start old new run after is halted.trail halted.counts (answers_tree calls.asked old.source new.source did.0.source)
       (same_ends job past start old new run after is (refused_same turn did.0.dest))
-      (λ l some. told_log calls.line l new.log (subst (λ o. Puts calls.line o new.log) some did.0.log))
+      (λ l some. told_log calls.line l new.log (rw some at did.0.log))
       (λ s t now first last source_is start_is dest_is first_is last_is. halted_left job past start old new run s t now first last is (IsRefused prefix held calls reason turn did halted) source_is start_is dest_is first_is last_is),
 )
 turn_ends_begun job start old new run after _ (past, is) (FailsAtFirst reason stays halted) =
@@ -211,10 +211,10 @@ turn_ends_begun job start old new run after _ (past, is) (FailsLater prefix held
   ends job past start old new run after is halted.trail halted.counts leaves.0.source
       (dest_ends job past start old new run after is
       (λ w t a b known.
-      let left = subst (λ o. LeavesPart o new.dest calls.change) b leaves.0.dest in
+      let left = rw b at leaves.0.dest in
       let v = part_told new.dest left in
-      (v.0, v.1, follows_left turn is.held known (subst (λ o. LeavesPart (Some w) o calls.change) v.1 left)))
-      (λ none. part_untold new.dest (subst (λ o. LeavesPart o new.dest calls.change) none leaves.0.dest)))
-      (λ l some. front_told calls.line l new.log (subst (λ o. LeavesFront calls.line o new.log) some leaves.0.log))
+      (v.0, v.1, follows_left turn is.held known (rw v.1 at left)))
+      (λ none. part_untold new.dest (rw none at leaves.0.dest)))
+      (λ l some. front_told calls.line l new.log (rw some at leaves.0.log))
       (λ s t now first last source_is start_is dest_is first_is last_is. halted_left job past start old new run s t now first last is (FailsLater prefix held calls answer rows reason turn leaves which halted) source_is start_is dest_is first_is last_is),
 )

@@ -88,35 +88,35 @@ told_log (Some _) _ (Some now) _ = (now, refl)
 module _ (job : Job) (past : Past) where
   follows_held : {counts : Counts} {here : Phase} {prefix : List ℕ} {held : Held} {read : List ℕ} {after : Held} {calls : Calls} {next : Phase} (old new : Option Reading) → Follows job counts here prefix held read after calls (Ok next)
       → Answers calls.asked old new → HeldAt job past here held → HeldAt job (past_after here next held past) next after
-  follows_held {here} {prefix} {held} {read} {calls} {next} _ _ (a_start _ _ _ _ _ _ turn) _ at = starts_hold job past prefix read here next held calls turn at
-  follows_held {here} {prefix} {held} {after} {calls} {next} old new (Walk _ _ _ _ _ _ turn) answers at = walks_hold job past old new prefix here next held after calls turn answers at
-  follows_held {here} {held} {after} {calls} {next} old new (Scan _ _ _ _ _ _ turn) answers at = scans_hold job past old new here next held after calls turn answers at
-  follows_held {here} {held} {after} {calls} {next} _ _ (Make _ _ _ _ _ _ turn) _ at = makes_hold job past here held after calls next turn at
-  follows_held {counts} {here} {held} {after} {calls} {next} _ _ (Place _ _ _ _ _ _ turn) _ at = places_hold job counts past here next held after calls turn at
+  follows_held {here} {prefix} {held} {read} {calls} {next} _ _ (a_start turn) _ at = starts_hold job past prefix read here next held calls turn at
+  follows_held {here} {prefix} {held} {after} {calls} {next} old new (Walk turn) answers at = walks_hold job past old new prefix here next held after calls turn answers at
+  follows_held {here} {held} {after} {calls} {next} old new (Scan turn) answers at = scans_hold job past old new here next held after calls turn answers at
+  follows_held {here} {held} {after} {calls} {next} _ _ (Make turn) _ at = makes_hold job past here held after calls next turn at
+  follows_held {counts} {here} {held} {after} {calls} {next} _ _ (Place turn) _ at = places_hold job counts past here next held after calls turn at
 
   follows_source : {counts : Counts} {here : Phase} {prefix : List ℕ} {held : Held} {read : List ℕ} {after : Held} {calls : Calls} {next : Phase} {s : Reading} {new : Reading} → Follows job counts here prefix held read after calls (Ok next)
       → Answers calls.asked (Some s) (Some new) → HeldAt job past here held → SourcePart job past here prefix held s → SourcePart job (past_after here next held past) next read after new
-  follows_source {here} {prefix} {held} {read} {calls} {next} {s} {new} (a_start _ _ _ _ _ _ turn) answers at known = starts_source job past s new prefix read here next held calls turn answers at known
-  follows_source {here} {prefix} {held} {after} {calls} {next} {s} {new} (Walk _ _ _ _ _ _ turn) answers at known = walks_source job past s new prefix here next held after calls turn answers at known
-  follows_source {here} {prefix} {held} {after} {calls} {next} {s} {new} (Scan _ _ _ _ _ _ turn) answers at known = scans_source job past s new prefix here next held after calls turn answers at known
-  follows_source {here} {prefix} {held} {after} {calls} {next} {s} {new} (Make _ _ _ _ _ _ turn) answers at known = makes_source job past s new prefix here held after calls next turn answers at known
-  follows_source {counts} {here} {prefix} {held} {after} {calls} {next} {s} {new} (Place _ _ _ _ _ _ turn) answers at known = places_source job counts past s new prefix here next held after calls turn answers at known
+  follows_source {here} {prefix} {held} {read} {calls} {next} {s} {new} (a_start turn) answers at known = starts_source job past s new prefix read here next held calls turn answers at known
+  follows_source {here} {prefix} {held} {after} {calls} {next} {s} {new} (Walk turn) answers at known = walks_source job past s new prefix here next held after calls turn answers at known
+  follows_source {here} {prefix} {held} {after} {calls} {next} {s} {new} (Scan turn) answers at known = scans_source job past s new prefix here next held after calls turn answers at known
+  follows_source {here} {prefix} {held} {after} {calls} {next} {s} {new} (Make turn) answers at known = makes_source job past s new prefix here held after calls next turn answers at known
+  follows_source {counts} {here} {prefix} {held} {after} {calls} {next} {s} {new} (Place turn) answers at known = places_source job counts past s new prefix here next held after calls turn answers at known
 
   follows_dest : {counts : Counts} {here : Phase} {prefix : List ℕ} {held : Held} {read : List ℕ} {after : Held} {calls : Calls} {next : Phase} {start : Tree} {w v : Writing} → IsLayout job.tuples → Follows job counts here prefix held read after calls (Ok next)
       → Changes calls.change (Some w) (Some v) → HeldAt job past here held → DestPart job past here held start w → DestPart job (past_after here next held past) next after start v
-  follows_dest {here} {prefix} {held} {read} {calls} {next} {start} {w} {v} layout (a_start _ _ _ _ _ _ turn) change at known = starts_dest job past start w v prefix read here next held calls layout turn change at known
-  follows_dest {here} {prefix} {held} {after} {calls} {next} {start} {w} {v} _ (Walk _ _ _ _ _ _ turn) change at known = walks_dest job past start w v prefix here next held after calls turn change at known
-  follows_dest {here} {held} {after} {calls} {next} {start} {w} {v} _ (Scan _ _ _ _ _ _ turn) change at known = scans_dest job past start w v here next held after calls turn change at known
-  follows_dest {here} {held} {after} {calls} {next} {start} {w} {v} _ (Make _ _ _ _ _ _ turn) change at known = makes_dest job past start w v here held after calls next turn change at known
-  follows_dest {counts} {here} {held} {after} {calls} {next} {start} {w} {v} _ (Place _ _ _ _ _ _ turn) change at known = places_dest job counts past start w v here next held after calls turn change at known
+  follows_dest {here} {prefix} {held} {read} {calls} {next} {start} {w} {v} layout (a_start turn) change at known = starts_dest job past start w v prefix read here next held calls layout turn change at known
+  follows_dest {here} {prefix} {held} {after} {calls} {next} {start} {w} {v} _ (Walk turn) change at known = walks_dest job past start w v prefix here next held after calls turn change at known
+  follows_dest {here} {held} {after} {calls} {next} {start} {w} {v} _ (Scan turn) change at known = scans_dest job past start w v here next held after calls turn change at known
+  follows_dest {here} {held} {after} {calls} {next} {start} {w} {v} _ (Make turn) change at known = makes_dest job past start w v here held after calls next turn change at known
+  follows_dest {counts} {here} {held} {after} {calls} {next} {start} {w} {v} _ (Place turn) change at known = places_dest job counts past start w v here next held after calls turn change at known
 
   follows_items : {counts : Counts} {here : Phase} {prefix : List ℕ} {held : Held} {read : List ℕ} {after : Held} {calls : Calls} {next : Phase} {start : Tree} {s : Reading} (new : Reading) {w : Writing} (v : Writing) → Follows job counts here prefix held read after calls (Ok next)
       → Answers calls.asked (Some s) (Some new) → Changes calls.change (Some w) (Some v) → KnowsItems job past here prefix held counts s start w → KeepsItems job past here held counts s start calls next × KeepsLog job past here held s start calls next
-  follows_items {counts} {here} {prefix} {held} {read} {calls} {next} {start} {s} _ {w} _ (a_start _ _ _ _ _ _ turn) _ _ known = starts_items job past s prefix read start w here next held counts calls turn known
-  follows_items {counts} {here} {prefix} {held} {after} {calls} {next} {start} {s} _ {w} v (Walk _ _ _ _ _ _ turn) _ change known = walks_items job past s prefix start w v here next held after counts calls turn change known
-  follows_items {counts} {here} {prefix} {held} {after} {calls} {next} {start} {s} new {w} _ (Scan _ _ _ _ _ _ turn) answers _ known = scans_items job past s new prefix start w here next held after counts calls turn answers known
-  follows_items {counts} {here} {prefix} {held} {after} {calls} {next} {start} {s} _ {w} _ (Make _ _ _ _ _ _ turn) _ _ known = makes_items job past s prefix start w here held after counts calls next turn known
-  follows_items {counts} {here} {prefix} {held} {after} {calls} {next} {start} {s} _ {w} _ (Place _ _ _ _ _ _ turn) _ _ known = places_items job past s prefix start w here next held after counts calls turn known
+  follows_items {counts} {here} {prefix} {held} {read} {calls} {next} {start} {s} _ {w} _ (a_start turn) _ _ known = starts_items job past s prefix read start w here next held counts calls turn known
+  follows_items {counts} {here} {prefix} {held} {after} {calls} {next} {start} {s} _ {w} v (Walk turn) _ change known = walks_items job past s prefix start w v here next held after counts calls turn change known
+  follows_items {counts} {here} {prefix} {held} {after} {calls} {next} {start} {s} new {w} _ (Scan turn) answers _ known = scans_items job past s new prefix start w here next held after counts calls turn answers known
+  follows_items {counts} {here} {prefix} {held} {after} {calls} {next} {start} {s} _ {w} _ (Make turn) _ _ known = makes_items job past s prefix start w here held after counts calls next turn known
+  follows_items {counts} {here} {prefix} {held} {after} {calls} {next} {start} {s} _ {w} _ (Place turn) _ _ known = places_items job past s prefix start w here next held after counts calls turn known
 
 -- ---- all parts
 

@@ -76,8 +76,8 @@ module _ (job : Job) (past : Past) (s : Reading) (start : Tree) (prefix : List �
 
   pub follows_broken : {here : Phase} {held : Held} {read : List ℕ} {later : Held} {calls : Calls} {answer : Answer} → Follows job counts here prefix held read later calls answer → Before held here → WereAnswered calls s old
       → LeavesPart (Some old) (Some new) calls.change → LeavesFront calls.line (Some log) (Some last) → Left
-  follows_broken {held} (a_start _ _ _ _ _ _ turn) before _ left put = starts_broken job past s start prefix counts old new first log last turn before left put
-  follows_broken (Walk _ _ _ _ _ _ turn) before answered left put = walks_broken job past s start prefix counts old new first log last turn before answered left put
-  follows_broken (Scan _ _ _ _ _ _ turn) before answered left put = scans_broken job past s start prefix counts old new first log last turn before answered left put
-  follows_broken (Make _ _ _ _ _ _ turn) before answered left put = makes_broken job past s start prefix counts old new first log last turn before answered left put
-  follows_broken (Place _ _ _ _ _ _ turn) before _ left put = places_broken turn before left put
+  follows_broken {held} (a_start turn) before _ left put = starts_broken job past s start prefix counts old new first log last turn before left put
+  follows_broken (Walk turn) before answered left put = walks_broken job past s start prefix counts old new first log last turn before answered left put
+  follows_broken (Scan turn) before answered left put = scans_broken job past s start prefix counts old new first log last turn before answered left put
+  follows_broken (Make turn) before answered left put = makes_broken job past s start prefix counts old new first log last turn before answered left put
+  follows_broken (Place turn) before _ left put = places_broken turn before left put

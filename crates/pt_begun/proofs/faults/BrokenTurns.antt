@@ -39,7 +39,7 @@ pub record IsBefore (job : Job) (past : Past) (s : Reading) (start : Tree) (pref
 
 -- a turn that tells a line of an item ends that item
 pub ends_item : {job : Job} {source : Forest} {root : Tree} {count : ℕ} {next : Phase} {told : Option Line} {n : ℕ} {gained : List Carried} → Tells job source root count next told n gained → {line : Line} → told ≡ Some line → is_ended next ≡ false → EndsItem job source root count (Some line) gained
-ends_item {job} {source} {root} {count} (OneItem {more = more} it) is _ = subst (λ o. EndsItem job source root count o more) is it
+ends_item {job} {source} {root} {count} (OneItem {more = more} it) is _ = rw is at it
 ends_item _ is runs = absurd (cc)
 
 -- ---- by what is left
@@ -53,7 +53,7 @@ module _ {job : Job} {past : Past} {s : Reading} {start : Tree} {prefix : List �
   pub left_quiet : {held : Held} {here : Phase} → IsBefore job past s start prefix held counts old first log here → new.tree ≡ old.tree → Some last ≡ Some log → IsLeftByFault job s.tree start new.tree first last
   left_quiet {held} {here} before same quiet =
       left_untold before quiet
-      (subst (λ (t : Tree). MayBeLeft job s.tree start t (text job s.tree (root_in start) past.count)) (sym same) (left_now job past s start prefix held counts old here before.runs before.known))
+      (rw same (left_now job past s start prefix held counts old here before.runs before.known))
 
   -- of the line of the next item a front was put
   pub left_told : {held : Held} {here : Phase} {line : Line} {more : List Carried} → IsBefore job past s start prefix held counts old first log here → EndsItem job s.tree (root_in start) past.count (Some line) more → IsFree start staging

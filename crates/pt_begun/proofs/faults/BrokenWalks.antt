@@ -52,8 +52,8 @@ module _ (job : Job) (past : Past) (s : Reading) (start : Tree) (prefix : List �
   walk_passed : (told : Bool) {held later : Held} {here : Phase} {calls : Calls} (line : Line) → Walks job prefix here held later calls (Ok phase.Walk) → Before held here → calls.line ≡ cond told (Some line) None → past.placed ≡ carried_among job s.tree (root_in start) (items_placed here past.count)
       → Changes calls.change (Some old) (Some old) → IsFree start staging → old.tree ≡ with_root start (after job s.tree (root_in start) past.count) → new.tree ≡ old.tree → LeavesFront calls.line (Some log) (Some last) → (LeavesFront None (Some log) (Some last) → Left) → Left
   walk_passed true _ turn before is placed found free tree same put _ =
-      walk_told turn before is placed found free tree same (subst (λ (l : Option Line). LeavesFront l (Some log) (Some last)) is put)
-  walk_passed false _ _ _ is _ _ _ _ _ put quiet = quiet (subst (λ (l : Option Line). LeavesFront l (Some log) (Some last)) is put)
+      walk_told turn before is placed found free tree same (rw is at put)
+  walk_passed false _ _ _ is _ _ _ _ _ put quiet = quiet (rw is at put)
 
   pub walks_broken : {here : Phase} {held later : Held} {calls : Calls} {answer : Answer} → Walks job prefix here held later calls answer → Before held here → WereAnswered calls s old → LeavesPart (Some old) (Some new) calls.change → LeavesFront calls.line (Some log) (Some last) → Left
   unfolding Changes

@@ -66,5 +66,5 @@ module _ (job : Job) (past : Past) (start : Start) (old : World) (run : Run) (s 
   broken_leaves {calls} {now} {last} had turn broken source_is dest_is log_is =
       follows_broken job past s t run.kept.prefix (turning run.kept).counts had.now now first had.log last turn had.before
       (record { read = subst (WasRead calls.asked) source_is broken.read; found = subst (WasFound calls.line calls.change) had.dest_is broken.found })
-      (subst (λ o. LeavesPart o (Some now) calls.change) had.dest_is (subst (λ o. LeavesPart old.dest o calls.change) dest_is broken.dest))
-      (subst (λ o. LeavesFront calls.line o (Some last)) had.log_told (subst (λ o. LeavesFront calls.line old.log o) log_is broken.log))
+      (rw had.dest_is at (rw dest_is at broken.dest))
+      (rw had.log_told at (rw log_is at broken.log))

@@ -107,8 +107,8 @@ module _ (job : Job) (past : Past) (start : Tree) (object : Object) (held : Held
       → StandsAtPrefix script (with_root start (root_on_way job start past.placed object.place n)) now → IsKept job start now
   made_kept {n} {now} tree it rows few making at =
       Making past.placed carried n now (comes it rows making.came making.free)
-      (inl (subst (λ (t : Tree). StandsAtPrefix (script_of carried.id carried.files job.meta job.algorithm) t now) (on_way tree making.root it few)
-      (subst (λ (l : List Item). StandsAtPrefix l (with_root start (root_on_way job start past.placed object.place n)) now) (own_script rows) at)))
+      (inl (rw (on_way tree making.root it few) at
+      (rw (own_script rows) at at)))
 
   -- and with a content that holds other bytes
   pub copy_kept : {front : List Item} {path : Path} {bytes : List ℕ} (read : List ℕ) {now : Tree} → IsTree start → IsObject job object → AreRows job past.bytes held → {w : Writing} → IsMakingObject job start past.placed object (front ++ MakeFile (in_content path) read ∷ []) 0 w
@@ -125,8 +125,8 @@ module _ (job : Job) (past : Past) (start : Tree) (object : Object) (held : Held
         stands = is ∙ ap (λ (l : List Item). done (MakeFile (in_content path) other) (made l root)) (sym (ap (take (length front)) next.is ∙ taken_front front (MakeFile (in_content path) bytes ∷ next.rest)));
       } in
       Making past.placed carried 0 now (comes it rows making.came making.free)
-      (inr (subst (λ (t : Tree). StandsAtContent (script_of carried.id carried.files job.meta job.algorithm) t now) (on_way {n = 0} tree making.root it (omega arith))
-      (subst (λ (l : List Item). StandsAtContent l root now) (own_script rows) at)))
+      (inr (rw (on_way {n = 0} tree making.root it (omega arith)) at
+      (rw (own_script rows) at at)))
 
   -- before its script it is not there
   pub not_begun : {w : Writing} → IsMakingObject job start past.placed object [] 0 w → IsKept job start w.tree

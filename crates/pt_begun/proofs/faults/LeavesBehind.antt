@@ -147,15 +147,15 @@ copied_left {job} {past} {start} {object} {position} {left} {piece} {held} {old}
 
 pub follows_left : {job : Job} {past : Past} {start : Tree} {counts : Counts} {here : Phase} {prefix : List ℕ} {held : Held} {read : List ℕ} {after : Held} {calls : Calls} {answer : Answer} {old new : Writing} → Follows job counts here prefix held read after calls answer
     → HeldAt job past here held → DestPart job past here held start old → LeavesPart (Some old) (Some new) calls.change → IsLeftTree job start new
-follows_left (a_start _ _ _ _ _ _ (MakesRoot _ _ item is)) at dest left = root_left item at dest is left
-follows_left {job} {past} {start} {old} {new} (Make _ _ _ _ _ _ (MakesDeclaration was object)) at dest left = part_left at dest (next_declaration job object was.rows past.bytes) left
-follows_left {job} {past} (Make _ _ _ _ _ _ (OpensCopy was object position row is stored all)) at dest broken = opened_left row at dest (file_next job object was.rows was.contents past.bytes position row (is_here job past object position was row at is stored) (ltb-false position.directories (length row.path) all)) broken
-follows_left (Make _ _ _ _ _ _ (CopiesOn _ _ _ _ _ _ _)) at dest broken = copied_left at dest broken
-follows_left {job} {past} {start} {old} {new} (Make _ _ _ _ _ _ (MakesVersionInventory was object)) at dest left = part_left at dest (next_first job object was.rows past.bytes) left
-follows_left {job} {past} {start} {old} {new} (Make _ _ _ _ _ _ (MakesVersionSidecar was object)) at dest left = part_left at dest (next_second job object was.rows past.bytes) left
-follows_left {job} {past} {start} {old} {new} (Make _ _ _ _ _ _ (MakesInventory was object)) at dest left = part_left at dest (next_third job object was.rows past.bytes) left
-follows_left {job} {past} {start} {old} {new} (Make _ _ _ _ _ _ (MakesSidecar was object)) at dest left = part_left at dest (next_fourth job object was.rows past.bytes) left
-follows_left {job} {past} {start} {here} {held} {old} {new} (Walk _ _ _ _ _ _ (OpensRoot _ _)) at dest left = same_left job past start here held old new at dest (plain_same refl left)
-follows_left {job} {past} {start} {here} {held} {old} {new} (Scan _ _ _ _ _ _ (StartsInSite _ _ _)) at dest left = same_left job past start here held old new at dest (plain_same refl left)
-follows_left {job} {past} {start} {here} {held} {old} {new} (Place _ _ _ _ _ _ (MakesTuple _ _ _)) at dest left = same_left job past start here held old new at dest (plain_same refl left)
+follows_left (a_start (MakesRoot _ _ item is)) at dest left = root_left item at dest is left
+follows_left {job} {past} {start} {old} {new} (Make (MakesDeclaration was object)) at dest left = part_left at dest (next_declaration job object was.rows past.bytes) left
+follows_left {job} {past} (Make (OpensCopy was object position row is stored all)) at dest broken = opened_left row at dest (file_next job object was.rows was.contents past.bytes position row (is_here job past object position was row at is stored) (ltb-false position.directories (length row.path) all)) broken
+follows_left (Make (CopiesOn _ _ _ _ _ _ _)) at dest broken = copied_left at dest broken
+follows_left {job} {past} {start} {old} {new} (Make (MakesVersionInventory was object)) at dest left = part_left at dest (next_first job object was.rows past.bytes) left
+follows_left {job} {past} {start} {old} {new} (Make (MakesVersionSidecar was object)) at dest left = part_left at dest (next_second job object was.rows past.bytes) left
+follows_left {job} {past} {start} {old} {new} (Make (MakesInventory was object)) at dest left = part_left at dest (next_third job object was.rows past.bytes) left
+follows_left {job} {past} {start} {old} {new} (Make (MakesSidecar was object)) at dest left = part_left at dest (next_fourth job object was.rows past.bytes) left
+follows_left {job} {past} {start} {here} {held} {old} {new} (Walk (OpensRoot _ _)) at dest left = same_left job past start here held old new at dest (plain_same refl left)
+follows_left {job} {past} {start} {here} {held} {old} {new} (Scan (StartsInSite _ _ _)) at dest left = same_left job past start here held old new at dest (plain_same refl left)
+follows_left {job} {past} {start} {here} {held} {old} {new} (Place (MakesTuple _ _ _)) at dest left = same_left job past start here held old new at dest (plain_same refl left)
 follows_left {job} {past} {start} {here} {held} {old} {new} _ at dest left = same_left job past start here held old new at dest (plain_same refl left)

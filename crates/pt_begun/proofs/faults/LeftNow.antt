@@ -51,7 +51,7 @@ root_left {job} source {start} {now} first making at =
 -- the root after some items, with this in the log
 pub between_left : {job : Job} {source : Forest} {start : Tree} {now : Tree} {k : ℕ} {log : List ℕ} → IsFree start staging → k ≤ length (items job source) → IsLogAfter job source (root_in start) k log → now ≡ with_root start (after job source (root_in start) k) → MayBeLeft job source start now log
 between_left {job} {source} {start} {k} {log} free within told is =
-    inr (free, subst (λ (t : Tree). IsLeft job source start t log) (sym is) (Between k log within told))
+    inr (free, rw is (Between k log within told))
 
 -- the root after so many items, or after all if there are no more
 pub counted_left : {job : Job} {source : Forest} {start : Tree} {now : Tree} (count : ℕ) → IsFree start staging → now ≡ with_root start (after job source (root_in start) count) → MayBeLeft job source start now (text job source (root_in start) count)

@@ -63,16 +63,16 @@ quiet_leaves (Untouched _ same) _ = same
 quiet_leaves _ quiet = absurd (cc)
 
 follows_quiet : {job : Job} {counts : Counts} {here : Phase} {prefix : List ℕ} {held : Held} {read : List ℕ} {after : Held} {calls : Calls} {answer : Answer} → Follows job counts here prefix held read after calls answer → may_tell here ≡ true → is_quiet calls.change ≡ true
-follows_quiet (a_start _ _ _ _ _ _ (start.IsStore _ _ _)) tells = absurd (cc)
-follows_quiet (a_start _ _ _ _ _ _ _) tells = absurd (cc)
-follows_quiet (Walk _ _ _ _ _ _ (walk.OpensRoot _ _)) _ = refl
-follows_quiet (Scan _ _ _ _ _ _ (scan.StartsInSite _ _ _)) _ = refl
-follows_quiet (Make _ _ _ _ _ _ (make.MakesStaging _ _)) tells = absurd (cc)
-follows_quiet (Make _ _ _ _ _ _ _) tells = absurd (cc)
-follows_quiet (Place _ _ _ _ _ _ (place.MakesTuple _ _ _)) tells = absurd (cc)
-follows_quiet (Place _ _ _ _ _ _ (place.FindsTuple _ _ _)) tells = absurd (cc)
-follows_quiet (Place _ _ _ _ _ _ (place.IsInTheWay _ _ _ _ _)) tells = absurd (cc)
-follows_quiet (Place _ _ _ _ _ _ (place.RenamesObject _ _)) tells = absurd (cc)
+follows_quiet (a_start (start.IsStore _ _ _)) tells = absurd (cc)
+follows_quiet (a_start _) tells = absurd (cc)
+follows_quiet (Walk (walk.OpensRoot _ _)) _ = refl
+follows_quiet (Scan (scan.StartsInSite _ _ _)) _ = refl
+follows_quiet (Make (make.MakesStaging _ _)) tells = absurd (cc)
+follows_quiet (Make _) tells = absurd (cc)
+follows_quiet (Place (place.MakesTuple _ _ _)) tells = absurd (cc)
+follows_quiet (Place (place.FindsTuple _ _ _)) tells = absurd (cc)
+follows_quiet (Place (place.IsInTheWay _ _ _ _ _)) tells = absurd (cc)
+follows_quiet (Place (place.RenamesObject _ _)) tells = absurd (cc)
 follows_quiet _ _ = refl
 
 -- ---- the law
@@ -82,7 +82,7 @@ now_tells : {A B : Type 0} (P : A → B → Type 0) (start : Option A) (now : Op
 now_tells P None None is tells = absurd (cc)
 now_tells P None (Some _) _ tells = absurd (tells)
 now_tells P (Some _) None _ tells = absurd (tells)
-now_tells P (Some a) (Some x) {b} is tells = (a, subst (λ y. P a y) (some_same x b is) tells)
+now_tells P (Some a) (Some x) {b} is tells = (a, rw (some_same x b is) at tells)
 
 same_tree : (old : Option Writing) {t : Tree} → Some t ≡ dest_tree old → (w : Writing) × ((old ≡ Some w) × (t ≡ w.tree))
 same_tree None is = absurd (cc)
@@ -102,4 +102,4 @@ failed_log_leaves_no_staging job start old _ run _ _ (past, is) (FailsLater _ _ 
     let same = quiet_leaves leaves.0.dest quiet in
     let was = same_tree old.dest (sym (ap dest_tree dest_is) ∙ same) in
     let had = now_tells (DestPart job past run.phase run.kept.held) start.dest old.dest was.1.0 is.dest in
-    subst (λ (t : Tree). IsFree t staging) (sym was.1.1) (free_there run.phase tells had.1)
+    rw was.1.1 (free_there run.phase tells had.1)

@@ -80,7 +80,7 @@ later_rise : (items : List Item) (place : ℕ) {item : Item} → names_rise item
 later_rise [] place rise is = absurd (cc)
 later_rise (x ∷ items) zero {item} rise is =
     let same : x ≡ item = cc in
-    subst (λ (y : Item). list_all (λ (other : Item). is_before y.0 other.0) items ≡ true) same (all_follow x items rise)
+    rw same at (all_follow x items rise)
   where
     all_follow : (x : Item) (items : List Item) → names_rise (x ∷ items) ≡ true → list_all (λ (other : Item). is_before x.0 other.0) items ≡ true
     all_follow x [] rise = refl
@@ -145,7 +145,7 @@ behind_noted earlier frame frames item is_one e h =
     let here : names_to (frame ∷ frames) ≡ names_to frames ++ item.0 ∷ [] = path_grows frame frames item e in
     let items = drop (frame.place + 1) frame.listing in
     let parts = and_parts _ _ h in
-    subst (λ (p : Path). all_behind (earlier ++ p ∷ []) (advanced (frame ∷ frames)) ≡ true) (sym here)
+    rw here
     (and_from _ _
     (both_come earlier _ (names_to frames) items (one_later earlier (names_to frames) frame.place frame.listing parts.0) (before_later frame frames [] one.0 e))
     (both_outer earlier _ frames parts.1 (before_outer frames (item.0 ∷ []) one.1 refl)))

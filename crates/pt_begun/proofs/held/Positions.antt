@@ -153,7 +153,7 @@ shared_in_content (a ∷ p) (b ∷ q) parts = refl
 new_after : (rows : List Row) (stored : ℕ) (row : Row) → part_in_order (row_paths rows) ≡ true → slice_get rows stored ≡ Some row → (next : Option Row) → slice_get rows (suc stored) ≡ next
     → AreNewFrom (take (suc stored) (map stored_at rows)) (standing row.path (slice_get (map content_of_row rows) (suc stored))) (slice_get (map stored_at rows) (suc stored))
 new_after rows stored row order is None end =
-    subst (λ (o : Option Path). AreNewFrom (take (suc stored) (map stored_at rows)) (standing row.path (slice_get (map content_of_row rows) (suc stored))) o) (sym (get_map_none stored_at rows (suc stored) end)) tt
+    rw (get_map_none stored_at rows (suc stored) end) tt
 new_after rows stored row order is (Some next) there =
     let paths = map stored_at rows in
     let here : slice_get paths stored ≡ Some (stored_at row) = get_map stored_at rows stored row is in
@@ -164,10 +164,10 @@ new_after rows stored row order is (Some next) there =
     let in_order : part_in_order (take stored paths ++ stored_at row ∷ stored_at next ∷ []) ≡ true =
     ap part_in_order (sym two) ∙ order_front (take (suc (suc stored)) paths) (drop (suc (suc stored)) paths) (ap part_in_order (take-append-drop (suc (suc stored)) paths) ∙ contents_in_order rows order) in
     let parts : parts_before row.path next.path ≡ true = (and_parts _ _ (order_behind (take stored paths) (stored_at row) _ in_order)).0 in
-    subst (λ (o : Option Path). AreNewFrom (take (suc stored) paths) (standing row.path (slice_get (map content_of_row rows) (suc stored))) o) (sym later)
-    (subst (λ (o : Option Content). list_all (λ folder. not (is_above_one (take (suc stored) paths) folder)) (drop (standing row.path o) (folders_above (stored_at next))) ≡ true) (sym (get_map content_of_row rows (suc stored) next there))
-    (subst (λ (l : List Path). list_all (λ folder. not (is_above_one l folder)) (drop (suc (shared (parent row.path) (parent next.path))) (folders_above (stored_at next))) ≡ true) (sym front)
-    (subst (λ (k : ℕ). list_all (λ folder. not (is_above_one (take stored paths ++ stored_at row ∷ []) folder)) (drop k (folders_above (stored_at next))) ≡ true) (shared_in_content row.path next.path parts)
+    rw later
+    (rw (get_map content_of_row rows (suc stored) next there)
+    (rw front
+    (rw (shared_in_content row.path next.path parts) at
     (beyond_last (take stored paths) (stored_at row) (stored_at next) in_order parts))))
 
 -- ---- the row at a position
@@ -256,8 +256,8 @@ module _ (rows : List Row) (contents : List Content) (position : Position) (row 
   at_stored contents_are order is stored more at = record {
     within = ltb-true (position.row + 1) (length rows) more;
     stored = stored_more contents_are order is stored at;
-    new = subst (λ (n : ℕ). AreNewFrom (take n (content_paths rows)) (standing row.path (slice_get contents n)) (slice_get (content_paths rows) n)) (sym (add_one position.stored))
-        (subst (λ (l : List Content). AreNewFrom (take (suc position.stored) (content_paths rows)) (standing row.path (slice_get l (suc position.stored))) (slice_get (content_paths rows) (suc position.stored))) (sym contents_are)
+    new = rw (add_one position.stored)
+        (rw contents_are
         (new_after (distinct rows) position.stored row (order_distinct [] rows order) (its_content _ contents_are order is stored at) _ refl));
   }
     where

@@ -41,7 +41,7 @@ use Rattle.pt_begun.proofs.held.WithBytes.{rows_push}
 no_rows : (job : Job) {bytes : Path → List ℕ} {held : Held} → HoldsNoRows held → AreRows job bytes held
 no_rows job {bytes} none = record {
   order = ap (λ (l : List Row). part_in_order (row_paths l)) none.rows;
-  digests = subst (λ (l : List Row). All (λ row. digest_of job.algorithm (bytes row.path) ≡ row.digest) l) (sym none.rows) (λ k d h. absurd (omega (arith, h)));
+  digests = rw none.rows (λ k d h. absurd (omega (arith, h)));
   contents = none.contents ∙ sym (ap (λ (l : List Row). map content_of_row (distinct l)) none.rows);
 }
 

@@ -138,7 +138,7 @@ pub walks_keep : {job : Job} (old new : Option Reading) {prefix : List ℕ} {her
     → Answers calls.asked old new → TrailAt here held → TrailAt next after
 unfolding Answers
 walks_keep old new (OpensRoot was items) answers at =
-    record { is_one = trail_entered items was.trail answers.1 (subst (λ (t : List Frame). are_outer t ≡ true) (sym at.none) refl); none = tt; entry = tt }
+    record { is_one = trail_entered items was.trail answers.1 (rw at.none refl); none = tt; entry = tt }
 walks_keep {job} old new {prefix} (IsNew was index id is) answers at = new_object job was _ index refl at.is_one (named_found job prefix was.trail index id is)
 walks_keep old new (IsPast was name e short last) answers at = record { is_one = trail_advanced was.trail _ at.is_one e; none = tt; entry = tt }
 walks_keep old new (IsDeep was name e short last deep) answers at = record { is_one = trail_advanced was.trail _ at.is_one e; none = tt; entry = tt }

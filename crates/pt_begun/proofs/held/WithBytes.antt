@@ -39,7 +39,7 @@ module _ (P : List ℕ → Row → Type 0) (bytes : Path → List ℕ) (path : P
   all_still (row ∷ rows) behind all =
       let parts = and_parts _ _ behind in
       All-cons (λ r. P (with_bytes path read bytes r.path) r) row rows
-      (subst (λ b. P b row) (earlier_held path read bytes row.path parts.0) (all 0 row (omega arith)))
+      (rw (earlier_held path read bytes row.path parts.0) at (all 0 row (omega arith)))
       (all_still rows parts.1 (rest_of (λ r. P (bytes r.path) r) row rows all))
 
   -- and of those that come behind it
@@ -48,7 +48,7 @@ module _ (P : List ℕ → Row → Type 0) (bytes : Path → List ℕ) (path : P
   all_later (row ∷ rows) after all =
       let parts = and_parts _ _ after in
       All-cons (λ r. P (with_bytes path read bytes r.path) r) row rows
-      (subst (λ b. P b row) (later_held path read bytes row.path parts.0) (all 0 row (omega arith)))
+      (rw (later_held path read bytes row.path parts.0) at (all 0 row (omega arith)))
       (all_later rows parts.1 (rest_of (λ r. P (bytes r.path) r) row rows all))
 
 -- one row more, with what was read of its file
@@ -56,7 +56,7 @@ pub rows_push : (P : List ℕ → Row → Type 0) (bytes : Path → List ℕ) {p
     → EachRow P bytes rows → EachRow P (with_bytes path read bytes) (rows ++ row ∷ [])
 rows_push P bytes {path} read row is new rows behind all =
     All-push (λ r. P (with_bytes path read bytes r.path) r) rows row (all_still P bytes path read rows behind all)
-    (subst (λ p. P (with_bytes path read bytes p) row) (sym is) (subst (λ b. P b row) (now_held path bytes) new))
+    (subst (λ p. P (with_bytes path read bytes p) row) (sym is) (rw (← (now_held path bytes)) new))
 
 comes_before : (path : Path) (front : List Row) (row : Row) (others : List Row) → list_all (parts_before path) (row_paths (front ++ row ∷ others)) ≡ true → parts_before path row.path ≡ true
 comes_before path [] row others h = (and_parts _ _ h).0
@@ -66,12 +66,12 @@ comes_before path (r ∷ front) row others h = comes_before path front row other
 all_around : (P : List ℕ → Row → Type 0) (bytes : Path → List ℕ) (read : List ℕ) (front : List Row) (row : Row) (others : List Row) → part_in_order (row_paths (front ++ row ∷ others)) ≡ true → P read row
     → EachRow P bytes (front ++ row ∷ others) → EachRow P (with_bytes row.path read bytes) (front ++ row ∷ others)
 all_around P bytes read [] row others order new all =
-    All-cons (λ r. P (with_bytes row.path read bytes r.path) r) row others (subst (λ b. P b row) (now_held row.path bytes) new)
+    All-cons (λ r. P (with_bytes row.path read bytes r.path) r) row others (rw (← (now_held row.path bytes)) new)
     (all_later P bytes row.path read others (and_parts _ _ order).0 (rest_of (λ r. P (bytes r.path) r) row others all))
 all_around P bytes read (first ∷ front) row others order new all =
     let parts = and_parts _ _ order in
     All-cons (λ r. P (with_bytes row.path read bytes r.path) r) first _
-    (subst (λ b. P b first) (earlier_held row.path read bytes first.path (comes_before first.path front row others parts.0)) (all 0 first (omega arith)))
+    (rw (← (earlier_held row.path read bytes first.path (comes_before first.path front row others parts.0))) (all 0 first (omega arith)))
     (all_around P bytes read front row others parts.1 new (rest_of (λ r. P (bytes r.path) r) first _ all))
 
 -- so where the row is one of them
@@ -79,6 +79,6 @@ pub rows_again : (P : List ℕ → Row → Type 0) (bytes : Path → List ℕ) (
     → EachRow P bytes rows → EachRow P (with_bytes_of (slice_get rows n) read bytes) rows
 rows_again P bytes read rows n row is order new all =
     let split = split_at n rows row is in
-    subst (λ (o : Option Row). EachRow P (with_bytes_of o read bytes) rows) (sym is)
-    (subst (λ (l : List Row). EachRow P (with_bytes row.path read bytes) l) (sym split)
-    (all_around P bytes read (take n rows) row (drop (suc n) rows) (sym (ap (λ (l : List Row). part_in_order (row_paths l)) split) ∙ order) new (subst (λ (l : List Row). EachRow P bytes l) split all)))
+    rw is
+    (rw split
+    (all_around P bytes read (take n rows) row (drop (suc n) rows) (sym (ap (λ (l : List Row). part_in_order (row_paths l)) split) ∙ order) new (rw split at all)))

@@ -70,8 +70,8 @@ module _ (job : Job) (past : Past) (s : Reading) (start : Tree) (object : Object
       inr (
         root.free,
         Carrying past.count n next now (text job s.tree (root_in start) past.count) is (told_so_far job s.tree (root_in start) past.count (omega (arith, within)))
-            (subst (λ (t : Tree). StandsAtPrefix (script_of next.id next.files job.meta job.algorithm) t now) (way_is tree root it few placed)
-            (subst (λ (l : List Item). StandsAtPrefix l (root_here n) now) (own_script job past start object held rows) at)),
+            (rw (way_is tree root it few placed) at
+            (rw (own_script job past start object held rows) at at)),
       )
 
 -- ---- a content in part

@@ -130,7 +130,7 @@ places_tell {job} {past} {s} {root} (TellsDone was object) at part free =
     let whole = files (entries (object_at s.tree object site).inside) in
     let gained : List Carried = record { id = object.id; files = whole } ∷ [] in (
       gained,
-      subst (λ (l : Line). Tells job s.tree root past.count phase.Walk (Some l) (suc past.count) gained) (done_told s.tree at part.at.1.scanned)
+      rw (← (done_told s.tree at part.at.1.scanned))
           (OneItem
           (ends_with part.at.0 part.at.1 free)),
     )

@@ -62,11 +62,11 @@ either_later true _ _ one _ = one
 either_later false _ _ _ two = two
 
 pub follows_quietly : {job : Job} {counts : Counts} {here : Phase} {prefix : List ℕ} {held : Held} {read : List ℕ} {after : Held} {calls : Calls} {next : Phase} → Follows job counts here prefix held read after calls (Ok next) → is_start next ≡ true → StartsQuietly here calls
-follows_quietly (a_start _ _ _ _ _ _ (IsStore _ _ _)) _ = record { start = refl; line = refl }
-follows_quietly (a_start _ _ _ _ _ _ _) _ = record { start = refl; line = refl }
-follows_quietly (Walk _ _ _ _ _ _ (OpensRoot _ _)) start = absurd (cc)
-follows_quietly (Scan _ _ _ _ _ _ (StartsInSite _ _ _)) start = absurd (cc)
-follows_quietly {job} (Make _ _ _ _ _ _ (MakesSidecar _ object)) start = absurd (true≢false (sym start ∙ either_later (job.tuples.count == 0) (phase.Rename object) (phase.Tuples object 0) refl refl))
-follows_quietly {job} (Place _ _ _ _ _ _ (MakesTuple _ object number)) start = absurd (true≢false (sym start ∙ either_later (nat_lt (number + 1) job.tuples.count) (phase.Tuples object (number + 1)) (phase.Rename object) refl refl))
-follows_quietly {job} (Place _ _ _ _ _ _ (FindsTuple _ object number)) start = absurd (true≢false (sym start ∙ either_later (nat_lt (number + 1) job.tuples.count) (phase.Tuples object (number + 1)) (phase.Rename object) refl refl))
+follows_quietly (a_start (IsStore _ _ _)) _ = record { start = refl; line = refl }
+follows_quietly (a_start _) _ = record { start = refl; line = refl }
+follows_quietly (Walk (OpensRoot _ _)) start = absurd (cc)
+follows_quietly (Scan (StartsInSite _ _ _)) start = absurd (cc)
+follows_quietly {job} (Make (MakesSidecar _ object)) start = absurd (true≢false (sym start ∙ either_later (job.tuples.count == 0) (phase.Rename object) (phase.Tuples object 0) refl refl))
+follows_quietly {job} (Place (MakesTuple _ object number)) start = absurd (true≢false (sym start ∙ either_later (nat_lt (number + 1) job.tuples.count) (phase.Tuples object (number + 1)) (phase.Rename object) refl refl))
+follows_quietly {job} (Place (FindsTuple _ object number)) start = absurd (true≢false (sym start ∙ either_later (nat_lt (number + 1) job.tuples.count) (phase.Tuples object (number + 1)) (phase.Rename object) refl refl))
 follows_quietly _ start = absurd (cc)

@@ -17,11 +17,11 @@ use Rattle.pt_begun.specs.EndLaws.{is_ended}
 -- ---- where a turn begins
 
 none_follows : {job : Job} {counts : Counts} {prefix : List ℕ} {held : Held} {read : List ℕ} {after : Held} {calls : Calls} {answer : Answer} → Follows job counts phase.Ended prefix held read after calls answer → ⊥
-none_follows (a_start _ _ _ _ _ _ turn) = elim turn [ ]
-none_follows (Walk _ _ _ _ _ _ turn) = elim turn [ ]
-none_follows (Scan _ _ _ _ _ _ turn) = elim turn [ ]
-none_follows (Make _ _ _ _ _ _ turn) = elim turn [ ]
-none_follows (Place _ _ _ _ _ _ turn) = elim turn [ ]
+none_follows (a_start turn) = elim turn [ ]
+none_follows (Walk turn) = elim turn [ ]
+none_follows (Scan turn) = elim turn [ ]
+none_follows (Make turn) = elim turn [ ]
+none_follows (Place turn) = elim turn [ ]
 
 -- what leads to nothing at the end holds where the run goes on
 pub unless_ended : (P : Phase → Type 0) (here : Phase) → (P phase.Ended → ⊥) → P here → is_ended here ≡ false
@@ -34,10 +34,10 @@ follows_runs {job} {counts} {here} {prefix} {held} {read} {after} {calls} {answe
 -- ---- what it tells
 
 pub refused_quiet : {job : Job} {counts : Counts} {here : Phase} {prefix : List ℕ} {held : Held} {read : List ℕ} {after : Held} {calls : Calls} {why : Halt} → Follows job counts here prefix held read after calls (Err why) → calls.line ≡ None
-refused_quiet (a_start _ _ _ _ _ _ (IsNoStore _ _ _)) = refl
-refused_quiet (a_start _ _ _ _ _ _ _) = refl
-refused_quiet (Walk _ _ _ _ _ _ turn) = elim turn [ ]
-refused_quiet (Scan _ _ _ _ _ _ turn) = elim turn [ ]
-refused_quiet (Make _ _ _ _ _ _ (ReadsMore _ _ _ _ _ _ _)) = refl
-refused_quiet (Make _ _ _ _ _ _ (ReadsOther _ _ _ _ _ _ _)) = refl
-refused_quiet (Place _ _ _ _ _ _ (IsInTheWay _ _ _ _ _)) = refl
+refused_quiet (a_start (IsNoStore _ _ _)) = refl
+refused_quiet (a_start _) = refl
+refused_quiet (Walk turn) = elim turn [ ]
+refused_quiet (Scan turn) = elim turn [ ]
+refused_quiet (Make (ReadsMore _ _ _ _ _ _ _)) = refl
+refused_quiet (Make (ReadsOther _ _ _ _ _ _ _)) = refl
+refused_quiet (Place (IsInTheWay _ _ _ _ _)) = refl

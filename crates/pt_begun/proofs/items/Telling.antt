@@ -11,12 +11,12 @@ pub both_tell : {A B : Type 0} → (P : A → B → Type 0) (start : Option A) (
 both_tell P None None is tells = absurd (cc)
 both_tell P None (Some _) _ tells = absurd (tells)
 both_tell P (Some _) None _ tells = absurd (tells)
-both_tell P (Some x) (Some b) {a} is tells = (b, refl, subst (λ y. P y b) (some_same x a is) tells)
+both_tell P (Some x) (Some b) {a} is tells = (b, refl, rw (some_same x a is) at tells)
 
 pub log_tells : (P : List ℕ → List ℕ → Type 0) (start now : Option (List ℕ)) {a : List ℕ} → start ≡ Some a → TellsStill start now P → (b : List ℕ) × (now ≡ Some b) × P a b
 log_tells P None now is tells = absurd (cc)
 log_tells P (Some _) None _ tells = absurd (tells)
-log_tells P (Some x) (Some b) {a} is tells = (b, refl, subst (λ y. P y b) (some_same x a is) tells)
+log_tells P (Some x) (Some b) {a} is tells = (b, refl, rw (some_same x a is) at tells)
 
 -- a turn that tells nothing leaves the log
 pub none_put : (line : Option Line) {old new : Option (List ℕ)} → line ≡ None → Puts line old new → new ≡ old

@@ -86,7 +86,7 @@ taken_as_found {job} source {start} past {w} _ {id} {object} {what} rooted is na
 -- a shorty that is passed ends an item
 at_shorty : {job : Job} {source : Forest} {root : Tree} {count : ℕ} (trail : List Frame) {name : List ℕ} {line : Option Line} → current_entry trail ≡ Some (name, kind.Dir) → is_short name ≡ true → Tells job source root count phase.Walk line (suc count) []
     → Tells job source root count phase.Walk line (done_after phase.Walk trail phase.Walk count) []
-at_shorty {job} {source} {root} {count} trail {name} {line} e short tells = subst (λ (n : ℕ). Tells job source root count phase.Walk line n []) (sym (done_at_shorty trail name count e short)) tells
+at_shorty {job} {source} {root} {count} trail {name} {line} e short tells = rw (done_at_shorty trail name count e short) tells
 
 pub walks_tell : {job : Job} {past : Past} {s : Reading} {prefix : List ℕ} (start : Tree) (w new : Writing) {here next : Phase} {held after : Held} {calls : Calls} → Walks job prefix here held after calls (Ok next) → is_trail held.trail ≡ true → SourcePart job past here prefix held s
     → IsRooted (root_in start) → past.placed ≡ carried_among job s.tree (root_in start) (items_placed here past.count) → DestAt job start past here held w → Changes calls.change (Some w) (Some new)
@@ -99,7 +99,7 @@ walks_tell {job} {past} {s} {prefix} start w _ (IsPresent was index id _ is) _ p
     let named = (with_prefix job was.trail part.at.1 (judged_verdict job s.tree prefix was.trail (pairtree_proper s.tree part.at.1.store part.proper) part.at.2.way.entered part.at.2.way.fits is)) in
     let item = judged_next part.at.2 in
     let taken = taken_as_found s.tree past was.trail rooted item named placed dest (change.0 w refl) in
-    subst (λ (p : Path). Tells job s.tree (root_in start) past.count phase.Walk (Some (Present p id (place_of job.tuples id))) (suc past.count) []) (path_at job id index was.trail)
+    rw (← (path_at job id index was.trail))
     (OneItem (present_item item named taken))
 walks_tell {job} {past} {s} start _ _ (IsPast was name e short last) _ part _ _ _ _ =
     at_shorty was.trail e short
@@ -110,9 +110,9 @@ walks_tell {job} {past} {s} start _ _ (IsDeep was name e short last deep) is_one
     (OneItem (passed_item (is_first job.share) (root_in start) cause.Limit
     (get_map (item_of job (prefix_of s.tree)) (sites_of job.limits.depth s.tree) past.count _ (deep_next job s.tree was.trail name past.count (pairtree_proper s.tree part.at.1.store part.proper) is_one e short last deep part.at.2)) refl))
 walks_tell {job} {past} {s} start _ _ (PassesEntry was item e apart) _ _ _ _ _ _ =
-    subst (λ (n : ℕ). Tells job s.tree (root_in start) past.count phase.Walk None n []) (sym (none_at_entry was.trail item past.count e apart)) Nothing
+    rw (none_at_entry was.trail item past.count e apart) Nothing
 walks_tell {job} {past} {s} start _ _ (LeavesSite was e _) _ _ _ _ _ _ =
-    subst (λ (n : ℕ). Tells job s.tree (root_in start) past.count phase.Walk None n []) (sym (none_at_end was.trail past.count e)) Nothing
+    rw (none_at_end was.trail past.count e) Nothing
 walks_tell _ _ _ _ _ _ _ _ _ _ = Nothing
 
 -- the place of a new object isn't taken

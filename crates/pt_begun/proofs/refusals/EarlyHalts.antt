@@ -35,15 +35,15 @@ is_first phase.Staging = true
 is_first _ = false
 
 follows_first : {job : Job} {counts : Counts} {here : Phase} {prefix : List ℕ} {held : Held} {read : List ℕ} {after : Held} {calls : Calls} {why : Halt} → Follows job counts here prefix held read after calls (Err why) → is_early why ≡ true → is_first here ≡ true
-follows_first (a_start _ _ _ _ _ _ (IsNoRoot _ _ _)) early = absurd (cc)
-follows_first (a_start _ _ _ _ _ _ (IsNoFile _ _ _ _ _ _ _)) early = absurd (cc)
-follows_first (a_start _ _ _ _ _ _ (Differs _ _ _ _ _ _ _)) early = absurd (cc)
-follows_first (a_start _ _ _ _ _ _ _) _ = refl
-follows_first (Walk _ _ _ _ _ _ turn) _ = elim turn [ ]
-follows_first (Scan _ _ _ _ _ _ turn) _ = elim turn [ ]
-follows_first (Make _ _ _ _ _ _ (ReadsMore _ _ _ _ _ _ _)) early = absurd (cc)
-follows_first (Make _ _ _ _ _ _ (ReadsOther _ _ _ _ _ _ _)) early = absurd (cc)
-follows_first (Place _ _ _ _ _ _ (IsInTheWay _ _ _ _ _)) early = absurd (cc)
+follows_first (a_start (IsNoRoot _ _ _)) early = absurd (cc)
+follows_first (a_start (IsNoFile _ _ _ _ _ _ _)) early = absurd (cc)
+follows_first (a_start (Differs _ _ _ _ _ _ _)) early = absurd (cc)
+follows_first (a_start _) _ = refl
+follows_first (Walk turn) _ = elim turn [ ]
+follows_first (Scan turn) _ = elim turn [ ]
+follows_first (Make (ReadsMore _ _ _ _ _ _ _)) early = absurd (cc)
+follows_first (Make (ReadsOther _ _ _ _ _ _ _)) early = absurd (cc)
+follows_first (Place (IsInTheWay _ _ _ _ _)) early = absurd (cc)
 
 -- a fault is no such halt
 failed_late : (why : Halt) (old new : Failures) → HasFailed why old new → is_early why ≡ false

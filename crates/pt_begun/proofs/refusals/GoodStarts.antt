@@ -46,13 +46,13 @@ is_refusal halt.Changed = true
 is_refusal _ = false
 
 follows_for : {job : Job} {counts : Counts} {here : Phase} {prefix : List ℕ} {held : Held} {read : List ℕ} {new : Held} {calls : Calls} {why : Halt} → Follows job counts here prefix held read new calls (Err why) → is_refusal why ≡ true
-follows_for (a_start _ _ _ _ _ _ (IsNoStore _ _ _)) = refl
-follows_for (a_start _ _ _ _ _ _ _) = refl
-follows_for (Walk _ _ _ _ _ _ turn) = elim turn [ ]
-follows_for (Scan _ _ _ _ _ _ turn) = elim turn [ ]
-follows_for (Make _ _ _ _ _ _ (ReadsMore _ _ _ _ _ _ _)) = refl
-follows_for (Make _ _ _ _ _ _ (ReadsOther _ _ _ _ _ _ _)) = refl
-follows_for (Place _ _ _ _ _ _ (IsInTheWay _ _ _ _ _)) = refl
+follows_for (a_start (IsNoStore _ _ _)) = refl
+follows_for (a_start _) = refl
+follows_for (Walk turn) = elim turn [ ]
+follows_for (Scan turn) = elim turn [ ]
+follows_for (Make (ReadsMore _ _ _ _ _ _ _)) = refl
+follows_for (Make (ReadsOther _ _ _ _ _ _ _)) = refl
+follows_for (Place (IsInTheWay _ _ _ _ _)) = refl
 
 -- or a device that failed
 halts_for : {job : Job} {here : Phase} {before after : Kept} {old new : World} {why : Halt} → Turn job here before after old new (Err why) → (is_refusal why ≡ true) ⊎ HasFailed why old.failures new.failures

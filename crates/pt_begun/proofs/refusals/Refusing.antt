@@ -105,21 +105,21 @@ module _ (job : Job) (s : Reading) (prefix : List ℕ) (count : ℕ) (object : O
 follows_refuse : {job : Job} (s : Reading) (new : Option Reading) {counts : Counts} (count : ℕ) {here : Phase} {prefix : List ℕ} {held : Held} {read : List ℕ} {after : Held} {calls : Calls} {why : Halt}
     → is_proper s.tree ≡ true → Follows job counts here prefix held read after calls (Err why) → SourceAt job s prefix count here held → Answers calls.asked (Some s) new → SaysOfSource why s.tree
 unfolding Answers IsListed IsRead
-follows_refuse s _ _ _ (a_start _ _ _ _ _ _ (IsNoStore _ entries is)) _ answers =
+follows_refuse s _ _ _ (a_start (IsNoStore _ entries is)) _ answers =
     let listed : entries ≡ listing_of s.tree = sym (some_same _ entries (answers.0 s refl)) in
     sym (store_listed s.tree) ∙ ap lists_store (sym listed) ∙ is
-follows_refuse s _ _ _ (a_start _ _ _ _ _ _ (IsNoPrefixFile _ _ some is)) at _ = (at.2, no_file (find s.tree prefix_file) some is at.3)
-follows_refuse s _ _ _ (a_start _ _ _ _ _ _ (IsNoPrefix _ _ _ is)) at answers =
+follows_refuse s _ _ _ (a_start (IsNoPrefixFile _ _ some is)) at _ = (at.2, no_file (find s.tree prefix_file) some is at.3)
+follows_refuse s _ _ _ (a_start (IsNoPrefix _ _ _ is)) at answers =
     (at.2, bad_prefix (find s.tree prefix_file) at.3 (answers.0 (after_open (prefix_file ∷ []) s) refl) is)
-follows_refuse _ _ _ _ (a_start _ _ _ _ _ _ _) at _ = (at.2.store, at.2.good)
-follows_refuse _ _ _ _ (Walk _ _ _ _ _ _ turn) _ _ = elim turn [ ]
-follows_refuse _ _ _ _ (Scan _ _ _ _ _ _ turn) _ _ = elim turn [ ]
-follows_refuse {job} s _ count {prefix} proper (Make _ _ _ _ _ _ (ReadsMore was object position left _ _ more)) at answers =
+follows_refuse _ _ _ _ (a_start _) at _ = (at.2.store, at.2.good)
+follows_refuse _ _ _ _ (Walk turn) _ _ = elim turn [ ]
+follows_refuse _ _ _ _ (Scan turn) _ _ = elim turn [ ]
+follows_refuse {job} s _ count {prefix} proper (Make (ReadsMore was object position left _ _ more)) at answers =
     absurd (never_more job s prefix count object was position left proper at more (answers.0 s refl))
-follows_refuse {job} s _ count {prefix} proper (Make _ _ _ _ _ _ (ReadsOther was object position row left is other)) at answers =
+follows_refuse {job} s _ count {prefix} proper (Make (ReadsOther was object position row left is other)) at answers =
     absurd (let same = some_same row at.2.row (sym is ∙ at.2.is_row) in
     true≢false (sym (ap (λ (r : Row). is_as_read job r left was.fed) same ∙ as_read job s prefix count object was position left proper at (answers.0 s refl)) ∙ other))
-follows_refuse _ _ _ _ (Place _ _ _ _ _ _ (IsInTheWay _ _ _ _ _)) at _ = (at.0.store, at.0.good)
+follows_refuse _ _ _ _ (Place (IsInTheWay _ _ _ _ _)) at _ = (at.0.store, at.0.good)
 
 -- a fault says nothing of the source
 failed : (why : Halt) (old new : Failures) (source : Forest) → HasFailed why old new → SaysOfSource why source
@@ -137,7 +137,7 @@ refused : {job : Job} {past : Past} {start : Start} {old new : World} {run : Run
 unfolding Did Stays LeavesSome
 refused {past} {new} {s} is (IsRefused _ _ calls _ turn did _) told =
     let part = is.source s told in
-    follows_refuse s new.source past.count part.proper turn part.at (subst (λ o. Answers calls.asked o new.source) told did.0.source)
+    follows_refuse s new.source past.count part.proper turn part.at (rw told at did.0.source)
 refused {old} {new} {why} {s} _ (FailsAtFirst _ stays _) _ = failed why old.failures new.failures s.tree stays.3
 refused {old} {new} {why} {s} _ (FailsLater _ _ _ _ _ _ _ leaves _ _) _ = failed why old.failures new.failures s.tree leaves.1
 

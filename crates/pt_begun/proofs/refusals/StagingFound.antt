@@ -26,18 +26,18 @@ some_kind (Some _) _ = refl
 follows_find : {job : Job} {past : Past} {t : Tree} {w : Writing} (new : Option Writing) {counts : Counts} {here : Phase} {prefix : List ℕ} {held : Held} {read : List ℕ} {after : Held} {calls : Calls}
     → Follows job counts here prefix held read after calls (Err halt.StagingLeft) → DestPart job past here held t w → Changes calls.change (Some w) new → is_some (t staging) ≡ true
 unfolding Changes IsKindAt
-follows_find {w} _ (a_start _ _ _ _ _ _ (HasStaging _ _)) dest change =
+follows_find {w} _ (a_start (HasStaging _ _)) dest change =
     ap (λ (tree : Tree). is_some (tree staging)) (sym dest.at.tree) ∙ some_kind (w.tree staging) (change.0 w refl)
-follows_find _ (Walk _ _ _ _ _ _ turn) _ _ = elim turn [ ]
-follows_find _ (Scan _ _ _ _ _ _ turn) _ _ = elim turn [ ]
-follows_find _ (Make _ _ _ _ _ _ turn) _ _ = elim turn [ ]
-follows_find _ (Place _ _ _ _ _ _ turn) _ _ = elim turn [ ]
+follows_find _ (Walk turn) _ _ = elim turn [ ]
+follows_find _ (Scan turn) _ _ = elim turn [ ]
+follows_find _ (Make turn) _ _ = elim turn [ ]
+follows_find _ (Place turn) _ _ = elim turn [ ]
 
 found : {job : Job} {past : Past} {start : Start} {old new : World} {run : Run} {after : Kept} {t : Tree} → IsPast job start old run past → Turn job run.phase (turning run.kept) after old new (Err halt.StagingLeft) → start.dest ≡ Some t → is_some (t staging) ≡ true
 unfolding Did Stays LeavesSome
 found {job} {past} {start} {old} {new} {run} is (IsRefused _ _ calls _ turn did _) told =
     let had = both_tell (DestPart job past run.phase run.kept.held) start.dest old.dest told is.dest in
-    follows_find new.dest turn had.2 (subst (λ o. Changes calls.change o new.dest) had.1 did.0.dest)
+    follows_find new.dest turn had.2 (rw had.1 at did.0.dest)
 found _ (FailsAtFirst _ stays _) _ = absurd (stays.3)
 found _ (FailsLater _ _ _ _ _ _ _ leaves _ _) _ = absurd (leaves.1)
 

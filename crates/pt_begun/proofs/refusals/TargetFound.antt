@@ -113,22 +113,22 @@ module _ (job : Job) (past : Past) (t : Tree) (old : Writing) (new : Option Writ
   follows_find : {counts : Counts} {here : Phase} {prefix read : List ℕ} {after : Held} {calls : Calls} → IsLayout job.tuples → Follows job counts here prefix held read after calls (Err halt.Target) → HeldAt job past here held → DestPart job past here held t old → Changes calls.change (Some old) new
       → ((object : Object) (number : ℕ) → here ≡ phase.Tuples object number → objects (object_held object held.rows past.bytes)) → IsFound
   unfolding Changes IsKindAt IsPeeked
-  follows_find _ (a_start _ _ _ _ _ _ (IsNoRoot _ _ other)) _ dest change _ =
+  follows_find _ (a_start (IsNoRoot _ _ other)) _ dest change _ =
       (dest.at.1, IsNoFolder (ap (λ (tree : Tree). is_folder_or_free (tree storage_root)) (sym dest.at.0.tree) ∙ no_folder (old.tree storage_root) (change.0 old refl) other))
-  follows_find _ (a_start _ _ _ _ _ _ (IsNoFile _ number path bytes _ is other)) _ dest change _ = (
+  follows_find _ (a_start (IsNoFile _ number path bytes _ is other)) _ dest change _ = (
     dest.at.free,
     HasOtherFile number (path, bytes) dest.at.top is
         (λ same. no_file bytes (change.0 old refl) other (ap (λ (tree : Tree). tree (storage_root ++ path)) dest.at.tree ∙ same)),
   )
-  follows_find layout (a_start _ _ _ _ _ _ (Differs _ number path bytes _ is other)) _ dest change _ = (
+  follows_find layout (a_start (Differs _ number path bytes _ is other)) _ dest change _ = (
     dest.at.free,
     HasOtherFile number (path, bytes) dest.at.top is
         (λ same. other_bytes (change.1 old refl) other (file_short job.tuples number path bytes layout is) (ap (λ (tree : Tree). tree (storage_root ++ path)) dest.at.tree ∙ same)),
   )
-  follows_find _ (Walk _ _ _ _ _ _ turn) _ _ _ _ = elim turn [ ]
-  follows_find _ (Scan _ _ _ _ _ _ turn) _ _ _ _ = elim turn [ ]
-  follows_find _ (Make _ _ _ _ _ _ turn) _ _ _ _ = elim turn [ ]
-  follows_find _ (Place _ _ _ _ _ _ (IsInTheWay _ object number _ other)) at dest change some =
+  follows_find _ (Walk turn) _ _ _ _ = elim turn [ ]
+  follows_find _ (Scan turn) _ _ _ _ = elim turn [ ]
+  follows_find _ (Make turn) _ _ _ _ = elim turn [ ]
+  follows_find _ (Place (IsInTheWay _ object number _ other)) at dest change some =
       (dest.at.0.root.free, IsBarred (object_held object held.rows past.bytes) (some object number refl) (barred at dest (change.0 old refl) other))
 
 -- ---- the laws
@@ -138,7 +138,7 @@ found : (job : Job) (past : Past) (start : Start) (old new : World) (run : Run) 
 unfolding Did Stays LeavesSome
 found job past start old new run _ t objects is (IsRefused _ _ calls _ turn did _) told some =
     let had = both_tell (DestPart job past run.phase run.kept.held) start.dest old.dest told is.dest in
-    follows_find job past t had.0 new.dest run.kept.held objects is.layout turn is.held had.2 (subst (λ o. Changes calls.change o new.dest) had.1 did.0.dest) some
+    follows_find job past t had.0 new.dest run.kept.held objects is.layout turn is.held had.2 (rw had.1 at did.0.dest) some
 found _ _ _ _ _ _ _ _ _ _ (FailsAtFirst _ stays _) _ _ = absurd (stays.3)
 found _ _ _ _ _ _ _ _ _ _ (FailsLater _ _ _ _ _ _ _ leaves _ _) _ _ = absurd (leaves.1)
 
@@ -151,6 +151,6 @@ unfolding Begun
 finds_target_of job start old new run after s t (past, is) turn source_is told =
     found job past start old new run after t (IsCarriedOf job s.tree (root_in t)) is turn told
     (λ object number here.
-    let source = subst (λ h. SourcePart job past h run.kept.prefix run.kept.held s) here (is.source s source_is) in
-    let free = subst (λ h. IsFreeAt h job s.tree (root_in t) past.count) here (is.items s source_is t told).places.next in
+    let source = rw here at (is.source s source_is) in
+    let free = rw here at (is.items s source_is t told).places.next in
     (past.count, carried_next past s (root_in t) source.proper source.at.0 source.at.1 source.bytes free))

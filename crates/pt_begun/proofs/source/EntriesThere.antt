@@ -121,7 +121,7 @@ file_of {directory} {base} ((p, File b) ∷ some) zero {path} {bytes} there is =
     let same : (p, b) ≡ (path, bytes) = some_same (p, b) (path, bytes) is in
     let one : p ≡ path = ap (λ (f : (Path × List ℕ)). f.0) same in
     let two : b ≡ bytes = ap (λ (f : (Path × List ℕ)). f.1) same in
-    subst (λ (q : Path). IsThere directory base (q, File bytes)) one (subst (λ (c : List ℕ). IsThere directory base (p, File c)) two there.0)
+    rw one at (rw two at there.0)
 file_of ((p, File b) ∷ some) (suc k) there is = file_of some k there.1 is
 file_of ((p, Dir inside) ∷ some) k there is = file_of some k there.1 is
 file_of ((p, Other) ∷ some) k there is = file_of some k there.1 is

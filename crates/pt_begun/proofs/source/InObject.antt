@@ -56,7 +56,7 @@ still_in job source prefix object count within fits same it = record {
   some = it.some;
   within = within;
   fits = fits;
-  site = subst (λ (t : List Frame). IsSiteOf job source prefix object t count) (sym same) it.site;
+  site = rw same it.site;
   place = it.place;
 }
 
@@ -210,4 +210,4 @@ scans_more job {object} {rows} {entry} {left} none counted it =
 
 -- what is left may be said otherwise
 pub scans_same : {job : Job} {object : PairtreeObject} {rows : List Row} {empty : ℕ} {old new : List Entry} → old ≡ new → HasScanned job object rows empty old → HasScanned job object rows empty new
-scans_same {job} {object} {rows} {empty} same it = subst (λ (l : List Entry). HasScanned job object rows empty l) same it
+scans_same {job} {object} {rows} {empty} same it = rw same at it

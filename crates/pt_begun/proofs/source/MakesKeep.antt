@@ -45,7 +45,7 @@ module _ (job : Job) (s : Reading) (prefix : List ℕ) (object : Object) (held :
   pub file_of_row : (n : ℕ) (row : Row) → is_proper s.tree ≡ true → slice_get held.rows n ≡ Some row → Scanned job prefix object count held s
       → RowFile job (pairtree_of s.tree) (path_of_source object held.trail) row
   file_of_row n row proper is it =
-      subst (λ (t : List Frame). RowFile job (pairtree_of s.tree) (path_of_source object t) row) (site_itself object _ it.1.at_site)
+      rw (site_itself object _ it.1.at_site) at
       (row_file job s.tree object (to_site object held.trail) [] n row (pairtree_proper s.tree it.0.store proper) it.1.scanned is)
 
   opens_copy : (position : Position) (row : Row) → is_proper s.tree ≡ true → slice_get held.rows position.row ≡ Some row → Scanned job prefix object count held s
@@ -61,7 +61,7 @@ module _ (job : Job) (s : Reading) (prefix : List ℕ) (object : Object) (held :
         row = row;
         is_row = is;
         within = omega arith;
-        read = subst (λ (n : ℕ). IsReading bytes n [] there) (sym none_read) (reads_first opened);
+        read = rw none_read (reads_first opened);
       }
 
   copies_on : (position : Position) (left : ℕ) (block : List ℕ) → nat_lt left (length block) ≡ false → ForSome (Some s) (λ (r : Reading). option_map (take 8192) r.unread ≡ Some block) → IsCopyingFile s.tree object held position s.unread left
@@ -75,7 +75,7 @@ module _ (job : Job) (s : Reading) (prefix : List ℕ) (object : Object) (held :
         row = it.row;
         is_row = it.is_row;
         within = omega (arith, within);
-        read = subst (λ (n : ℕ). IsReading bytes n (held.fed ++ block) (after_next s).unread) more (reads_block 8192 bytes _ held.fed block s.unread it.read (read s refl));
+        read = rw more at (reads_block 8192 bytes _ held.fed block s.unread it.read (read s refl));
       }
 
 fed_stays : (job : Job) {s new : Reading} (prefix : List ℕ) (object : Object) (held : Held) (count : ℕ) {fed : List ℕ} → Some new ≡ Some s → Scanned job prefix object count held s → Scanned job prefix object count (with_fed held fed) new

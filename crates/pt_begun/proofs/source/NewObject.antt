@@ -249,7 +249,7 @@ new_object_there job source prefix (frame ∷ frames) index id count proper is j
     let named = judged_there job source prefix frame frames proper judge.way.fits ∙ ap (verdict_there job source trail) is in
     let here : IsSiteOf job source prefix object there count = record {
       here = record { site = judge.here.site ∙ ap (λ (p : Path). Some (p, Listed (inside_at top p))) (sym (path_at index trail)) };
-      way = subst (λ (t : List Frame). IsOnWay job source t (suc count)) (judge.first ∙ sym (first_at index trail)) judge.way;
+      way = rw (judge.first ∙ sym (first_at index trail)) at judge.way;
       named = ap (λ (p : Path). verdict_of job prefix p (Listed (inside_at top p))) (path_at index trail) ∙ named;
       leads = leads_there job frame frames index found;
       filled = filled_there job source frame frames index id proper judge.way.fits found;
@@ -259,7 +259,7 @@ new_object_there job source prefix (frame ∷ frames) index id count proper is j
         some = omega arith;
         within = omega (arith, long);
         fits = fits_at top index trail judge.way.fits;
-        site = subst (λ (t : List Frame). IsSiteOf job source prefix object t count) (sym site) here;
+        site = rw site here;
         place = refl;
       };
       at_site = long;

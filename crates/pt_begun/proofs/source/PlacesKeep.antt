@@ -33,5 +33,5 @@ places_keep job s new prefix count (FindsTuple was object number) at answers = a
 places_keep job s new prefix count (RenamesObject was object) at answers = stays (λ r. HasStarted r.tree prefix × IsScanned job r.tree prefix object was count) answers at
 places_keep job s new prefix count (TellsDone was object) at answers =
     stays (λ r. HoldsNoObject (restarted was) × HasStarted r.tree prefix × IsOnWay job r.tree (sought 0 was.trail) (suc count)) answers
-    (record { rows = refl; contents = refl }, at.0, subst (λ (t : List Frame). IsOnWay job s.tree (sought 0 t) (suc count)) (site_itself object _ at.1.at_site) at.1.stands.site.way)
+    (record { rows = refl; contents = refl }, at.0, rw (site_itself object _ at.1.at_site) at at.1.stands.site.way)
 places_keep job s new prefix count (TellsEnd was) at answers = tt

@@ -39,11 +39,11 @@ config_short tuples is =
 pub file_short : (tuples : Tuples) (number : ℕ) (path : Path) (bytes : List ℕ) → IsLayout tuples → slice_get (root_files_of tuples) number ≡ Some (path, bytes) → length bytes < 8192
 file_short tuples zero path bytes layout is =
     let same : root_declaration_bytes ≡ bytes = ap (λ (f : Path × List ℕ). f.1) (some_same _ (path, bytes) is) in
-    subst (λ (l : List ℕ). length l < 8192) same (ltb-true (length root_declaration_bytes) 8192 refl)
+    rw (← same) (ltb-true (length root_declaration_bytes) 8192 refl)
 file_short tuples (suc zero) path bytes layout is =
     let same : layout_text ≡ bytes = ap (λ (f : Path × List ℕ). f.1) (some_same _ (path, bytes) is) in
-    subst (λ (l : List ℕ). length l < 8192) same (ltb-true (length layout_text) 8192 refl)
+    rw (← same) (ltb-true (length layout_text) 8192 refl)
 file_short tuples (suc (suc zero)) path bytes layout is =
     let same : config_text tuples ≡ bytes = ap (λ (f : Path × List ℕ). f.1) (some_same _ (path, bytes) is) in
-    subst (λ (l : List ℕ). length l < 8192) same (config_short tuples layout)
+    rw (← same) (config_short tuples layout)
 file_short tuples (suc (suc (suc number))) path bytes layout is = absurd (cc)

@@ -52,7 +52,7 @@ given_up {job} {prefix} {object} held {count} same started it =
 -- ---- the scan goes on
 
 scanned_as : {job : Job} {object other : PairtreeObject} {rows : List Row} {empty : ℕ} {left : List Entry} → object ≡ other → HasScanned job object rows empty left → HasScanned job other rows empty left
-scanned_as {job} {rows} {empty} {left} same it = subst (λ o. HasScanned job o rows empty left) same it
+scanned_as {job} {rows} {empty} {left} same it = rw same at it
 
 -- where an entry that isn't of the object is passed, or a listing is left
 scans_on : (job : Job) {source : Forest} {prefix : List ℕ} {object : Object} {held : Held} {trail : List Frame} {count : ℕ} → IsInObject job source prefix object trail count
@@ -102,7 +102,7 @@ enters_directory job {source} {object} held (frame ∷ frames) {name} {items} pr
       inside = omega (arith, grown);
       scanned =
           scanned_as step_in.same
-          (subst (λ (l : List Row). HasScanned job object_is l (object.empty + none_listed items) (left_of source object (entered items trail))) (append-nil held.rows) next);
+          (rw (append-nil held.rows) at next);
     }
 
 -- ---- the object is entered
@@ -299,7 +299,7 @@ ends_file job {source} {prefix} {object} held (frame ∷ frames) {name} {read} {
       moved.stands,
       own_advanced object trail inside,
       scanned_as moved.same
-          (subst (λ (r : Row). HasScanned job object_is (held.rows ++ r ∷ []) object.empty (left_of source object (advanced trail))) row_is next),
+          (rw (← row_is) next),
     )
 
 -- ---- each turn

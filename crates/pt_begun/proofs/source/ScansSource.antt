@@ -113,7 +113,7 @@ room_below job source prefix object held items name count proper is_one e apart 
     let same : to_site object (entered items t) ≡ to_site object t = site_entered object items t before.stands.within in
     room_at job source prefix _ _ count _ started it one_later
     (path_in_object object t ∙ ap (λ (s : List Frame). path_of_source object s ++ logical_path object t) (sym same))
-    (subst (λ (s : List Frame). IsOne (logical_path object t) ([] ∷ dirs (scanned job.limits (object_at source object s)))) (sym same)
+    (rw same
     (directory_scanned job source object held.rows object.empty t name items proper is_one e apart shallow listing before.stands.fits before.stands.within before.inside before.scanned))
 
 -- ---- each turn

@@ -57,7 +57,7 @@ module _ {job : Job} (past : Past) {here : Phase} {prefix : List ℕ} {held : He
   pub with_beside : Answers asked (Some s) (Some new) → is_proper s.tree ≡ true → SourceAt job new prefix past.count here held → BesideAt job s.tree past.bytes here held → SourcePart job past here prefix held new
   with_beside answers proper at beside =
       let same = tree_kept asked s new answers in
-      let moved = subst (λ (f : Forest). BesideAt job f past.bytes here held) (sym same) beside in
+      let moved = rw (← same) at beside in
       record { proper = ap is_proper same ∙ proper; at = at; bytes = moved.bytes_are; few = moved.few }
 
 -- ---- the start

@@ -42,9 +42,9 @@ first_site job source store =
 pub opens_root : (job : Job) (source : Forest) (trail : List Frame) (items : List Item) {count : ℕ} → is_store source ≡ true → trail ≡ [] → count ≡ 0
     → listing_at (pairtree_of source) [] ≡ Some items → IsToJudge job source (entered items trail) count
 opens_root job source trail items store none first listed =
-    subst (λ (k : ℕ). IsToJudge job source (entered items trail) k) (sym first)
-    (subst (λ (t : List Frame). IsToJudge job source (entered items t) 0) (sym none)
-    (subst (λ (l : List Item). IsToJudge job source (entered l []) 0) (some_same (listing_of (pairtree_of source)) items listed) (first_site job source store)))
+    rw first
+    (rw none
+    (rw (some_same (listing_of (pairtree_of source)) items listed) at (first_site job source store)))
 
 -- ---- how a shorty is met
 
@@ -188,7 +188,7 @@ walked : {job : Job} {s new : Reading} {prefix : List ℕ} {held : Held} {trail 
     → AtWalk job prefix (with_trail held trail) n new
 walked {job} {s} {prefix} {held} {trail} n done same none started way =
     stays (AtWalk job prefix (with_trail held trail) n) same
-    (record { rows = none.rows; contents = none.contents }, started, subst (λ (k : ℕ). IsOnWay job s.tree trail k) (sym done) way)
+    (record { rows = none.rows; contents = none.contents }, started, rw done way)
 
 -- a site is entered
 at_site : (job : Job) {s new : Reading} {prefix : List ℕ} (held : Held) {trail : List Frame} {count : ℕ} → Some new ≡ Some s → held.rows ≡ [] → held.contents ≡ [] → HasStarted s.tree prefix → IsToJudge job s.tree trail count

@@ -38,7 +38,7 @@ turn_ends_within_work job start old new run after why (past, is, within) going t
       ends.1,
       λ v same t some.
           let s = same_tree old.source (turn_tree job run.phase _ after old new (Err why) turn) same in
-          subst (λ (f : Forest). IsWithinWork job f (root_in t) ends.0.count (record { phase = phase.Ended; kept = after })) (sym s.2)
+          rw s.2
           (no_more ends.0.count (turns_are_within_work job start old new run after (Err why) s.0 t (past, is, within) going turn s.1 some)),
     )
 

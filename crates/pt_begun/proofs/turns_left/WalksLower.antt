@@ -129,7 +129,7 @@ object_next {job} {source} marks are {object} {trail} {outer} {count} held start
     let long = site_long (pairtree_of source) trail it.fits in
     let walk = ap (λ (t : List Frame). still_listed (sought 0 t)) itself in
     let path = ap (λ (t : List Frame). length (listing_of (inside_at (pairtree_of source) (trail_path t)))) itself in
-    subst (λ (t : List Frame). before_scan job source marks count object (to_site object t) + 1 ≤ outer + items_left job marks count + 1) (sym is)
+    rw is
     (omega (arith, next, named, long, walk, path, same))
 
 -- ---- each turn

@@ -47,11 +47,11 @@ enters_free _ _ _ _ _ free = tt
 -- the groups together
 pub follows_lower : {job : Job} {past : Past} {s : Reading} (new : Reading) (marks : List Marked) → AreMarked (items job s.tree) marks → {counts : Counts} {here : Phase} {prefix : List ℕ} {held : Held} {read : List ℕ} {after : Held} {calls : Calls} {next : Phase} → Follows job counts here prefix held read after calls (Ok next)
     → Answers calls.asked (Some s) (Some new) → HeldAt job past here held → SourcePart job past here prefix held s → EntersFree next marks (done_after here held.trail next past.count) → Lowers job s.tree marks past.count here held next after
-follows_lower {job} {past} {s} _ marks are {here} {prefix} {held} {read} {calls} {next} (a_start _ _ _ _ _ _ turn) _ at _ _ = starts_lower job past s.tree marks prefix read here next held calls turn at
-follows_lower {job} {past} {s} new marks are {here} {prefix} {held} {after} {calls} {next} (Walk _ _ _ _ _ _ turn) answers at known free = walks_lower job past s new marks prefix here next held after calls turn answers at known are free
-follows_lower {job} {past} {s} new marks are {here} {prefix} {held} {after} {calls} {next} (Scan _ _ _ _ _ _ turn) answers at known _ = scans_lower job past s new marks prefix here next held after calls turn answers at known
-follows_lower {job} {past} {s} new marks are {here} {prefix} {held} {after} {calls} {next} (Make _ _ _ _ _ _ turn) answers at known _ = makes_lower job past s new marks prefix here held after calls next turn answers at known
-follows_lower {job} {past} {s} _ marks are {counts} {here} {held} {after} {calls} {next} (Place _ _ _ _ _ _ turn) _ at _ _ = places_lower job counts past s.tree marks here next held after calls turn at
+follows_lower {job} {past} {s} _ marks are {here} {prefix} {held} {read} {calls} {next} (a_start turn) _ at _ _ = starts_lower job past s.tree marks prefix read here next held calls turn at
+follows_lower {job} {past} {s} new marks are {here} {prefix} {held} {after} {calls} {next} (Walk turn) answers at known free = walks_lower job past s new marks prefix here next held after calls turn answers at known are free
+follows_lower {job} {past} {s} new marks are {here} {prefix} {held} {after} {calls} {next} (Scan turn) answers at known _ = scans_lower job past s new marks prefix here next held after calls turn answers at known
+follows_lower {job} {past} {s} new marks are {here} {prefix} {held} {after} {calls} {next} (Make turn) answers at known _ = makes_lower job past s new marks prefix here held after calls next turn answers at known
+follows_lower {job} {past} {s} _ marks are {counts} {here} {held} {after} {calls} {next} (Place turn) _ at _ _ = places_lower job counts past s.tree marks here next held after calls turn at
 
 -- before the end one turn is left at least
 pub some_left : (job : Job) (source : Forest) (marks : List Marked) (count : ℕ) (here : Phase) (held : Held) → is_ended here ≡ false → 0 < left job source marks count here held
@@ -96,14 +96,14 @@ turn_keeps_within_work job start old new run after next (past, is, within) (Goes
         let asked = subst (Answers calls.asked old.source) same did.0.source in
         let told = told_source calls.asked old.source v asked in
         let s = told.0 in
-        let answers = subst (λ o. Answers calls.asked o (Some v)) told.1 asked in
+        let answers = rw told.1 at asked in
         let tree = tree_kept calls.asked s v answers in
-        let free = subst (λ (f : Forest). IsFreeAt next job f (root_in t) later.count) tree (is_later.items v same t some).places.next in
+        let free = rw tree at (is_later.items v same t some).places.next in
         let enters = enters_free job s.tree (root_in t) next later.count free in
         let lowers = follows_lower v (marked job s.tree (root_in t)) (marks_of job (root_in t) [] (items job s.tree)) turn answers is.held (is.source s told.1) enters in
         let was = (within s told.1 t some).within in
         let one = ap (λ (c : Counts). c.turns) counts ∙ same_turns calls.line (turning run.kept).counts in
-        subst (λ (f : Forest). IsWithinWork job f (root_in t) later.count goes_on) (sym tree) (record { within = omega (arith, lowers, was, one) })
+        rw tree (record { within = omega (arith, lowers, was, one) })
 
 pub turn_is_left : TurnIsLeft
 unfolding BegunWithinWork

@@ -1,4 +1,5 @@
 use Rattle.std.proofs.Common.{arith, refl, ap, sym, ◌∙◌, ◌∷◌, []}
+use Rattle.std.proofs.lemmas.Bool.{le-ltb, lt-ltb}
 use Rattle.pt_compare.specs.Marks.{marks_of}
 use Rattle.pt_compare.specs.Parts.{fronts, leads_to_last, way_items}
 use Rattle.pt_compare.specs.Root.{tree_in}
@@ -7,6 +8,7 @@ use Rattle.pt_plan.specs.declared.halt.Halt.TheVariants as halt
 use Rattle.pt_compare.proofs.Going.{goes_from, halts_in}
 use Rattle.pt_compare.proofs.OnWay.{way_ended, way_met, way_passed, way_stops}
 use Rattle.pt_compare.proofs.Steps.{noted_items}
+use Rattle.pt_compare.proofs.Ways.{on_way}
 use Rattle.pt_compare.proofs.comparing.meet_way.Goals as goal
 
 pub returns-clause-met : goal.returns-clause-met
@@ -23,21 +25,24 @@ loop-names-init g c = record {
 }
 
 pub returns-in_err-folder-clause-met : goal.returns-in_err-folder-clause-met
-returns-in_err-folder-clause-met g c = halts_in _ _ _ _ _ c.from_residual.result halt.Memory c.from_residual.ensures.1
+returns-in_err-folder-clause-met g c = halts_in _ _ _ _ _ c.from_residual-in_err-folder.result halt.Memory c.from_residual-in_err-folder.ensures.1
 
-pub loop-names-preserved-then-leads_to : goal.loop-names-preserved-then-leads_to
-loop-names-preserved-then-leads_to g c = record {
+pub returns-in_err-whole-clause-met : goal.returns-in_err-whole-clause-met
+returns-in_err-whole-clause-met g c = halts_in _ _ _ _ _ c.from_residual.result halt.Memory c.from_residual.ensures.1
+
+pub loop-names-preserved-then-is_met : goal.loop-names-preserved-then-is_met
+loop-names-preserved-then-is_met g c = record {
   keeps = c.loop-names.invariant.keeps;
   tree = c.loop-names.invariant.tree;
   failed = c.loop-names.invariant.failed;
   noted = c.loop-names.invariant.noted;
-  goes = way_passed (tree_in (g.R.Source.told c.args.root.now)) c.args.place.now c.args.last.now c.args.path.now c.loop-names.names (omega (arith, c.loop-names-test.true, c.len-names-end.ensures)) (marks_of c.args.entries.now) (marks_of c.loop-names.entries) c.loop-names.invariant.goes (sym c.if-leads_to.true ∙ c.leads_to.ensures ∙ ap (leads_to_last c.args.last.now) c.in_ok-folder.ensures);
+  goes = way_passed (tree_in (g.R.Source.told c.args.root.now)) c.args.place.now c.args.last.now c.args.path.now c.loop-names.names (omega (arith, c.loop-names-test.true, c.len-names-end.ensures)) (marks_of c.args.entries.now) (marks_of c.loop-names.entries) c.loop-names.invariant.goes (sym (lt-ltb _ _ c.if-is_met.true) ∙ sym (on_way c.args.last.now c.in_ok-whole.whole c.args.path.now c.len.result c.folders_met-met.result c.loop-names.names c.in_ok-whole.ensures (omega (arith, c.len.ensures)) c.folders_met-met.ensures (omega (arith, c.loop-names-test.true, c.len-names-end.ensures))));
 }
 
 pub returns-in_err-meet_folder-clause-met : goal.returns-in_err-meet_folder-clause-met
 returns-in_err-meet_folder-clause-met g c =
     way_stops (tree_in (g.R.Source.told c.args.root.now)) c.args.place.now c.args.last.now c.args.path.now c.loop-names.names (omega (arith, c.loop-names-test.true, c.len-names-end.ensures)) (marks_of c.args.entries.now) (marks_of c.loop-names.entries) c.loop-names.invariant.goes
-    c.in_ok-folder.folder c.in_ok-folder.ensures (tree_in (g.R.Source.told c.loop-names.root)) c.loop-names.invariant.tree (sym c.if-leads_to.false ∙ c.leads_to.ensures) (marks_of c.meet_folder.new.entries) (marks_of c.meet_folder.new.entries) c.in_err-meet_folder.field-0.0 c.from_residual-in_err-meet_folder.result c.from_residual-in_err-meet_folder.ensures.1 c.in_err-meet_folder.ensures.met
+    c.in_ok-folder.folder c.in_ok-folder.ensures (tree_in (g.R.Source.told c.loop-names.root)) c.loop-names.invariant.tree (sym (le-ltb _ _ c.if-is_met.false) ∙ sym (on_way c.args.last.now c.in_ok-whole.whole c.args.path.now c.len.result c.folders_met-met.result c.loop-names.names c.in_ok-whole.ensures (omega (arith, c.len.ensures)) c.folders_met-met.ensures (omega (arith, c.loop-names-test.true, c.len-names-end.ensures))) ∙ ap (leads_to_last c.args.last.now) (sym c.in_ok-folder.ensures)) (marks_of c.meet_folder.new.entries) (marks_of c.meet_folder.new.entries) c.in_err-meet_folder.field-0.0 c.from_residual-in_err-meet_folder.result c.from_residual-in_err-meet_folder.ensures.1 c.in_err-meet_folder.ensures.met
 
 pub loop-names-preserved : goal.loop-names-preserved
 loop-names-preserved g c = record {
@@ -46,5 +51,5 @@ loop-names-preserved g c = record {
   failed = c.in_ok-meet_folder.ensures.failures ∙ c.loop-names.invariant.failed;
   noted = noted_items (tree_in (g.R.Source.told c.loop-names.root)) (tree_in (g.R.Source.told c.meet_folder.new.root)) c.args.place.now (MakeFolder c.in_ok-folder.folder ∷ []) (marks_of c.loop-names.entries) (marks_of c.meet_folder.new.entries) c.in_ok-meet_folder.field-0 c.in_ok-meet_folder.ensures.root.1 c.loop-names.invariant.noted c.in_ok-meet_folder.ensures.met;
   goes = way_met (tree_in (g.R.Source.told c.args.root.now)) c.args.place.now c.args.last.now c.args.path.now c.loop-names.names (omega (arith, c.loop-names-test.true, c.len-names-end.ensures)) (marks_of c.args.entries.now) (marks_of c.loop-names.entries) c.loop-names.invariant.goes
-      c.in_ok-folder.folder c.in_ok-folder.ensures (tree_in (g.R.Source.told c.loop-names.root)) c.loop-names.invariant.tree (sym c.if-leads_to.false ∙ c.leads_to.ensures) (marks_of c.meet_folder.new.entries) c.in_ok-meet_folder.field-0 c.in_ok-meet_folder.ensures.met;
+      c.in_ok-folder.folder c.in_ok-folder.ensures (tree_in (g.R.Source.told c.loop-names.root)) c.loop-names.invariant.tree (sym (le-ltb _ _ c.if-is_met.false) ∙ sym (on_way c.args.last.now c.in_ok-whole.whole c.args.path.now c.len.result c.folders_met-met.result c.loop-names.names c.in_ok-whole.ensures (omega (arith, c.len.ensures)) c.folders_met-met.ensures (omega (arith, c.loop-names-test.true, c.len-names-end.ensures))) ∙ ap (leads_to_last c.args.last.now) (sym c.in_ok-folder.ensures)) (marks_of c.meet_folder.new.entries) c.in_ok-meet_folder.field-0 c.in_ok-meet_folder.ensures.met;
 }

@@ -1,5 +1,5 @@
 use Rattle.std.proofs.Common.{◌≡◌, min, take}
-use Rattle.pt_plan.specs.TurnPlace.{bytes_in_rows}
+use Rattle.pt_state.proofs.Words.{bytes_in_rows}
 use Rattle.pt_tree.specs.Failures.{greatest_count}
 use Rattle.pt_move.proofs.carried.bytes_in.Given as goal
 

@@ -1,5 +1,5 @@
 use Rattle.std.proofs.Common.{◌≡◌, ◌≤◌, ◌*◌, length, take}
-use Rattle.pt_tree.specs.Path.{joined}
+use Rattle.pt_state.proofs.Words.{joined}
 use Rattle.pt_scan.proofs.scanning.is_longer.Given as goal
 
 abbrev pub invariant-loop-i : goal.invariant-loop-i
