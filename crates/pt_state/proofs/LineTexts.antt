@@ -5,7 +5,7 @@ use Rattle.std.specs.Io.KnownBytes.{Appends}
 use Rattle.std.proofs.lemmas.List.{append-nil}
 use Rattle.pt_state.proofs.Words.{Line, Done, Present, Skipped, End, line_text, LeavesSome, Untouched, World, tells, Halt}
 use Rattle.pt_plan.specs.Lines.{line_tree}
-use Rattle.pt_plan.specs.declared.halt.Halt.TheVariants as halt
+use Rattle.pt_state.proofs.Words.halt
 use Rattle.pt_state.specs.Lines.{IsTreeOf}
 use Rattle.serde_json.specs.Data.{Data}
 use Rattle.serde_json.specs.Written.{compact_text, has_float}
@@ -16,9 +16,7 @@ is_tree line d is = is
 
 no_float_in : (line : Line) → has_float (line_tree line) ≡ false
 no_float_in (Done at bytes empty files id to) = refl
-no_float_in (Present at id to) = refl
-no_float_in (Skipped at why) = refl
-no_float_in (End done present skipped) = refl
+no_float_in _ = refl
 
 pub no_float : (line : Line) (d : Data) → IsTreeOf line d → has_float d ≡ false
 unfolding IsTreeOf
@@ -28,7 +26,7 @@ pub text_is : (line : Line) (d : Data) (text : List ℕ) → IsTreeOf line d →
 unfolding IsTreeOf
 text_is line d text is same = same ∙ ap (λ tree. compact_text tree ++ 10 ∷ []) is
 
-appends_nothing : (o : Option (List ℕ)) → Appends o o []
+pub appends_nothing : (o : Option (List ℕ)) → Appends o o []
 appends_nothing None = tt
 appends_nothing (Some xs) = sym (append-nil xs)
 

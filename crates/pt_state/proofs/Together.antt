@@ -3,11 +3,11 @@ use Rattle.std.proofs.Common.{◌≡◌, ℕ, List, [], ◌++◌, Bool, true, fa
 use Rattle.std.proofs.lemmas.List.{take_all}
 use Rattle.std.specs.Prelude.{Option, None, Some}
 use Rattle.std.specs.Option.{option_map}
-use Rattle.pt_state.proofs.Words.{MakeFile, Did, LeavesSome, Stays, Adds, Answers, Asked, Calls, Change, Changes, Creates, Finds, Finishes, Lists, Makes, NewFile, OfPiece, Opens, Puts, Reads, Untouched, World, asks, dest_tree, does, no_calls, source_tree, Halt, Writing, after_create, Path, same_path, Reading, CanOpen, after_open, Bytes, Tree, Kind}
+use Rattle.pt_state.proofs.Words.{MakeFile, Did, LeavesSome, Stays, Adds, Answers, Asked, Calls, Change, Changes, Creates, Finds, Finishes, Lists, Makes, OfPiece, Opens, Puts, Reads, Untouched, World, asks, dest_tree, does, no_calls, source_tree, Halt, Writing, after_create, Path, same_path, Reading, CanOpen, after_open, Bytes, Tree, Kind}
 use Rattle.pt_object.specs.Script.{done}
 use Rattle.pt_object.proofs.Ways.{path_itself}
 use Rattle.pt_plan.specs.World.{AsksNothing, LeavesPart, OfFile, OpensAndReads, WasRead, after_make}
-use Rattle.pt_plan.specs.declared.halt.Halt.TheVariants as halt
+use Rattle.pt_state.proofs.Words.halt
 use Rattle.pt_tree.specs.Dest.{CanWrite, added_to, after_append, after_finish}
 use Rattle.pt_tree.specs.Source.{CanRead, after_next}
 use Rattle.pt_tree.specs.Tree.{edited_by, put}
@@ -34,7 +34,7 @@ asked_tree (OpensAndReads path block) r r' is = ap source_tree is.1 ∙ read_on 
 -- then memory was short
 pub asked_stays : (asked : Asked) (a b : World) → Did (asks asked) a b → Stays halt.Memory a b
 unfolding Did Stays Changes Puts
-asked_stays asked a b did = (asked_tree asked a.source b.source did.0.source, did.0.dest, did.0.log, did.1, tt)
+asked_stays asked a b did = (asked_tree asked _ _ did.0.source, did.0.dest, did.0.log, did.1, tt)
 
 pub looked_stays : (p : Path) (here : Option Kind) (a b : World) → Did (does (Finds p here)) a b → Stays halt.Memory a b
 unfolding Did Stays Answers Changes Puts
@@ -152,7 +152,7 @@ part_file : (o : Option Writing) (p : Path) (bytes : List ℕ) → dest_tree (op
 part_file None p bytes = refl
 part_file (Some s) p bytes = ap (λ (t : Tree). Some t) (filled s.tree p bytes)
 
-none_of_file : (o : Option Writing) (p : Path) → dest_tree (option_map (after_create p) o) ≡ option_map (λ t. put t p (Bytes [])) (dest_tree o)
+pub none_of_file : (o : Option Writing) (p : Path) → dest_tree (option_map (after_create p) o) ≡ option_map (λ t. put t p (Bytes [])) (dest_tree o)
 none_of_file None p = refl
 none_of_file (Some s) p = refl
 
@@ -181,11 +181,10 @@ makes_file a b c d p bytes first next last = (
 
 keeps_file : (a b c : Option Writing) (p : Path) (bytes : List ℕ) (part : Change) → part ≡ Adds bytes → b ≡ option_map (after_create p) a → LeavesPart b c part → LeavesPart a c (Makes (MakeFile p bytes))
 keeps_file a b c p bytes part is first (Untouched change same) = OfFile p bytes 0 (same ∙ ap dest_tree first ∙ none_of_file a p)
-keeps_file a b c p bytes part is first (OfFile path old count same) = absurd (cc)
-keeps_file a b c p bytes part is first (NewFile path same) = absurd (cc)
 keeps_file a b c p bytes part is first (OfPiece piece count same) =
     let it : piece ≡ bytes = cc in
     OfFile p bytes count (ap dest_tree (same ∙ ap (option_map (after_append (take count piece))) first) ∙ part_file a p (take count piece) ∙ ap (λ (l : List ℕ). option_map (done (MakeFile p (take count l))) (dest_tree a)) it)
+keeps_file _ _ _ _ _ _ is _ _ = absurd (cc)
 
 pub leaves_of_append : (a b c : World) (p : Path) (bytes : List ℕ) (f : Halt) → Did (does (Creates p)) a b → LeavesSome (does (Adds bytes)) f b c → LeavesSome (does (Makes (MakeFile p bytes))) f a c
 unfolding Did LeavesSome Answers Changes Puts

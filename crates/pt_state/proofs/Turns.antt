@@ -2,65 +2,69 @@
 use Rattle.std.proofs.Common.{◌≡◌, ℕ, List, refl, sym, ap, inl}
 use Rattle.std.specs.Prelude.{Option, None, Ok, Err, IsErrAnd}
 use Rattle.std.specs.String.{string_bytes}
-use Rattle.pt_state.proofs.Words.{HasBeenFed, Content, Row, Answer, Line, Held, Kept, Did, FailsAtFirst, FailsLater, Follows, GoesOn, IsHalted, IsRefused, LeavesSome, Stays, counted, Asked, Calls, World, asks, Halt, Phase, Frame, Turned, counts_of, held_of, job_of, kept_of}
+use Rattle.pt_state.proofs.Words.{HasBeenFed, Content, Row, Answer, Line, Held, Kept, Did, FailsAtFirst, FailsLater, Follows, GoesOn, IsHalted, IsRefused, LeavesSome, Stays, counted, Asked, Calls, World, asks, Halt, Phase, Frame, Turned, KeepsAll, counts_of, held_of, job_of, kept_of}
 use Rattle.pt_state.specs.declared.state.State.{State}
-use Rattle.pt_plan.specs.declared.halt.Halt.TheVariants as halt
+use Rattle.pt_state.proofs.Words.halt
 use Rattle.pt_state.proofs.Together.{asked_stays}
 use Rattle.pt_state.specs.Outside.{TakesTurn, TakesTurnAt}
 
 -- ---- what is kept
 
--- all but the block and the hasher
-pub record KeepsAll (s s' : State) : Type 0 where
-  pub job : s'.job ≡ s.job
-  pub prefix : string_bytes s'.prefix ≡ string_bytes s.prefix
-  pub trail : s'.trail ≡ s.trail
-  pub rows : s'.rows ≡ s.rows
-  pub contents : s'.contents ≡ s.contents
-  pub counts : s'.counts ≡ s.counts
+pub keeps_all : {s s' : State} → s'.job ≡ s.job → string_bytes s'.prefix ≡ string_bytes s.prefix → s'.trail ≡ s.trail → s'.rows ≡ s.rows → s'.contents ≡ s.contents → s'.counts ≡ s.counts → KeepsAll s s'
+keeps_all job prefix trail rows contents counts = record { job = job; prefix = prefix; trail = trail; rows = rows; contents = contents; counts = counts }
 
-pub keeps_all : (s s' : State) → s'.job ≡ s.job → string_bytes s'.prefix ≡ string_bytes s.prefix → s'.trail ≡ s.trail → s'.rows ≡ s.rows → s'.contents ≡ s.contents → s'.counts ≡ s.counts → KeepsAll s s'
-keeps_all s s' job prefix trail rows contents counts = record { job = job; prefix = prefix; trail = trail; rows = rows; contents = contents; counts = counts }
+pub keeps_same : {s : State} → KeepsAll s s
+keeps_same = keeps_all refl refl refl refl refl refl
 
-pub keeps_same : (s : State) → KeepsAll s s
-keeps_same s = keeps_all s s refl refl refl refl refl refl
+kept_same : {s s' : State} (fed : List ℕ) → KeepsAll s s' → kept_of s' fed ≡ kept_of s fed
+kept_same fed k = λ i. record { prefix = k.prefix i; held = record { trail = k.trail i; rows = k.rows i; contents = k.contents i; fed = fed }; counts = counts_of (k.counts i) }
 
-kept_same : (s s' : State) (fed : List ℕ) → KeepsAll s s' → kept_of s' fed ≡ kept_of s fed
-kept_same s s' fed k = λ i. record { prefix = k.prefix i; held = record { trail = k.trail i; rows = k.rows i; contents = k.contents i; fed = fed }; counts = counts_of (k.counts i) }
-
-pub halted_as : (s s' : State) (fed fed' : List ℕ) → KeepsAll s s' → IsHalted s.rows (kept_of s fed) (kept_of s' fed')
-halted_as s s' fed fed' k = record { prefix = k.prefix; trail = k.trail; rows_are = k.rows; contents = k.contents; counts = ap counts_of k.counts }
+halted_as : {s s' : State} (fed : List ℕ) → KeepsAll s s' → IsHalted s.rows (kept_of s fed) (kept_of s' fed)
+halted_as fed k = record { prefix = k.prefix; trail = k.trail; rows_are = k.rows; contents = k.contents; counts = ap counts_of k.counts }
 
 -- ---- turns
 
--- its calls succeed, and the hasher was fed this after what it was fed before
-pub went : (here next : Phase) (s s' : State) (w w' : World) (calls : Calls) (now : List ℕ → List ℕ)
-    → ((fed : List ℕ) → HasBeenFed s.job.algorithm s.hasher fed → Follows (job_of s.job) (counts_of s.counts) here (string_bytes s.prefix) (held_of s fed) (string_bytes s.prefix) (held_of s (now fed)) calls (Ok next))
-    → Did calls w w' → calls.line ≡ None → ((fed : List ℕ) → HasBeenFed s.job.algorithm s.hasher fed → HasBeenFed s.job.algorithm s'.hasher (now fed)) → KeepsAll s s' → Turned here s s' w w' (Ok next)
-unfolding Turned
-went here next s s' w w' calls now follows did quiet feeds keeps = (
-  keeps.job,
-  λ fed was. (
-    now fed,
-    (
-      feeds fed was,
-      rw (kept_same s s' (now fed) keeps)
-          (GoesOn calls next (follows fed was) did (sym (ap (λ (o : Option Line). counted o (counts_of s.counts)) quiet))),
-    ),
-  ),
-)
+-- where the hasher was fed this, a turn of the definitions comes to this, with these calls and this answer
+abbrev pub Leads : Phase → State → List ℕ → Held → Calls → Answer → Type 0
+Leads here s fed held calls answer = Follows (job_of s.job) (counts_of s.counts) here (string_bytes s.prefix) (held_of s fed) (string_bytes s.prefix) held calls answer
 
--- its calls succeed, and what they answer halts the run
-pub refused : (here : Phase) (s s' : State) (w w' : World) (calls : Calls) (why : Halt)
-    → ((fed : List ℕ) → HasBeenFed s.job.algorithm s.hasher fed → Follows (job_of s.job) (counts_of s.counts) here (string_bytes s.prefix) (held_of s fed) (string_bytes s.prefix) (held_of s fed) calls (Err why)) → Did calls w w' → KeepsAll s s' → Turned here s s' w w' (Err why)
-unfolding Turned
-refused here s s' w w' calls why follows did keeps = (keeps.job, λ fed was. (fed, (tt, IsRefused (string_bytes s.prefix) (held_of s fed) calls why (follows fed was) did (halted_as s s' fed fed keeps))))
+-- the hasher was fed this after what it was fed before
+abbrev pub Feeds : State → State → (List ℕ → List ℕ) → Type 0
+Feeds s s' now = (fed : List ℕ) → HasBeenFed s.job.algorithm s.hasher fed → HasBeenFed s.job.algorithm s'.hasher (now fed)
+
+module _ {here : Phase} {s s' : State} (w w' : World) {calls : Calls} where
+  -- its calls succeed
+  pub went : {next : Phase} (now : List ℕ → List ℕ) → ((fed : List ℕ) → HasBeenFed s.job.algorithm s.hasher fed → Leads here s fed (held_of s (now fed)) calls (Ok next)) → Did calls w w' → calls.line ≡ None → Feeds s s' now → KeepsAll s s' → Turned here s s' w w' (Ok next)
+  unfolding Turned
+  went {next} now follows did quiet feeds keeps = (
+    keeps.job,
+    λ fed was. (
+      now fed,
+      (
+        feeds fed was,
+        rw (kept_same (now fed) keeps)
+            (GoesOn calls next (follows fed was) did (sym (ap (λ (o : Option Line). counted o (counts_of s.counts)) quiet))),
+      ),
+    ),
+  )
+
+  -- its calls succeed, and what they answer halts the run
+  pub refused : {why : Halt} → ((fed : List ℕ) → HasBeenFed s.job.algorithm s.hasher fed → Leads here s fed (held_of s fed) calls (Err why)) → Did calls w w' → KeepsAll s s' → Turned here s s' w w' (Err why)
+  unfolding Turned
+  refused {why} follows did keeps = (keeps.job, λ fed was. (fed, (tt, IsRefused (string_bytes s.prefix) (held_of s fed) calls why (follows fed was) did (halted_as fed keeps))))
+
+  -- a call fails, and a part is left of what the turn was to change
+  pub left_some : {answer : Answer} {held : List ℕ → Held} (f : Halt) (result : Answer) → IsErrAnd result (λ h. h ≡ f) → ((fed : List ℕ) → Leads here s fed (held fed) calls answer) → LeavesSome calls f w w' → KeepsAll s s' → Turned here s s' w w' result
+  unfolding Turned
+  left_some f (Ok next) is follows some keeps = absurd is
+  left_some {answer} {held} f (Err h) is follows some keeps =
+      (keeps.job, λ fed was. (fed, (tt, rw is (FailsLater (string_bytes s.prefix) (held fed) calls answer s.rows f (follows fed) some (inl refl) (halted_as fed keeps)))))
 
 -- a call fails, or memory is short, and nothing is changed
 pub stayed : (here : Phase) (s s' : State) (w w' : World) (f : Halt) (result : Answer) → IsErrAnd result (λ h. h ≡ f) → Stays f w w' → KeepsAll s s' → Turned here s s' w w' result
 unfolding Turned
 stayed here s s' w w' f (Ok next) is stays keeps = absurd is
-stayed here s s' w w' f (Err h) is stays keeps = (keeps.job, λ fed was. (fed, (tt, rw is (FailsAtFirst f stays (halted_as s s' fed fed keeps)))))
+stayed here s s' w w' f (Err h) is stays keeps = (keeps.job, λ fed was. (fed, (tt, rw is (FailsAtFirst f stays (halted_as fed keeps)))))
 
 -- memory was short before anything was called
 pub short : (here : Phase) (s s' : State) (w : World) (result : Answer) → IsErrAnd result (λ h. h ≡ halt.Memory) → KeepsAll s s' → Turned here s s' w w result
@@ -71,62 +75,33 @@ short here s s' w result is keeps = stayed here s s' w w halt.Memory result is (
 pub short_asked : (here : Phase) (s s' : State) (w w' : World) (asked : Asked) (result : Answer) → IsErrAnd result (λ h. h ≡ halt.Memory) → Did (asks asked) w w' → KeepsAll s s' → Turned here s s' w w' result
 short_asked here s s' w w' asked result is did keeps = stayed here s s' w w' halt.Memory result is (asked_stays asked w w' did) keeps
 
--- a call fails, and a part is left of what the turn was to change
-pub left_some : (here : Phase) (s s' : State) (w w' : World) (calls : Calls) (answer : Answer) (f : Halt) (now : List ℕ → List ℕ) (result : Answer) → IsErrAnd result (λ h. h ≡ f)
-    → ((fed : List ℕ) → Follows (job_of s.job) (counts_of s.counts) here (string_bytes s.prefix) (held_of s fed) (string_bytes s.prefix) (held_of s (now fed)) calls answer) → LeavesSome calls f w w' → KeepsAll s s' → Turned here s s' w w' result
+-- its calls succeed, the hasher is as it was, and what else is held is this
+pub turned_on : {here next : Phase} (s s' : State) (w w' : World) {calls : Calls} {trail : List Frame} {rows : List Row} {contents : List Content}
+    → ((fed : List ℕ) → Leads here s fed (record { trail = trail; rows = rows; contents = contents; fed = fed }) calls (Ok next))
+    → Did calls w w' → s'.trail ≡ trail → s'.rows ≡ rows → s'.contents ≡ contents → counts_of s'.counts ≡ counted calls.line (counts_of s.counts) → string_bytes s'.prefix ≡ string_bytes s.prefix → s'.hasher ≡ s.hasher → s'.job ≡ s.job → Turned here s s' w w' (Ok next)
 unfolding Turned
-left_some here s s' w w' calls answer f now (Ok x) is follows some keeps = absurd is
-left_some here s s' w w' calls answer f now (Err h) is follows some keeps = (
-  keeps.job,
-  λ fed was. (
-    fed,
-    (
-      tt,
-      rw is
-          (FailsLater (string_bytes s.prefix) (held_of s (now fed)) calls answer s.rows f (follows fed) some (inl refl) (halted_as s s' fed fed keeps)),
-    ),
-  ),
-)
-
--- ---- turns that change what is held
-
--- its calls succeed, and the hasher has been fed otherwise
-pub turned_fed : (here next : Phase) (s s' : State) (a b : World) (calls : Calls) (trail : List Frame) (rows : List Row) (contents : List Content) (now : List ℕ → List ℕ)
-    → ((fed : List ℕ) → HasBeenFed s.job.algorithm s.hasher fed → HasBeenFed s.job.algorithm s'.hasher (now fed))
-    → ((fed : List ℕ) → Follows (job_of s.job) (counts_of s.counts) here (string_bytes s.prefix) (held_of s fed) (string_bytes s.prefix) (record { trail = trail; rows = rows; contents = contents; fed = now fed }) calls (Ok next))
-    → Did calls a b → s'.trail ≡ trail → s'.rows ≡ rows → s'.contents ≡ contents → counts_of s'.counts ≡ counted calls.line (counts_of s.counts) → string_bytes s'.prefix ≡ string_bytes s.prefix → s'.job ≡ s.job → Turned here s s' a b (Ok next)
-unfolding Turned
-turned_fed here next s s' a b calls trail rows contents now feeds follows did trail_is rows_are contents_are counts prefix job = (
+turned_on {next = next} s s' w w' {calls} {trail} {rows} {contents} follows did trail_is rows_are contents_are counts prefix hasher job = (
   job,
   λ fed was.
-      let kept : Kept = record { prefix = string_bytes s.prefix; held = record { trail = trail; rows = rows; contents = contents; fed = now fed }; counts = counted calls.line (counts_of s.counts) } in
-      let kept_is : kept_of s' (now fed) ≡ kept = λ i. record { prefix = prefix i; held = record { trail = trail_is i; rows = rows_are i; contents = contents_are i; fed = now fed }; counts = counts i } in
-      (now fed, (feeds fed was, rw kept_is (GoesOn calls next (follows fed) did refl))),
+      let kept : Kept = record { prefix = string_bytes s.prefix; held = record { trail = trail; rows = rows; contents = contents; fed = fed }; counts = counted calls.line (counts_of s.counts) } in
+      let kept_is : kept_of s' fed ≡ kept = λ i. record { prefix = prefix i; held = record { trail = trail_is i; rows = rows_are i; contents = contents_are i; fed = fed }; counts = counts i } in
+      (fed, (rw hasher was, rw kept_is (GoesOn calls next (follows fed) did refl))),
 )
 
--- and the hasher is as it was
-pub turned_on : (here next : Phase) (s s' : State) (a b : World) (calls : Calls) (trail : List Frame) (rows : List Row) (contents : List Content)
-    → ((fed : List ℕ) → Follows (job_of s.job) (counts_of s.counts) here (string_bytes s.prefix) (held_of s fed) (string_bytes s.prefix) (record { trail = trail; rows = rows; contents = contents; fed = fed }) calls (Ok next))
-    → Did calls a b → s'.trail ≡ trail → s'.rows ≡ rows → s'.contents ≡ contents → counts_of s'.counts ≡ counted calls.line (counts_of s.counts) → string_bytes s'.prefix ≡ string_bytes s.prefix → s'.hasher ≡ s.hasher → s'.job ≡ s.job → Turned here s s' a b (Ok next)
-turned_on here next s s' a b calls trail rows contents follows did trail_is rows_are contents_are counts prefix hasher job =
-    turned_fed here next s s' a b calls trail rows contents (λ fed. fed) (λ fed was. rw hasher was) follows did trail_is rows_are contents_are counts prefix job
-
--- a part of its line was put
-pub left_told : (here : Phase) (s s' : State) (a b : World) (calls : Calls) (answer : Answer) (f : Halt) (held : List ℕ → Held) (result : Answer) → IsErrAnd result (λ h. h ≡ f)
-    → ((fed : List ℕ) → Follows (job_of s.job) (counts_of s.counts) here (string_bytes s.prefix) (held_of s fed) (string_bytes s.prefix) (held fed) calls answer) → LeavesSome calls f a b → KeepsAll s s' → Turned here s s' a b result
+-- the block that is held has no part in a turn
+pub turned_read : (here : Phase) (s s' : State) (block : _) (w w' : World) (result : Answer) → Turned here (record s { block = block }) s' w w' result → Turned here s s' w w' result
 unfolding Turned
-left_told here s s' a b calls answer f held (Ok x) is follows some keeps = absurd is
-left_told here s s' a b calls answer f held (Err h) is follows some keeps =
-    (keeps.job, λ fed was. (fed, (tt, rw is (FailsLater (string_bytes s.prefix) (held fed) calls answer s.rows f (follows fed) some (inl refl) (halted_as s s' fed fed keeps)))))
+turned_read here s s' block w w' result turned = turned
 
 -- ---- turns over all devices as one
 
--- at a phase of which what is asked holds
-pub taken_at : {O : Type 0} (world : O → World) (within within' : O → O → Type 0) (At : Phase → Type 0) (here : Phase) (s s' : State) (old new : O) (answer : Answer) → TakesTurnAt world within At s s' old new answer → At here → within' old new → TakesTurn world within' here s s' old new answer
-taken_at world within within' At here s s' old new answer takes at few = record { turn = takes.turn here at; few = few }
+module _ {O : Type 0} {world : O → World} {within within' : O → O → Type 0} {At : Phase → Type 0} {s s' : State} {old new : O} {answer : Answer} where
+  -- at a phase of which what is asked holds
+  pub taken_at : {here : Phase} → TakesTurnAt world within At s s' old new answer → At here → within' old new → TakesTurn world within' here s s' old new answer
+  taken_at {here} takes at few = record { turn = takes.turn here at; few = few }
 
--- at each phase of which more holds
-pub taken_where : {O : Type 0} (world : O → World) (within within' : O → O → Type 0) (At At' : Phase → Type 0) (s s' : State) (old new : O) (answer : Answer) → TakesTurnAt world within At s s' old new answer → ((here : Phase) → At' here → At here) → within' old new → TakesTurnAt world within' At' s s' old new answer
-taken_where world within within' At At' s s' old new answer takes at few = record { turn = λ here more. takes.turn here (at here more); few = few }
+  -- at each phase of which more holds
+  pub taken_where : {At' : Phase → Type 0} → TakesTurnAt world within At s s' old new answer → ((here : Phase) → At' here → At here) → within' old new → TakesTurnAt world within' At' s s' old new answer
+  taken_where takes at few = record { turn = λ here more. takes.turn here (at here more); few = few }
 
 pub ruleset turns = (keeps_all, stayed, short, taken_at, taken_where)

@@ -22,13 +22,16 @@ pub use Rattle.pt_plan.specs.TurnWalk.{in_pairtree}
 pub use Rattle.pt_plan.specs.World.{Adds, Asked, Calls, Change, Creates, Failures, Finds, Finishes, Lists, Makes, NewFile, OfPiece, Opens, Reads, Renames, Untouched, World, asks, dest_tree, does, no_calls, source_tree, tells}
 unfoldable pub use Rattle.pt_plan.specs.World.{Answers, Changes, Puts}
 pub use Rattle.pt_plan.specs.declared.halt.Halt.{Halt}
+pub use Rattle.pt_plan.specs.declared.halt.Halt.TheVariants as halt
 pub use Rattle.pt_plan.specs.declared.object.Object.{Object}
 pub use Rattle.pt_plan.specs.declared.phase.Part.{Part}
+pub use Rattle.pt_plan.specs.declared.phase.Part.TheVariants as part
 pub use Rattle.pt_plan.specs.declared.phase.Phase.{Phase}
+pub use Rattle.pt_plan.specs.declared.phase.Phase.TheVariants as phase
 pub use Rattle.pt_plan.specs.declared.phase.Position.{Position}
 pub use Rattle.pt_state.specs.Lines.{with_skipped}
 unfoldable pub use Rattle.pt_state.specs.Outside.{Turned}
-pub use Rattle.pt_state.specs.States.{counts_of, held_of, job_of, kept_of}
+pub use Rattle.pt_state.specs.States.{KeepsAll, counts_of, held_of, job_of, kept_of}
 pub use Rattle.pt_tree.specs.Dest.{Writing, after_create}
 unfoldable pub use Rattle.pt_tree.specs.Dest.{IsKindAt, MayMake}
 pub use Rattle.pt_tree.specs.Forest.{Forest}
@@ -39,6 +42,8 @@ pub use Rattle.pt_tree.specs.Source.{Reading, after_open}
 unfoldable pub use Rattle.pt_tree.specs.Source.{CanOpen}
 pub use Rattle.pt_tree.specs.Tree.{Bytes, Tree, kind_of_entry}
 pub use Rattle.pt_tree.specs.declared.kind.Kind.{Kind}
+pub use Rattle.pt_tree.specs.declared.kind.Kind.TheVariants as kind
 pub use Rattle.pt_walk.specs.Trail.{advanced, current_entry, entered, is_dir_entry, names_to, parent, sought, trail_path}
 pub use Rattle.pt_walk.specs.declared.cause.Cause.{Cause}
+pub use Rattle.pt_walk.specs.declared.cause.Cause.TheVariants as cause
 pub use Rattle.pt_walk.specs.declared.frame.Frame.{Frame}

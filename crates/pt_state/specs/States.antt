@@ -35,6 +35,15 @@ held_of s fed = record { trail = s.trail; rows = s.rows; contents = s.contents; 
 abbrev pub kept_of : State → List ℕ → Kept
 kept_of s fed = record { prefix = string_bytes s.prefix; held = held_of s fed; counts = counts_of s.counts }
 
+-- all but the block and the hasher is as it was
+pub record KeepsAll (s s' : State) : Type 0 where
+  pub job : s'.job ≡ s.job
+  pub prefix : string_bytes s'.prefix ≡ string_bytes s.prefix
+  pub trail : s'.trail ≡ s.trail
+  pub rows : s'.rows ≡ s.rows
+  pub contents : s'.contents ≡ s.contents
+  pub counts : s'.counts ≡ s.counts
+
 -- the trail is at the start of its site again, and nothing of an object is held
 pub record IsBack (before after : List Frame) (rows : List Row) (contents : List Content) : Type 0 where
   pub trail : after ≡ sought 0 before

@@ -1,7 +1,7 @@
 #![tactic(auto, using(crate::proofs::LineTexts::texts))]
 //! The lines of a run's log: each one compact JSON object with its keys in byte order, and LF. A line is counted where it
 //! was put whole.
-ghost use Rattle.std.specs.Prelude.{◌≡◌, ◌<◌, ◌^◌, IfErr, IfOk, OnOk};
+ghost use Rattle.std.specs.Prelude.{◌<◌, ◌^◌, IfErr, IfOk, OnOk};
 ghost use Rattle.serde_json.specs.View.{view};
 ghost use Rattle.pt_plan.specs.Lines.{Line, Done as DoneLine, Present as PresentLine, Skipped as SkippedLine, End as EndLine};
 ghost use Rattle.pt_plan.specs.Turn.{Did, LeavesSome};
