@@ -7,11 +7,11 @@ use Rattle.std.specs.String.{string_bytes}
 use Rattle.pt_name.specs.Prefix.{prefix_refusal, without_line_ends}
 use Rattle.pt_name.specs.Tuples.{Tuples}
 use Rattle.pt_object.proofs.Ways.{same_name}
-use Rattle.pt_state.proofs.Words.{MakeFile, MakeFolder, staging, Answer, Did, Follows, GoesOn, LeavesSome, Start, Calls, Changes, Finds, Lists, Makes, Renames, World, asks, does, no_calls, Halt, Phase, Turned, counts_of, held_of, job_of, Writing, IsKindAt, MayMake, Path, Reading, CanOpen, Bytes, kind_of_entry, Kind}
+use Rattle.pt_state.proofs.Words.{MakeFile, MakeFolder, staging, Answer, Did, Follows, GoesOn, LeavesSome, Start, Calls, Changes, Finds, Lists, Makes, Renames, World, asks, does, Halt, Phase, Turned, KeepsAll, counts_of, held_of, job_of, Writing, IsKindAt, MayMake, Path, Reading, CanOpen, Bytes, kind_of_entry, Kind}
 use Rattle.pt_state.specs.declared.state.State.{State}
-use Rattle.pt_plan.specs.declared.halt.Halt.TheVariants as halt
-use Rattle.pt_plan.specs.declared.phase.Phase.TheVariants as phase
-use Rattle.pt_tree.specs.declared.kind.Kind.TheVariants as kind
+use Rattle.pt_state.proofs.Words.halt
+use Rattle.pt_state.proofs.Words.kind
+use Rattle.pt_state.proofs.Words.phase
 use Rattle.pt_object.specs.RootFiles.{root_files_of}
 use Rattle.pt_object.specs.Script.{Item}
 use Rattle.pt_object.specs.Scripts.{root_script}
@@ -22,10 +22,10 @@ use Rattle.pt_plan.specs.TurnStart.{Starts, IsStore, IsNoStore, HasNoPrefix, IsN
 use Rattle.pt_plan.specs.World.{OpensAndReads, Peeks}
 use Rattle.pt_start.specs.Starting.{IsRootFile, IsRootItem, PrefixFails, kind_if_named}
 use Rattle.pt_state.proofs.Together.{did_nothing, looked_same, looked_then}
-use Rattle.pt_state.proofs.Turns.{KeepsAll, keeps_same, left_some, refused, short_asked, turns, went}
+use Rattle.pt_state.proofs.Turns.{keeps_same, left_some, refused, short_asked, turns, went}
 use Rattle.pt_tree.specs.Dest.{CanPeek, MayMove}
 use Rattle.pt_tree.specs.Listing.{Item as Entry}
-use Rattle.pt_tree.specs.Tree.{Entry as TreeEntry, Folder, Special, bytes_of}
+use Rattle.pt_tree.specs.Tree.{Entry as TreeEntry, bytes_of}
 
 -- ---- a turn of the start leaves what is held
 
@@ -33,15 +33,12 @@ use Rattle.pt_tree.specs.Tree.{Entry as TreeEntry, Folder, Special, bytes_of}
 abbrev StartsAt : Phase → State → Calls → Answer → Type 0
 StartsAt here s calls answer = Starts (job_of s.job) here (string_bytes s.prefix) (string_bytes s.prefix) calls answer
 
-goes : (here next : Phase) (s s' : State) (w w' : World) (calls : Calls) → StartsAt here s calls (Ok next) → Did calls w w' → calls.line ≡ None → KeepsAll s s' → s'.hasher ≡ s.hasher → Turned here s s' w w' (Ok next)
-goes here next s s' w w' calls starts did quiet keeps same =
-    went here next s s' w w' calls (λ fed. fed) (λ fed _. Start starts) did quiet (λ fed was. rw same was) keeps
+module _ {here : Phase} {s s' : State} (w w' : World) {calls : Calls} where
+  goes : {next : Phase} → StartsAt here s calls (Ok next) → Did calls w w' → calls.line ≡ None → KeepsAll s s' → s'.hasher ≡ s.hasher → Turned here s s' w w' (Ok next)
+  goes starts did quiet keeps same = went w w' (λ fed. fed) (λ fed _. Start starts) did quiet (λ fed was. rw same was) keeps
 
-halts : (here : Phase) (s s' : State) (w w' : World) (calls : Calls) (why : Halt) → StartsAt here s calls (Err why) → Did calls w w' → KeepsAll s s' → Turned here s s' w w' (Err why)
-halts here s s' w w' calls why starts did keeps = refused here s s' w w' calls why (λ fed _. Start starts) did keeps
-
-leaves : (here : Phase) (s s' : State) (w w' : World) (calls : Calls) (answer : Answer) (f : Halt) (result : Answer) → IsErrAnd result (λ g. g ≡ f) → StartsAt here s calls answer → LeavesSome calls f w w' → KeepsAll s s' → Turned here s s' w w' result
-leaves here s s' w w' calls answer f result is starts some keeps = left_some here s s' w w' calls answer f (λ fed. fed) result is (λ fed. Start starts) some keeps
+  halts : {why : Halt} → StartsAt here s calls (Err why) → Did calls w w' → KeepsAll s s' → Turned here s s' w w' (Err why)
+  halts starts did keeps = refused w w' (λ fed _. Start starts) did keeps
 
 -- ---- the top
 
@@ -84,22 +81,22 @@ pub ruleset finding_kind = (kind_found, kind_passed, kind_past)
 pub is_store : (s : State) (w w' : World) (top : Path) (entries : List Entry) (here : Option Kind) → top ≡ [] → Did (asks (Lists top entries)) w w' → true ≡ lists_store entries → here ≡ kind_in entries prefix_file → Turned phase.Begin s s w w' (Ok (phase.Prefix here))
 is_store s w w' top entries here at did is same =
     rw same
-    (goes phase.Begin _ s s w w' (asks (Lists [] entries)) (IsStore _ entries (sym is)) (rw (at) at did) refl (keeps_same s) refl)
+    (goes w w' (IsStore _ entries (sym is)) (rw (at) at did) refl keeps_same refl)
 
 pub is_no_store : (s : State) (w w' : World) (top : Path) (entries : List Entry) → top ≡ [] → Did (asks (Lists top entries)) w w' → false ≡ lists_store entries → Turned phase.Begin s s w w' (Err halt.NotPairtree)
 is_no_store s w w' top entries at did is =
-    halts phase.Begin s s w w' (asks (Lists [] entries)) halt.NotPairtree (IsNoStore _ entries (sym is)) (rw (at) at did) (keeps_same s)
+    halts w w' (IsNoStore _ entries (sym is)) (rw (at) at did) keeps_same
 
 -- ---- the prefix
 
 pub no_prefix : (s : State) (w : World) → Turned (phase.Prefix None) s s w w (Ok phase.Staging)
-no_prefix s w = goes (phase.Prefix None) phase.Staging s s w w no_calls (HasNoPrefix _) (did_nothing w) refl (keeps_same s) refl
+no_prefix s w = goes w w (HasNoPrefix _) (did_nothing w) refl keeps_same refl
 
 pub no_prefix_dir : (s : State) (w : World) → Turned (phase.Prefix (Some kind.Dir)) s s w w (Err halt.Prefix)
-no_prefix_dir s w = halts (phase.Prefix (Some kind.Dir)) s s w w no_calls halt.Prefix (IsNoPrefixFile _ (Some kind.Dir) (λ e. cc) refl) (did_nothing w) (keeps_same s)
+no_prefix_dir s w = halts w w (IsNoPrefixFile _ (Some kind.Dir) (λ e. cc) refl) (did_nothing w) keeps_same
 
 pub no_prefix_other : (s : State) (w : World) → Turned (phase.Prefix (Some kind.Other)) s s w w (Err halt.Prefix)
-no_prefix_other s w = halts (phase.Prefix (Some kind.Other)) s s w w no_calls halt.Prefix (IsNoPrefixFile _ (Some kind.Other) (λ e. cc) refl) (did_nothing w) (keeps_same s)
+no_prefix_other s w = halts w w (IsNoPrefixFile _ (Some kind.Other) (λ e. cc) refl) (did_nothing w) keeps_same
 
 pub has_prefix : (s s' : State) (w w' : World) (path : Path) (block : List ℕ) → path ≡ prefix_file ∷ [] → Did (asks (OpensAndReads path block)) w w' → prefix_refusal block ≡ None → string_bytes s'.prefix ≡ without_line_ends block
     → s'.job ≡ s.job → s'.trail ≡ s.trail → s'.rows ≡ s.rows → s'.contents ≡ s.contents → s'.counts ≡ s.counts → s'.hasher ≡ s.hasher → Turned (phase.Prefix (Some kind.File)) s s' w w' (Ok phase.Staging)
@@ -132,8 +129,8 @@ bad_prefix s s' w w' path block f (Err g) is at did fails keeps = rw is (by f fa
     there = rw (at) at did
 
     by : (f : Halt) → PrefixFails block f → Turned (phase.Prefix (Some kind.File)) s s' w w' (Err f)
-    by halt.Prefix fails = halts (phase.Prefix (Some kind.File)) s s' w w' (asks (OpensAndReads (prefix_file ∷ []) block)) halt.Prefix (IsNoPrefix _ block fails.0 fails.1) there keeps
-    by halt.Memory fails = short_asked (phase.Prefix (Some kind.File)) s s' w w' (OpensAndReads (prefix_file ∷ []) block) (Err halt.Memory) refl there keeps
+    by halt.Prefix fails = halts w w' (IsNoPrefix _ block fails.0 fails.1) there keeps
+    by halt.Memory fails = short_asked _ s s' w w' (OpensAndReads (prefix_file ∷ []) block) _ refl there keeps
     by _ fails = absurd fails
 
 pub may_open_prefix : (told : Option Reading) (here : Option Kind) (path : Path) → MayOpenPrefix told here → here ≡ Some kind.File → path ≡ prefix_file ∷ [] → CanOpen told path
@@ -142,20 +139,21 @@ may_open_prefix told here path may is at = rw (at) (may is)
 
 -- ---- staging and the root
 
-pub no_staging : (s : State) (w w' : World) (path : Path) → path ≡ staging → Did (does (Finds path None)) w w' → Turned phase.Staging s s w w' (Ok phase.Root)
-no_staging s w w' path is did = goes phase.Staging phase.Root s s w w' _ (HasNoStaging _) (rw is at did) refl (keeps_same s) refl
+module _ (s : State) (w w' : World) (path : Path) where
+  pub no_staging : path ≡ staging → Did (does (Finds path None)) w w' → Turned phase.Staging s s w w' (Ok phase.Root)
+  no_staging is did = goes w w' (HasNoStaging _) (rw is at did) refl keeps_same refl
 
-pub staging_left : (s : State) (w w' : World) (path : Path) (here : Kind) → path ≡ staging → Did (does (Finds path (Some here))) w w' → Turned phase.Staging s s w w' (Err halt.StagingLeft)
-staging_left s w w' path here is did = halts phase.Staging s s w w' _ halt.StagingLeft (HasStaging _ here) (rw is at did) (keeps_same s)
+  pub staging_left : (here : Kind) → path ≡ staging → Did (does (Finds path (Some here))) w w' → Turned phase.Staging s s w w' (Err halt.StagingLeft)
+  staging_left here is did = halts w w' (HasStaging _ here) (rw is at did) keeps_same
 
-pub no_root : (s : State) (w w' : World) (path : Path) → path ≡ storage_root → Did (does (Finds path None)) w w' → Turned phase.Root s s w w' (Ok (phase.RootMake 0))
-no_root s w w' path is did = goes phase.Root (phase.RootMake 0) s s w w' _ (HasNoRoot _) (rw is at did) refl (keeps_same s) refl
+  pub no_root : path ≡ storage_root → Did (does (Finds path None)) w w' → Turned phase.Root s s w w' (Ok (phase.RootMake 0))
+  no_root is did = goes w w' (HasNoRoot _) (rw is at did) refl keeps_same refl
 
-pub has_root : (s : State) (w w' : World) (path : Path) → path ≡ storage_root → Did (does (Finds path (Some kind.Dir))) w w' → Turned phase.Root s s w w' (Ok (phase.RootCheck 0))
-has_root s w w' path is did = goes phase.Root (phase.RootCheck 0) s s w w' _ (HasRoot _) (rw is at did) refl (keeps_same s) refl
+  pub has_root : path ≡ storage_root → Did (does (Finds path (Some kind.Dir))) w w' → Turned phase.Root s s w w' (Ok (phase.RootCheck 0))
+  has_root is did = goes w w' (HasRoot _) (rw is at did) refl keeps_same refl
 
-pub is_no_root : (s : State) (w w' : World) (path : Path) (here : Kind) → path ≡ storage_root → is_dir_kind (Some here) ≡ false → Did (does (Finds path (Some here))) w w' → Turned phase.Root s s w w' (Err halt.Target)
-is_no_root s w w' path here is other did = halts phase.Root s s w w' _ halt.Target (IsNoRoot _ here other) (rw is at did) (keeps_same s)
+  pub is_no_root : (here : Kind) → path ≡ storage_root → is_dir_kind (Some here) ≡ false → Did (does (Finds path (Some here))) w w' → Turned phase.Root s s w w' (Err halt.Target)
+  is_no_root here is other did = halts w w' (IsNoRoot _ here other) (rw is at did) keeps_same
 
 -- ---- a new root
 
@@ -216,15 +214,14 @@ makes_item s item it is = MakesRoot _ item it is
 
 pub made_item : (s : State) (w w' : World) (number : ℕ) (item : Item) (next : Phase) → Did (does (Makes item)) w w' → IsRootItem s.job.layout number item → next ≡ after_item number → Turned (phase.RootMake number) s s w w' (Ok next)
 made_item s w w' number item next did is then =
-    rw then (goes (phase.RootMake number) _ s s w w' _ (makes_item s number item is) did refl (keeps_same s) refl)
+    rw then (goes w w' (makes_item s number item is) did refl keeps_same refl)
 
 pub left_item : (s : State) (w w' : World) (number : ℕ) (item : Item) (f : Halt) (result : Answer) → IsErrAnd result (λ g. g ≡ f) → LeavesSome (does (Makes item)) f w w' → IsRootItem s.job.layout number item → Turned (phase.RootMake number) s s w w' result
-left_item s w w' number item f result is part it = leaves (phase.RootMake number) s s w w' _ _ f result is (makes_item s number item it) part (keeps_same s)
+left_item s w w' number item f result is part it = left_some w w' f result is (λ fed. Start (makes_item s number item it)) part keeps_same
 
 pub renamed_root : (s : State) (w w' : World) (from to : Path) → Did (does (Renames from to)) w w' → from ≡ staging → to ≡ storage_root → Turned phase.RootRename s s w w' (Ok phase.OpenRoot)
 renamed_root s w w' from to did is at =
-    goes phase.RootRename phase.OpenRoot s s w w' (does (Renames staging storage_root)) (RenamesRoot _)
-    (rw (at) at (rw is at did)) refl (keeps_same s) refl
+    goes w w' (RenamesRoot _) (rw (at) at (rw is at did)) refl keeps_same refl
 
 pub may_rename_root : (told : Option Writing) (from to : Path) → MayMove told staging storage_root → from ≡ staging → to ≡ storage_root → MayMove told from to
 may_rename_root told from to may is at = rw (at) (rw is may)
@@ -236,10 +233,8 @@ unfolding IsRootFile
 root_file_at tuples files number whole path bytes at file are = (path, (at, ap (λ (l : List (Path × List ℕ)). slice_get l number) (sym are) ∙ sym file))
 
 is_file : (here : Option Kind) → true ≡ is_file_kind here → here ≡ Some kind.File
-is_file None is = absurd (cc)
 is_file (Some kind.File) is = refl
-is_file (Some kind.Dir) is = absurd (cc)
-is_file (Some kind.Other) is = absurd (cc)
+is_file _ is = absurd (cc)
 
 -- a file is there
 pub can_peek_file : (w w' : World) (path : Path) (here : Option Kind) → Did (does (Finds path here)) w w' → true ≡ is_file_kind here → CanPeek w'.dest path
@@ -248,14 +243,12 @@ can_peek_file w w' path here did is = λ s e. by (s.tree path) (did.0.dest.0 s (
   where
     by : (o : Option TreeEntry) → option_map kind_of_entry o ≡ Some kind.File → IsSome (bytes_of o)
     by (Some (Bytes bytes)) at = refl
-    by (Some Folder) at = absurd (cc)
-    by (Some Special) at = absurd (cc)
-    by None at = absurd (cc)
+    by _ at = absurd (cc)
 
 pub no_file : (s : State) (w w' : World) (number : ℕ) (whole : Path) (bytes : List ℕ) (here : Option Kind) → Did (does (Finds whole here)) w w' → IsRootFile s.job.layout number whole bytes → false ≡ is_file_kind here → Turned (phase.RootCheck number) s s w w' (Err halt.Target)
 unfolding IsRootFile
 no_file s w w' number whole bytes here did file is =
-    halts (phase.RootCheck number) s s w w' _ halt.Target (IsNoFile _ number file.0 bytes here file.1.1 (sym is)) (rw file.1.0 at did) (keeps_same s)
+    halts w w' (IsNoFile _ number file.0 bytes here file.1.1 (sym is)) (rw file.1.0 at did) keeps_same
 
 -- it was found, and then peeked into
 peeked : (a b c : World) (whole : Path) (at : Path) (here : Option Kind) (block : List ℕ) → whole ≡ at → Did (does (Finds whole here)) a b → Did (does (Peeks whole block)) b c → Did (does (Peeks at block)) a c
@@ -266,13 +259,13 @@ pub same_file : (s s' : State) (a b c : World) (number : ℕ) (whole : Path) (by
 unfolding IsRootFile
 same_file s s' a b c number whole bytes block here next found read file eq then keeps same =
     rw then
-    (goes (phase.RootCheck number) _ s s' a c (does (Peeks (storage_root ++ file.0) bytes)) (IsSame _ number file.0 bytes file.1.1)
+    (goes a c (IsSame _ number file.0 bytes file.1.1)
     (rw (same_name block bytes eq) at (peeked a b c whole (storage_root ++ file.0) here block file.1.0 found read)) refl keeps same)
 
 pub other_file : (s s' : State) (a b c : World) (number : ℕ) (whole : Path) (bytes block : List ℕ) (here : Option Kind) → Did (does (Finds whole here)) a b → Did (does (Peeks whole block)) b c → IsRootFile s.job.layout number whole bytes → bytes_eq block bytes ≡ false → KeepsAll s s' → Turned (phase.RootCheck number) s s' a c (Err halt.Target)
 unfolding IsRootFile
 other_file s s' a b c number whole bytes block here found read file ne keeps =
-    halts (phase.RootCheck number) s s' a c _ halt.Target (Differs _ number file.0 bytes block file.1.1 ne) (peeked a b c whole (storage_root ++ file.0) here block file.1.0 found read) keeps
+    halts a c (Differs _ number file.0 bytes block file.1.1 ne) (peeked a b c whole (storage_root ++ file.0) here block file.1.0 found read) keeps
 
 pub ruleset making_root = (root_file, may_make_folder, may_make_file, made_item, left_item, renamed_root, may_rename_root)
 
