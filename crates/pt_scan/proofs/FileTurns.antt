@@ -3,24 +3,20 @@ use Rattle.std.proofs.Common.{◌≡◌, ◌<◌, ◌≤◌, ℕ, ◌+◌, List,
 use Rattle.std.specs.Prelude.{Ok, Err, IsErrAnd}
 use Rattle.std.specs.String.{string_bytes}
 use Rattle.std.proofs.lemmas.Bool.{lt-ltb, le-ltb}
-use Rattle.pt_state.proofs.Words.{digest_of, HasBeenFed, Algorithm, Path, advanced, sought, trail_path, Answer, Skipped, Held, Kept, Did, FailsLater, GoesOn, LeavesSome, Scan, logical_path, to_site, Answers, Changes, Puts, Reads, Untouched, World, asks, dest_tree, tells, Halt, Object, Phase, Turned, counts_of, held_of, job_of, kept_of}
+use Rattle.pt_state.proofs.Words.{digest_of, HasBeenFed, Algorithm, Path, advanced, trail_path, Answer, Skipped, Held, Kept, Did, FailsLater, GoesOn, LeavesSome, Scan, logical_path, to_site, Answers, Changes, Puts, Reads, Untouched, World, asks, dest_tree, tells, Halt, Object, Phase, Turned, KeepsAll, counts_of, held_of, job_of, kept_of}
+use Rattle.pt_state.proofs.Words.cause
+use Rattle.pt_state.proofs.Words.halt
+use Rattle.pt_state.proofs.Words.phase
 use Rattle.pt_state.specs.declared.state.State.{State}
-use Rattle.pt_walk.specs.declared.cause.Cause.TheVariants as cause
-use Rattle.pt_plan.specs.declared.halt.Halt.TheVariants as halt
-use Rattle.pt_plan.specs.declared.phase.Phase.TheVariants as phase
 use Rattle.pt_object.specs.Contents.{noted}
 use Rattle.pt_object.specs.Rows.{row_of}
 use Rattle.pt_plan.specs.TurnScan.{EndsFile, IsTooLong, ReadsOn, with_file}
 use Rattle.pt_plan.specs.World.{ChangesNothing}
 use Rattle.pt_state.proofs.Together.{asked_tree}
-use Rattle.pt_state.proofs.Turns.{KeepsAll, left_told, short_asked, turned_on, went}
-use Rattle.pt_scan.proofs.HeldTurns.{all_kept, read_left, read_told, reads_and_tells}
-use Rattle.pt_scan.specs.Scanning.{IsBackAtSite, IsKept}
-
--- the block that is held has no part in a turn
-pub turned_read : (here : Phase) (s s' : State) (block : _) (a b : World) (result : Answer) → Turned here (record s { block = block }) s' a b result → Turned here s s' a b result
-unfolding Turned
-turned_read here s s' block a b result turned = turned
+use Rattle.pt_state.proofs.Turns.{left_some, short_asked, turned_on, went}
+pub use Rattle.pt_state.proofs.Turns.{turned_read}
+use Rattle.pt_scan.proofs.HeldTurns.{read_left, read_told}
+use Rattle.pt_scan.specs.Scanning.{IsBackAtSite}
 
 empty : (block : List ℕ) → length block ≡ 0 → block ≡ []
 empty [] none = refl
@@ -33,9 +29,9 @@ pub read_on : (s s' : State) (a b : World) (object : Object) (bytes more : ℕ) 
 read_on s s' a b object bytes more [] did some is short feeds keeps = absurd (omega (arith, some))
 read_on s s' a b object bytes more (byte ∷ block) did some is short feeds keeps =
     rw is
-    (went (phase.Read object bytes) (phase.Read object (bytes + length (byte ∷ block))) s s' a b (asks (Reads (byte ∷ block))) (λ fed. fed ++ byte ∷ block)
-    (λ fed was. Scan (ReadsOn (held_of s fed) object bytes byte block (le-ltb s.job.limits.file_bytes (bytes + length (byte ∷ block)) (rw is at short))))
-    did refl (λ fed was. feeds s.job.algorithm fed was) keeps)
+    (went a b (λ fed. fed ++ byte ∷ block)
+    (λ fed was. Scan (ReadsOn _ object bytes byte block (le-ltb s.job.limits.file_bytes (bytes + length (byte ∷ block)) (rw is at short))))
+    did refl (feeds s.job.algorithm) keeps)
 
 -- ---- a file that is too long
 
@@ -43,17 +39,17 @@ pub read_gave_up : (object : Object) (bytes : ℕ) (block : List ℕ) (s s' : St
     → Did (tells (Skipped (trail_path (to_site object s.trail)) cause.Limit)) b c → IsBackAtSite object s s' → Turned (phase.Read object bytes) s s' a c (Ok phase.Walk)
 read_gave_up object bytes [] s s' a b c did some long told back = absurd (omega (arith, some))
 read_gave_up object bytes (byte ∷ block) s s' a b c did some long told back =
-    turned_on (phase.Read object bytes) phase.Walk s s' a c (reads_and_tells (byte ∷ block) (Skipped (trail_path (to_site object s.trail)) cause.Limit)) (sought 0 (to_site object s.trail)) [] []
-    (λ fed. Scan (IsTooLong (held_of s fed) object bytes byte block (lt-ltb s.job.limits.file_bytes (bytes + length (byte ∷ block)) long)))
+    turned_on s s' a c
+    (λ fed. Scan (IsTooLong _ object bytes byte block (lt-ltb s.job.limits.file_bytes (bytes + length (byte ∷ block)) long)))
     (read_told _ _ a b c did told) back.trail back.rows back.contents (ap counts_of back.counts) back.prefix back.hasher back.job
 
 pub read_gave_front : (object : Object) (bytes : ℕ) (block : List ℕ) (s s' : State) (a b c : World) (f : Halt) (result : Answer) → IsErrAnd result (λ h. h ≡ f) → Did (asks (Reads block)) a b → 0 < length block → s.job.limits.file_bytes < bytes + length block
-    → LeavesSome (tells (Skipped (trail_path (to_site object s.trail)) cause.Limit)) f b c → IsKept s s' → Turned (phase.Read object bytes) s s' a c result
-read_gave_front object bytes [] s s' a b c f result is did some long front same = absurd (omega (arith, some))
-read_gave_front object bytes (byte ∷ block) s s' a b c f result is did some long front same =
-    left_told (phase.Read object bytes) s s' a c (reads_and_tells (byte ∷ block) (Skipped (trail_path (to_site object s.trail)) cause.Limit)) (Ok phase.Walk) f _ result is
-    (λ fed. Scan (IsTooLong (held_of s fed) object bytes byte block (lt-ltb s.job.limits.file_bytes (bytes + length (byte ∷ block)) long)))
-    (read_left _ _ f a b c did front) (all_kept s s' same)
+    → LeavesSome (tells (Skipped (trail_path (to_site object s.trail)) cause.Limit)) f b c → KeepsAll s s' → Turned (phase.Read object bytes) s s' a c result
+read_gave_front object bytes [] s s' a b c f result is did some long front keeps = absurd (omega (arith, some))
+read_gave_front object bytes (byte ∷ block) s s' a b c f result is did some long front keeps =
+    left_some a c f result is
+    (λ fed. Scan (IsTooLong _ object bytes byte block (lt-ltb s.job.limits.file_bytes (bytes + length (byte ∷ block)) long)))
+    (read_left _ _ f a b c did front) keeps
 
 -- ---- a file that was read to its end
 
@@ -69,8 +65,8 @@ noted_file s s' a b object bytes block path digest did none there digests trail 
       let new : Held = with_file job object held bytes in
       let kept : Kept = record { prefix = string_bytes s.prefix; held = new; counts = counts_of s.counts } in
       let right = digests s.job.algorithm fed was in
-      let rows_are : s'.rows ≡ new.rows = rows ∙ ap (λ (p : Path). s.rows ++ row_of p digest bytes ∷ []) there ∙ ap (λ (h : List ℕ). s.rows ++ row_of (logical_path object s.trail) h bytes ∷ []) right in
-      let contents_are : s'.contents ≡ new.contents = contents ∙ ap (λ (p : Path). noted s.contents digest p) there ∙ ap (λ (h : List ℕ). noted s.contents h (logical_path object s.trail)) right in
+      let rows_are : s'.rows ≡ new.rows = rows ∙ (λ i. s.rows ++ row_of (there i) (right i) bytes ∷ []) in
+      let contents_are : s'.contents ≡ new.contents = contents ∙ (λ i. noted s.contents (right i) (there i)) in
       let kept_is : kept_of s' [] ≡ kept = λ i. record { prefix = prefix i; held = record { trail = trail i; rows = rows_are i; contents = contents_are i; fed = [] }; counts = counts_of (counts i) } in (
         [],
         (
@@ -102,7 +98,7 @@ noted_part s s' a b object bytes block path digest (Err f) is did none there dig
       let job = job_of s.job in
       let new : Held = with_file job object held bytes in
       let right = digests s.job.algorithm fed was in
-      let rows_are : s'.rows ≡ new.rows = rows ∙ ap (λ (p : Path). s.rows ++ row_of p digest bytes ∷ []) there ∙ ap (λ (h : List ℕ). s.rows ++ row_of (logical_path object s.trail) h bytes ∷ []) right in
+      let rows_are : s'.rows ≡ new.rows = rows ∙ (λ i. s.rows ++ row_of (there i) (right i) bytes ∷ []) in
       let read = none_read a b (rw (empty block none) at did) in (
         fed,
         (

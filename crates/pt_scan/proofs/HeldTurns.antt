@@ -2,13 +2,13 @@
 use Rattle.std.proofs.Common.{◌≡◌, ℕ, List, refl, ap, ◌∙◌}
 use Rattle.std.specs.Prelude.{Option, Some, Ok}
 use Rattle.std.specs.String.{string_bytes}
-use Rattle.pt_state.proofs.Words.{Writing, Path, Kind, Frame, Line, with_trail, Did, Follows, LeavesSome, counted, Answers, Calls, Change, Changes, Finds, NewFile, OfPiece, Puts, Reads, Untouched, World, asks, dest_tree, does, source_tree, tells, Halt, Phase, Turned, counts_of, held_of, job_of}
+use Rattle.pt_state.proofs.Words.{Writing, Path, Kind, Frame, Line, with_trail, Did, LeavesSome, counted, Answers, Calls, Change, Changes, Finds, Puts, Reads, Untouched, World, asks, dest_tree, does, source_tree, tells, Halt, Phase, Turned, counts_of, held_of}
 use Rattle.pt_state.specs.declared.job.Report.{Report}
 use Rattle.pt_state.specs.declared.state.State.{State}
-use Rattle.pt_plan.specs.World.{AsksNothing, ChangesNothing, LeavesPart, OfFile}
-use Rattle.pt_scan.specs.Scanning.{IsKept, Moved}
+use Rattle.pt_plan.specs.World.{AsksNothing, ChangesNothing, LeavesPart}
+use Rattle.pt_scan.specs.Scanning.{Moved}
 use Rattle.pt_state.proofs.Together.{asked_tree}
-use Rattle.pt_state.proofs.Turns.{KeepsAll, keeps_all, turned_on}
+use Rattle.pt_state.proofs.Turns.{Leads, turned_on}
 
 -- ---- a line that is told after another call
 
@@ -54,11 +54,9 @@ looked_told path here line a b c first next = (
   next.1 ∙ first.1,
 )
 
-untouched : (o o' : Option Writing) (change : Change) → change ≡ ChangesNothing → LeavesPart o o' change → dest_tree o' ≡ dest_tree o
-untouched o o' change is (Untouched it same) = same
-untouched o o' change is (OfFile path bytes count same) = absurd (cc)
-untouched o o' change is (NewFile path same) = absurd (cc)
-untouched o o' change is (OfPiece piece count same) = absurd (cc)
+untouched : {o o' : Option Writing} {change : Change} → change ≡ ChangesNothing → LeavesPart o o' change → dest_tree o' ≡ dest_tree o
+untouched is (Untouched it same) = same
+untouched is _ = absurd (cc)
 
 pub looked_left : (path : Path) (here : Option Kind) (line : Line) (f : Halt) (a b c : World) → Did (does (Finds path here)) a b → LeavesSome (tells line) f b c → LeavesSome (finds_and_tells path here line) f a c
 unfolding Did LeavesSome Answers Changes Puts
@@ -67,7 +65,7 @@ looked_left path here line f a b c first next = (
     read = tt;
     found = first.0.dest.0;
     source = next.0.source ∙ ap source_tree first.0.source;
-    dest = Untouched _ (untouched b.dest c.dest ChangesNothing refl next.0.dest ∙ ap dest_tree first.0.dest.1);
+    dest = Untouched _ (untouched refl next.0.dest ∙ ap dest_tree first.0.dest.1);
     log = rw first.0.log at next.0.log;
   },
   rw first.1 at next.1,
@@ -76,20 +74,14 @@ looked_left path here line f a b c first next = (
 
 -- ---- what is held
 
-pub is_kept : (s s' : State) → s'.job ≡ s.job → string_bytes s'.prefix ≡ string_bytes s.prefix → s'.trail ≡ s.trail → s'.rows ≡ s.rows → s'.contents ≡ s.contents → s'.counts ≡ s.counts → IsKept s s'
-is_kept s s' job prefix trail rows contents counts = record { job = job; prefix = prefix; trail = trail; rows = rows; contents = contents; counts = counts }
-
-pub all_kept : (s s' : State) → IsKept s s' → KeepsAll s s'
-all_kept s s' k = keeps_all s s' k.job k.prefix k.trail k.rows k.contents k.counts
-
-pub moved : (s s' : State) (trail : List Frame) (counts : Report) → s'.job ≡ s.job → string_bytes s'.prefix ≡ string_bytes s.prefix → s'.trail ≡ trail → s'.rows ≡ s.rows → s'.contents ≡ s.contents → s'.counts ≡ counts → s'.hasher ≡ s.hasher → Moved trail counts s s'
-moved s s' trail counts job prefix trail_is rows contents counts_are hasher = record { job = job; prefix = prefix; trail_is = trail_is; rows = rows; contents = contents; counts_are = counts_are; hasher = hasher }
+pub moved : {s s' : State} {trail : List Frame} {counts : Report} → s'.job ≡ s.job → string_bytes s'.prefix ≡ string_bytes s.prefix → s'.trail ≡ trail → s'.rows ≡ s.rows → s'.contents ≡ s.contents → s'.counts ≡ counts → s'.hasher ≡ s.hasher → Moved trail counts s s'
+moved job prefix trail_is rows contents counts_are hasher = record { job = job; prefix = prefix; trail_is = trail_is; rows = rows; contents = contents; counts_are = counts_are; hasher = hasher }
 
 -- ---- turns
 
 -- and the trail is this
-pub moves : (here next : Phase) (s s' : State) (a b : World) (calls : Calls) (trail : List Frame) (counts : Report)
-    → ((fed : List ℕ) → Follows (job_of s.job) (counts_of s.counts) here (string_bytes s.prefix) (held_of s fed) (string_bytes s.prefix) (with_trail (held_of s fed) trail) calls (Ok next))
-    → Did calls a b → counts_of counts ≡ counted calls.line (counts_of s.counts) → Moved trail counts s s' → Turned here s s' a b (Ok next)
-moves here next s s' a b calls trail counts follows did counts_are to =
-    turned_on here next s s' a b calls trail s.rows s.contents follows did to.trail_is to.rows to.contents (ap counts_of to.counts_are ∙ counts_are) to.prefix to.hasher to.job
+pub moves : {here next : Phase} {s s' : State} (w w' : World) {calls : Calls} {trail : List Frame} {counts : Report}
+    → ((fed : List ℕ) → Leads here s fed (with_trail (held_of s fed) trail) calls (Ok next))
+    → Did calls w w' → Moved trail counts s s' → counts_of counts ≡ counted calls.line (counts_of s.counts) → Turned here s s' w w' (Ok next)
+moves w w' follows did to counts_are =
+    turned_on _ _ w w' follows did to.trail_is to.rows to.contents (ap counts_of to.counts_are ∙ counts_are) to.prefix to.hasher to.job

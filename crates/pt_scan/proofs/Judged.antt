@@ -12,11 +12,11 @@ use Rattle.std.proofs.lemmas.Str.{IsUtf8-from_is_utf8, IsUtf8-string_bytes, is_u
 use Rattle.pt_name.specs.Place.{place_of}
 use Rattle.pt_name.specs.Tuples.{Tuples}
 use Rattle.pt_name.specs.Reading.{GivesReading, before, hex_value, read_character, reading_of}
-use Rattle.pt_state.proofs.Words.{is_first, Item, Path, same_path, Kind, is_dir_entry, names_to, trail_path, Cause, Frame, Answer, Job, Present, Skipped, with_trail, Did, LeavesSome, Walk, Finds, World, does, no_calls, tells, Halt, Phase, with_skipped, Turned, held_of, job_of}
+use Rattle.pt_state.proofs.Words.{is_first, Item, Path, same_path, Kind, is_dir_entry, names_to, trail_path, Cause, Frame, Answer, Job, Present, Skipped, with_trail, Did, LeavesSome, Walk, Finds, World, does, tells, Halt, Phase, with_skipped, Turned, KeepsAll, held_of, job_of}
+use Rattle.pt_state.proofs.Words.cause
+use Rattle.pt_state.proofs.Words.halt
+use Rattle.pt_state.proofs.Words.phase
 use Rattle.pt_state.specs.declared.state.State.{State}
-use Rattle.pt_walk.specs.declared.cause.Cause.TheVariants as cause
-use Rattle.pt_plan.specs.declared.halt.Halt.TheVariants as halt
-use Rattle.pt_plan.specs.declared.phase.Phase.TheVariants as phase
 use Rattle.pt_name.specs.Share.{holds}
 use Rattle.pt_name.specs.declared.reading.UncleanFault.TheVariants as unclean
 use Rattle.pt_tree.specs.Name.{is_name}
@@ -27,13 +27,13 @@ use Rattle.pt_walk.specs.declared.site.Finding.{Finding}
 use Rattle.pt_walk.specs.declared.site.Finding.TheVariants as finding
 use Rattle.pt_walk.specs.declared.site.Form.{Form}
 use Rattle.pt_walk.proofs.Findings.{candidate as one_candidate}
-use Rattle.pt_plan.specs.Items.{Interior, Named, Skip, VerdictOn, ours}
+use Rattle.pt_plan.specs.Items.{Interior, Named, Skip, ours}
 use Rattle.pt_plan.specs.Job.{form_of}
-use Rattle.pt_plan.specs.TurnWalk.{Walks, LeadsOn, IsSkipped, IsPresent, IsNew, at_object, found_at, has_object, identifier_at, identifier_by, in_root, judged_at, judged_by_finding, judged_by_identifier, path_of_object, unless_reserved}
+use Rattle.pt_plan.specs.TurnWalk.{LeadsOn, IsSkipped, IsPresent, IsNew, at_object, found_at, has_object, identifier_at, identifier_by, in_root, judged_at, judged_by_finding, judged_by_identifier, path_of_object, unless_reserved}
 use Rattle.pt_state.specs.Lines.{with_present}
 use Rattle.pt_state.proofs.LineTexts.{front_none}
 use Rattle.pt_state.proofs.Together.{did_nothing, looked_stays, looked_then}
-use Rattle.pt_state.proofs.Turns.{KeepsAll, left_told, stayed}
+use Rattle.pt_state.proofs.Turns.{Leads, left_some, stayed}
 use Rattle.pt_scan.proofs.HeldTurns.{finds_and_tells, looked_left, looked_told, moved, moves}
 use Rattle.pt_scan.specs.Scanning.{Moved}
 use Rattle.pt_scan.specs.declared.judging.Candidate.{Candidate}
@@ -45,7 +45,7 @@ use Rattle.pt_scan.specs.Judging.{FindsObject, IsNamed, IsPlaced, PassesSite, is
 
 pub found_inner : (trail : List Frame) (items : List Item) (site : Path) (form : Form) → Some items ≡ innermost_listing trail → site ≡ trail_path trail → found items (at_of site) form ≡ found_at form trail
 found_inner [] items site form is at = absurd (cc)
-found_inner (frame ∷ frames) items site form is at = let same : items ≡ frame.listing = cc in ap (λ (l : List Item). found l (at_of site) form) same ∙ ap (λ (p : Path). found frame.listing (at_of p) form) at
+found_inner (frame ∷ frames) items site form is at = let same : items ≡ frame.listing = cc in λ i. found (same i) (at_of (at i)) form
 
 pub found_none : (trail : List Frame) (form : Form) → None ≡ innermost_listing trail → finding.Interior ≡ found_at form trail
 found_none [] form is = refl
@@ -65,34 +65,30 @@ skips_site s why is = ap (judged_by_finding (job_of s.job) (string_bytes s.prefi
 
 pub led_on : (s s' : State) (w : World) → finding.Interior ≡ found_at (form_of (job_of s.job)) s.trail → Moved s.trail s.counts s s' → Turned phase.Judge s s' w w (Ok phase.Walk)
 led_on s s' w is to =
-    moves phase.Judge phase.Walk s s' w w no_calls s.trail s.counts
-    (λ fed. Walk (LeadsOn (held_of s fed) (ap (λ (f : Finding). ours s.job.share (judged_by_finding (job_of s.job) (string_bytes s.prefix) (trail_path s.trail) f)) (sym is)))) (did_nothing w) refl to
+    moves w w (λ fed. Walk (LeadsOn _ (ap (λ (f : Finding). ours s.job.share (judged_by_finding (job_of s.job) (string_bytes s.prefix) (trail_path s.trail) f)) (sym is)))) (did_nothing w) to refl
 
 -- ---- a site that is passed over
 
 -- it is of the first share
 skipped_first : (s : State) (why : Cause) → PassesSite s why → true ≡ is_first s.job.share → judged_at (job_of s.job) (string_bytes s.prefix) s.trail ≡ Skip why
 unfolding PassesSite
-skipped_first s why is first = ap (λ (v : VerdictOn (Option ℕ)). ours s.job.share v) is ∙ ap (λ b. cond b (Skip why) Interior) (sym first)
+skipped_first s why is first = ap (ours s.job.share) is ∙ ap (λ b. cond b (Skip why) Interior) (sym first)
 
 skipped_other : (s : State) (why : Cause) → PassesSite s why → false ≡ is_first s.job.share → judged_at (job_of s.job) (string_bytes s.prefix) s.trail ≡ Interior
 unfolding PassesSite
-skipped_other s why is other = ap (λ (v : VerdictOn (Option ℕ)). ours s.job.share v) is ∙ ap (λ b. cond b (Skip why) Interior) (sym other)
+skipped_other s why is other = ap (ours s.job.share) is ∙ ap (λ b. cond b (Skip why) Interior) (sym other)
 
 pub passed_site : (s s' : State) (a b : World) (path : Path) (why : Cause) → PassesSite s why → true ≡ is_first s.job.share → Did (tells (Skipped path why)) a b → path ≡ trail_path s.trail → Moved s.trail (with_skipped s.counts) s s' → Turned phase.Judge s s' a b (Ok phase.Walk)
 passed_site s s' a b path why line first told is to =
-    moves phase.Judge phase.Walk s s' a b (tells (Skipped (trail_path s.trail) why)) s.trail (with_skipped s.counts)
-    (λ fed. Walk (IsSkipped (held_of s fed) why (skipped_first s why line first))) (rw is at told) refl to
+    moves a b (λ fed. Walk (IsSkipped _ why (skipped_first s why line first))) (rw is at told) to refl
 
 pub passed_site_front : (s s' : State) (a b : World) (path : Path) (why : Cause) (f : Halt) (result : Answer) → IsErrAnd result (λ h. h ≡ f) → PassesSite s why → true ≡ is_first s.job.share → LeavesSome (tells (Skipped path why)) f a b → path ≡ trail_path s.trail → KeepsAll s s' → Turned phase.Judge s s' a b result
 passed_site_front s s' a b path why f result is line first front there keeps =
-    left_told phase.Judge s s' a b (tells (Skipped (trail_path s.trail) why)) _ f _ result is
-    (λ fed. Walk (IsSkipped (held_of s fed) why (skipped_first s why line first))) (rw there at front) keeps
+    left_some a b f result is (λ fed. Walk (IsSkipped _ why (skipped_first s why line first))) (rw there at front) keeps
 
 pub passed_site_quietly : (s s' : State) (w : World) (why : Cause) → PassesSite s why → false ≡ is_first s.job.share → Moved s.trail s.counts s s' → Turned phase.Judge s s' w w (Ok phase.Walk)
 passed_site_quietly s s' w why line other to =
-    moves phase.Judge phase.Walk s s' w w no_calls s.trail s.counts
-    (λ fed. Walk (LeadsOn (held_of s fed) (skipped_other s why line other))) (did_nothing w) refl to
+    moves w w (λ fed. Walk (LeadsOn _ (skipped_other s why line other))) (did_nothing w) to refl
 
 -- ---- identifiers
 
@@ -171,7 +167,7 @@ read_not_utf8 site text prefix (bytes, reads, not) joined = sym (ap (read_behind
 
 pub one_name : (path : Path) (name text literal bytes : List ℕ) (b : Bool) → b ≡ bytes_eq bytes literal → literal ≡ text → bytes ≡ name → Some name ≡ slice_get path 0 → length path ≡ 1 → b ≡ same_path path (text ∷ [])
 one_name [] name text literal bytes b is like same at one = absurd (cc)
-one_name (x ∷ []) name text literal bytes b is like same at one = let first : name ≡ x = cc in is ∙ ap (bytes_eq bytes) like ∙ ap (λ (n : List ℕ). bytes_eq n text) (same ∙ first) ∙ sym (and_true (bytes_eq x text))
+one_name (x ∷ []) name text literal bytes b is like same at one = let first : name ≡ x = cc in is ∙ (λ i. bytes_eq ((same ∙ first) i) (like i)) ∙ sym (and_true (bytes_eq x text))
   where
     and_true : (b : Bool) → (b && true) ≡ b
     and_true true = refl
@@ -245,15 +241,14 @@ skips_unnamed s index why found named = by_object s index (Err why) found named
 named_at : (s : State) (index : Option ℕ) (candidate : Candidate) → FindsObject s index → IsNamed s (verdict.Carry candidate) → IsTrue (holds s.job.share candidate.id) → judged_at (job_of s.job) (string_bytes s.prefix) s.trail ≡ Named candidate.id index
 unfolding IsNamed
 named_at s index candidate found (named, place) mine =
-    ap (λ (v : VerdictOn (Option ℕ)). ours s.job.share v) (by_object s index (Ok candidate.id) found named) ∙ ap (λ b. cond b (Named candidate.id index) Interior) mine
+    ap (ours s.job.share) (by_object s index (Ok candidate.id) found named) ∙ ap (λ b. cond b (Named candidate.id index) Interior) mine
 
 -- another share passes it
 pub passed_object : (s s' : State) (w : World) (index : Option ℕ) (candidate : Candidate) → FindsObject s index → IsNamed s (verdict.Carry candidate) → false ≡ holds s.job.share candidate.id → Moved s.trail s.counts s s' → Turned phase.Judge s s' w w (Ok phase.Walk)
 unfolding IsNamed
 passed_object s s' w index candidate found (named, place) other to =
-    let judged = ap (λ (v : VerdictOn (Option ℕ)). ours s.job.share v) (by_object s index (Ok candidate.id) found named) ∙ ap (λ b. cond b (Named candidate.id index) Interior) (sym other) in
-    moves phase.Judge phase.Walk s s' w w no_calls s.trail s.counts
-    (λ fed. Walk (LeadsOn (held_of s fed) judged)) (did_nothing w) refl to
+    let judged = ap (ours s.job.share) (by_object s index (Ok candidate.id) found named) ∙ ap (λ b. cond b (Named candidate.id index) Interior) (sym other) in
+    moves w w (λ fed. Walk (LeadsOn _ judged)) (did_nothing w) to refl
 
 -- ---- an object whose place was asked for
 
@@ -262,29 +257,23 @@ pub looked_short : (s s' : State) (a b : World) (path : Path) (here : Option Kin
 looked_short s s' a b path here result is did keeps = stayed phase.Judge s s' a b halt.Memory result is (looked_stays path here a b did) keeps
 
 present_follows : (s : State) (index : Option ℕ) (candidate : Candidate) (here : Kind) → FindsObject s index → IsNamed s (verdict.Carry candidate) → IsTrue (holds s.job.share candidate.id) → (fed : List ℕ)
-    → Walks (job_of s.job) (string_bytes s.prefix) phase.Judge (held_of s fed) (held_of s fed) (finds_and_tells (in_root candidate.place) (Some here) (Present (path_of_object index s.trail) candidate.id candidate.place)) (Ok phase.Walk)
+    → Leads phase.Judge s fed (held_of s fed) (finds_and_tells (in_root candidate.place) (Some here) (Present (path_of_object index s.trail) candidate.id candidate.place)) (Ok phase.Walk)
 unfolding IsNamed
 present_follows s index candidate here found (named, place) mine fed =
     rw place
-    (IsPresent (held_of s fed) index candidate.id here (named_at s index candidate found (named, place) mine))
-
--- something stands there
-there_is : (path at : Path) (here : Option Kind) (it : Kind) (a b : World) → path ≡ at → here ≡ Some it → Did (does (Finds path here)) a b → Did (does (Finds at (Some it))) a b
-there_is path at here it a b there is did = rw is at (rw there at did)
+    (Walk (IsPresent (held_of s fed) index candidate.id here (named_at s index candidate found (named, place) mine)))
 
 pub told_present : (s s' : State) (a b c : World) (path at : Path) (here : Option Kind) (it : Kind) (index : Option ℕ) (candidate : Candidate) → FindsObject s index → IsNamed s (verdict.Carry candidate) → IsTrue (holds s.job.share candidate.id)
     → Did (does (Finds path here)) a b → here ≡ Some it → path ≡ in_root candidate.place → Did (tells (Present at candidate.id candidate.place)) b c → at ≡ path_of_object index s.trail → Moved s.trail (with_present s.counts) s s' → Turned phase.Judge s s' a c (Ok phase.Walk)
 told_present s s' a b c path at here it index candidate found named mine did is there told place to =
-    moves phase.Judge phase.Walk s s' a c (finds_and_tells (in_root candidate.place) (Some it) (Present (path_of_object index s.trail) candidate.id candidate.place)) s.trail (with_present s.counts)
-    (λ fed. Walk (present_follows s index candidate it found named mine fed))
-    (looked_told (in_root candidate.place) (Some it) _ a b c (there_is path (in_root candidate.place) here it a b there is did) (rw place at told)) refl to
+    moves a c (present_follows s index candidate it found named mine)
+    (looked_told _ _ _ a b c (rw (is, there) at did) (rw place at told)) to refl
 
 pub told_present_front : (s s' : State) (a b c : World) (path at : Path) (here : Option Kind) (it : Kind) (index : Option ℕ) (candidate : Candidate) (f : Halt) (result : Answer) → IsErrAnd result (λ h. h ≡ f) → FindsObject s index → IsNamed s (verdict.Carry candidate) → IsTrue (holds s.job.share candidate.id)
     → Did (does (Finds path here)) a b → here ≡ Some it → path ≡ in_root candidate.place → LeavesSome (tells (Present at candidate.id candidate.place)) f b c → at ≡ path_of_object index s.trail → KeepsAll s s' → Turned phase.Judge s s' a c result
 told_present_front s s' a b c path at here it index candidate f result error found named mine did is there front place keeps =
-    left_told phase.Judge s s' a c (finds_and_tells (in_root candidate.place) (Some it) (Present (path_of_object index s.trail) candidate.id candidate.place)) _ f _ result error
-    (λ fed. Walk (present_follows s index candidate it found named mine fed))
-    (looked_left (in_root candidate.place) (Some it) _ f a b c (there_is path (in_root candidate.place) here it a b there is did) (rw place at front)) keeps
+    left_some a c f result error (present_follows s index candidate it found named mine)
+    (looked_left _ _ _ f a b c (rw (is, there) at did) (rw place at front)) keeps
 
 length-object : (index : Option ℕ) (trail : List Frame) → length (at_object index trail) ≡ length trail
 length-object None trail = refl
@@ -292,11 +281,11 @@ length-object (Some index) [] = refl
 length-object (Some index) (frame ∷ frames) = refl
 
 new_follows : (s : State) (index : Option ℕ) (candidate : Candidate) → FindsObject s index → IsNamed s (verdict.Carry candidate) → IsTrue (holds s.job.share candidate.id) → (fed : List ℕ)
-    → Walks (job_of s.job) (string_bytes s.prefix) phase.Judge (held_of s fed) (with_trail (held_of s fed) (at_object index s.trail)) (does (Finds (in_root candidate.place) None)) (Ok (phase.OpenObject (record { id = candidate.id; place = candidate.place; gathered = is_none index; site = length s.trail; empty = 0 })))
+    → Leads phase.Judge s fed (with_trail (held_of s fed) (at_object index s.trail)) (does (Finds (in_root candidate.place) None)) (Ok (phase.OpenObject (record { id = candidate.id; place = candidate.place; gathered = is_none index; site = length s.trail; empty = 0 })))
 unfolding IsNamed
 new_follows s index candidate found (named, place) mine fed =
     rw place
-    (IsNew (held_of s fed) index candidate.id (named_at s index candidate found (named, place) mine))
+    (Walk (IsNew (held_of s fed) index candidate.id (named_at s index candidate found (named, place) mine)))
 
 pub found_new : (s s' : State) (a b : World) (path : Path) (here : Option Kind) (index : Option ℕ) (candidate : Candidate) (gathered : Bool) (site : ℕ) (next : Phase) → FindsObject s index → IsNamed s (verdict.Carry candidate) → IsTrue (holds s.job.share candidate.id)
     → Did (does (Finds path here)) a b → here ≡ None → path ≡ in_root candidate.place → next ≡ phase.OpenObject (record { id = candidate.id; place = candidate.place; gathered = gathered; site = site; empty = 0 }) → gathered ≡ is_none index → site ≡ length s'.trail
@@ -305,9 +294,7 @@ found_new s s' a b path here index candidate gathered site next found named mine
     let object_is : next ≡ phase.OpenObject (record { id = candidate.id; place = candidate.place; gathered = is_none index; site = length s.trail; empty = 0 }) =
     then ∙ (λ i. phase.OpenObject (record { id = candidate.id; place = candidate.place; gathered = gather i; site = (deep ∙ ap length to.trail_is ∙ length-object index s.trail) i; empty = 0 })) in
     rw object_is
-    (moves phase.Judge _ s s' a b (does (Finds (in_root candidate.place) None)) (at_object index s.trail) s.counts
-    (λ fed. Walk (new_follows s index candidate found named mine fed))
-    (rw is at (rw there at did)) refl to)
+    (moves a b (new_follows s index candidate found named mine) (rw (there, is) at did) to refl)
 
 -- ---- the trail at the object
 

@@ -1,13 +1,8 @@
 -- Leaving listings one by one.
-use Rattle.std.proofs.Common.{◌≡◌, ℕ, ◌+◌, ◌-◌, ◌<◌, ◌≤◌, List, [], ◌∷◌, length, drop, refl, ap, ◌∙◌, arith, zero, suc}
+use Rattle.std.proofs.Common.{◌≡◌, ℕ, ◌+◌, ◌-◌, ◌<◌, ◌≤◌, List, length, drop, ap, ◌∙◌, arith, suc}
 use Rattle.std.proofs.lemmas.List.{length-drop}
 use Rattle.pt_state.proofs.Words.{parent, Frame}
-
-parent-drop : (n : ℕ) (t : List Frame) → parent (drop n t) ≡ drop (suc n) t
-parent-drop zero [] = refl
-parent-drop zero (f ∷ t) = refl
-parent-drop (suc n) [] = refl
-parent-drop (suc n) (f ∷ t) = parent-drop n t
+use Rattle.pt_scan.proofs.ObjectPaths.{parent_drops}
 
 pub left_some : (n site : ℕ) (t t' : List Frame) → t' ≡ drop n t → n < length t - site → 0 < length t'
 left_some n site t t' is within =
@@ -17,7 +12,7 @@ left_some n site t t' is within =
 pub left_more : (n : ℕ) (t t' t'' : List Frame) → t' ≡ drop n t → t'' ≡ parent t' → t'' ≡ drop (n + 1) t
 left_more n t t' t'' is more =
     let next : suc n ≡ n + 1 = omega (arith) in
-    more ∙ (ap parent is ∙ (parent-drop n t ∙ ap (λ k. drop k t) next))
+    more ∙ (ap parent is ∙ (parent_drops n t ∙ ap (λ k. drop k t) next))
 
 pub left_none : (t t' : List Frame) → t' ≡ t → t' ≡ drop 0 t
 left_none t t' is = is

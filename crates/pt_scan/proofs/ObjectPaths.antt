@@ -2,27 +2,13 @@
 use Rattle.std.proofs.Common.{◌≡◌, ◌<◌, ◌≤◌, ℕ, ◌+◌, ◌-◌, ◌==◌, Bool, true, false, List, [], ◌∷◌, ◌++◌, refl, sym, ap, ◌∙◌, length, cond, drop, take, arith, zero, suc}
 use Rattle.std.specs.Prelude.{Option, None, Some, IsSome, ◌&&◌, option_to_list}
 use Rattle.std.specs.Option.{option_map}
-use Rattle.std.proofs.lemmas.List.{length-append, length-drop, length-take-le, take_all}
+use Rattle.std.proofs.lemmas.List.{drop_at, length-append, length-drop, length-take-le, take_all, take_at}
 use Rattle.std.proofs.lemmas.Bool.{and_parts, eq-eqb}
 use Rattle.pt_state.proofs.Words.{Item, Path, current_entry, is_dir_entry, names_to, parent, trail_path, Frame, logical_path, to_site, Object}
 use Rattle.pt_walk.specs.Trail.{are_outer, entry_at, is_frame, is_trail, name_at}
 use Rattle.pt_walk.proofs.TrailSteps.{path_splits}
 use Rattle.pt_plan.specs.TurnScan.{is_in_site, own_listings}
 use Rattle.pt_scan.specs.Scanning.{IsSite}
-
--- ---- plain lists
-
-drop_front : (front rest : Path) (k : ℕ) → length front ≡ k → drop k (front ++ rest) ≡ rest
-drop_front [] rest zero long = refl
-drop_front [] rest (suc k) long = absurd (omega (arith, long))
-drop_front (x ∷ front) rest zero long = absurd (omega (arith, long))
-drop_front (x ∷ front) rest (suc k) long = drop_front front rest k (omega (arith, long))
-
-take_front : (front rest : Path) (k : ℕ) → length front ≡ k → take k (front ++ rest) ≡ front
-take_front [] rest zero long = refl
-take_front [] rest (suc k) long = absurd (omega (arith, long))
-take_front (x ∷ front) rest zero long = absurd (omega (arith, long))
-take_front (x ∷ front) rest (suc k) long = ap (λ (p : Path). x ∷ p) (take_front front rest k (omega (arith, long)))
 
 -- ---- trails
 
@@ -54,7 +40,7 @@ drop_parent zero [] = refl
 drop_parent (suc k) [] = refl
 drop_parent k (frame ∷ frames) = refl
 
-parent_drops : (k : ℕ) (trail : List Frame) → parent (drop k trail) ≡ drop (suc k) trail
+pub parent_drops : (k : ℕ) (trail : List Frame) → parent (drop k trail) ≡ drop (suc k) trail
 parent_drops zero [] = refl
 parent_drops zero (frame ∷ frames) = refl
 parent_drops (suc k) [] = refl
@@ -84,7 +70,7 @@ pub logical_is : (object : Object) (trail : List Frame) (entry names rest : Path
 logical_is object trail entry names rest first is site own at begin names_is rest_is =
     rest_is ∙ take_all (length names - first) (drop first names) (let short = length-drop first names in omega (arith, short))
     ∙ ap (drop first) (names_is ∙ at) ∙ ap (λ (k : ℕ). drop k (names_to trail)) (begin ∙ sym (first_of object trail site own)) ∙ ap (λ (p : Path). drop (length trail - own_listings object trail) p) (path_splits (own_listings object trail) trail)
-    ∙ drop_front (names_to (drop (own_listings object trail) trail)) (names_to (take (own_listings object trail) trail)) (length trail - own_listings object trail) (names_outside (own_listings object trail) trail is own)
+    ∙ drop_at (names_to (drop (own_listings object trail) trail)) (names_to (take (own_listings object trail) trail)) (length trail - own_listings object trail) (names_outside (own_listings object trail) trail is own)
 
 -- it begins within the path
 pub logical_within : (object : Object) (trail : List Frame) (entry : Path) (first : ℕ) → is_trail trail ≡ true → IsSite object trail → 0 < own_listings object trail → entry ≡ names_to trail → first ≡ cond object.gathered (object.site - 1) object.site → first ≤ length entry
@@ -107,7 +93,7 @@ site_is object trail inner part whole is (some, long) at part_is whole_is =
     let one = length_parent trail in
     let names : length (names_to (drop k (parent trail))) ≡ object.site - 1 = omega (arith, left, shorter, one, some, long) in
     whole_is ∙ part_is ∙ ap (λ (p : Path). take (object.site - 1) p) (at ∙ path_splits k (parent trail))
-    ∙ take_front (names_to (drop k (parent trail))) (names_to (take k (parent trail))) (object.site - 1) names ∙ ap names_to (sym (parent_drop k trail))
+    ∙ take_at (names_to (drop k (parent trail))) (names_to (take k (parent trail))) (object.site - 1) names ∙ ap names_to (sym (parent_drop k trail))
   where
     length_parent : (trail : List Frame) → length (parent trail) ≡ length trail - 1
     length_parent [] = refl

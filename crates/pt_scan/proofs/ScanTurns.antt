@@ -4,28 +4,28 @@ use Rattle.std.specs.Prelude.{Option, None, Some, Ok, IsErrAnd, IsSome, nat_le, 
 use Rattle.std.specs.String.{string_bytes}
 use Rattle.std.proofs.lemmas.Bool.{lt-ltb, le-ltb, le-leb, lt-leb}
 use Rattle.std.proofs.Math.Dec.{eqb-suc-zero}
-use Rattle.pt_state.proofs.Words.{HasBeenFed, Item, Path, joined, Kind, advanced, current_entry, entered, is_dir_entry, names_to, parent, sought, trail_path, Cause, Frame, Answer, Skipped, logical_path, to_site, in_pairtree, Halt, Object, Phase, with_skipped, counts_of, held_of, Did, LeavesSome, Scan, Stays, Lists, Opens, World, asks, no_calls, tells, Turned, Reading, CanOpen}
+use Rattle.pt_state.proofs.Words.{HasBeenFed, Item, Path, joined, Kind, advanced, current_entry, entered, is_dir_entry, names_to, parent, sought, trail_path, Cause, Frame, Answer, Skipped, logical_path, to_site, in_pairtree, Halt, Object, Phase, with_skipped, KeepsAll, counts_of, Did, LeavesSome, Scan, Stays, Lists, Opens, World, asks, tells, Turned, Reading, CanOpen}
+use Rattle.pt_state.proofs.Words.cause
+use Rattle.pt_state.proofs.Words.halt
+use Rattle.pt_state.proofs.Words.kind
+use Rattle.pt_state.proofs.Words.part
+use Rattle.pt_state.proofs.Words.phase
 use Rattle.pt_state.specs.declared.state.State.{State}
-use Rattle.pt_tree.specs.declared.kind.Kind.TheVariants as kind
-use Rattle.pt_walk.specs.declared.cause.Cause.TheVariants as cause
-use Rattle.pt_plan.specs.declared.halt.Halt.TheVariants as halt
-use Rattle.pt_plan.specs.declared.phase.Part.TheVariants as part
-use Rattle.pt_plan.specs.declared.phase.Phase.TheVariants as phase
 use Rattle.pt_walk.specs.Site.{is_shorty}
 use Rattle.pt_walk.specs.Trail.{has_place}
 use Rattle.pt_plan.specs.Permits.{MayEnter, MayOpen}
 use Rattle.pt_plan.specs.TurnScan.{StartsInSite, EntersObject, IsTooDeep, PassesShorty, EntersDirectory, MeetsDeep, OpensFile, MeetsLimit, MeetsOther, EndsSite, EndsObject, LeavesDirectory, is_in_site, none_listed, with_directory}
 use Rattle.pt_state.proofs.LineTexts.{front_none}
 use Rattle.pt_state.proofs.Together.{asked_stays, did_nothing}
-use Rattle.pt_state.proofs.Turns.{KeepsAll, left_told, stayed, turned_on, went}
+use Rattle.pt_state.proofs.Turns.{left_some, turned_on, went}
 use Rattle.pt_tree.specs.Source.{CanList}
-use Rattle.pt_scan.specs.Scanning.{Enters, EntersNext, GivesUp, IsAtDirectory, IsAtFile, IsBackAtSite, IsKept, IsSite, MeetsDirectory, Moved}
-use Rattle.pt_scan.proofs.HeldTurns.{all_kept, is_kept, moved, moves}
+use Rattle.pt_scan.specs.Scanning.{Enters, EntersNext, GivesUp, IsAtDirectory, IsAtFile, IsBackAtSite, IsSite, MeetsDirectory, Moved}
+use Rattle.pt_scan.proofs.HeldTurns.{moved, moves}
 
 -- ---- what the parts of a turn leave
 
-pub back_at : (object : Object) (s s' : State) (left : List Frame) → left ≡ drop (length s.trail - object.site) s.trail → s'.trail ≡ sought 0 left → s'.job ≡ s.job → s'.rows ≡ [] → s'.contents ≡ [] → s'.counts ≡ with_skipped s.counts → string_bytes s'.prefix ≡ string_bytes s.prefix → s'.hasher ≡ s.hasher → IsBackAtSite object s s'
-back_at object s s' left is trail job rows contents counts prefix hasher = record { job = job; prefix = prefix; trail = trail ∙ ap (sought 0) is; rows = rows; contents = contents; counts = counts; hasher = hasher }
+pub back_at : {object : Object} {s s' : State} {left : List Frame} → left ≡ drop (length s.trail - object.site) s.trail → s'.trail ≡ sought 0 left → s'.job ≡ s.job → s'.rows ≡ [] → s'.contents ≡ [] → s'.counts ≡ with_skipped s.counts → string_bytes s'.prefix ≡ string_bytes s.prefix → s'.hasher ≡ s.hasher → IsBackAtSite object s s'
+back_at is trail job rows contents counts prefix hasher = record { job = job; prefix = prefix; trail = trail ∙ ap (sought 0) is; rows = rows; contents = contents; counts = counts; hasher = hasher }
 
 pub has_entered : (s s' : State) (a b : World) (path : Path) (items : List Item) (is_empty : Bool) → Did (asks (Lists path items)) a b → path ≡ in_pairtree (names_to s.trail) → is_empty ≡ (length items == 0) → Moved (entered items s.trail) s.counts s s' → Enters s s' a b is_empty
 has_entered s s' a b path items is_empty did is empty to = record { items = items; listed = rw is at did; empty = empty; moved = to }
@@ -43,10 +43,8 @@ unfolding MayEnter
 may_list_entry told trail path may is there = by (current_entry trail) refl is
   where
     by : (o : Option Item) → current_entry trail ≡ o → is_dir_entry o ≡ true → CanList told path
-    by None at is = absurd (cc)
     by (Some (name, kind.Dir)) at is = rw there (may name at)
-    by (Some (name, kind.File)) at is = absurd (cc)
-    by (Some (name, kind.Other)) at is = absurd (cc)
+    by _ _ is = absurd (cc)
 
 -- ---- an object that is passed over
 
@@ -54,13 +52,12 @@ may_list_entry told trail path may is there = by (current_entry trail) refl is
 pub gave_up : (here : Phase) (object : Object) (why : Cause) (s s' : State) (a b : World) → GivesUp here object why s → Did (tells (Skipped (trail_path (to_site object s.trail)) why)) a b → IsBackAtSite object s s' → Turned here s s' a b (Ok phase.Walk)
 unfolding GivesUp
 gave_up here object why s s' a b line got back =
-    turned_on here phase.Walk s s' a b (tells (Skipped (trail_path (to_site object s.trail)) why)) (sought 0 (to_site object s.trail)) [] []
-    (λ fed. Scan (line fed)) got back.trail back.rows back.contents (ap counts_of back.counts) back.prefix back.hasher back.job
+    turned_on s s' a b (λ fed. Scan (line fed)) got back.trail back.rows back.contents (ap counts_of back.counts) back.prefix back.hasher back.job
 
 -- a part of the line was put
-pub gave_front : (here : Phase) (object : Object) (why : Cause) (s s' : State) (a b : World) (f : Halt) (result : Answer) → IsErrAnd result (λ h. h ≡ f) → GivesUp here object why s → LeavesSome (tells (Skipped (trail_path (to_site object s.trail)) why)) f a b → IsKept s s' → Turned here s s' a b result
+pub gave_front : (here : Phase) (object : Object) (why : Cause) (s s' : State) (a b : World) (f : Halt) (result : Answer) → IsErrAnd result (λ h. h ≡ f) → GivesUp here object why s → LeavesSome (tells (Skipped (trail_path (to_site object s.trail)) why)) f a b → KeepsAll s s' → Turned here s s' a b result
 unfolding GivesUp
-gave_front here object why s s' a b f result is line front same = left_told here s s' a b (tells (Skipped (trail_path (to_site object s.trail)) why)) (Ok phase.Walk) f _ result is (λ fed. Scan (line fed)) front (all_kept s s' same)
+gave_front here object why s s' a b f result is line front keeps = left_some a b f result is (λ fed. Scan (line fed)) front keeps
 
 -- ---- a directory
 
@@ -68,29 +65,23 @@ pub entered_next : (here : Phase) (object object' : Object) (s s' : State) (a b 
 unfolding EntersNext
 entered_next here object object' s s' a b is_empty line did is =
     rw (is ∙ ap (λ (e : ℕ). record object { empty = object.empty + e }) (ap (λ (b : Bool). cond b 1 0) did.empty ∙ counted did.items))
-    (moves here (phase.Scan (with_directory object did.items)) s s' a b (asks (Lists (in_pairtree (names_to s.trail)) did.items)) (entered did.items s.trail) s.counts
-    (λ fed. Scan (line fed did.items))
-    did.listed refl did.moved)
+    (moves a b (λ fed. Scan (line fed did.items)) did.listed did.moved refl)
   where
     counted : (items : List Item) → cond (length items == 0) 1 0 ≡ none_listed items
     counted [] = refl
     counted (item ∷ items) = ap (λ (b : Bool). cond b 1 0) (eqb-suc-zero (length items))
 
-pub enter_failed : (here : Phase) (s s' : State) (a b : World) (f : Halt) (result : Answer) → IsErrAnd result (λ h. h ≡ f) → Stays f a b → IsKept s s' → Turned here s s' a b result
-enter_failed here s s' a b f result is stays same = stayed here s s' a b f result is stays (all_kept s s' same)
-
 -- ---- which line of the table it is
 
 pub begun_in_site : (s s' : State) (a : World) (object : Object) → true ≡ object.gathered → Moved (sought 0 s.trail) s.counts s s' → Turned (phase.OpenObject object) s s' a a (Ok (phase.Scan object))
 begun_in_site s s' a object is to =
-    moves (phase.OpenObject object) (phase.Scan object) s s' a a no_calls (sought 0 s.trail) s.counts
-    (λ fed. Scan (StartsInSite (held_of s fed) object (sym is))) (did_nothing a) refl to
+    moves a a (λ fed. Scan (StartsInSite _ object (sym is))) (did_nothing a) to refl
 
 pub meets_own : (s : State) (object : Object) → object.gathered ≡ false → MeetsDirectory (phase.OpenObject object) object s
 unfolding GivesUp EntersNext
 meets_own s object is = record {
-  deep = λ deep fed. IsTooDeep (held_of s fed) object is (lt-ltb s.job.limits.depth (length s.trail) deep);
-  shallow = λ shallow fed items. EntersObject (held_of s fed) object items is (le-ltb s.job.limits.depth (length s.trail) shallow);
+  deep = λ deep fed. IsTooDeep _ object is (lt-ltb s.job.limits.depth (length s.trail) deep);
+  shallow = λ shallow fed items. EntersObject _ object items is (le-ltb s.job.limits.depth (length s.trail) shallow);
 }
 
 pub site_there : (object : Object) (trail : List Frame) → IsSite object trail → has_place 0 trail ≡ true
@@ -100,14 +91,12 @@ site_there object (frame ∷ frames) (some, long) = le-leb 0 (length frame.listi
 
 pub passed_in_site : (s s' : State) (a : World) (object : Object) (name : List ℕ) (it : Kind) (in_site : Bool) → Some (name, it) ≡ current_entry s.trail → in_site ≡ is_in_site object s.trail → true ≡ (in_site && is_shorty (name, it)) → Moved (advanced s.trail) s.counts s s' → Turned (phase.Scan object) s s' a a (Ok (phase.Scan object))
 passed_in_site s s' a object name it in_site at place is to =
-    moves (phase.Scan object) (phase.Scan object) s s' a a no_calls (advanced s.trail) s.counts
-    (λ fed. Scan (PassesShorty (held_of s fed) object (name, it) (sym at) (ap (λ (b : Bool). b && is_shorty (name, it)) (sym place) ∙ sym is)))
-    (did_nothing a) refl to
+    moves a a (λ fed. Scan (PassesShorty _ object (name, it) (sym at) (ap (λ (b : Bool). b && is_shorty (name, it)) (sym place) ∙ sym is))) (did_nothing a) to refl
 
 pub at_directory : (object : Object) (trail : List Frame) (name : List ℕ) (it : Kind) (in_site : Bool) → Some (name, it) ≡ current_entry trail → it ≡ kind.Dir → in_site ≡ is_in_site object trail → false ≡ (in_site && is_shorty (name, it)) → IsAtDirectory object trail
 unfolding IsAtDirectory
 at_directory object trail name it in_site at is place not =
-    (name, (sym at ∙ ap (λ (k : Kind). Some (name, k)) is, ap (λ (k : Kind). is_in_site object trail && is_shorty (name, k)) (sym is) ∙ ap (λ (b : Bool). b && is_shorty (name, it)) (sym place) ∙ sym not))
+    (name, (sym at ∙ ap (λ (k : Kind). Some (name, k)) is, sym (not ∙ (λ i. place i && is_shorty (name, is i)))))
 
 pub at_file : (trail : List Frame) (name : List ℕ) (it : Kind) → Some (name, it) ≡ current_entry trail → it ≡ kind.File → IsAtFile trail
 unfolding IsAtFile
@@ -115,7 +104,7 @@ at_file trail name it at is = (name, sym at ∙ ap (λ (k : Kind). Some (name, k
 
 pub meets_other : (s : State) (object : Object) (name : List ℕ) (it : Kind) → Some (name, it) ≡ current_entry s.trail → it ≡ kind.Other → GivesUp (phase.Scan object) object cause.Other s
 unfolding GivesUp
-meets_other s object name it at is = λ fed. MeetsOther (held_of s fed) object name (sym at ∙ ap (λ (k : Kind). Some (name, k)) is)
+meets_other s object name it at is = λ fed. MeetsOther _ object name (sym at ∙ ap (λ (k : Kind). Some (name, k)) is)
 
 pub directory_is : (object : Object) (trail : List Frame) → IsAtDirectory object trail → is_dir_entry (current_entry trail) ≡ true
 unfolding IsAtDirectory
@@ -124,8 +113,8 @@ directory_is object trail (name, (at, not)) = ap is_dir_entry at
 pub meets_inner : (s : State) (object : Object) → IsAtDirectory object s.trail → MeetsDirectory (phase.Scan object) object s
 unfolding IsAtDirectory GivesUp EntersNext
 meets_inner s object (name, (at, not)) = record {
-  deep = λ deep fed. MeetsDeep (held_of s fed) object name at not (lt-ltb s.job.limits.depth (length s.trail) deep);
-  shallow = λ shallow fed items. EntersDirectory (held_of s fed) object name items at not (le-ltb s.job.limits.depth (length s.trail) shallow);
+  deep = λ deep fed. MeetsDeep _ object name at not (lt-ltb s.job.limits.depth (length s.trail) deep);
+  shallow = λ shallow fed items. EntersDirectory _ object name items at not (le-ltb s.job.limits.depth (length s.trail) shallow);
 }
 
 pub too_deep : (here : Phase) (object : Object) (s : State) → MeetsDirectory here object s → s.job.limits.depth < length s.trail → GivesUp here object cause.Limit s
@@ -139,7 +128,7 @@ file_some trail (name, at) = rw (at) refl
 
 pub one_too_many : (s : State) (object : Object) → IsAtFile s.trail → s.job.limits.files ≤ length s.rows → GivesUp (phase.Scan object) object cause.Limit s
 unfolding IsAtFile GivesUp
-one_too_many s object (name, at) many = λ fed. MeetsLimit (held_of s fed) object name at (ap (λ (b : Bool). b || nat_lt s.job.limits.path_bytes (length (joined (logical_path object s.trail)))) (le-leb s.job.limits.files (length s.rows) many))
+one_too_many s object (name, at) many = λ fed. MeetsLimit _ object name at (ap (λ (b : Bool). b || nat_lt s.job.limits.path_bytes (length (joined (logical_path object s.trail)))) (le-leb s.job.limits.files (length s.rows) many))
 
 or_right : (a b : Bool) → b ≡ true → (a || b) ≡ true
 or_right true b is = refl
@@ -151,7 +140,7 @@ long_is s object names most longer is limit there = ap (λ (p : Path). nat_lt s.
 
 pub path_too_long : (s : State) (object : Object) (names : Path) (most : ℕ) (longer : Bool) → IsAtFile s.trail → longer ≡ nat_lt most (length (joined names)) → most ≡ s.job.limits.path_bytes → names ≡ logical_path object s.trail → longer ≡ true → GivesUp (phase.Scan object) object cause.Limit s
 unfolding IsAtFile GivesUp
-path_too_long s object names most longer (name, at) is limit there long = λ fed. MeetsLimit (held_of s fed) object name at (or_right (nat_le s.job.limits.files (length s.rows)) _ (long_is s object names most longer is limit there ∙ long))
+path_too_long s object names most longer (name, at) is limit there long = λ fed. MeetsLimit _ object name at (or_right (nat_le s.job.limits.files (length s.rows)) _ (long_is s object names most longer is limit there ∙ long))
 
 pub may_open_entry : (told : Option Reading) (trail : List Frame) (entry path : Path) → MayOpen told trail → IsAtFile trail → entry ≡ names_to trail → path ≡ in_pairtree entry → CanOpen told path
 unfolding MayOpen IsAtFile
@@ -161,8 +150,8 @@ pub opened_file : (s s' : State) (a b : World) (object : Object) (entry path nam
     → Did (asks (Opens path)) a b → entry ≡ names_to s.trail → path ≡ in_pairtree entry → HasBeenFed s.job.algorithm s'.hasher [] → KeepsAll s s' → Turned (phase.Scan object) s s' a b (Ok (phase.Read object 0))
 unfolding IsAtFile
 opened_file s s' a b object entry path names most longer (name, at) few is limit logical_at short did entry_at there fed_none keeps =
-    went (phase.Scan object) (phase.Read object 0) s s' a b (asks (Opens (in_pairtree (names_to s.trail)))) (λ fed. [])
-    (λ fed was. Scan (OpensFile (held_of s fed) object name at (neither _ _ (lt-leb s.job.limits.files (length s.rows) few) (long_is s object names most longer is limit logical_at ∙ short))))
+    went a b (λ fed. [])
+    (λ fed was. Scan (OpensFile _ object name at (neither _ _ (lt-leb s.job.limits.files (length s.rows) few) (long_is s object names most longer is limit logical_at ∙ short))))
     (rw (there ∙ ap in_pairtree entry_at) at did) refl (λ fed was. fed_none) keeps
   where
     neither : (a b : Bool) → a ≡ false → b ≡ false → (a || b) ≡ false
@@ -172,19 +161,18 @@ opened_file s s' a b object entry path names most longer (name, at) few is limit
 
 pub ended_site : (s s' : State) (a : World) (object : Object) (in_site : Bool) → current_entry s.trail ≡ None → in_site ≡ is_in_site object s.trail → in_site ≡ true → Moved s.trail s.counts s s' → Turned (phase.Scan object) s s' a a (Ok (phase.Make object part.Staging))
 ended_site s s' a object in_site at place is to =
-    moves (phase.Scan object) (phase.Make object part.Staging) s s' a a no_calls s.trail s.counts
-    (λ fed. Scan (EndsSite (held_of s fed) object at (sym place ∙ is))) (did_nothing a) refl to
+    moves a a (λ fed. Scan (EndsSite _ object at (sym place ∙ is))) (did_nothing a) to refl
 
 pub ended_object : (s s' : State) (a : World) (object : Object) (in_site : Bool) (left : List Frame) → current_entry s.trail ≡ None → in_site ≡ is_in_site object s.trail → in_site ≡ false → left ≡ parent s.trail → true ≡ (not object.gathered && (length left == object.site)) → Moved left s.counts s s' → Turned (phase.Scan object) s s' a a (Ok (phase.Make object part.Staging))
 ended_object s s' a object in_site left at place outside is own to =
-    moves (phase.Scan object) (phase.Make object part.Staging) s s' a a no_calls (parent s.trail) s.counts
-    (λ fed. Scan (EndsObject (held_of s fed) object at (sym place ∙ outside) (ap (λ (t : List Frame). not object.gathered && (length t == object.site)) (sym is) ∙ sym own)))
-    (did_nothing a) refl (rw is at to)
+    moves a a
+    (λ fed. Scan (EndsObject _ object at (sym place ∙ outside) (ap (λ (t : List Frame). not object.gathered && (length t == object.site)) (sym is) ∙ sym own)))
+    (did_nothing a) (rw is at to) refl
 
 pub left_directory : (s s' : State) (a : World) (object : Object) (in_site : Bool) (left : List Frame) → current_entry s.trail ≡ None → in_site ≡ is_in_site object s.trail → in_site ≡ false → left ≡ parent s.trail → false ≡ (not object.gathered && (length left == object.site)) → Moved (advanced left) s.counts s s' → Turned (phase.Scan object) s s' a a (Ok (phase.Scan object))
 left_directory s s' a object in_site left at place outside is own to =
-    moves (phase.Scan object) (phase.Scan object) s s' a a no_calls (advanced (parent s.trail)) s.counts
-    (λ fed. Scan (LeavesDirectory (held_of s fed) object at (sym place ∙ outside) (ap (λ (t : List Frame). not object.gathered && (length t == object.site)) (sym is) ∙ sym own)))
-    (did_nothing a) refl (rw is at to)
+    moves a a
+    (λ fed. Scan (LeavesDirectory _ object at (sym place ∙ outside) (ap (λ (t : List Frame). not object.gathered && (length t == object.site)) (sym is) ∙ sym own)))
+    (did_nothing a) (rw is at to) refl
 
-pub ruleset scanning = (front_none, ended_site, ended_object, left_directory, opened_file, is_kept, moved, back_at, has_entered, unasked, listed_unentered, may_list_entry, gave_up, gave_front, entered_next, enter_failed, begun_in_site, meets_own, site_there, passed_in_site, at_directory, at_file, meets_other, directory_is, meets_inner, too_deep, file_some, one_too_many, path_too_long, may_open_entry)
+pub ruleset scanning = (front_none, ended_site, ended_object, left_directory, opened_file, moved, back_at, has_entered, unasked, listed_unentered, may_list_entry, gave_up, gave_front, entered_next, begun_in_site, meets_own, site_there, passed_in_site, at_directory, at_file, meets_other, directory_is, meets_inner, too_deep, file_some, one_too_many, path_too_long, may_open_entry)

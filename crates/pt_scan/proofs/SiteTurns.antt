@@ -2,11 +2,11 @@
 use Rattle.std.proofs.Common.{◌≡◌, ◌<◌, ◌≤◌, ℕ, Bool, true, false, List, [], ◌∷◌, refl, sym, ap, ◌∙◌, length, cond, ◌==◌}
 use Rattle.std.specs.Prelude.{Option, None, Some, Ok, IsErrAnd, IsSome}
 use Rattle.std.proofs.lemmas.Bool.{lt-ltb, le-ltb}
-use Rattle.pt_state.proofs.Words.{is_first, Item, Path, Reading, Kind, advanced, current_entry, entered, is_dir_entry, names_to, parent, trail_path, Cause, Frame, Answer, Line, Skipped, Did, LeavesSome, Walk, in_pairtree, Lists, World, asks, no_calls, tells, Halt, with_skipped, Turned, held_of}
+use Rattle.pt_state.proofs.Words.{is_first, Item, Path, Reading, Kind, advanced, current_entry, entered, is_dir_entry, names_to, parent, trail_path, Cause, Frame, Answer, Line, Skipped, Did, LeavesSome, Walk, in_pairtree, Lists, World, asks, no_calls, tells, Halt, with_skipped, Turned, KeepsAll, held_of, with_trail}
+use Rattle.pt_state.proofs.Words.cause
+use Rattle.pt_state.proofs.Words.kind
+use Rattle.pt_state.proofs.Words.phase
 use Rattle.pt_state.specs.declared.state.State.{State}
-use Rattle.pt_tree.specs.declared.kind.Kind.TheVariants as kind
-use Rattle.pt_walk.specs.declared.cause.Cause.TheVariants as cause
-use Rattle.pt_plan.specs.declared.phase.Phase.TheVariants as phase
 use Rattle.pt_tree.specs.Path.{last_name, parent as parent_of, split_path}
 use Rattle.pt_tree.specs.Source.{CanList}
 use Rattle.pt_walk.specs.Site.{is_shorty}
@@ -17,7 +17,7 @@ use Rattle.pt_plan.specs.TurnWalk.{OpensRoot, IsPast, IsDeep, EntersSite as Ente
 use Rattle.pt_plan.specs.World.{tells_if}
 use Rattle.pt_state.proofs.LineTexts.{front_none}
 use Rattle.pt_state.proofs.Together.{did_nothing}
-use Rattle.pt_state.proofs.Turns.{KeepsAll, left_told, short_asked}
+use Rattle.pt_state.proofs.Turns.{Leads, left_some, short_asked}
 use Rattle.pt_scan.proofs.HeldTurns.{moved, moves}
 use Rattle.pt_scan.specs.Scanning.{Moved}
 use Rattle.pt_scan.specs.Walking.{EntersSite, IsAtShorty, PassesShorty}
@@ -26,8 +26,7 @@ use Rattle.pt_scan.specs.Walking.{EntersSite, IsAtShorty, PassesShorty}
 
 pub opened_root : (s s' : State) (a b : World) (path : Path) (items : List Item) → Did (asks (Lists path items)) a b → path ≡ in_pairtree [] → Moved (entered items s.trail) s.counts s s' → Turned phase.OpenRoot s s' a b (Ok phase.Judge)
 opened_root s s' a b path items did is to =
-    moves phase.OpenRoot phase.Judge s s' a b (asks (Lists (in_pairtree []) items)) (entered items s.trail) s.counts
-    (λ fed. Walk (OpensRoot (held_of s fed) items)) (rw is at did) refl to
+    moves a b (λ fed. Walk (OpensRoot _ items)) (rw is at did) to refl
 
 pub may_list_root : (told : Option Reading) (path at : Path) → CanList told at → path ≡ at → CanList told path
 may_list_root told path at may is = rw is may
@@ -36,18 +35,15 @@ may_list_root told path at may is = rw is may
 
 pub passed_entry : (s s' : State) (w : World) (name : List ℕ) (kind : Kind) → Some (name, kind) ≡ current_entry s.trail → false ≡ is_shorty (name, kind) → Moved (advanced s.trail) s.counts s s' → Turned phase.Walk s s' w w (Ok phase.Walk)
 passed_entry s s' w name kind at is to =
-    moves phase.Walk phase.Walk s s' w w no_calls (advanced s.trail) s.counts
-    (λ fed. Walk (PassesEntry (held_of s fed) (name, kind) (sym at) (sym is))) (did_nothing w) refl to
+    moves w w (λ fed. Walk (PassesEntry _ (name, kind) (sym at) (sym is))) (did_nothing w) to refl
 
 pub left_site : (s s' : State) (w : World) → None ≡ current_entry s.trail → 1 < length s.trail → Moved (advanced (parent s.trail)) s.counts s s' → Turned phase.Walk s s' w w (Ok phase.Walk)
 left_site s s' w at more to =
-    moves phase.Walk phase.Walk s s' w w no_calls (advanced (parent s.trail)) s.counts
-    (λ fed. Walk (LeavesSite (held_of s fed) (sym at) (lt-ltb 1 (length s.trail) more))) (did_nothing w) refl to
+    moves w w (λ fed. Walk (LeavesSite _ (sym at) (lt-ltb 1 (length s.trail) more))) (did_nothing w) to refl
 
 pub ended_walk : (s s' : State) (w : World) → None ≡ current_entry s.trail → length s.trail ≤ 1 → Moved s.trail s.counts s s' → Turned phase.Walk s s' w w (Ok phase.End)
 ended_walk s s' w at few to =
-    moves phase.Walk phase.End s s' w w no_calls s.trail s.counts
-    (λ fed. Walk (EndsWalk (held_of s fed) (sym at) (le-ltb 1 (length s.trail) few))) (did_nothing w) refl to
+    moves w w (λ fed. Walk (EndsWalk _ (sym at) (le-ltb 1 (length s.trail) few))) (did_nothing w) to refl
 
 -- ---- where a site stands
 
@@ -65,8 +61,7 @@ at_split (x ∷ y ∷ p) front name is = let same : name ≡ last_name (y ∷ p)
 pub at_shorty : (trail : List Frame) (name : List ℕ) (kind : Kind) → Some (name, kind) ≡ current_entry trail → true ≡ is_shorty (name, kind) → IsAtShorty trail
 unfolding IsAtShorty
 at_shorty trail name kind.Dir at is = (name, (sym at, sym is))
-at_shorty trail name kind.File at is = absurd (cc)
-at_shorty trail name kind.Other at is = absurd (cc)
+at_shorty _ _ _ _ is = absurd (cc)
 
 pub shorty_is_dir : (trail : List Frame) → IsAtShorty trail → is_dir_entry (current_entry trail) ≡ true
 unfolding IsAtShorty
@@ -82,46 +77,39 @@ may_enter_shorty told trail path may (name, (at, is)) there = rw there (may name
 
 pub is_past : (s : State) (site : Path) → IsAtShorty s.trail → site ≡ trail_path s.trail → true ≡ is_last (at_of site) → PassesShorty s cause.Past
 unfolding IsAtShorty PassesShorty
-is_past s site (name, (at, is)) there last = λ fed. IsPast (held_of s fed) name at is (ap (λ (p : Path). is_last (at_of p)) (sym there) ∙ sym last)
+is_past s site (name, (at, is)) there last = λ fed. IsPast _ name at is (ap (λ (p : Path). is_last (at_of p)) (sym there) ∙ sym last)
 
 pub is_deep : (s : State) (site : Path) → IsAtShorty s.trail → site ≡ trail_path s.trail → false ≡ is_last (at_of site) → s.job.limits.depth < length s.trail → PassesShorty s cause.Limit
 unfolding IsAtShorty PassesShorty
-is_deep s site (name, (at, is)) there last deep = λ fed. IsDeep (held_of s fed) name at is (ap (λ (p : Path). is_last (at_of p)) (sym there) ∙ sym last) (lt-ltb s.job.limits.depth (length s.trail) deep)
+is_deep s site (name, (at, is)) there last deep = λ fed. IsDeep _ name at is (ap (λ (p : Path). is_last (at_of p)) (sym there) ∙ sym last) (lt-ltb s.job.limits.depth (length s.trail) deep)
 
 pub enters_site : (s : State) (site : Path) → IsAtShorty s.trail → site ≡ trail_path s.trail → false ≡ is_last (at_of site) → length s.trail ≤ s.job.limits.depth → EntersSite s
 unfolding IsAtShorty EntersSite
-enters_site s site (name, (at, is)) there last shallow = λ fed items. EntersSiteOf (held_of s fed) name items at is (ap (λ (p : Path). is_last (at_of p)) (sym there) ∙ sym last) (le-ltb s.job.limits.depth (length s.trail) shallow)
+enters_site s site (name, (at, is)) there last shallow = λ fed items. EntersSiteOf _ name items at is (ap (λ (p : Path). is_last (at_of p)) (sym there) ∙ sym last) (le-ltb s.job.limits.depth (length s.trail) shallow)
 
 -- its line is told in the first share
 is_told : (told : Bool) (line : Line) → true ≡ told → tells line ≡ tells_if told line
 is_told told line is = ap (λ b. tells_if b line) is
 
-pub passed_shorty : (s s' : State) (a b : World) (path : Path) (why : Cause) → PassesShorty s why → true ≡ is_first s.job.share → Did (tells (Skipped path why)) a b → path ≡ names_to s.trail → Moved (advanced s.trail) (with_skipped s.counts) s s' → Turned phase.Walk s s' a b (Ok phase.Walk)
+told_first : (s : State) (why : Cause) → PassesShorty s why → true ≡ is_first s.job.share → (fed : List ℕ) → Leads phase.Walk s fed (with_trail (held_of s fed) (advanced s.trail)) (tells (Skipped (names_to s.trail) why)) (Ok phase.Walk)
 unfolding PassesShorty
-passed_shorty s s' a b path why line first got is to =
-    moves phase.Walk phase.Walk s s' a b (tells (Skipped (names_to s.trail) why)) (advanced s.trail) (with_skipped s.counts)
-    (λ fed. Walk (rw (is_told (is_first s.job.share) (Skipped (names_to s.trail) why) first) (line fed)))
-    (rw is at got) refl to
+told_first s why passes first fed = Walk (rw (← (is_told (is_first s.job.share) (Skipped (names_to s.trail) why) first)) at (passes fed))
+
+pub passed_shorty : (s s' : State) (a b : World) (path : Path) (why : Cause) → PassesShorty s why → true ≡ is_first s.job.share → Did (tells (Skipped path why)) a b → path ≡ names_to s.trail → Moved (advanced s.trail) (with_skipped s.counts) s s' → Turned phase.Walk s s' a b (Ok phase.Walk)
+passed_shorty s s' a b path why passes first got is to = moves a b (told_first s why passes first) (rw is at got) to refl
 
 pub passed_front : (s s' : State) (a b : World) (path : Path) (why : Cause) (f : Halt) (result : Answer) → IsErrAnd result (λ h. h ≡ f) → PassesShorty s why → true ≡ is_first s.job.share → LeavesSome (tells (Skipped path why)) f a b → path ≡ names_to s.trail → KeepsAll s s' → Turned phase.Walk s s' a b result
-unfolding PassesShorty
-passed_front s s' a b path why f result is line first front there keeps =
-    left_told phase.Walk s s' a b (tells (Skipped (names_to s.trail) why)) (Ok phase.Walk) f _ result is
-    (λ fed. Walk (rw (← (is_told (is_first s.job.share) (Skipped (names_to s.trail) why) first)) at (line fed)))
-    (rw there at front) keeps
+passed_front s s' a b path why f result is passes first front there keeps = left_some a b f result is (told_first s why passes first) (rw there at front) keeps
 
 -- in another share nothing is
 pub passed_quietly : (s s' : State) (w : World) (why : Cause) → PassesShorty s why → false ≡ is_first s.job.share → Moved (advanced s.trail) s.counts s s' → Turned phase.Walk s s' w w (Ok phase.Walk)
 unfolding PassesShorty
-passed_quietly s s' w why line other to =
+passed_quietly s s' w why passes other to =
     let quiet : no_calls ≡ tells_if (is_first s.job.share) (Skipped (names_to s.trail) why) = ap (λ b. tells_if b (Skipped (names_to s.trail) why)) other in
-    moves phase.Walk phase.Walk s s' w w no_calls (advanced s.trail) s.counts
-    (λ fed. Walk (rw quiet (line fed))) (did_nothing w) refl to
+    moves w w {calls = no_calls} (λ fed. Walk (rw quiet (passes fed))) (did_nothing w) to refl
 
 pub entered_site : (s s' : State) (a b : World) (path : Path) (items : List Item) → EntersSite s → Did (asks (Lists path items)) a b → path ≡ in_pairtree (names_to s.trail) → Moved (entered items s.trail) s.counts s s' → Turned phase.Walk s s' a b (Ok phase.Judge)
 unfolding EntersSite
-entered_site s s' a b path items line did is to =
-    moves phase.Walk phase.Judge s s' a b (asks (Lists (in_pairtree (names_to s.trail)) items)) (entered items s.trail) s.counts
-    (λ fed. Walk (line fed items)) (rw is at did) refl to
+entered_site s s' a b path items line did is to = moves a b (λ fed. Walk (line fed items)) (rw is at did) to refl
 
 pub ruleset walking = (at_split, moved, short_asked, opened_root, may_list_root, passed_entry, left_site, ended_walk, at_shorty, shorty_is_dir, shorty_is_some, may_enter_shorty, is_past, is_deep, enters_site, front_none, passed_shorty, passed_front, passed_quietly, entered_site)

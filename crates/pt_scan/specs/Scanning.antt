@@ -20,7 +20,7 @@ use Rattle.pt_plan.specs.declared.object.Object.{Object}
 use Rattle.pt_plan.specs.declared.phase.Phase.{Phase}
 use Rattle.pt_plan.specs.declared.phase.Phase.TheVariants as phase
 use Rattle.pt_state.specs.Lines.{with_skipped}
-use Rattle.pt_state.specs.States.{held_of, job_of}
+use Rattle.pt_state.specs.States.{KeepsAll, held_of, job_of}
 use Rattle.pt_state.specs.declared.job.Report.{Report}
 use Rattle.pt_state.specs.declared.state.State.{State}
 
@@ -91,15 +91,6 @@ pub record MeetsDirectory (here : Phase) (object : Object) (s : State) : Type 0 
   pub deep : s.job.limits.depth < length s.trail → GivesUp here object cause.Limit s
   pub shallow : length s.trail ≤ s.job.limits.depth → EntersNext here object s
 
--- all but the block and the hasher is as it was
-pub record IsKept (s s' : State) : Type 0 where
-  pub job : s'.job ≡ s.job
-  pub prefix : string_bytes s'.prefix ≡ string_bytes s.prefix
-  pub trail : s'.trail ≡ s.trail
-  pub rows : s'.rows ≡ s.rows
-  pub contents : s'.contents ≡ s.contents
-  pub counts : s'.counts ≡ s.counts
-
 -- the trail and the counts are these, and all else but the block is as it was
 pub record Moved (trail : List Frame) (counts : Report) (s s' : State) : Type 0 where
   pub job : s'.job ≡ s.job
@@ -132,7 +123,7 @@ pub record Entered {O : Type 0} (world : O → World) (within : O → O → Type
     (result : Result Bool Halt) : Type 0 where
   pub did : IfOk result (Enters s s' (world old) (world new))
   pub failed : IfErr result (λ why. Stays why (world old) (world new))
-  pub same : OnErr result (IsKept s s')
+  pub same : OnErr result (KeepsAll s s')
   pub few : within old new
 
 -- that the object was passed over for this cause, or a front of its line was put, and all that is held is as it was
@@ -142,5 +133,5 @@ pub record GaveUp {O T : Type 0} (world : O → World) (within : O → O → Typ
   pub back : OnOk result (IsBackAtSite object s s')
   pub left : IfErr result (λ f. LeavesSome (tells (Skipped (trail_path (to_site object s.trail)) why)) f
       (world old) (world new))
-  pub same : OnErr result (IsKept s s')
+  pub same : OnErr result (KeepsAll s s')
   pub few : within old new

@@ -11,7 +11,6 @@ ghost use Rattle.pt_walk.specs.declared.site.Form.TheVariants as form;
 ghost use Rattle.pt_state.specs.Outside.{TakesTurn};
 ghost use Rattle.pt_state.specs.States.{job_of};
 ghost use Rattle.pt_scan.specs.Judging.{CanPass, IsJudging, IsNamed, IsOurs, IsPassedAt, IsPlaced, is_own_place};
-ghost use Rattle.pt_scan.specs.declared.judging.Verdict.TheVariants as verdict;
 
 use crate::walking::at;
 use pt_name::{Layout, UncleanFault, concatenated, unclean};
