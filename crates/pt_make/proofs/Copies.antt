@@ -3,21 +3,16 @@ use Rattle.std.proofs.Common.{◌≡◌, ◌<◌, ◌≤◌, ◌-◌, ◌==◌, 
 use Rattle.std.specs.Prelude.{Some, Ok, Err, IsErrAnd, slice_get}
 use Rattle.std.specs.Str.{bytes_eq}
 use Rattle.std.proofs.lemmas.Bool.{le-ltb, lt-ltb}
-use Rattle.pt_state.proofs.Words.{digest_of, HasBeenFed, Algorithm, Content, Hasher, Row, Answer, Did, LeavesSome, Make, content_at, Adds, Finishes, Reads, World, asks, does, Halt, Object, Part, Phase, Position, Turned, held_of, job_of}
+use Rattle.pt_state.proofs.Words.{digest_of, HasBeenFed, Algorithm, Content, Hasher, Row, Answer, Did, LeavesSome, Make, content_at, Adds, Finishes, Reads, World, asks, does, Halt, Object, Part, Phase, Position, Turned, KeepsAll}
+use Rattle.pt_state.proofs.Words.halt
+use Rattle.pt_state.proofs.Words.phase
 use Rattle.pt_state.specs.declared.state.State.{State}
-use Rattle.pt_plan.specs.declared.halt.Halt.TheVariants as halt
-use Rattle.pt_plan.specs.declared.phase.Phase.TheVariants as phase
-use Rattle.pt_plan.specs.TurnMake.{Makings, CopiesOn, EndsCopy, ReadsMore, ReadsOther, behind_stored}
-use Rattle.pt_state.proofs.Together.{asked_then, asks_and, can_write_asked, then_did, then_leaves}
-use Rattle.pt_state.proofs.Turns.{KeepsAll, left_some, refused, went}
+use Rattle.pt_plan.specs.TurnMake.{CopiesOn, EndsCopy, ReadsMore, ReadsOther, behind_stored}
+use Rattle.pt_state.proofs.Together.{asked_then, can_write_asked, then_did, then_leaves}
+use Rattle.pt_state.proofs.Turns.{left_some, refused, turned_read, went}
 use Rattle.pt_make.specs.Making.{IsAsRead, IsOther}
 
 -- ---- a block was read
-
--- the block that is held has no part in a turn
-pub turned_read : (here : Phase) (s s' : State) (block : _) (w w' : World) (result : Answer) → Turned here (record s { block = block }) s' w w' result → Turned here s s' w w' result
-unfolding Turned
-turned_read here s s' block w w' result turned = turned
 
 -- an empty block is the end
 pub read_nothing : (block : List ℕ) (w w' : World) → Did (asks (Reads block)) w w' → true ≡ (length block == 0) → Did (asks (Reads [])) w w'
@@ -35,24 +30,20 @@ pub ruleset reading = (turned_read, read_nothing, read_something, can_write_aske
 pub reads_more : (s s' : State) (a b : World) (object : Object) (position : Position) (left : ℕ) (block : List ℕ) → Did (asks (Reads block)) a b → 0 < length block → left < length block → KeepsAll s s' → Turned (phase.Copy object position left) s s' a b (Err halt.Changed)
 reads_more s s' a b object position left [] read some more keeps = absurd (omega (arith, some))
 reads_more s s' a b object position left (byte ∷ block) read some more keeps =
-    refused (phase.Copy object position left) s s' a b _ halt.Changed (λ fed was. Make (ReadsMore (held_of s fed) object position left byte block (lt-ltb left (length (byte ∷ block)) more))) read keeps
+    refused a b (λ fed was. Make (ReadsMore _ object position left byte block (lt-ltb left (length (byte ∷ block)) more))) read keeps
 
 -- a block that is within what is left is added and fed
-on : (s : State) (object : Object) (position : Position) (left : ℕ) (byte : ℕ) (block fed : List ℕ) → length (byte ∷ block) ≤ left
-    → Makings (job_of s.job) (phase.Copy object position left) (held_of s fed) (held_of s (fed ++ byte ∷ block)) (asks_and (Reads (byte ∷ block)) (Adds (byte ∷ block))) (Ok (phase.Copy object position (left - length (byte ∷ block))))
-on s object position left byte block fed most = CopiesOn (held_of s fed) object position left byte block (le-ltb left (length (byte ∷ block)) most)
-
 pub copies_on : (s s' : State) (a b c : World) (object : Object) (position : Position) (left : ℕ) (block : List ℕ) → Did (asks (Reads block)) a b → Did (does (Adds block)) b c → 0 < length block → length block ≤ left
     → ((algorithm : Algorithm) (fed : List ℕ) → HasBeenFed algorithm s.hasher fed → HasBeenFed algorithm s'.hasher (fed ++ block)) → KeepsAll s s' → Turned (phase.Copy object position left) s s' a c (Ok (phase.Copy object position (left - length block)))
 copies_on s s' a b c object position left [] read added some most feeds keeps = absurd (omega (arith, some))
 copies_on s s' a b c object position left (byte ∷ block) read added some most feeds keeps =
-    went _ _ s s' a c (asks_and (Reads (byte ∷ block)) (Adds (byte ∷ block))) (λ fed. fed ++ byte ∷ block) (λ fed _. Make (on s object position left byte block fed most)) (then_did _ _ a b c read added) refl (λ fed was. feeds s.job.algorithm fed was) keeps
+    went a c (λ fed. fed ++ byte ∷ block) (λ fed _. Make (CopiesOn _ object position left byte block (le-ltb left (length (byte ∷ block)) most))) (then_did _ _ a b c read added) refl (feeds s.job.algorithm) keeps
 
 -- a part of the block was added
 pub copies_part : (s s' : State) (a b c : World) (object : Object) (position : Position) (left : ℕ) (block : List ℕ) (f : Halt) (result : Answer) → IsErrAnd result (λ h. h ≡ f) → Did (asks (Reads block)) a b → LeavesSome (does (Adds block)) f b c → 0 < length block → length block ≤ left → KeepsAll s s' → Turned (phase.Copy object position left) s s' a c result
 copies_part s s' a b c object position left [] f result is read part some most keeps = absurd (omega (arith, some))
 copies_part s s' a b c object position left (byte ∷ block) f result is read part some most keeps =
-    left_some _ s s' a c (asks_and (Reads (byte ∷ block)) (Adds (byte ∷ block))) _ f (λ fed. fed ++ byte ∷ block) result is (λ fed. Make (on s object position left byte block fed most)) (then_leaves _ _ f a b c read part) keeps
+    left_some a c f result is (λ fed. Make (CopiesOn _ object position left byte block (le-ltb left (length (byte ∷ block)) most))) (then_leaves _ _ f a b c read part) keeps
 
 pub ruleset copying = (reads_more, copies_on, copies_part)
 
@@ -76,8 +67,8 @@ pub reads_other : (s s' : State) (a b : World) (object : Object) (position : Pos
     → ((algorithm : Algorithm) (fed : List ℕ) → HasBeenFed algorithm hasher fed → digest ≡ digest_of algorithm fed) → KeepsAll s s' → Turned (phase.Copy object position left) s s' a b (Err halt.Changed)
 unfolding IsOther
 reads_other s s' a b object position left hasher digest read (row, (at, differs)) same ends keeps =
-    refused (phase.Copy object position left) s s' a b _ halt.Changed
-    (λ fed was. Make (ReadsOther (held_of s fed) object position row left at (rw (digest_fed s hasher digest fed same ends was) at differs)))
+    refused a b
+    (λ fed was. Make (ReadsOther _ object position row left at (rw (digest_fed s hasher digest fed same ends was) at differs)))
     read keeps
 
 pub copy_ended : (s s' : State) (a b c : World) (object : Object) (position : Position) (left : ℕ) (hasher : Hasher) (digest : List ℕ) (next : Part) → Did (asks (Reads [])) a b → Did (does Finishes) b c → IsAsRead s.rows s.contents position left digest next → hasher ≡ s.hasher
@@ -85,8 +76,8 @@ pub copy_ended : (s s' : State) (a b c : World) (object : Object) (position : Po
 unfolding IsAsRead
 copy_ended s s' a b c object position left hasher digest next read finished (row, (at, is, then)) same ends started keeps =
     rw then
-    (went (phase.Copy object position left) _ s s' a c (asks_and (Reads []) Finishes) (λ _. [])
-    (λ fed was. Make (EndsCopy (held_of s fed) object position row left at (rw (digest_fed s hasher digest fed same ends was) at is)))
+    (went a c (λ _. [])
+    (λ fed was. Make (EndsCopy _ object position row left at (rw (digest_fed s hasher digest fed same ends was) at is)))
     (then_did _ _ a b c read finished) refl (λ _ _. started) keeps)
 
 pub ruleset ending = (reads_other, asked_then, copy_ended)

@@ -5,4 +5,3 @@ pub mod Places
 pub mod Standing
 pub mod Tells
 pub mod Texts
-pub mod Turns

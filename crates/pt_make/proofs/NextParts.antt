@@ -4,16 +4,14 @@ use Rattle.std.specs.Prelude.{Option, None, Some, Ok, IsErrAnd, slice_get}
 use Rattle.std.specs.Option.{option_map}
 use Rattle.std.proofs.lemmas.Bool.{le-ltb, lt-ltb}
 use Rattle.std.proofs.lemmas.List.{take_all}
-use Rattle.pt_state.proofs.Words.{HasBeenFed, MakeFolder, Row, Writing, MayMake, after_create, Path, Reading, CanOpen, after_open, Bytes, Answer, Did, LeavesSome, Make, Stays, content_at, in_pairtree, Answers, Calls, Changes, Creates, Makes, NewFile, Opens, Puts, World, asks, dest_tree, does, no_calls, source_tree, Halt, Object, Part, Position, held_of, Turned}
+use Rattle.pt_state.proofs.Words.{HasBeenFed, MakeFolder, Row, Writing, MayMake, Path, Reading, CanOpen, after_open, Answer, Did, LeavesSome, Make, Stays, content_at, in_pairtree, Answers, Calls, Changes, Creates, Makes, NewFile, Opens, Puts, World, asks, dest_tree, does, source_tree, Halt, Object, Part, Position, KeepsAll, held_of, Turned}
+use Rattle.pt_state.proofs.Words.part
+use Rattle.pt_state.proofs.Words.phase
 use Rattle.pt_state.specs.declared.state.State.{State}
-use Rattle.pt_plan.specs.declared.phase.Part.TheVariants as part
-use Rattle.pt_plan.specs.declared.phase.Phase.TheVariants as phase
-use Rattle.pt_tree.specs.Tree.{put}
 use Rattle.pt_plan.specs.Permits.{MayMakeContent, MayOpenRow}
 use Rattle.pt_plan.specs.TurnMake.{MakesFolder, OpensCopy, PassesRow, behind, in_content, is_stored, path_of_source, with_folder}
-use Rattle.pt_state.proofs.Together.{did_nothing}
-use Rattle.pt_state.proofs.Turns.{KeepsAll, keeps_same, left_some, went}
-use Rattle.pt_make.proofs.Turns.{made}
+use Rattle.pt_state.proofs.Together.{did_nothing, none_of_file}
+use Rattle.pt_state.proofs.Turns.{keeps_same, left_some, went}
 use Rattle.pt_make.specs.Making.{IsNextCopy, IsNextFolder, IsPassed}
 use Rattle.pt_make.specs.declared.contents.Copied.{Copied}
 
@@ -45,8 +43,7 @@ pub passed_row : (s : State) (w : World) (object : Object) (position : Position)
 unfolding IsPassed
 passed_row s w object position next (row, (at, other, then)) =
     rw then
-    (went (phase.Make object (part.Content position)) (phase.Make object (content_at s.rows (behind position))) s s w w no_calls (λ fed. fed)
-    (λ fed _. Make (PassesRow (held_of s fed) object position row at other)) (did_nothing w) refl (λ fed was. was) (keeps_same s))
+    (went w w (λ fed. fed) (λ fed _. Make (PassesRow _ object position row at other)) (did_nothing w) refl (λ fed was. was) keeps_same)
 
 -- ---- a folder
 
@@ -61,8 +58,7 @@ may_folder s reading writing object position path may (row, (at, stored, less, f
 pub made_folder : (s : State) (a b : World) (object : Object) (position : Position) (path : Path) → Did (does (Makes (MakeFolder path))) a b → IsNextFolder s position path → Turned (phase.Make object (part.Content position)) s s a b (Ok (phase.Make object (part.Content (with_folder position))))
 unfolding IsNextFolder
 made_folder s a b object position path did (row, (at, stored, less, few, is)) =
-    made (phase.Make object (part.Content position)) (phase.Make object (part.Content (with_folder position))) s s a b (Makes (MakeFolder (in_content (take position.directories row.path)))) (λ fed. fed) (λ fed. MakesFolder (held_of s fed) object position row at stored less)
-    (rw is at did) (λ fed was. was) (keeps_same s)
+    went a b (λ fed. fed) (λ fed _. Make (MakesFolder _ object position row at stored less)) (rw is at did) refl (λ fed was. was) keeps_same
 
 -- ---- a file, and the one that it is copied from
 
@@ -94,13 +90,8 @@ pub copy_opened : (s s' : State) (a b c : World) (object : Object) (position : P
 unfolding IsNextCopy
 copy_opened s s' a b c object position copied created opened (row, (at, stored, most, there, here, same)) started keeps =
     rw same
-    (went (phase.Make object (part.Content position)) (phase.Copy object position row.length) s s' a c (opens_copy (in_content row.path) (in_pairtree (path_of_source object s.trail ++ row.path))) (λ _. [])
-    (λ fed _. Make (OpensCopy (held_of s fed) object position row at stored most))
+    (went a c (λ _. []) (λ fed _. Make (OpensCopy _ object position row at stored most))
     (both_did _ _ a b c (rw there at created) (rw here at opened)) refl (λ _ _. started) keeps)
-
-created_tree : (o : Option Writing) (p : Path) → dest_tree (option_map (after_create p) o) ≡ option_map (λ t. put t p (Bytes [])) (dest_tree o)
-created_tree None p = refl
-created_tree (Some s) p = refl
 
 -- the file was made, and the other not opened
 left_new : (to from : Path) (f : Halt) (a b c : World) → Did (does (Creates to)) a b → Stays f b c → LeavesSome (opens_copy to from) f a c
@@ -110,7 +101,7 @@ left_new to from f a b c created stays = (
     read = tt;
     found = tt;
     source = stays.0 ∙ ap source_tree created.0.source;
-    dest = NewFile to (ap dest_tree (stays.1 ∙ created.0.dest) ∙ created_tree a.dest to);
+    dest = NewFile to (ap dest_tree (stays.1 ∙ created.0.dest) ∙ none_of_file a.dest to);
     log = stays.2 ∙ created.0.log;
   },
   rw created.1 at stays.3,
@@ -121,8 +112,7 @@ pub copy_unopened : (s s' : State) (a b c : World) (object : Object) (position :
     → Turned (phase.Make object (part.Content position)) s s' a c result
 unfolding IsNextCopy
 copy_unopened s s' a b c object position copied f result is created stays (row, (at, stored, most, there, here, same)) keeps =
-    left_some (phase.Make object (part.Content position)) s s' a c (opens_copy (in_content row.path) (in_pairtree (path_of_source object s.trail ++ row.path))) _ f (λ _. []) result is
-    (λ fed. Make (OpensCopy (held_of s fed) object position row at stored most))
+    left_some a c f result is (λ fed. Make (OpensCopy _ object position row at stored most))
     (left_new _ _ f a b c (rw there at created) stays) keeps
 
 pub may_open_copy : (s : State) (w : World) (object : Object) (position : Position) (copied : Copied) → MayMakeContent w.source w.dest object (held_of s []) position → IsNextCopy s object position copied → CanOpen w.source copied.from

@@ -1,42 +1,32 @@
 -- The turns that make the folders of an object and its declaration, from their calls.
-use Rattle.std.proofs.Common.{◌≡◌, ℕ, List, [], ◌∷◌, ◌++◌}
+use Rattle.std.proofs.Common.{◌≡◌, ℕ, List, [], ◌∷◌, ◌++◌, refl}
 use Rattle.std.specs.Prelude.{Option, Ok, IsErrAnd}
 use Rattle.pt_object.specs.Files.{object_declaration_bytes}
 use Rattle.pt_object.specs.Object.{object_declaration_name}
-use Rattle.pt_state.proofs.Words.{MakeFile, MakeFolder, staging, Writing, MayMake, Path, Answer, Did, LeavesSome, content_at, Makes, World, does, Halt, Object, Part, held_of, Turned}
+use Rattle.pt_state.proofs.Words.{MakeFile, MakeFolder, staging, Writing, MayMake, Path, Answer, Did, LeavesSome, Make, content_at, Makes, World, does, Halt, Object, Part, Turned}
+use Rattle.pt_state.proofs.Words.part
+use Rattle.pt_state.proofs.Words.phase
 use Rattle.pt_state.specs.declared.state.State.{State}
-use Rattle.pt_plan.specs.declared.phase.Part.TheVariants as part
-use Rattle.pt_plan.specs.declared.phase.Phase.TheVariants as phase
 use Rattle.pt_plan.specs.TurnMake.{MakesDeclaration, MakesStaging, MakesVersion, in_version}
-use Rattle.pt_state.proofs.Turns.{keeps_same}
-use Rattle.pt_make.proofs.Turns.{left_part, made}
-
-pub made_staging : (s : State) (a b : World) (object : Object) (path : Path) → Did (does (Makes (MakeFolder path))) a b → path ≡ staging → Turned (phase.Make object part.Staging) s s a b (Ok (phase.Make object part.Declaration))
-made_staging s a b object path did is =
-    made (phase.Make object part.Staging) (phase.Make object part.Declaration) s s a b (Makes (MakeFolder staging)) (λ fed. fed) (λ fed. MakesStaging (held_of s fed) object)
-    (rw is at did) (λ fed was. was) (keeps_same s)
+use Rattle.pt_state.proofs.Turns.{keeps_same, left_some, went}
 
 declaration : (path : Path) (bytes : List ℕ) → path ≡ staging ++ object_declaration_name ∷ [] → bytes ≡ object_declaration_bytes → MakeFile path bytes ≡ MakeFile (staging ++ object_declaration_name ∷ []) object_declaration_bytes
 declaration path bytes is same = λ i. MakeFile (is i) (same i)
 
-pub made_declaration : (s : State) (a b : World) (object : Object) (path : Path) (bytes : List ℕ) → Did (does (Makes (MakeFile path bytes))) a b → path ≡ staging ++ object_declaration_name ∷ [] → bytes ≡ object_declaration_bytes
-    → Turned (phase.Make object part.Declaration) s s a b (Ok (phase.Make object part.Version))
-made_declaration s a b object path bytes did is same =
-    made (phase.Make object part.Declaration) (phase.Make object part.Version) s s a b _ (λ fed. fed) (λ fed. MakesDeclaration (held_of s fed) object)
-    (rw (declaration path bytes is same) at did) (λ fed was. was) (keeps_same s)
+module _ (s : State) (a b : World) (object : Object) (path : Path) where
+  pub made_staging : Did (does (Makes (MakeFolder path))) a b → path ≡ staging → Turned (phase.Make object part.Staging) s s a b (Ok (phase.Make object part.Declaration))
+  made_staging did is = went a b (λ fed. fed) (λ fed _. Make (MakesStaging _ object)) (rw is at did) refl (λ fed was. was) keeps_same
 
-pub left_declaration : (s : State) (a b : World) (object : Object) (path : Path) (bytes : List ℕ) (f : Halt) (result : Answer) → IsErrAnd result (λ h. h ≡ f) → LeavesSome (does (Makes (MakeFile path bytes))) f a b → path ≡ staging ++ object_declaration_name ∷ [] → bytes ≡ object_declaration_bytes
-    → Turned (phase.Make object part.Declaration) s s a b result
-left_declaration s a b object path bytes f result is some at same =
-    left_part (phase.Make object part.Declaration) (phase.Make object part.Version) s s a b _ (λ fed. fed) f result is (λ fed. MakesDeclaration (held_of s fed) object)
-    (rw (declaration path bytes at same) at some) (keeps_same s)
+  pub made_declaration : (bytes : List ℕ) → Did (does (Makes (MakeFile path bytes))) a b → path ≡ staging ++ object_declaration_name ∷ [] → bytes ≡ object_declaration_bytes → Turned (phase.Make object part.Declaration) s s a b (Ok (phase.Make object part.Version))
+  made_declaration bytes did is same = went a b (λ fed. fed) (λ fed _. Make (MakesDeclaration _ object)) (rw (declaration path bytes is same) at did) refl (λ fed was. was) keeps_same
 
-pub made_version : (s : State) (a b : World) (object : Object) (path : Path) (next : Part) → Did (does (Makes (MakeFolder path))) a b → path ≡ in_version [] → next ≡ content_at s.rows (record { row = 0; stored = 0; directories = 0 })
-    → Turned (phase.Make object part.Version) s s a b (Ok (phase.Make object next))
-made_version s a b object path next did is then =
-    rw then
-    (made (phase.Make object part.Version) (phase.Make object (content_at s.rows (record { row = 0; stored = 0; directories = 0 }))) s s a b (Makes (MakeFolder (in_version []))) (λ fed. fed) (λ fed. MakesVersion (held_of s fed) object)
-    (rw is at did) (λ fed was. was) (keeps_same s))
+  pub left_declaration : (bytes : List ℕ) (f : Halt) (result : Answer) → IsErrAnd result (λ h. h ≡ f) → LeavesSome (does (Makes (MakeFile path bytes))) f a b → path ≡ staging ++ object_declaration_name ∷ [] → bytes ≡ object_declaration_bytes → Turned (phase.Make object part.Declaration) s s a b result
+  left_declaration bytes f result is some at same = left_some a b f result is (λ fed. Make (MakesDeclaration _ object)) (rw (declaration path bytes at same) at some) keeps_same
+
+  pub made_version : (next : Part) → Did (does (Makes (MakeFolder path))) a b → path ≡ in_version [] → next ≡ content_at s.rows (record { row = 0; stored = 0; directories = 0 }) → Turned (phase.Make object part.Version) s s a b (Ok (phase.Make object next))
+  made_version next did is then =
+      rw then
+      (went a b (λ fed. fed) (λ fed _. Make (MakesVersion _ object)) (rw is at did) refl (λ fed was. was) keeps_same)
 
 -- at an equal path it may be made as well
 pub may_make_at : (told : Option Writing) (path at : Path) → MayMake told at → path ≡ at → MayMake told path

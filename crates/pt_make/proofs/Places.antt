@@ -3,10 +3,10 @@ use Rattle.std.proofs.Common.{◌≡◌, ℕ, List, refl, sym, ap, ◌∙◌, fa
 use Rattle.std.specs.Prelude.{Option, None, Some, Ok, Err}
 use Rattle.std.specs.Option.{option_map}
 use Rattle.pt_state.proofs.Words.{MakeFolder, staging, Writing, IsKindAt, MayMake, Path, kind_of_entry, Kind, Did, Place, Answers, Change, Changes, Finds, Makes, Puts, Renames, World, does, Object, Phase, counts_of, held_of, job_of, Turned}
+use Rattle.pt_state.proofs.Words.halt
+use Rattle.pt_state.proofs.Words.kind
+use Rattle.pt_state.proofs.Words.phase
 use Rattle.pt_state.specs.declared.state.State.{State}
-use Rattle.pt_tree.specs.declared.kind.Kind.TheVariants as kind
-use Rattle.pt_plan.specs.declared.halt.Halt.TheVariants as halt
-use Rattle.pt_plan.specs.declared.phase.Phase.TheVariants as phase
 use Rattle.pt_tree.specs.Dest.{MayMove, after_mkdir}
 use Rattle.pt_tree.specs.Tree.{Entry}
 use Rattle.pt_plan.specs.Permits.{HasParent}
@@ -18,8 +18,8 @@ use Rattle.pt_state.proofs.Together.{looked_then}
 use Rattle.pt_state.proofs.Turns.{keeps_same, refused, went}
 
 -- its call is made
-placed : (here next : Phase) (s : State) (a b : World) (change : Change) → ((fed : List ℕ) → Places (job_of s.job) (counts_of s.counts) here (held_of s fed) (held_of s fed) (does change) (Ok next)) → Did (does change) a b → Turned here s s a b (Ok next)
-placed here next s a b change places did = went here next s s a b (does change) (λ fed. fed) (λ fed _. Place (places fed)) did refl (λ fed was. was) (keeps_same s)
+placed : {here next : Phase} (s : State) (a b : World) {change : Change} → ((fed : List ℕ) → Places (job_of s.job) (counts_of s.counts) here (held_of s fed) (held_of s fed) (does change) (Ok next)) → Did (does change) a b → Turned here s s a b (Ok next)
+placed s a b places did = went a b (λ fed. fed) (λ fed _. Place (places fed)) did refl (λ fed was. was) keeps_same
 
 none_there : (o : Option Entry) → option_map kind_of_entry o ≡ None → o ≡ None
 none_there None is = refl
@@ -49,32 +49,24 @@ pub made_tuple : (s : State) (a b c : World) (path : Path) (here : Option Kind) 
     → Turned (phase.Tuples object number) s s a c (Ok next)
 made_tuple s a b c path here object number next found made none is then =
     rw then
-    (placed (phase.Tuples object number) (after_tuple (job_of s.job) object number) s a c (FindsNoneAndMakes (tuple_folder object number)) (λ fed. MakesTuple (held_of s fed) object number)
-    (rw is at (found_and_made a b c path here found made none)))
-
--- what stands at a path
-found_at : (a b : World) (path at : Path) (here it : Option Kind) → Did (does (Finds path here)) a b → path ≡ at → here ≡ it → Did (does (Finds at it)) a b
-found_at a b path at here it found is same = rw is at (rw same at found)
+    (placed s a c (λ fed. MakesTuple _ object number) (rw is at (found_and_made a b c path here found made none)))
 
 pub found_tuple : (s : State) (a b : World) (path : Path) (here : Option Kind) (object : Object) (number : ℕ) (next : Phase) → Did (does (Finds path here)) a b → here ≡ Some kind.Dir → path ≡ tuple_folder object number → next ≡ after_tuple (job_of s.job) object number
     → Turned (phase.Tuples object number) s s a b (Ok next)
 found_tuple s a b path here object number next found dir is then =
     rw then
-    (placed (phase.Tuples object number) (after_tuple (job_of s.job) object number) s a b (Finds (tuple_folder object number) (Some kind.Dir)) (λ fed. FindsTuple (held_of s fed) object number)
-    (found_at a b path (tuple_folder object number) here (Some kind.Dir) found is dir))
+    (placed s a b (λ fed. FindsTuple _ object number) (rw (is, dir) at found))
 
 pub in_the_way : (s : State) (a b : World) (path : Path) (here : Option Kind) (it : Kind) (object : Object) (number : ℕ) → Did (does (Finds path here)) a b → here ≡ Some it → is_dir_kind (Some it) ≡ false → path ≡ tuple_folder object number
     → Turned (phase.Tuples object number) s s a b (Err halt.Target)
 in_the_way s a b path here it object number found some other is =
-    refused (phase.Tuples object number) s s a b (does (Finds (tuple_folder object number) (Some it))) halt.Target (λ fed was. Place (IsInTheWay (held_of s fed) object number it other))
-    (found_at a b path (tuple_folder object number) here (Some it) found is some) (keeps_same s)
+    refused a b (λ fed was. Place (IsInTheWay _ object number it other)) (rw (is, some) at found) keeps_same
 
 pub renamed_object : (s : State) (a b : World) (from to : Path) (object : Object) → Did (does (Renames from to)) a b → from ≡ staging → to ≡ in_root object.place → Turned (phase.Rename object) s s a b (Ok (phase.Line object))
 renamed_object s a b from to object did is at =
-    placed (phase.Rename object) (phase.Line object) s a b (Renames staging (in_root object.place)) (λ fed. RenamesObject (held_of s fed) object)
-    (rw (at) at (rw is at did))
+    placed s a b (λ fed. RenamesObject _ object) (rw (is, (at)) at did)
 
 pub may_rename_object : (told : Option Writing) (from to : Path) (object : Object) → MayMove told staging (in_root object.place) → from ≡ staging → to ≡ in_root object.place → MayMove told from to
-may_rename_object told from to object may is same = rw same (rw is may)
+may_rename_object told from to object may is same = rw (same, is) may
 
 pub ruleset placing = (may_make_found, parent_there, looked_then, made_tuple, found_tuple, in_the_way, renamed_object, may_rename_object)

@@ -1,5 +1,5 @@
 -- How many names the folders of two paths share, name by name.
-use Rattle.std.proofs.Common.{◌≡◌, ◌<◌, ◌≤◌, ◌+◌, ◌-◌, ℕ, zero, suc, Bool, true, false, cond, not, List, [], ◌∷◌, drop, get_or, length, min, refl, sym, ap, ◌∙◌, arith}
+use Rattle.std.proofs.Common.{◌≡◌, ◌<◌, ◌≤◌, ◌+◌, ◌-◌, ℕ, zero, suc, Bool, true, false, cond, not, List, [], ◌∷◌, drop, get_or, length, min, refl, sym, ◌∙◌, arith}
 use Rattle.std.specs.Str.{bytes_eq}
 use Rattle.pt_state.proofs.Words.{Path}
 use Rattle.pt_tree.specs.Path.{parent}
@@ -21,26 +21,6 @@ no_differ false more is = absurd (cc)
 differ : (b : Bool) (more : ℕ) → true ≡ not b → cond b (suc more) 0 ≡ 0
 differ true more is = absurd (cc)
 differ false more is = refl
-
--- both go on alike
-pub alike : (p q : Path) (i folders most n m : ℕ) (names names' : Path) (x y : List ℕ) → shared (parent p) (parent q) ≡ i + shared (drop i (parent p)) (drop i (parent q)) → n ≡ length p → m ≡ length q → most ≡ min n m → folders ≡ most - 1 → i < folders → names ≡ p → names' ≡ q → x ≡ get_or names i x → y ≡ get_or names' i y → false ≡ not (bytes_eq x y)
-    → shared (parent p) (parent q) ≡ (i + 1) + shared (drop (i + 1) (parent p)) (drop (i + 1) (parent q))
-alike p q i folders most n m names names' x y so_far long long' least are within same same' is is' ties =
-    let next : i + 1 ≡ suc i = omega arith in
-    let less : i + 1 < length p = omega (arith, long, least, are, within) in
-    let less' : i + 1 < length q = omega (arith, long', least, are, within) in
-    let rest : ℕ = shared (drop (suc i) (parent p)) (drop (suc i) (parent q)) in
-    let here : shared (drop i (parent p)) (drop i (parent q)) ≡ rest + 1 = at_place p q i x y less less' (is ∙ ap (λ (n : Path). get_or n i x) same) (is' ∙ ap (λ (n : Path). get_or n i y) same') ∙ no_differ (bytes_eq x y) rest ties in
-    rw next (so_far ∙ ap (λ (k : ℕ). i + k) here ∙ omega arith)
-
--- they differ at this place
-pub apart : (p q : Path) (i folders most n m : ℕ) (names names' : Path) (x y : List ℕ) → shared (parent p) (parent q) ≡ i + shared (drop i (parent p)) (drop i (parent q)) → n ≡ length p → m ≡ length q → most ≡ min n m → folders ≡ most - 1 → i < folders → names ≡ p → names' ≡ q → x ≡ get_or names i x → y ≡ get_or names' i y → true ≡ not (bytes_eq x y)
-    → i + 1 ≡ suc (shared (parent p) (parent q))
-apart p q i folders most n m names names' x y so_far long long' least are within same same' is is' other =
-    let less : i + 1 < length p = omega (arith, long, least, are, within) in
-    let less' : i + 1 < length q = omega (arith, long', least, are, within) in
-    let here : shared (drop i (parent p)) (drop i (parent q)) ≡ 0 = at_place p q i x y less less' (is ∙ ap (λ (n : Path). get_or n i x) same) (is' ∙ ap (λ (n : Path). get_or n i y) same') ∙ differ (bytes_eq x y) _ other in
-    omega (arith, so_far, here)
 
 shared_left : (p q : Path) → shared p q ≤ length p
 shared_left [] q = omega (arith)
@@ -65,13 +45,32 @@ parent_length [] = omega (arith)
 parent_length (x ∷ []) = omega (arith)
 parent_length (x ∷ y ∷ p) = let rest = parent_length (y ∷ p) in omega (arith, rest)
 
--- one of them ends
-pub all_alike : (p q : Path) (i folders most n m : ℕ) → shared (parent p) (parent q) ≡ i + shared (drop i (parent p)) (drop i (parent q)) → n ≡ length p → m ≡ length q → most ≡ min n m → folders ≡ most - 1 → folders ≤ i → folders + 1 ≡ suc (shared (parent p) (parent q))
-all_alike p q i folders most n m so_far long long' least are past =
-    let left = shared_left (parent p) (parent q) in
-    let right = shared_right (parent p) (parent q) in
-    let front = parent_length p in
-    let front' = parent_length q in
-    omega (arith, so_far, long, long', least, are, past, left, right, front, front')
+module _ (p q : Path) (i folders most n m : ℕ) (so_far : shared (parent p) (parent q) ≡ i + shared (drop i (parent p)) (drop i (parent q))) (long : n ≡ length p) (long' : m ≡ length q) (least : most ≡ min n m) (are : folders ≡ most - 1) where
+  -- one of them ends
+  pub all_alike : folders ≤ i → folders + 1 ≡ suc (shared (parent p) (parent q))
+  all_alike past =
+      let left = shared_left (parent p) (parent q) in
+      let right = shared_right (parent p) (parent q) in
+      let front = parent_length p in
+      let front' = parent_length q in
+      omega (arith, so_far, long, long', least, are, past, left, right, front, front')
+
+  -- both have a name at this place
+  module _ (names names' : Path) (x y : List ℕ) (within : i < folders) (same : names ≡ p) (same' : names' ≡ q) (is : x ≡ get_or names i x) (is' : y ≡ get_or names' i y) where
+    here : shared (drop i (parent p)) (drop i (parent q)) ≡ cond (bytes_eq x y) (suc (shared (drop (suc i) (parent p)) (drop (suc i) (parent q)))) 0
+    here = at_place p q i x y (omega (arith, long, least, are, within)) (omega (arith, long', least, are, within)) (rw same at is) (rw same' at is')
+
+    -- and go on alike
+    pub alike : false ≡ not (bytes_eq x y) → shared (parent p) (parent q) ≡ (i + 1) + shared (drop (i + 1) (parent p)) (drop (i + 1) (parent q))
+    alike ties =
+        let next : i + 1 ≡ suc i = omega arith in
+        let rest : shared (drop i (parent p)) (drop i (parent q)) ≡ shared (drop (suc i) (parent p)) (drop (suc i) (parent q)) + 1 = here ∙ no_differ (bytes_eq x y) _ ties in
+        rw next (omega (arith, so_far, rest))
+
+    -- and differ there
+    pub apart : true ≡ not (bytes_eq x y) → i + 1 ≡ suc (shared (parent p) (parent q))
+    apart other =
+        let none : shared (drop i (parent p)) (drop i (parent q)) ≡ 0 = here ∙ differ (bytes_eq x y) _ other in
+        omega (arith, so_far, none)
 
 pub ruleset standing = (alike, apart, all_alike)

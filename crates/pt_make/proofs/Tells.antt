@@ -4,12 +4,12 @@ use Rattle.std.specs.Prelude.{Some, Ok, IsErrAnd, slice_get}
 use Rattle.std.specs.String.{string_bytes}
 use Rattle.std.proofs.lemmas.List.{take_all}
 use Rattle.std.proofs.lemmas.List.Sums.{sum_by-cons, sum_by-take-le}
-use Rattle.pt_state.proofs.Words.{Row, Path, sought, Answer, Done, End, Line, Did, Follows, LeavesSome, Place, bytes_in_rows, World, tells, Halt, Object, counts_of, held_of, job_of, Turned}
+use Rattle.pt_state.proofs.Words.{Row, Path, sought, Answer, Done, End, Line, Did, LeavesSome, Place, bytes_in_rows, World, tells, Halt, Object, KeepsAll, counts_of, Turned}
+use Rattle.pt_state.proofs.Words.phase
 use Rattle.pt_state.specs.declared.state.State.{State}
-use Rattle.pt_plan.specs.declared.phase.Phase.TheVariants as phase
 use Rattle.pt_plan.specs.TurnMake.{path_of_source}
-use Rattle.pt_plan.specs.TurnPlace.{TellsDone, TellsEnd, done_line, last_line, restarted}
-use Rattle.pt_state.proofs.Turns.{KeepsAll, keeps_same, left_told, turned_on}
+use Rattle.pt_plan.specs.TurnPlace.{TellsDone, TellsEnd}
+use Rattle.pt_state.proofs.Turns.{keeps_same, left_some, turned_on}
 use Rattle.pt_state.specs.Lines.{with_done}
 
 -- ---- the lengths of rows
@@ -42,32 +42,22 @@ all_rows rows i bytes most so_far = so_far ∙ ap bytes_in_rows (take_all i rows
 
 -- ---- lines
 
--- the line of the object, from its parts
-line_of : (s : State) (object : Object) (at : Path) (bytes : ℕ) → at ≡ path_of_source object s.trail → bytes ≡ bytes_in_rows s.rows → Done at bytes object.empty (length s.rows) object.id object.place ≡ done_line object (held_of s [])
-line_of s object at bytes is sum = λ i. Done (is i) (sum i) object.empty (length s.rows) object.id object.place
-
-follows_done : (s : State) (object : Object) (fed : List ℕ) → Follows (job_of s.job) (counts_of s.counts) (phase.Line object) (string_bytes s.prefix) (held_of s fed) (string_bytes s.prefix) (restarted (held_of s fed)) (tells (done_line object (held_of s []))) (Ok phase.Walk)
-follows_done s object fed = Place (TellsDone (held_of s fed) object)
-
 pub told_done : (s s' : State) (object : Object) (at : Path) (bytes : ℕ) (a b : World) → Did (tells (Done at bytes object.empty (length s.rows) object.id object.place)) a b → at ≡ path_of_source object s.trail → bytes ≡ bytes_in_rows s.rows
     → s'.trail ≡ sought 0 s.trail → s'.rows ≡ [] → s'.contents ≡ [] → s'.counts ≡ with_done s.counts → string_bytes s'.prefix ≡ string_bytes s.prefix → s'.hasher ≡ s.hasher → s'.job ≡ s.job → Turned (phase.Line object) s s' a b (Ok phase.Walk)
 told_done s s' object at bytes a b did is sum trail rows contents counts prefix hasher job =
-    turned_on (phase.Line object) phase.Walk s s' a b (tells (done_line object (held_of s []))) (sought 0 s.trail) [] [] (λ fed. follows_done s object fed)
-    (rw (line_of s object at bytes is sum) at did) trail rows contents (ap counts_of counts) prefix hasher job
+    turned_on s s' a b (λ fed. Place (TellsDone _ object)) (rw (is, sum) at did) trail rows contents (ap counts_of counts) prefix hasher job
 
 pub told_front : (s s' : State) (object : Object) (at : Path) (bytes : ℕ) (a b : World) (f : Halt) (result : Answer) → IsErrAnd result (λ h. h ≡ f) → LeavesSome (tells (Done at bytes object.empty (length s.rows) object.id object.place)) f a b → at ≡ path_of_source object s.trail → bytes ≡ bytes_in_rows s.rows → KeepsAll s s'
     → Turned (phase.Line object) s s' a b result
 told_front s s' object at bytes a b f result is front there sum keeps =
-    left_told (phase.Line object) s s' a b (tells (done_line object (held_of s []))) (Ok phase.Walk) f _ result is (λ fed. follows_done s object fed)
-    (rw (line_of s object at bytes there sum) at front) keeps
+    left_some a b f result is (λ fed. Place (TellsDone _ object)) (rw (there, sum) at front) keeps
 
 pub told_end : (s : State) (a b : World) → Did (tells (End s.counts.done s.counts.present s.counts.skipped)) a b → Turned phase.End s s a b (Ok phase.Ended)
 told_end s a b did =
-    turned_on phase.End phase.Ended s s a b (tells (last_line (counts_of s.counts))) s.trail s.rows s.contents
-    (λ fed. Place (TellsEnd (held_of s fed))) did refl refl refl refl refl refl refl
+    turned_on s s a b (λ fed. Place (TellsEnd _)) did refl refl refl refl refl refl refl
 
 pub end_front : (s : State) (a b : World) (f : Halt) (result : Answer) → IsErrAnd result (λ h. h ≡ f) → LeavesSome (tells (End s.counts.done s.counts.present s.counts.skipped)) f a b → Turned phase.End s s a b result
 end_front s a b f result is front =
-    left_told phase.End s s a b (tells (last_line (counts_of s.counts))) (Ok phase.Ended) f _ result is (λ fed. Place (TellsEnd (held_of s fed))) front (keeps_same s)
+    left_some a b f result is (λ fed. Place (TellsEnd _)) front keeps_same
 
 pub ruleset telling = (one_row_more, row_fits, all_rows, told_done, told_front, told_end, end_front)

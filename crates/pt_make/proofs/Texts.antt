@@ -1,18 +1,17 @@
 -- The turns that make an inventory and its sidecar, from their calls.
-use Rattle.std.proofs.Common.{◌≡◌, ℕ, List, [], ◌∷◌, ◌++◌, ap, ◌∙◌}
-use Rattle.std.specs.Prelude.{Option, Ok, IsErrAnd, map}
-use Rattle.pt_state.proofs.Words.{digest_of, HasBeenFed, Algorithm, Hasher, Writing, MayMake, Path, Answer, Did, LeavesSome, World, Halt, Object, Phase, held_of, job_of, Turned}
+use Rattle.std.proofs.Common.{◌≡◌, ℕ, List, [], ◌∷◌, ◌++◌, refl, ap, ◌∙◌}
+use Rattle.std.specs.Prelude.{Ok, IsErrAnd, map}
+use Rattle.pt_state.proofs.Words.{digest_of, HasBeenFed, Algorithm, Hasher, Path, Answer, Did, LeavesSome, Make, World, Halt, Object, Phase, KeepsAll, job_of, Turned}
+use Rattle.pt_state.proofs.Words.part
+use Rattle.pt_state.proofs.Words.phase
 use Rattle.pt_state.specs.declared.state.State.{State}
-use Rattle.pt_plan.specs.declared.phase.Part.TheVariants as part
-use Rattle.pt_plan.specs.declared.phase.Phase.TheVariants as phase
 use Rattle.pt_object.specs.Distinct.{content_of_row, distinct}
 use Rattle.pt_object.specs.Files.{sidecar_line, sidecar_text}
 use Rattle.pt_object.specs.Object.{inventory_name, sidecar_name}
 use Rattle.pt_plan.specs.TurnMake.{MakesInventory, MakesSidecar, MakesVersionInventory, MakesVersionSidecar, after_last}
 use Rattle.pt_make.proofs.Parts.{may_make_at}
 use Rattle.pt_state.proofs.Together.{leaves_short}
-use Rattle.pt_state.proofs.Turns.{KeepsAll, keeps_same}
-use Rattle.pt_make.proofs.Turns.{left_part, made}
+use Rattle.pt_state.proofs.Turns.{keeps_same, left_some, went}
 use Rattle.pt_make.specs.Making.{HasContentsOfRows, HasFedInventory, IsFedFor, in_folder, inventory_held, inventory_part, makes_file, sidecar_part}
 use Rattle.pt_make.specs.declared.inventories.Folder.{Folder}
 use Rattle.pt_make.specs.declared.inventories.Folder.TheVariants as folder
@@ -42,25 +41,18 @@ pub ruleset files = (contents_of_rows, fed_text, leaves_short, sidecar_is)
 
 -- ---- inventories
 
-pub may_make_in : (told : Option Writing) (path at : Path) → MayMake told at → path ≡ at → MayMake told path
-may_make_in told path at may is = may_make_at told path at may is
-
 pub made_version_inventory : (s s' : State) (a b : World) (object : Object) (here : Folder) (path : Path) (bytes : List ℕ) → here ≡ folder.Version → Did (makes_file path bytes) a b → path ≡ in_folder here (inventory_name ∷ []) → bytes ≡ inventory_held s object → HasBeenFed s.job.algorithm s'.hasher bytes → KeepsAll s s'
     → Turned (phase.Make object (inventory_part here)) s s' a b (Ok (phase.Make object part.VersionSidecar))
 made_version_inventory s s' a b object here path bytes which did is same fed keeps =
     rw which
-    (made (phase.Make object part.VersionInventory) (phase.Make object part.VersionSidecar) s s' a b _ (λ _. inventory_held s object) (λ fed. MakesVersionInventory (held_of s fed) object)
-    (rw (is ∙ ap (λ (f : Folder). in_folder f (inventory_name ∷ [])) which) at (rw same at did))
-    (λ _ _. rw same at fed) keeps)
+    (went a b (λ _. inventory_held s object) (λ fed _. Make (MakesVersionInventory _ object)) (rw (same, is, which) at did) refl (λ _ _. rw same at fed) keeps)
 
 pub made_top_inventory : (s s' : State) (a b : World) (object : Object) (here : Folder) (path : Path) (bytes : List ℕ) → here ≡ folder.Top → IsFedFor here s object → Did (makes_file path bytes) a b → path ≡ in_folder here (inventory_name ∷ []) → bytes ≡ inventory_held s object → s'.hasher ≡ s.hasher → KeepsAll s s'
     → Turned (phase.Make object (inventory_part here)) s s' a b (Ok (phase.Make object part.Sidecar))
 unfolding HasFedInventory
 made_top_inventory s s' a b object here path bytes which fed did is same hasher keeps =
     rw which
-    (made (phase.Make object part.Inventory) (phase.Make object part.Sidecar) s s' a b _ (λ _. inventory_held s object) (λ fed. MakesInventory (held_of s fed) object)
-    (rw (is ∙ ap (λ (f : Folder). in_folder f (inventory_name ∷ [])) which) at (rw same at did))
-    (λ _ _. rw hasher was) keeps)
+    (went a b (λ _. inventory_held s object) (λ fed _. Make (MakesInventory _ object)) (rw (same, is, which) at did) refl (λ _ _. rw hasher was) keeps)
   where
     was : HasFedInventory s object
     was = rw which at fed
@@ -68,13 +60,11 @@ made_top_inventory s s' a b object here path bytes which fed did is same hasher 
 pub left_inventory : (s s' : State) (a b : World) (object : Object) (here : Folder) (path : Path) (bytes : List ℕ) (f : Halt) (result : Answer) → IsErrAnd result (λ h. h ≡ f) → LeavesSome (makes_file path bytes) f a b → path ≡ in_folder here (inventory_name ∷ []) → bytes ≡ inventory_held s object → KeepsAll s s'
     → Turned (phase.Make object (inventory_part here)) s s' a b result
 left_inventory s s' a b object folder.Version path bytes f result is some at same keeps =
-    left_part (phase.Make object part.VersionInventory) (phase.Make object part.VersionSidecar) s s' a b _ (λ _. inventory_held s object) f result is (λ fed. MakesVersionInventory (held_of s fed) object)
-    (rw (at) at (rw same at some)) keeps
+    left_some a b f result is (λ fed. Make (MakesVersionInventory _ object)) (rw (same, (at)) at some) keeps
 left_inventory s s' a b object folder.Top path bytes f result is some at same keeps =
-    left_part (phase.Make object part.Inventory) (phase.Make object part.Sidecar) s s' a b _ (λ _. inventory_held s object) f result is (λ fed. MakesInventory (held_of s fed) object)
-    (rw (at) at (rw same at some)) keeps
+    left_some a b f result is (λ fed. Make (MakesInventory _ object)) (rw (same, (at)) at some) keeps
 
-pub ruleset inventories = (may_make_in, contents_of_rows, made_version_inventory, made_top_inventory, left_inventory)
+pub ruleset inventories = (may_make_at, contents_of_rows, made_version_inventory, made_top_inventory, left_inventory)
 
 -- ---- sidecars
 
@@ -87,24 +77,19 @@ pub made_version_sidecar : (s : State) (a b : World) (object : Object) (here : F
 unfolding HasFedInventory
 made_version_sidecar s a b object here path which fed did is =
     rw which
-    (made (phase.Make object part.VersionSidecar) (phase.Make object part.Inventory) s s a b _ (λ _. inventory_held s object) (λ fed. MakesVersionSidecar (held_of s fed) object)
-    (rw (is ∙ ap (λ (f : Folder). in_folder f (sidecar_name s.job.algorithm ∷ [])) which) at did) (λ _ _. fed) (keeps_same s))
+    (went a b (λ _. inventory_held s object) (λ fed _. Make (MakesVersionSidecar _ object)) (rw (is, which) at did) refl (λ _ _. fed) keeps_same)
 
 pub made_top_sidecar : (s s' : State) (a b : World) (object : Object) (here : Folder) (path : Path) (next : Phase) → here ≡ folder.Top → Did (makes_file path (sidecar_held s object)) a b → path ≡ in_folder here (sidecar_name s.job.algorithm ∷ []) → next ≡ after_last (job_of s.job) object → HasBeenFed s.job.algorithm s'.hasher [] → KeepsAll s s'
     → Turned (phase.Make object (sidecar_part here)) s s' a b (Ok next)
 made_top_sidecar s s' a b object here path next which did is then started keeps =
-    rw then
-    (rw which
-    (made (phase.Make object part.Sidecar) (after_last (job_of s.job) object) s s' a b _ (λ _. []) (λ fed. MakesSidecar (held_of s fed) object)
-    (rw (is ∙ ap (λ (f : Folder). in_folder f (sidecar_name s.job.algorithm ∷ [])) which) at did) (λ _ _. started) keeps))
+    rw (then, which)
+    (went a b (λ _. []) (λ fed _. Make (MakesSidecar _ object)) (rw (is, which) at did) refl (λ _ _. started) keeps)
 
 pub left_sidecar : (s s' : State) (a b : World) (object : Object) (here : Folder) (path : Path) (f : Halt) (result : Answer) → IsErrAnd result (λ h. h ≡ f) → LeavesSome (makes_file path (sidecar_held s object)) f a b → path ≡ in_folder here (sidecar_name s.job.algorithm ∷ []) → KeepsAll s s'
     → Turned (phase.Make object (sidecar_part here)) s s' a b result
 left_sidecar s s' a b object folder.Version path f result is left at keeps =
-    left_part (phase.Make object part.VersionSidecar) (phase.Make object part.Inventory) s s' a b _ (λ _. inventory_held s object) f result is (λ fed. MakesVersionSidecar (held_of s fed) object)
-    (rw (at) at left) keeps
+    left_some a b f result is (λ fed. Make (MakesVersionSidecar _ object)) (rw (at) at left) keeps
 left_sidecar s s' a b object folder.Top path f result is left at keeps =
-    left_part (phase.Make object part.Sidecar) (after_last (job_of s.job) object) s s' a b _ (λ _. []) f result is (λ fed. MakesSidecar (held_of s fed) object)
-    (rw (at) at left) keeps
+    left_some a b f result is (λ fed. Make (MakesSidecar _ object)) (rw (at) at left) keeps
 
-pub ruleset sidecars = (may_make_in, made_version_sidecar, made_top_sidecar, left_sidecar)
+pub ruleset sidecars = (may_make_at, made_version_sidecar, made_top_sidecar, left_sidecar)
