@@ -267,10 +267,6 @@ unfolding IsRootFile
 other_file s s' a b c number whole bytes block here found read file ne keeps =
     halts a c (Differs _ number file.0 bytes block file.1.1 ne) (peeked a b c whole (storage_root ++ file.0) here block file.1.0 found read) keeps
 
-pub ruleset making_root = (root_file, may_make_folder, may_make_file, made_item, left_item, renamed_root, may_rename_root)
-
-pub ruleset checking_root = (root_file_at, can_peek_file, looked_then, no_file, same_file, other_file)
-
-pub ruleset starting = (turns, has_file, may_open_prefix, making_root, checking_root, is_store, is_no_store, no_prefix, no_prefix_dir, no_prefix_other, has_prefix, bad_prefix, no_staging, staging_left, no_root, has_root, is_no_root)
+pub ruleset starting = (turns, has_file, may_open_prefix, root_file, may_make_folder, may_make_file, made_item, left_item, renamed_root, may_rename_root, root_file_at, can_peek_file, looked_then, no_file, same_file, other_file, is_store, is_no_store, no_prefix, no_prefix_dir, no_prefix_other, has_prefix, bad_prefix, no_staging, staging_left, no_root, has_root, is_no_root)
 
 pub ruleset staging_rows = (turns, no_staging, staging_left)
