@@ -237,12 +237,6 @@ pub skips_unnamed : (s : State) (index : Option ℕ) (why : Cause) → FindsObje
 unfolding IsNamed PassesSite
 skips_unnamed s index why found named = by_object s index (Err why) found named
 
--- it is of the share that has the identifier
-named_at : (s : State) (index : Option ℕ) (candidate : Candidate) → FindsObject s index → IsNamed s (verdict.Carry candidate) → IsTrue (holds s.job.share candidate.id) → judged_at (job_of s.job) (string_bytes s.prefix) s.trail ≡ Named candidate.id index
-unfolding IsNamed
-named_at s index candidate found (named, place) mine =
-    ap (ours s.job.share) (by_object s index (Ok candidate.id) found named) ∙ ap (λ b. cond b (Named candidate.id index) Interior) mine
-
 -- another share passes it
 pub passed_object : (s s' : State) (w : World) (index : Option ℕ) (candidate : Candidate) → FindsObject s index → IsNamed s (verdict.Carry candidate) → false ≡ holds s.job.share candidate.id → Moved s.trail s.counts s s' → Turned phase.Judge s s' w w (Ok phase.Walk)
 unfolding IsNamed
@@ -256,45 +250,40 @@ passed_object s s' w index candidate found (named, place) other to =
 pub looked_short : (s s' : State) (a b : World) (path : Path) (here : Option Kind) (result : Answer) → IsErrAnd result (λ h. h ≡ halt.Memory) → Did (does (Finds path here)) a b → KeepsAll s s' → Turned phase.Judge s s' a b result
 looked_short s s' a b path here result is did keeps = stayed phase.Judge s s' a b halt.Memory result is (looked_stays path here a b did) keeps
 
-present_follows : (s : State) (index : Option ℕ) (candidate : Candidate) (here : Kind) → FindsObject s index → IsNamed s (verdict.Carry candidate) → IsTrue (holds s.job.share candidate.id) → (fed : List ℕ)
-    → Leads phase.Judge s fed (held_of s fed) (finds_and_tells (in_root candidate.place) (Some here) (Present (path_of_object index s.trail) candidate.id candidate.place)) (Ok phase.Walk)
-unfolding IsNamed
-present_follows s index candidate here found (named, place) mine fed =
-    rw place
-    (Walk (IsPresent (held_of s fed) index candidate.id here (named_at s index candidate found (named, place) mine)))
-
-pub told_present : (s s' : State) (a b c : World) (path at : Path) (here : Option Kind) (it : Kind) (index : Option ℕ) (candidate : Candidate) → FindsObject s index → IsNamed s (verdict.Carry candidate) → IsTrue (holds s.job.share candidate.id)
-    → Did (does (Finds path here)) a b → here ≡ Some it → path ≡ in_root candidate.place → Did (tells (Present at candidate.id candidate.place)) b c → at ≡ path_of_object index s.trail → Moved s.trail (with_present s.counts) s s' → Turned phase.Judge s s' a c (Ok phase.Walk)
-told_present s s' a b c path at here it index candidate found named mine did is there told place to =
-    moves a c (present_follows s index candidate it found named mine)
-    (looked_told _ _ _ a b c (rw (is, there) at did) (rw place at told)) to refl
-
-pub told_present_front : (s s' : State) (a b c : World) (path at : Path) (here : Option Kind) (it : Kind) (index : Option ℕ) (candidate : Candidate) (f : Halt) (result : Answer) → IsErrAnd result (λ h. h ≡ f) → FindsObject s index → IsNamed s (verdict.Carry candidate) → IsTrue (holds s.job.share candidate.id)
-    → Did (does (Finds path here)) a b → here ≡ Some it → path ≡ in_root candidate.place → LeavesSome (tells (Present at candidate.id candidate.place)) f b c → at ≡ path_of_object index s.trail → KeepsAll s s' → Turned phase.Judge s s' a c result
-told_present_front s s' a b c path at here it index candidate f result error found named mine did is there front place keeps =
-    left_some a c f result error (present_follows s index candidate it found named mine)
-    (looked_left _ _ _ f a b c (rw (is, there) at did) (rw place at front)) keeps
-
 length-object : (index : Option ℕ) (trail : List Frame) → length (at_object index trail) ≡ length trail
 length-object None trail = refl
 length-object (Some index) [] = refl
 length-object (Some index) (frame ∷ frames) = refl
 
-new_follows : (s : State) (index : Option ℕ) (candidate : Candidate) → FindsObject s index → IsNamed s (verdict.Carry candidate) → IsTrue (holds s.job.share candidate.id) → (fed : List ℕ)
-    → Leads phase.Judge s fed (with_trail (held_of s fed) (at_object index s.trail)) (does (Finds (in_root candidate.place) None)) (Ok (phase.OpenObject (record { id = candidate.id; place = candidate.place; gathered = is_none index; site = length s.trail; empty = 0 })))
-unfolding IsNamed
-new_follows s index candidate found (named, place) mine fed =
-    rw place
-    (Walk (IsNew (held_of s fed) index candidate.id (named_at s index candidate found (named, place) mine)))
+-- it is of the share that has the identifier
+module _ (s : State) (index : Option ℕ) (candidate : Candidate) (found : FindsObject s index) (named : IsNamed s (verdict.Carry candidate)) (mine : IsTrue (holds s.job.share candidate.id)) where
+  named_at : judged_at (job_of s.job) (string_bytes s.prefix) s.trail ≡ Named candidate.id index
+  unfolding IsNamed
+  named_at = ap (ours s.job.share) (by_object s index (Ok candidate.id) found named.0) ∙ ap (λ b. cond b (Named candidate.id index) Interior) mine
 
-pub found_new : (s s' : State) (a b : World) (path : Path) (here : Option Kind) (index : Option ℕ) (candidate : Candidate) (gathered : Bool) (site : ℕ) (next : Phase) → FindsObject s index → IsNamed s (verdict.Carry candidate) → IsTrue (holds s.job.share candidate.id)
-    → Did (does (Finds path here)) a b → here ≡ None → path ≡ in_root candidate.place → next ≡ phase.OpenObject (record { id = candidate.id; place = candidate.place; gathered = gathered; site = site; empty = 0 }) → gathered ≡ is_none index → site ≡ length s'.trail
-    → Moved (at_object index s.trail) s.counts s s' → Turned phase.Judge s s' a b (Ok next)
-found_new s s' a b path here index candidate gathered site next found named mine did is there then gather deep to =
-    let object_is : next ≡ phase.OpenObject (record { id = candidate.id; place = candidate.place; gathered = is_none index; site = length s.trail; empty = 0 }) =
-    then ∙ (λ i. phase.OpenObject (record { id = candidate.id; place = candidate.place; gathered = gather i; site = (deep ∙ ap length to.trail_is ∙ length-object index s.trail) i; empty = 0 })) in
-    rw object_is
-    (moves a b (new_follows s index candidate found named mine) (rw (there, is) at did) to refl)
+  present_follows : (here : Kind) (fed : List ℕ) → Leads phase.Judge s fed (held_of s fed) (finds_and_tells (in_root candidate.place) (Some here) (Present (path_of_object index s.trail) candidate.id candidate.place)) (Ok phase.Walk)
+  unfolding IsNamed
+  present_follows here fed = rw named.1 (Walk (IsPresent (held_of s fed) index candidate.id here named_at))
+
+  pub told_present : (s' : State) (a b c : World) (path at : Path) (here : Option Kind) (it : Kind) → Did (does (Finds path here)) a b → here ≡ Some it → path ≡ in_root candidate.place → Did (tells (Present at candidate.id candidate.place)) b c → at ≡ path_of_object index s.trail → Moved s.trail (with_present s.counts) s s'
+      → Turned phase.Judge s s' a c (Ok phase.Walk)
+  told_present s' a b c path at here it did is there told place to = moves a c (present_follows it) (looked_told _ _ _ a b c (rw (is, there) at did) (rw place at told)) to refl
+
+  pub told_present_front : (s' : State) (a b c : World) (path at : Path) (here : Option Kind) (it : Kind) (f : Halt) (result : Answer) → IsErrAnd result (λ h. h ≡ f) → Did (does (Finds path here)) a b → here ≡ Some it → path ≡ in_root candidate.place → LeavesSome (tells (Present at candidate.id candidate.place)) f b c → at ≡ path_of_object index s.trail → KeepsAll s s'
+      → Turned phase.Judge s s' a c result
+  told_present_front s' a b c path at here it f result error did is there front place keeps = left_some a c f result error (present_follows it) (looked_left _ _ _ f a b c (rw (is, there) at did) (rw place at front)) keeps
+
+  new_follows : (fed : List ℕ) → Leads phase.Judge s fed (with_trail (held_of s fed) (at_object index s.trail)) (does (Finds (in_root candidate.place) None)) (Ok (phase.OpenObject (record { id = candidate.id; place = candidate.place; gathered = is_none index; site = length s.trail; empty = 0 })))
+  unfolding IsNamed
+  new_follows fed = rw named.1 (Walk (IsNew (held_of s fed) index candidate.id named_at))
+
+  pub found_new : (s' : State) (a b : World) (path : Path) (here : Option Kind) (gathered : Bool) (site : ℕ) (next : Phase) → Did (does (Finds path here)) a b → here ≡ None → path ≡ in_root candidate.place → next ≡ phase.OpenObject (record { id = candidate.id; place = candidate.place; gathered = gathered; site = site; empty = 0 }) → gathered ≡ is_none index → site ≡ length s'.trail
+      → Moved (at_object index s.trail) s.counts s s' → Turned phase.Judge s s' a b (Ok next)
+  found_new s' a b path here gathered site next did is there then gather deep to =
+      let object_is : next ≡ phase.OpenObject (record { id = candidate.id; place = candidate.place; gathered = is_none index; site = length s.trail; empty = 0 }) =
+      then ∙ (λ i. phase.OpenObject (record { id = candidate.id; place = candidate.place; gathered = gather i; site = (deep ∙ ap length to.trail_is ∙ length-object index s.trail) i; empty = 0 })) in
+      rw object_is
+      (moves a b new_follows (rw (there, is) at did) to refl)
 
 -- ---- the trail at the object
 

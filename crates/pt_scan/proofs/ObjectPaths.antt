@@ -3,7 +3,7 @@ use Rattle.std.proofs.Common.{◌≡◌, ◌<◌, ◌≤◌, ℕ, ◌+◌, ◌-�
 use Rattle.std.specs.Prelude.{Option, None, Some, IsSome, ◌&&◌, option_to_list}
 use Rattle.std.specs.Option.{option_map}
 use Rattle.std.proofs.lemmas.List.{drop_at, length-append, length-drop, length-take-le, take_all, take_at}
-use Rattle.std.proofs.lemmas.Bool.{and_parts, eq-eqb}
+use Rattle.std.proofs.lemmas.Bool.{and_parts, eqb-false}
 use Rattle.pt_state.proofs.Words.{Item, Path, current_entry, is_dir_entry, names_to, parent, trail_path, Frame, logical_path, to_site, Object}
 use Rattle.pt_walk.specs.Trail.{are_outer, entry_at, is_frame, is_trail, name_at}
 use Rattle.pt_walk.proofs.TrailSteps.{path_splits}
@@ -65,21 +65,28 @@ first_of object trail (some, long) own = by object.gathered own
     by true own = omega (arith, some, long)
     by false own = omega (arith, some, long)
 
-pub logical_is : (object : Object) (trail : List Frame) (entry names rest : Path) (first : ℕ) → is_trail trail ≡ true → IsSite object trail → 0 < own_listings object trail → entry ≡ names_to trail → first ≡ cond object.gathered (object.site - 1) object.site → names ≡ entry
-    → rest ≡ take (length names - first) (drop first names) → rest ≡ logical_path object trail
-logical_is object trail entry names rest first is site own at begin names_is rest_is =
-    rest_is ∙ take_all (length names - first) (drop first names) (let short = length-drop first names in omega (arith, short))
-    ∙ ap (drop first) (names_is ∙ at) ∙ ap (λ (k : ℕ). drop k (names_to trail)) (begin ∙ sym (first_of object trail site own)) ∙ ap (λ (p : Path). drop (length trail - own_listings object trail) p) (path_splits (own_listings object trail) trail)
-    ∙ drop_at (names_to (drop (own_listings object trail) trail)) (names_to (take (own_listings object trail) trail)) (length trail - own_listings object trail) (names_outside (own_listings object trail) trail is own)
+module _ (object : Object) (trail : List Frame) (is : is_trail trail ≡ true) (site : IsSite object trail) (own : 0 < own_listings object trail) (entry : Path) (first : ℕ) (at : entry ≡ names_to trail) (begin : first ≡ cond object.gathered (object.site - 1) object.site) where
+  abbrev inner : ℕ
+  inner = own_listings object trail
 
--- it begins within the path
-pub logical_within : (object : Object) (trail : List Frame) (entry : Path) (first : ℕ) → is_trail trail ≡ true → IsSite object trail → 0 < own_listings object trail → entry ≡ names_to trail → first ≡ cond object.gathered (object.site - 1) object.site → first ≤ length entry
-logical_within object trail entry first is site own at names =
-    let whole = ap length (at ∙ path_splits (own_listings object trail) trail) in
-    let both = length-append (names_to (drop (own_listings object trail) trail)) (names_to (take (own_listings object trail) trail)) in
-    let outside = names_outside (own_listings object trail) trail is own in
-    let begin = first_of object trail site own in
-    omega (arith, whole, both, outside, begin, names)
+  outside : length (names_to (drop inner trail)) ≡ length trail - inner
+  outside = names_outside inner trail is own
+
+  before : length trail - inner ≡ first
+  before = first_of object trail site own ∙ sym begin
+
+  pub logical_is : (names rest : Path) → names ≡ entry → rest ≡ take (length names - first) (drop first names) → rest ≡ logical_path object trail
+  logical_is names rest names_is rest_is =
+      rest_is ∙ take_all (length names - first) (drop first names) (let short = length-drop first names in omega (arith, short))
+      ∙ (λ i. drop (sym before i) ((names_is ∙ at ∙ path_splits inner trail) i))
+      ∙ drop_at (names_to (drop inner trail)) (names_to (take inner trail)) (length trail - inner) outside
+
+  -- it begins within the path
+  pub logical_within : first ≤ length entry
+  logical_within =
+      let whole = ap length (at ∙ path_splits inner trail) in
+      let both = length-append (names_to (drop inner trail)) (names_to (take inner trail)) in
+      omega (arith, whole, both, outside, before)
 
 -- ---- the path of the site
 
@@ -123,12 +130,9 @@ left_some object trail left in_site is (some, long) own place not left_is = rw l
     entry None is = absurd (cc)
     entry (Some item) is = refl
 
-    differ : (a b : ℕ) → (a == b) ≡ false → a ≡ b → ⊥
-    differ a b unlike is = let same : (a == a) ≡ false = ap (λ (x : ℕ). a == x) is ∙ unlike in let yes : (a == a) ≡ true = eq-eqb a a refl in absurd (let both : true ≡ false = sym yes ∙ same in cc)
-
     by : (trail : List Frame) → is_trail trail ≡ true → object.site ≤ length trail → 0 < own_listings object trail → is_in_site object trail ≡ false → IsSome (current_entry (parent trail))
     by [] is long own outside = absurd (omega (arith, some, long))
-    by (frame ∷ []) is long own outside = absurd (differ 1 object.site outside (omega (arith, some, long)))
+    by (frame ∷ []) is long own outside = absurd (eqb-false 1 object.site outside (omega (arith, some, long)))
     by (frame ∷ outer ∷ frames) is long own outside = entry (entry_at outer) (and_parts (is_dir_entry (entry_at outer)) (are_outer frames) (and_parts (is_frame outer) (is_dir_entry (entry_at outer) && are_outer frames) (and_parts (is_frame frame) (are_outer (outer ∷ frames)) is).1).1).0
 
 pub ruleset paths = (taken_long, left_some, logical_is, logical_within, site_is, site_within, site_some)

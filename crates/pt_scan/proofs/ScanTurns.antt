@@ -2,7 +2,7 @@
 use Rattle.std.proofs.Common.{◌≡◌, ◌<◌, ◌≤◌, ℕ, ◌+◌, ◌-◌, ◌==◌, ◌&&◌, Bool, true, false, List, [], ◌∷◌, refl, sym, ap, ◌∙◌, length, cond, drop, arith}
 use Rattle.std.specs.Prelude.{Option, None, Some, Ok, IsErrAnd, IsSome, nat_le, nat_lt, not, ◌||◌}
 use Rattle.std.specs.String.{string_bytes}
-use Rattle.std.proofs.lemmas.Bool.{lt-ltb, le-ltb, le-leb, lt-leb}
+use Rattle.std.proofs.lemmas.Bool.{le-leb, le-ltb, lt-leb, lt-ltb, or_from, or_left, or_right}
 use Rattle.std.proofs.Math.Dec.{eqb-suc-zero}
 use Rattle.pt_state.proofs.Words.{HasBeenFed, Item, Path, joined, Kind, advanced, current_entry, entered, is_dir_entry, names_to, parent, sought, trail_path, Cause, Frame, Answer, Skipped, logical_path, to_site, in_pairtree, Halt, Object, Phase, with_skipped, KeepsAll, counts_of, Did, LeavesSome, Scan, Stays, Lists, Opens, World, asks, tells, Turned, Reading, CanOpen}
 use Rattle.pt_state.proofs.Words.cause
@@ -128,15 +128,11 @@ file_some trail (name, at) = rw (at) refl
 
 pub one_too_many : (s : State) (object : Object) → IsAtFile s.trail → s.job.limits.files ≤ length s.rows → GivesUp (phase.Scan object) object cause.Limit s
 unfolding IsAtFile GivesUp
-one_too_many s object (name, at) many = λ fed. MeetsLimit _ object name at (ap (λ (b : Bool). b || nat_lt s.job.limits.path_bytes (length (joined (logical_path object s.trail)))) (le-leb s.job.limits.files (length s.rows) many))
-
-or_right : (a b : Bool) → b ≡ true → (a || b) ≡ true
-or_right true b is = refl
-or_right false b is = is
+one_too_many s object (name, at) many = λ fed. MeetsLimit _ object name at (or_left _ _ (le-leb s.job.limits.files (length s.rows) many))
 
 -- a test of the logical path's length
 long_is : (s : State) (object : Object) (names : Path) (most : ℕ) (longer : Bool) → longer ≡ nat_lt most (length (joined names)) → most ≡ s.job.limits.path_bytes → names ≡ logical_path object s.trail → nat_lt s.job.limits.path_bytes (length (joined (logical_path object s.trail))) ≡ longer
-long_is s object names most longer is limit there = ap (λ (p : Path). nat_lt s.job.limits.path_bytes (length (joined p))) (sym there) ∙ ap (λ (n : ℕ). nat_lt n (length (joined names))) (sym limit) ∙ sym is
+long_is s object names most longer is limit there = sym (is ∙ (λ i. nat_lt (limit i) (length (joined (there i)))))
 
 pub path_too_long : (s : State) (object : Object) (names : Path) (most : ℕ) (longer : Bool) → IsAtFile s.trail → longer ≡ nat_lt most (length (joined names)) → most ≡ s.job.limits.path_bytes → names ≡ logical_path object s.trail → longer ≡ true → GivesUp (phase.Scan object) object cause.Limit s
 unfolding IsAtFile GivesUp
@@ -151,11 +147,8 @@ pub opened_file : (s s' : State) (a b : World) (object : Object) (entry path nam
 unfolding IsAtFile
 opened_file s s' a b object entry path names most longer (name, at) few is limit logical_at short did entry_at there fed_none keeps =
     went a b (λ fed. [])
-    (λ fed was. Scan (OpensFile _ object name at (neither _ _ (lt-leb s.job.limits.files (length s.rows) few) (long_is s object names most longer is limit logical_at ∙ short))))
+    (λ fed was. Scan (OpensFile _ object name at (or_from _ _ (lt-leb s.job.limits.files (length s.rows) few) (long_is s object names most longer is limit logical_at ∙ short))))
     (rw (there ∙ ap in_pairtree entry_at) at did) refl (λ fed was. fed_none) keeps
-  where
-    neither : (a b : Bool) → a ≡ false → b ≡ false → (a || b) ≡ false
-    neither a b e f = ap (λ (x : Bool). x || b) e ∙ f
 
 -- ---- the end of a listing
 
