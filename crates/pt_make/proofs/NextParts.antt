@@ -35,8 +35,6 @@ is_next_copy s object position row to from left names at stored long most is sou
     let all : length row.path ≤ names = omega (arith, long) in
     (row, (sym at, sym stored, le-ltb position.directories (length row.path) past, is ∙ ap in_content (take_all names row.path all), source, same))
 
-pub ruleset next_steps = (is_passed, is_next_folder, is_next_copy)
-
 -- ---- a row that is passed
 
 pub passed_row : (s : State) (w : World) (object : Object) (position : Position) (next : Part) → IsPassed s position next → Turned (phase.Make object (part.Content position)) s s w w (Ok (phase.Make object next))
@@ -119,4 +117,4 @@ pub may_open_copy : (s : State) (w : World) (object : Object) (position : Positi
 unfolding MayMakeContent MayOpenRow IsNextCopy
 may_open_copy s w object position copied may (row, (at, stored, most, there, here, same)) = rw here ((may row at stored).1 most).1
 
-pub ruleset next_parts = (passed_row, few_folders, may_folder, made_folder, may_create, may_open_copy, can_open_still, copy_opened, copy_unopened)
+pub ruleset next_parts = (is_passed, is_next_folder, is_next_copy, passed_row, few_folders, may_folder, made_folder, may_create, may_open_copy, can_open_still, copy_opened, copy_unopened)
