@@ -3,11 +3,11 @@ use Rattle.std.proofs.Common.{◌≡◌, ◌≢◌, ◌<◌, ◌≤◌, ◌+◌,
 use Rattle.std.proofs.lemmas.Bool.{OnFalse_at, OnFalse_from}
 use Rattle.std.specs.Prelude.{Option, None, Some, Ok, Err}
 use Rattle.pt_state.proofs.Words.{HasBeenFed, Algorithm, Hasher, Writing, Reading, Answer, phase_after, Job, Held, Run, new_run, Failures, World, source_tree, Halt, Phase, held_of, job_of, kept_of, IsLayout, Tree, counts_of}
+use Rattle.pt_state.proofs.Words.halt
+use Rattle.pt_state.proofs.Words.part
+use Rattle.pt_state.proofs.Words.phase
 use Rattle.pt_state.specs.declared.state.State.{State}
 use Rattle.pt_state.specs.declared.job.Report.{Report}
-use Rattle.pt_plan.specs.declared.halt.Halt.TheVariants as halt
-use Rattle.pt_plan.specs.declared.phase.Phase.TheVariants as phase
-use Rattle.pt_plan.specs.declared.phase.Part.TheVariants as part
 use Rattle.pt_plan.specs.Permits.{Permits}
 use Rattle.pt_move.specs.Bounds.{IsBounded, IsWithin, most_calls}
 use Rattle.pt_move.specs.Stands.{Stands}
@@ -18,7 +18,7 @@ use Rattle.pt_move.specs.Fault.{fault_number, fault_of}
 use Rattle.pt_move.specs.Leaving.{TurnLeaves}
 use Rattle.pt_move.specs.Lines.{TellsFront}
 use Rattle.pt_move.specs.Promises.{TurnKeeps}
-use Rattle.pt_move.specs.Running.{BeganSomewhere, FedUntilEnd, HasBegun, InProgress, IsBegun, IsNew, IsWell, LeavesBehind, Running, as_told, fresh_kept, run_of}
+use Rattle.pt_move.specs.Running.{BeganSomewhere, FedUntilEnd, HasBegun, InProgress, IsBegun, IsFresh, IsNew, IsWell, LeavesBehind, Running, as_told, fresh_kept, run_of}
 use Rattle.pt_move.specs.Stepping.{Any, BlamesRightly, EndsAs, IsCounted, IsTurn, MakesTurn, StepLeaves, Stays as StaysAs, most_calls_at}
 use Rattle.pt_move.proofs.Told.{to_told}
 use Rattle.pt_move.specs.declared.fault.Fault.{Fault}
@@ -58,33 +58,34 @@ permits_fed job (phase.Make object part.Staging) s fed r w may = may
 permits_fed job phase.Ended s fed r w may = tt
 permits_fed _ _ _ _ _ _ may = may
 
-pub may_turn : (here : Phase) (s : State) (now : World) → here ≢ phase.Ended → BeganSomewhere now (record { phase = here; state = s }) → Permits (job_of s.job) here (held_of s []) now.source now.dest
-unfolding BeganSomewhere IsBegun
-may_turn here s now going (start, begun) =
-    let is : InProgress start (as_told now) (record { phase = here; state = s }) = begun in
-    let was = fed_going s.job.algorithm s.hasher is.fed going is.was in
-    permits_fed (job_of s.job) here s is.fed now.source now.dest (begun_permits (job_of s.job) start (as_told now) (record { phase = here; kept = kept_of s is.fed }) (within_work_is_begun (job_of s.job) start (as_told now) (record { phase = here; kept = kept_of s is.fed }) is.begun))
-
 held_at : {job : Job} (start : Start) (world : World) (run : Run) → Begun job start world run → (past : Past) × HeldAt job past run.phase run.kept.held
 unfolding Begun
 held_at start world run (past, is) = (past, is.held)
 
-pub stands_there : (here : Phase) (s : State) (now : World) → here ≢ phase.Ended → BeganSomewhere now (record { phase = here; state = s }) → Stands here s
-unfolding BeganSomewhere IsBegun
-stands_there here s now going (start, begun) =
-    let is : InProgress start (as_told now) (record { phase = here; state = s }) = begun in
-    let was = fed_going s.job.algorithm s.hasher is.fed going is.was in
-    let held = held_at start (as_told now) (record { phase = here; kept = kept_of s is.fed }) (within_work_is_begun (job_of s.job) start (as_told now) (record { phase = here; kept = kept_of s is.fed }) is.begun) in
-    stands here s going was held.1
+module _ (here : Phase) (s : State) (now : World) (going : here ≢ phase.Ended) (begun : BeganSomewhere now (record { phase = here; state = s })) where
+  -- the start, and that the run is in progress
+  pub there : (start : Start) × InProgress start (as_told now) (record { phase = here; state = s })
+  unfolding BeganSomewhere IsBegun
+  there = begun
 
-fed_there : (here : Phase) (a : Algorithm) (h : Hasher) (fed : List ℕ) → HasBeenFed a h fed → HasFed here a h
-fed_there here a h fed was = OnFalse_from (is_ended here) ((fed : List ℕ) × HasBeenFed a h fed) (λ _. (fed, was))
+  -- its hasher was fed something
+  pub was_fed : HasBeenFed s.job.algorithm s.hasher there.1.fed
+  was_fed = fed_going s.job.algorithm s.hasher there.1.fed going there.1.was
 
-pub has_fed : (here : Phase) (s : State) (now : World) → here ≢ phase.Ended → BeganSomewhere now (record { phase = here; state = s }) → HasFed here s.job.algorithm s.hasher
-unfolding BeganSomewhere IsBegun
-has_fed here s now going (start, begun) =
-    let is : InProgress start (as_told now) (record { phase = here; state = s }) = begun in
-    fed_there here s.job.algorithm s.hasher is.fed (fed_going s.job.algorithm s.hasher is.fed going is.was)
+  abbrev run : Run
+  run = record { phase = here; kept = kept_of s there.1.fed }
+
+  is_begun : Begun (job_of s.job) there.0 (as_told now) run
+  is_begun = within_work_is_begun (job_of s.job) there.0 (as_told now) run there.1.begun
+
+  pub may_turn : Permits (job_of s.job) here (held_of s []) now.source now.dest
+  may_turn = permits_fed (job_of s.job) here s there.1.fed now.source now.dest (begun_permits (job_of s.job) there.0 (as_told now) run is_begun)
+
+  pub stands_there : Stands here s
+  stands_there = stands here s going was_fed (held_at there.0 (as_told now) run is_begun).1
+
+  pub has_fed : HasFed here s.job.algorithm s.hasher
+  has_fed = OnFalse_from (is_ended here) ((fed : List ℕ) × HasBeenFed s.job.algorithm s.hasher fed) (λ _. (there.1.fed, was_fed))
 
 pub same_job : (here : Phase) (s s' : State) (old new : World) (answer : Answer) → CountedTurn here s s' old new answer → s'.job ≡ s.job
 unfolding CountedTurn
@@ -97,11 +98,9 @@ is_bounded here s well = well.bounded
 
 pub left_by_turn : (here : Phase) (s s' : State) (old new : World) (answer : Answer) → here ≢ phase.Ended → BeganSomewhere old (record { phase = here; state = s }) → CountedTurn here s s' old new answer
     → TurnLeaves s s' old.log new.log old.failures new.failures answer
-unfolding BeganSomewhere IsBegun CountedTurn
-left_by_turn here s s' old new answer going (start, begun) turned =
-    let is : InProgress start (as_told old) (record { phase = here; state = s }) = begun in
-    let was = fed_going s.job.algorithm s.hasher is.fed going is.was in
-    let made = turned.1 is.fed was in
+unfolding CountedTurn
+left_by_turn here s s' old new answer going begun turned =
+    let made = turned.1 _ (was_fed here s old going begun) in
     turn_leaves s' made.0 made.1.1
 
 -- what is counted doesn't lean on what the hasher was fed
@@ -113,23 +112,20 @@ bounded_fed {job} {here} s {fed} fed' bounded = record { lines = bounded.lines; 
     within _ is = is
 
 -- after a turn the run isn't to begin
-not_first : (s s' : State) (fed fed' : List ℕ) (here : Phase) (answer : Answer) → phase_after answer ≡ phase.Begin → IsBounded (job_of s.job) (phase_after answer) (kept_of s' fed') → s'.counts.turns ≡ s.counts.turns + 1 → ⊥
-not_first s s' fed fed' here answer begins bounded turns =
+not_first : (s s' : State) (fed' : List ℕ) (answer : Answer) → phase_after answer ≡ phase.Begin → IsBounded (job_of s.job) (phase_after answer) (kept_of s' fed') → s'.counts.turns ≡ s.counts.turns + 1 → ⊥
+not_first s s' fed' answer begins bounded turns =
     let none : s'.counts.turns ≡ 0 = rw begins at bounded.within in
     omega (arith, none, turns)
 
 pub well_after : (here : Phase) (s s' : State) (old new : World) (answer : Answer) → here ≢ phase.Ended → BeganSomewhere old (record { phase = here; state = s }) → IsWell (record { phase = here; state = s }) → s.counts.turns < s.job.limits.turns
     → CountedTurn here s s' old new answer → IsWell (record { phase = phase_after answer; state = s' })
-unfolding BeganSomewhere IsBegun CountedTurn
-well_after here s s' old new answer going (start, begun) well more turned =
-    let is : InProgress start (as_told old) (record { phase = here; state = s }) = begun in
-    let was = fed_going s.job.algorithm s.hasher is.fed going is.was in
-    let made = turned.1 is.fed was in
+unfolding CountedTurn
+well_after here s s' old new answer going begun well more turned =
+    let made = turned.1 _ (was_fed here s old going begun) in
+    let bounded = turn_keeps_bounds (bounded_fed s _ well.bounded) more made.1.1 in
     record {
-      bounded = rw turned.0
-          (bounded_fed s' [] (turn_keeps_bounds (bounded_fed s is.fed well.bounded) more made.1.1));
-      fresh = λ begins. absurd (not_first s s' is.fed made.0 here answer begins (turn_keeps_bounds (bounded_fed s is.fed well.bounded) more made.1.1)
-          (turn_leaves {s = s} s' made.0 made.1.1).turns);
+      bounded = rw turned.0 (bounded_fed s' [] bounded);
+      fresh = λ begins. absurd (not_first s s' made.0 answer begins bounded (turn_leaves {s = s} s' made.0 made.1.1).turns);
     }
 
 -- ---- a run that ends without a turn
@@ -138,9 +134,8 @@ well_after here s s' old new answer going (start, begun) well more turned =
 pub begun_ends : (start : Start) (world : World) (r : Running) {t : Running} → t.phase ≡ phase.Ended → t.state ≡ r.state → IsBegun start world r → IsBegun start world t
 unfolding IsBegun
 begun_ends start world r {t} ended same is =
-    rw ended
-    (rw same
-    (record { fed = is.fed; was = tt; begun = stops_within_work (job_of r.state.job) start (as_told world) (run_of r is.fed) is.begun }))
+    rw (ended, same)
+    (record { fed = is.fed; was = tt; begun = stops_within_work (job_of r.state.job) start (as_told world) (run_of r is.fed) is.begun })
 
 -- ---- what is left in the destination
 
@@ -233,11 +228,11 @@ err_stays why f old new is = rw is (stays_halt why old new)
 new_bounded : (job : Job) → IsBounded job phase.Begin fresh_kept
 new_bounded job = record { lines = omega (arith); turns = omega (arith); few = record { rows = omega (arith); lengths = omega (arith) }; within = refl; prefix = omega (arith) }
 
+pub is_fresh : {job : own.Job} {r : Running} → IsNew job r → IsFresh r.state
+is_fresh new = record { kept = new.kept; fed = rw new.job_is new.fed }
+
 pub new_well : (job : own.Job) (r : Running) → IsNew job r → IsWell r
-new_well job r new = record {
-  bounded = rw new.kept (rw new.phase (new_bounded (job_of r.state.job)));
-  fresh = λ begins. record { kept = new.kept; fed = rw new.job_is new.fed };
-}
+new_well job r new = record { bounded = rw (new.kept, new.phase) (new_bounded (job_of r.state.job)); fresh = λ begins. is_fresh new }
 
 pub same_begun : (start : Start) (world : World) {r t : Running} → t ≡ r → IsBegun start world r → IsBegun start world t
 same_begun start world same is = rw same is
@@ -249,25 +244,27 @@ told_nothing g' c' same counts = (inl same, (ap (λ (k : Report). k.done) counts
 
 pub ended_well : (r : Running) (s : Running) → IsWell r → s.phase ≡ phase.Ended → s.state ≡ r.state → IsWell s
 ended_well r s well ended same = record {
-  bounded = rw ended (rw same (record { lines = well.bounded.lines; turns = well.bounded.turns; few = record { rows = well.bounded.few.rows; lengths = well.bounded.few.lengths }; within = tt; prefix = well.bounded.prefix }));
+  bounded = rw (ended, same) (record { lines = well.bounded.lines; turns = well.bounded.turns; few = record { rows = well.bounded.few.rows; lengths = well.bounded.few.lengths }; within = tt; prefix = well.bounded.prefix });
   fresh = λ begins. absurd (let no : phase.Ended ≡ phase.Begin = sym ended ∙ begins in cc);
 }
 
--- a run that is to begin, or began somewhere, began somewhere
-pub begun_somewhere : {r : Running} {world : World} → HasBegun world r → IsWell r → IsLayout r.state.job.layout → IsWorld world → BeganSomewhere world r
-unfolding HasBegun BeganSomewhere IsBegun
-begun_somewhere (inr begun) well layout is = begun
-begun_somewhere {r} {world} (inl begins) well layout is = (
-  start_of world,
-  record {
-    fed = [];
-    was = fed_to_end r.phase r.state.job.algorithm r.state.hasher [] (well.fresh begins).fed;
-    begun = rw run_is (to_told (job_of r.state.job) (start_of world) world new_run (new_run_is_within_work (job_of r.state.job) world layout is));
-  },
-)
+-- one that is to begin began where the devices stand
+pub first_begun : (r : Running) (world : World) → r.phase ≡ phase.Begin → IsFresh r.state → IsLayout r.state.job.layout → IsWorld world → IsBegun (start_of world) world r
+unfolding IsBegun
+first_begun r world begins fresh layout is = record {
+  fed = [];
+  was = fed_to_end r.phase r.state.job.algorithm r.state.hasher [] fresh.fed;
+  begun = rw run_is (to_told (job_of r.state.job) (start_of world) world new_run (new_run_is_within_work (job_of r.state.job) world layout is));
+}
   where
     run_is : run_of r [] ≡ new_run
-    run_is = λ i. record { phase = begins i; kept = (well.fresh begins).kept i }
+    run_is = λ i. record { phase = begins i; kept = fresh.kept i }
+
+-- a run that is to begin, or began somewhere, began somewhere
+pub begun_somewhere : {r : Running} {world : World} → HasBegun world r → IsWell r → IsLayout r.state.job.layout → IsWorld world → BeganSomewhere world r
+unfolding HasBegun BeganSomewhere
+begun_somewhere (inr begun) well layout is = begun
+begun_somewhere {r} {world} (inl begins) well layout is = (start_of world, first_begun r world begins (well.fresh begins) layout is)
 
 pub begun_seen : (r t : Running) (world : World) → t ≡ r → HasBegun world r → IsWell t → IsLayout t.state.job.layout → IsWorld world → BeganSomewhere world r
 begun_seen r t world same begun well layout is = begun_somewhere begun (rw same at well) (rw same at layout) is

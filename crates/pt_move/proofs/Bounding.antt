@@ -8,12 +8,12 @@ use Rattle.std.proofs.lemmas.Bool.{ltb-false, leb-false}
 use Rattle.std.proofs.lemmas.List.{length-append}
 use Rattle.std.proofs.lemmas.List.Sums.{sum_by-append}
 use Rattle.pt_state.proofs.Words.{Row, Item, Answer, phase_after, Job, Line, Done, Counts, Held, Kept, turning, Follows, FailsAtFirst, FailsLater, GoesOn, IsHalted, IsRefused, Make, Place, Scan, Start, Turn, Walk, counted, bytes_in_rows, Calls, World, Phase}
+use Rattle.pt_state.proofs.Words.phase
 use Rattle.pt_plan.specs.TurnMake as make
 use Rattle.pt_plan.specs.TurnPlace as place
 use Rattle.pt_plan.specs.TurnScan as scan
 use Rattle.pt_plan.specs.TurnStart as start
 use Rattle.pt_plan.specs.TurnWalk as walk
-use Rattle.pt_plan.specs.declared.phase.Phase.TheVariants as phase
 use Rattle.pt_plan.specs.Run.{with_fed}
 use Rattle.pt_plan.specs.TurnScan.{none_listed}
 use Rattle.pt_move.specs.Bounds.{AreFew, IsBounded, IsWithin, lines_put}

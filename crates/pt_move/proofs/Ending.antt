@@ -1,14 +1,12 @@
 -- What the steps of a run say of the whole.
-use Rattle.std.proofs.Common.{◌≡◌, [], inl, sym, ◌∙◌}
+use Rattle.std.proofs.Common.{◌≡◌, inl, sym, ◌∙◌}
 use Rattle.std.specs.Prelude.{Err, ◌≢◌}
-use Rattle.pt_state.proofs.Words.{IsLayout, new_run, World, job_of}
-use Rattle.pt_plan.specs.declared.phase.Phase.TheVariants as phase
+use Rattle.pt_state.proofs.Words.{IsLayout, World}
+use Rattle.pt_state.proofs.Words.phase
 use Rattle.pt_begun.specs.Begun.{IsWorld, start_of}
-use Rattle.pt_begun.proofs.turns_left.Within.{new_run_is_within_work}
 use Rattle.pt_state.specs.declared.job.Job.{Job}
-use Rattle.pt_move.specs.Running.{HasBegun, IsBegun, IsNew, Running, run_of}
-use Rattle.pt_move.proofs.Told.{to_told}
-use Rattle.pt_move.proofs.Answering.{fed_to_end, has_begun}
+use Rattle.pt_move.specs.Running.{HasBegun, IsBegun, IsNew, Running}
+use Rattle.pt_move.proofs.Answering.{first_begun, is_fresh}
 use Rattle.pt_move.specs.Stepping.{EndsAs}
 use Rattle.pt_move.specs.declared.fault.Fault.{Fault}
 use Rattle.pt_move.specs.declared.fault.Fault.TheVariants as fault
@@ -26,15 +24,7 @@ not_ended f old new going ends is = absurd (going (told (rw is at ends)))
 
 -- it began where the devices stand
 pub new_is_begun : (job : Job) (r : Running) (now : World) → IsNew job r → IsLayout job.layout → IsWorld now → IsBegun (start_of now) now r
-unfolding IsBegun
-new_is_begun job r now new layout is = record {
-  fed = [];
-  was = fed_to_end r.phase r.state.job.algorithm r.state.hasher [] (rw new.job_is new.fed);
-  begun = rw new.job_is (rw run_is (to_told (job_of job) (start_of now) now new_run (new_run_is_within_work (job_of job) now layout is)));
-}
-  where
-    run_is : run_of r [] ≡ new_run
-    run_is = λ i. record { phase = new.phase i; kept = new.kept i }
+new_is_begun job r now new layout is = first_begun r now new.phase (is_fresh new) (rw new.job_is layout) is
 
 pub new_has_begun : (job : Job) (r : Running) (now : World) → IsNew job r → HasBegun now r
 unfolding HasBegun

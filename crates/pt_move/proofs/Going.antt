@@ -2,7 +2,7 @@
 use Rattle.std.proofs.Common.{◌≡◌, ◌≢◌, false, refl}
 use Rattle.pt_begun.specs.EndLaws.{is_ended}
 use Rattle.pt_state.proofs.Words.{Phase}
-use Rattle.pt_plan.specs.declared.phase.Phase.TheVariants as phase
+use Rattle.pt_state.proofs.Words.phase
 
 pub is_going : (here : Phase) → here ≢ phase.Ended → is_ended here ≡ false
 is_going phase.Ended going = absurd (going refl)

@@ -2,9 +2,9 @@
 use Rattle.std.proofs.Common.{◌≡◌, ◌≢◌, ◌<◌, ◌≤◌, ℕ, List, arith}
 use Rattle.std.specs.Prelude.{Option, Some, Ok, Err}
 use Rattle.pt_state.proofs.Words.{Forest, Reading, Tree, Answer, phase_after, Job, Run, turning, World, source_tree, Halt, Phase, job_of, kept_of}
+use Rattle.pt_state.proofs.Words.halt
+use Rattle.pt_state.proofs.Words.phase
 use Rattle.pt_state.specs.declared.state.State.{State}
-use Rattle.pt_plan.specs.declared.halt.Halt.TheVariants as halt
-use Rattle.pt_plan.specs.declared.phase.Phase.TheVariants as phase
 use Rattle.pt_plan.specs.Roots.{root_in}
 use Rattle.pt_plan.specs.Work.{work}
 use Rattle.pt_begun.specs.Begun.{Begun, Start}
@@ -24,21 +24,19 @@ use Rattle.pt_move.specs.Running.{BeganSomewhere, FedUntilEnd, InProgress, IsBeg
 use Rattle.pt_move.specs.declared.fault.Fault.{Fault}
 use Rattle.pt_move.specs.declared.fault.Fault.TheVariants as fault
 use Rattle.pt_move.specs.declared.mover.Turn.TheVariants as turn
-use Rattle.pt_move.proofs.Answering.{begun_ends, fed_going, fed_to_end, leaves_behind, same_begun}
+use Rattle.pt_move.proofs.Answering.{begun_ends, fed_going, fed_to_end, leaves_behind, same_begun, was_fed}
 use Rattle.pt_move.proofs.Going.{is_going}
-use Rattle.pt_move.proofs.LateLog.{turn_late}
 use Rattle.pt_move.proofs.Told.{of_told, to_told}
-use Rattle.pt_move.proofs.Outcomes.{bound_after, left_after, reading_of, says_after, stands_after, within_after, work_after}
+use Rattle.pt_move.proofs.Outcomes.{reading_of, turn_keeps, within_after}
 
 -- ---- the source's tree stays
 
 pub tree_stays : (here : Phase) (s s' : State) (old new : World) (answer : Answer) → here ≢ phase.Ended → BeganSomewhere old (record { phase = here; state = s })
     → CountedTurn here s s' old new answer → source_tree new.source ≡ source_tree old.source
-unfolding BeganSomewhere IsBegun CountedTurn
-tree_stays here s s' old new answer going (start, begun) turned =
-    let is : InProgress start (as_told old) (record { phase = here; state = s }) = begun in
-    let made = turned.1 is.fed (fed_going s.job.algorithm s.hasher is.fed going is.was) in
-    turn_tree (job_of s.job) here (turning (kept_of s is.fed)) (kept_of s' made.0) old new answer made.1.1
+unfolding CountedTurn
+tree_stays here s s' old new answer going begun turned =
+    let made = turned.1 _ (was_fed here s old going begun) in
+    turn_tree (job_of s.job) here (turning (kept_of s _)) (kept_of s' made.0) old new answer made.1.1
 
 -- ---- the turn in a step
 
@@ -48,27 +46,18 @@ fed_after (Err why) s s' fed job was = tt
 
 pub keeps_after : (here : Phase) (s s' : State) (old new : World) (answer : Answer) → here ≢ phase.Ended → CountedTurn here s s' old new answer
     → (start : Start) → IsBegun start old (record { phase = here; state = s }) → TurnKeeps start old new s s' answer
-unfolding IsBegun CountedTurn TurnKeeps
+unfolding IsBegun CountedTurn
 keeps_after here s s' old new answer going turned start is =
-    let job = turned.0 in
     let made = turned.1 is.fed (fed_going s.job.algorithm s.hasher is.fed going is.was) in
     let going_on = is_going here going in
     let within = of_told (job_of s.job) start old (record { phase = here; kept = kept_of s is.fed }) is.begun in
     let begun : IsBegun start new (record { phase = phase_after answer; state = s' }) = record {
       fed = made.0;
-      was = fed_after answer s s' made.0 job made.1.0;
-      begun = rw job
+      was = fed_after answer s s' made.0 turned.0 made.1.0;
+      begun = rw turned.0
           (to_told (job_of s.job) start new (record { phase = phase_after answer; kept = kept_of s' made.0 }) (within_after s s' here is.fed made.0 old new start within going_on answer made.1.1));
     } in
-    record {
-      begun = begun;
-      leaves = rw job at (leaves_behind start new (record { phase = phase_after answer; state = s' }) begun);
-      stands = stands_after s s' here is.fed made.0 old new start within going_on made.1.1;
-      work = work_after s s' here is.fed made.0 old new start within going_on made.1.1;
-      bound = bound_after s s' here is.fed made.0 old new start within going_on made.1.1;
-      left = left_after s s' here is.fed made.0 old new start within going_on made.1.1;
-      says = says_after s s' here is.fed made.0 old new start within going_on answer made.1.1 (turn_late made.1.1);
-    }
+    turn_keeps s s' here is.fed made.0 old new start within going_on answer made.1.1 turned.0 begun
 
 -- ---- by the answer
 
@@ -126,53 +115,62 @@ keeps_halted start old new before s' why f is kept = rw is (halted_so start old 
 
 -- ---- no turn was made
 
-going_on : (start : Start) (now : World) (r : Running) → (is : InProgress start now r) → Begun (job_of r.state.job) start now (run_of r is.fed)
-going_on start now r is = within_work_is_begun (job_of r.state.job) start now (run_of r is.fed) is.begun
-
-stands_there : (start : Start) (now : World) (r : Running) → IsBegun start now r → StandsStillIn start.dest now.dest
-unfolding IsBegun StandsStillIn
-stands_there start now r is = λ t w start_is dest_is. begun_stands_still (job_of r.state.job) start (as_told now) (run_of r is.fed) t w (going_on start (as_told now) r is) start_is dest_is
-
 so_far : (job : Job) (start : Start) (now : World) (run : Run) {s : Reading} {t : Tree} → BegunWithinWork job start now run → now.source ≡ Some s → start.dest ≡ Some t → run.kept.counts.turns ≤ work job s.tree (root_in t)
 unfolding BegunWithinWork
 so_far job start now run {s} {t} (past, is, within) source_is start_is = let few = (within s source_is t start_is).within in omega (arith, few)
 
-made_there : (start : Start) (now : World) (r : Running) → IsBegun start now r → MadeWithinWork r.state.job (source_tree now.source) start.dest r.state.counts
-unfolding IsBegun MadeWithinWork
-made_there start now r is = λ f t source_is start_is.
-    let reading = reading_of now.source {f = f} source_is in
-    rw reading.2 at (so_far (job_of r.state.job) start (as_told now) (run_of r is.fed) {s = reading.0} {t = t} is.begun reading.1 start_is)
+-- of a run in progress
+module _ (start : Start) (now : World) (r : Running) (is : IsBegun start now r) where
+  there : InProgress start (as_told now) r
+  unfolding IsBegun
+  there = is
 
-bound_there : (start : Start) (now : World) (r : Running) → r.phase ≢ phase.Ended → IsBegun start now r → HoldsWithinBound r.state.job (source_tree now.source) r.state
-unfolding IsBegun HoldsWithinBound
-bound_there start now r going is = λ f source_is.
-    let reading = reading_of now.source source_is in
-    rw reading.2 at (begun_is_within_bound (job_of r.state.job) start (as_told now) (run_of r is.fed) reading.0 (going_on start (as_told now) r is) (is_going r.phase going) reading.1)
+  abbrev job : Job
+  job = job_of r.state.job
 
-left_there : (start : Start) (now : World) (r : Running) → IsBegun start now r → FaultLeaves r.state.job (source_tree now.source) start now.dest now.log
-unfolding IsBegun FaultLeaves
-left_there start now r is = λ f t w first last source_is start_is dest_is first_is last_is.
-    let reading = reading_of now.source source_is in
-    rw reading.2 at
-    (stops_leave (job_of r.state.job) start (as_told now) (run_of r is.fed) reading.0 t w first last (going_on start (as_told now) r is) reading.1 start_is dest_is first_is last_is)
+  abbrev run : Run
+  run = run_of r there.fed
 
--- a limit of at least the work isn't reached
-good_there : (start : Start) (now : World) (r : Running) → r.phase ≢ phase.Ended → r.state.job.limits.turns ≤ r.state.counts.turns → IsBegun start now r → WantsMemory r.state.job (source_tree now.source) start.dest now.failures now.failures fault.Turns
-unfolding IsBegun WantsMemory
-good_there start now r going made is = λ f t source_is start_is good free enough none.
-    let reading = reading_of now.source source_is in
-    let less : r.state.counts.turns < work (job_of r.state.job) f (root_in t) =
-    rw reading.2 at (turn_is_left (job_of r.state.job) start (as_told now) (run_of r is.fed) reading.0 t is.begun (is_going r.phase going) reading.1 start_is) in
-    absurd (omega (arith, less, enough, made))
+  begun : Begun job start (as_told now) run
+  begun = within_work_is_begun job start (as_told now) run there.begun
 
--- a limit that was made is less than the work
-limit_there : (start : Start) (now : World) (r : Running) → r.phase ≢ phase.Ended → r.state.job.limits.turns ≤ r.state.counts.turns → IsBegun start now r → (s : Forest) (t : Tree) → source_tree now.source ≡ Some s → start.dest ≡ Some t → r.state.job.limits.turns < work (job_of r.state.job) s (root_in t)
-unfolding IsBegun
-limit_there start now r going made is = λ f t source_is start_is.
-    let reading = reading_of now.source source_is in
-    let less : r.state.counts.turns < work (job_of r.state.job) f (root_in t) =
-    rw reading.2 at (turn_is_left (job_of r.state.job) start (as_told now) (run_of r is.fed) reading.0 t is.begun (is_going r.phase going) reading.1 start_is) in
-    omega (arith, less, made)
+  pub stands_there : StandsStillIn start.dest now.dest
+  unfolding StandsStillIn
+  stands_there = λ t w start_is dest_is. begun_stands_still job start (as_told now) run t w begun start_is dest_is
+
+  made_there : MadeWithinWork r.state.job (source_tree now.source) start.dest r.state.counts
+  unfolding MadeWithinWork
+  made_there = λ f t source_is start_is.
+      let reading = reading_of now.source source_is in
+      rw reading.2 at (so_far job start (as_told now) run {s = reading.0} {t = t} there.begun reading.1 start_is)
+
+  bound_there : r.phase ≢ phase.Ended → HoldsWithinBound r.state.job (source_tree now.source) r.state
+  unfolding HoldsWithinBound
+  bound_there going = λ f source_is.
+      let reading = reading_of now.source source_is in
+      rw reading.2 at (begun_is_within_bound job start (as_told now) run reading.0 begun (is_going r.phase going) reading.1)
+
+  left_there : FaultLeaves r.state.job (source_tree now.source) start now.dest now.log
+  unfolding FaultLeaves
+  left_there = λ f t w first last source_is start_is dest_is first_is last_is.
+      let reading = reading_of now.source source_is in
+      rw reading.2 at
+      (stops_leave job start (as_told now) run reading.0 t w first last begun reading.1 start_is dest_is first_is last_is)
+
+  -- a limit that was made is less than the work
+  limit_there : r.phase ≢ phase.Ended → r.state.job.limits.turns ≤ r.state.counts.turns → (s : Forest) (t : Tree) → source_tree now.source ≡ Some s → start.dest ≡ Some t → r.state.job.limits.turns < work job s (root_in t)
+  limit_there going made = λ f t source_is start_is.
+      let reading = reading_of now.source source_is in
+      let less : r.state.counts.turns < work job f (root_in t) =
+      rw reading.2 at (turn_is_left job start (as_told now) run reading.0 t there.begun (is_going r.phase going) reading.1 start_is) in
+      omega (arith, less, made)
+
+  -- so one of at least the work isn't made
+  good_there : r.phase ≢ phase.Ended → r.state.job.limits.turns ≤ r.state.counts.turns → WantsMemory r.state.job (source_tree now.source) start.dest now.failures now.failures fault.Turns
+  unfolding WantsMemory
+  good_there going made = λ f t source_is start_is good free enough none.
+      let less = limit_there going made f t source_is start_is in
+      absurd (omega (arith, less, enough))
 
 same_counts : (job : own.Job) (source : Option Forest) (start : Option Tree) {s : State} (s' : State) → s' ≡ s → MadeWithinWork job source start s.counts → MadeWithinWork job source start s'.counts
 same_counts job source start s' same made = rw same made
@@ -186,14 +184,14 @@ keeps_at_limit start now before after going made ended same is = record {
   leaves = leaves_behind start now before is;
   stands = stands_there start now before is;
   work = same_counts before.state.job (source_tree now.source) start.dest after.state same (made_there start now before is);
-  bound = rw same (bound_there start now before going is);
+  bound = rw same (bound_there start now before is going);
   left = left_there start now before is;
   ends = tt;
   states = tt;
   early = tt;
   unstaged = tt;
-  says = (λ s told. tt, λ t told. tt, limit_there start now before going made is);
-  good = good_there start now before going made is;
+  says = (λ s told. tt, λ t told. tt, limit_there start now before is going made);
+  good = good_there start now before is going made;
 }
 
 -- it had ended

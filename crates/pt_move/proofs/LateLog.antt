@@ -3,12 +3,12 @@ use Rattle.std.proofs.Common.{◌≡◌, ℕ, List, true, refl}
 use Rattle.std.specs.Prelude.{Option, None, Some, Ok, Err, ⊤}
 use Rattle.pt_begun.specs.LogLaws.{may_tell}
 use Rattle.pt_state.proofs.Words.{Answer, Job, Line, Counts, Held, Kept, FailsAtFirst, FailsLater, Follows, GoesOn, IsRefused, LeavesSome, Make, Place, Scan, Start, Stays, Turn, Walk, Calls, World, Halt, Phase}
+use Rattle.pt_state.proofs.Words.halt
 use Rattle.pt_plan.specs.TurnMake as make
 use Rattle.pt_plan.specs.TurnPlace as place
 use Rattle.pt_plan.specs.TurnScan as scan
 use Rattle.pt_plan.specs.TurnStart as start
 use Rattle.pt_plan.specs.TurnWalk as walk
-use Rattle.pt_plan.specs.declared.halt.Halt.TheVariants as halt
 use Rattle.pt_plan.specs.Turn.{IsNotOfLog, MayBlame}
 use Rattle.pt_move.proofs.Changes.{IsRefusal, follows_refuse}
 

@@ -2,10 +2,10 @@
 use Rattle.std.proofs.Common.{◌≡◌, ℕ, ◌+◌, List, refl, ap, ◌∙◌, inl, inr, arith}
 use Rattle.std.specs.Prelude.{Option, None, Some, Err}
 use Rattle.pt_state.proofs.Words.{Row, Answer, Job, Line, End, Counts, turning, Did, FailsAtFirst, FailsLater, GoesOn, HasFailed, IsHalted, IsRefused, LeavesSome, Stays, Turn, counted, Failures, Puts, World, Halt, Phase, counts_of, kept_of}
+use Rattle.pt_state.proofs.Words.halt
+use Rattle.pt_state.proofs.Words.phase
 use Rattle.pt_state.specs.declared.job.Report.{Report}
 use Rattle.pt_state.specs.declared.state.State.{State}
-use Rattle.pt_plan.specs.declared.halt.Halt.TheVariants as halt
-use Rattle.pt_plan.specs.declared.phase.Phase.TheVariants as phase
 use Rattle.pt_plan.specs.World.{LeavesFront}
 use Rattle.pt_move.specs.Bounds.{lines_put}
 use Rattle.pt_move.proofs.Bounding.{counted_more}
@@ -46,18 +46,18 @@ counts_line _ c c' is _ = (ap (λ (k : Counts). k.done) is, ap (λ (k : Counts).
 
 told_line : (line : Option Line) (g g' : Option (List ℕ)) (c c' : Report) → Puts line g g' → counts_of c' ≡ counted line (counted_turn c) → LineOf (counted_turn c) line → TellsLine g g' c c'
 unfolding Puts TellsLine GotLine counted_turn
-told_line None g g' c c' put is of = inl (put, same_lines c c' {counts = _} is refl refl refl)
+told_line None g g' c c' put is of = inl (put, same_lines c c' is refl refl refl)
 told_line (Some line) g g' c c' put is of = inr (line, (put, counts_line line c c' is of))
 
 left_front : (line : Option Line) (g g' : Option (List ℕ)) (c c' : Report) → LeavesFront line g g' → counts_of c' ≡ counted_turn c → TellsFront g g' c c'
 unfolding TellsFront GotFront counted_turn
-left_front None g g' c c' left is = (inl left, same_lines c c' {counts = _} is refl refl refl)
-left_front (Some line) g g' c c' left is = (inr (line, left), same_lines c c' {counts = _} is refl refl refl)
+left_front None g g' c c' left is = (inl left, same_lines c c' is refl refl refl)
+left_front (Some line) g g' c c' left is = (inr (line, left), same_lines c c' is refl refl refl)
 
 ended_with : (next : Phase) (line : Option Line) (g g' : Option (List ℕ)) (c c' : Report) → EndsWith (counted_turn c) next line → Puts line g g' → counts_of c' ≡ counted line (counted_turn c) → EndsBy next g g' c c'
 unfolding Puts GotLine counted_turn
 ended_with phase.Ended line g g' c c' ends put is =
-    (rw ends at put, same_lines c c' {counts = _} (is ∙ ap (λ (o : Option Line). counted o (counted_turn c)) ends) refl refl refl)
+    (rw ends at put, same_lines c c' (is ∙ ap (λ (o : Option Line). counted o (counted_turn c)) ends) refl refl refl)
 ended_with _ _ _ _ _ _ _ _ _ = tt
 
 -- ---- rows

@@ -9,7 +9,6 @@ pub mod Leaves
 pub mod Migrating
 pub mod Needs
 pub mod Outcomes
-pub mod RunEnding
 pub mod Standing
 pub mod WholeLog
 pub mod Ran

@@ -1,23 +1,24 @@
 -- What a whole run promises, from its steps.
-use Rattle.std.proofs.Common.{◌≡◌, ◌≢◌, refl, sym, ◌∙◌}
+use Rattle.std.proofs.Common.{◌≡◌, ◌≢◌, refl, ◌∙◌}
 use Rattle.std.specs.Prelude.{IsErrAnd, Ok, Err, Result}
-use Rattle.pt_begun.specs.Begun.{IsWorld, start_of}
+use Rattle.pt_begun.specs.Begun.{IsWorld, Start, start_of}
 use Rattle.pt_state.proofs.Words.{IsLayout, World, source_tree}
+use Rattle.pt_state.proofs.Words.phase
 use Rattle.pt_state.specs.declared.job.Report.{Report}
-use Rattle.pt_plan.specs.declared.phase.Phase.TheVariants as phase
 use Rattle.pt_state.specs.declared.job.Job.{Job}
 use Rattle.pt_move.specs.Lines.{HasTold}
 use Rattle.pt_move.specs.Migrates.{Migrates}
+use Rattle.pt_move.specs.Outcome.{IfEarly, IfLog, LeavesAll, LeavesNoStaging, SaysRightly, WantsMemory}
+use Rattle.pt_move.specs.Promises.{IfHalted, Keeps}
 use Rattle.pt_move.specs.Running.{IsBegun, IsNew, IsWell, Running}
-use Rattle.pt_move.specs.Stepping.{Blamed, BlamesRightly, EndsAs, Steps}
+use Rattle.pt_move.specs.Stepping.{Blamed, BlamesRightly, EndsAs, StepLeaves, Steps}
 use Rattle.pt_move.specs.declared.fault.Fault.{Fault}
 use Rattle.pt_move.specs.declared.fault.Fault.TheVariants as fault
 use Rattle.pt_move.specs.declared.mover.Turn.{Turn}
 use Rattle.pt_move.specs.declared.mover.Turn.TheVariants as turn
 use Rattle.pt_move.proofs.Ending.{new_goes_on, new_is_begun, not_ended}
-use Rattle.pt_move.proofs.Ran.{RanSoFar, blames_err, blames_ok, none_failed, ran_halted, ran_nothing, ran_on, ran_whole, step_all, step_front, step_job, step_told, step_tree}
-use Rattle.pt_move.proofs.RunEnding.{StepKeeps, run_begun, run_early, run_ends, run_good, run_leaves, run_left, run_says, run_stands, run_states, run_unstaged, run_work}
-use Rattle.pt_move.proofs.WholeLog.{told_none}
+use Rattle.pt_move.proofs.Ran.{RanSoFar, blames_err, blames_ok, none_failed, ran_halted, ran_nothing, ran_on, ran_whole}
+use Rattle.pt_move.proofs.WholeLog.{told_finished, told_front, told_more, told_none}
 
 -- ---- between two steps
 
@@ -44,19 +45,25 @@ new_so_far job r w new layout is = record {
 
 -- what a step says
 pub record Stepped (old new : World) (a b : Running) (answer : Result Turn Fault) : Type 0 where
-  pub keeps : StepKeeps old new a b answer
+  pub keeps : (start : Start) → IsBegun start old a → Keeps start old new a b answer
   pub steps : Steps old new a b answer
+
+-- a fault that isn't that of an ended run
+if_halted : (P : Fault → Type 0) (f : Fault) → f ≢ fault.Ended → IfHalted (Err f) P → P f
+if_halted P fault.Ended going p = absurd (going refl)
+if_halted _ _ _ p = p
 
 module _ (job : Job) (first old new : World) (a b : Running) (so_far : SoFar job first old a) where
   -- it goes on
   pub so_far_on : (t : Turn) → t ≡ turn.More → Stepped old new a b (Ok t) → SoFar job first new b
+  unfolding Keeps StepLeaves
   so_far_on t is step = record {
-    begun = run_begun (start_of first) a b old new job (source_tree first.source) so_far.begun so_far.same so_far.tree (Ok t) step.keeps;
-    tree = step_tree old new a b (Ok t) step.steps.leaves ∙ so_far.tree;
+    begun = (step.keeps (start_of first) so_far.begun).begun;
+    tree = step.steps.leaves.tree ∙ so_far.tree;
     failures = none_failed old new t step.steps.blames ∙ so_far.failures;
-    same = step_job old new a b (Ok t) step.steps.leaves ∙ so_far.same;
+    same = step.steps.leaves.job ∙ so_far.same;
     going = more.1;
-    told = step_told first old new a b t so_far.told step.steps.leaves;
+    told = told_more _ _ _ _ _ so_far.told step.steps.leaves.told;
     ran = ran_on job first old new a b so_far.same so_far.going so_far.ran is step.steps.leaves step.steps.turn;
   }
     where
@@ -65,54 +72,62 @@ module _ (job : Job) (first old new : World) (a b : Running) (so_far : SoFar job
 
   -- it comes to its end
   pub migrates_whole : (t : Turn) (report : Report) → t ≡ turn.Finished → report ≡ b.state.counts → IsWell b → Stepped old new a b (Ok t) → Migrates job first new (Ok report)
-  unfolding BlamesRightly
-  migrates_whole t report is counts well step = let blames : Blamed {T = Report} first new (Ok report) = blames_ok first old new t report so_far.failures step.steps.blames in record {
-    ends = run_ends (start_of first) a b old new job (source_tree first.source) so_far.begun so_far.same so_far.tree t is step.keeps report counts;
-    states = run_states (start_of first) a b old new job (source_tree first.source) so_far.begun so_far.same so_far.tree t is step.keeps;
-    left = run_left (start_of first) a b old new job (source_tree first.source) so_far.begun so_far.same so_far.tree (Ok t) step.keeps;
-    early = tt;
-    unstaged = tt;
-    leaves = run_leaves (start_of first) a b old new job (source_tree first.source) so_far.begun so_far.same so_far.tree (Ok t) step.keeps;
-    stands = run_stands (start_of first) a b old new job (source_tree first.source) so_far.begun so_far.same so_far.tree (Ok t) step.keeps;
-    tree = step_tree old new a b (Ok t) step.steps.leaves ∙ so_far.tree;
-    says = tt;
-    good = tt;
-    source = blames.source;
-    dest = blames.dest;
-    log = blames.log;
-    never_ended = tt;
-    told = rw counts (step_all first old new a b so_far.told step.steps.leaves is);
-    told_front = tt;
-    run = ran_whole job first old new a b so_far.same so_far.going so_far.ran is counts step.steps.leaves step.steps.turn;
-    work = run_work (start_of first) a b old new job (source_tree first.source) so_far.begun so_far.same so_far.tree t is step.keeps report counts;
-    turns = rw counts (rw (step_job old new a b (Ok t) step.steps.leaves ∙ so_far.same) at well.bounded.turns);
-    lines = rw counts well.bounded.lines;
-  }
+  unfolding BlamesRightly Keeps StepLeaves
+  migrates_whole t report is counts well step =
+      let blames : Blamed {T = Report} first new (Ok report) = blames_ok first old new t report so_far.failures step.steps.blames in
+      let kept : Keeps (start_of first) old new a b (Ok turn.Finished) = rw is at (step.keeps (start_of first) so_far.begun) in
+      record {
+        ends = rw counts (rw (so_far.same, so_far.tree) at kept.ends);
+        states = rw (so_far.same, so_far.tree) at kept.states;
+        left = rw (so_far.same, so_far.tree) at kept.left;
+        early = tt;
+        unstaged = tt;
+        leaves = rw so_far.same at kept.leaves;
+        stands = kept.stands;
+        tree = step.steps.leaves.tree ∙ so_far.tree;
+        says = tt;
+        good = tt;
+        source = blames.source;
+        dest = blames.dest;
+        log = blames.log;
+        never_ended = tt;
+        told = rw counts (told_finished t _ _ _ _ _ so_far.told step.steps.leaves.finished is);
+        told_front = tt;
+        run = ran_whole job first old new a b so_far.same so_far.going so_far.ran is counts step.steps.leaves step.steps.turn;
+        work = rw counts (rw (so_far.same, so_far.tree) at kept.work);
+        turns = rw counts (rw (step.steps.leaves.job ∙ so_far.same) at well.bounded.turns);
+        lines = rw counts well.bounded.lines;
+      }
 
   halted : {f : Fault} → Stepped old new a b (Err f) → Migrates job first new (Err f)
-  unfolding BlamesRightly
-  halted {f} step = let blames : Blamed {T = Report} first new (Err f) = blames_err first old new f so_far.failures step.steps.blames in record {
-    ends = tt;
-    states = tt;
-    left = run_left (start_of first) a b old new job (source_tree first.source) so_far.begun so_far.same so_far.tree (Err f) step.keeps;
-    early = run_early (start_of first) a b old new job (source_tree first.source) so_far.begun so_far.same so_far.tree f going step.keeps;
-    unstaged = run_unstaged (start_of first) a b old new job (source_tree first.source) so_far.begun so_far.same so_far.tree f going step.keeps;
-    leaves = run_leaves (start_of first) a b old new job (source_tree first.source) so_far.begun so_far.same so_far.tree (Err f) step.keeps;
-    stands = run_stands (start_of first) a b old new job (source_tree first.source) so_far.begun so_far.same so_far.tree (Err f) step.keeps;
-    tree = step_tree old new a b (Err f) step.steps.leaves ∙ so_far.tree;
-    says = run_says (start_of first) a b old new job (source_tree first.source) so_far.begun so_far.same so_far.tree f going step.keeps;
-    good = run_good (start_of first) a b old new job (source_tree first.source) so_far.begun so_far.same so_far.tree f going step.keeps first.failures new.failures (sym so_far.failures) refl;
-    source = blames.source;
-    dest = blames.dest;
-    log = blames.log;
-    never_ended = going;
-    told = tt;
-    told_front = step_front first old new a b f so_far.told step.steps.leaves;
-    run = ran_halted job first old new a b so_far.same so_far.going so_far.ran f step.steps.answer step.steps.turn;
-    work = tt;
-    turns = tt;
-    lines = tt;
-  }
+  unfolding BlamesRightly Keeps StepLeaves
+  halted {f} step =
+      let blames : Blamed {T = Report} first new (Err f) = blames_err first old new f so_far.failures step.steps.blames in
+      let kept : Keeps (start_of first) old new a b (Err f) = step.keeps (start_of first) so_far.begun in
+      let says = if_halted (SaysRightly a.state.job (source_tree old.source) (start_of first).dest) f going kept.says in
+      let good = if_halted (WantsMemory a.state.job (source_tree old.source) (start_of first).dest old.failures new.failures) f going kept.good in
+      record {
+        ends = tt;
+        states = tt;
+        left = rw (so_far.same, so_far.tree) at kept.left;
+        early = if_halted (λ f. IfEarly f (LeavesAll (start_of first) new.dest new.log)) f going kept.early;
+        unstaged = if_halted (λ f. IfLog f (LeavesNoStaging new.dest)) f going kept.unstaged;
+        leaves = rw so_far.same at kept.leaves;
+        stands = kept.stands;
+        tree = step.steps.leaves.tree ∙ so_far.tree;
+        says = rw (so_far.same, so_far.tree) at says;
+        good = rw (so_far.same, so_far.tree, so_far.failures) at good;
+        source = blames.source;
+        dest = blames.dest;
+        log = blames.log;
+        never_ended = going;
+        told = tt;
+        told_front = told_front _ _ _ _ _ so_far.told step.steps.leaves.told;
+        run = ran_halted job first old new a b so_far.same so_far.going so_far.ran f step.steps.answer step.steps.turn;
+        work = tt;
+        turns = tt;
+        lines = tt;
+      }
     where
       going : f ≢ fault.Ended
       going = not_ended f a b so_far.going step.steps.answer

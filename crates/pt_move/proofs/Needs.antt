@@ -2,10 +2,10 @@
 use Rattle.std.proofs.Common.{◌≡◌, ◌<◌, ◌≤◌, ◌*◌, ◌^◌, ℕ, List, [], ◌∙◌, arith, rules}
 use Rattle.std.specs.Prelude.{IsTrue}
 use Rattle.pt_state.proofs.Words.{Answer, Job, Held, turning, Phase, job_of, kept_of, World, Turned}
+use Rattle.pt_state.proofs.Words.part
+use Rattle.pt_state.proofs.Words.phase
 use Rattle.pt_state.specs.declared.state.State.{State}
 use Rattle.pt_state.specs.declared.job.Report.{Report}
-use Rattle.pt_plan.specs.declared.phase.Phase.TheVariants as phase
-use Rattle.pt_plan.specs.declared.phase.Part.TheVariants as part
 use Rattle.pt_walk.specs.Limits.{Bounds, are_limits}
 use Rattle.pt_move.specs.Bounds.{IsBounded, IsWithin}
 use Rattle.pt_make.specs.Making.{HasContentsOfRows, HasFedInventory}
@@ -58,12 +58,11 @@ unfolding Turned CountedTurn
 counted_turn here s t s' old new answer turned job hasher kept = (
   turned.0 ∙ job,
   λ fed was.
-      let made = turned.1 fed (rw hasher (rw job was)) in (
+      let made = turned.1 fed (rw (hasher, job) was) in (
         made.0,
         (
           rw (← job) made.1.0,
-          rw (← (kept fed))
-              (rw (← job) made.1.1),
+          rw (← (kept fed), ← job) made.1.1,
         ),
       ),
 )

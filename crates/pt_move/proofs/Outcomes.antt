@@ -2,15 +2,16 @@
 use Rattle.std.proofs.Common.{◌≡◌, ℕ, List, false, true, refl, ap, ◌∙◌}
 use Rattle.std.specs.Prelude.{Option, None, Some, Ok, Err}
 use Rattle.pt_state.proofs.Words.{Forest, Reading, Tree, Answer, phase_after, Job, Kept, Run, turning, Turn, World, source_tree, Halt, Phase, job_of, kept_of}
+use Rattle.pt_state.proofs.Words.halt
+use Rattle.pt_state.proofs.Words.phase
 use Rattle.pt_state.specs.declared.state.State.{State}
-use Rattle.pt_plan.specs.declared.halt.Halt.TheVariants as halt
-use Rattle.pt_plan.specs.declared.phase.Phase.TheVariants as phase
 use Rattle.pt_begun.specs.Begun.{Begun, Start}
 use Rattle.pt_begun.specs.EndLaws.{is_ended}
 use Rattle.pt_begun.specs.RefusalLaws as law
 use Rattle.pt_begun.proofs.refusals.EarlyHalts.{early_leaves_dest, early_leaves_log}
 use Rattle.pt_begun.proofs.faults.LogHalts.{failed_log_leaves_no_staging}
-use Rattle.pt_move.proofs.LateLog.{BlamesLogLate}
+use Rattle.pt_move.proofs.Answering.{leaves_behind}
+use Rattle.pt_move.proofs.LateLog.{BlamesLogLate, turn_late}
 use Rattle.pt_begun.proofs.ends.Ending.{ends_well}
 use Rattle.pt_begun.proofs.ends.EndStates.{ends_with_states}
 use Rattle.pt_begun.proofs.refusals.GoodStarts.{nothing_is_refused}
@@ -26,7 +27,8 @@ use Rattle.pt_begun.proofs.turns_left.Within.{turn_keeps_within_work, turns_are_
 use Rattle.pt_begun.specs.WorkLaws.{BegunWithinWork}
 use Rattle.pt_move.specs.Fault.{fault_of}
 use Rattle.pt_move.specs.Outcome.{EndsWhole, FaultLeaves, HoldsWithinBound, IfEarly, IfLog, LeavesAll, LeavesNoStaging, MadeWithinWork, SaysOfBoth, SaysOfDest, SaysOfSource, SaysRightly, StandsStillIn, StatesAreFiles, WantsMemory}
-use Rattle.pt_move.specs.Promises.{AnswerSays}
+use Rattle.pt_move.specs.Promises.{AnswerSays, TurnKeeps}
+use Rattle.pt_move.specs.Running.{IsBegun}
 use Rattle.pt_move.specs.declared.fault.Fault.TheVariants as fault
 
 -- ---- what is told
@@ -82,26 +84,26 @@ module _ (s s' : State) (here : Phase) (fed fed' : List ℕ) (old new : World) (
   within_after (Ok next) turn = turn_keeps_within_work job start old new run after next within turn
   within_after (Err why) turn = turn_ends_within_work job start old new run after why within going turn
 
-  pub stands_after : {answer : Answer} → MadeTurn answer → StandsStillIn start.dest new.dest
+  stands_after : {answer : Answer} → MadeTurn answer → StandsStillIn start.dest new.dest
   unfolding StandsStillIn
   stands_after {answer} turn = λ t w start_is dest_is.
       let later : Run = record { phase = phase_after answer; kept = after } in
       begun_stands_still job start new later t w (within_work_is_begun job start new later (within_after answer turn)) start_is dest_is
 
-  pub work_after : {answer : Answer} → MadeTurn answer → MadeWithinWork s.job (source_tree old.source) start.dest s'.counts
+  work_after : {answer : Answer} → MadeTurn answer → MadeWithinWork s.job (source_tree old.source) start.dest s'.counts
   unfolding MadeWithinWork
   work_after {answer} turn = λ f t source_is start_is.
       let reading = reading_of old.source source_is in
       let few = turns_are_within_work job start old new run after answer reading.0 t within going turn reading.1 start_is in
       rw reading.2 at few
 
-  pub bound_after : {answer : Answer} → MadeTurn answer → HoldsWithinBound s.job (source_tree old.source) s'
+  bound_after : {answer : Answer} → MadeTurn answer → HoldsWithinBound s.job (source_tree old.source) s'
   unfolding HoldsWithinBound
   bound_after {answer} turn = λ f source_is.
       let reading = reading_of old.source source_is in
       rw reading.2 at (turn_is_within_bound job start old new run after answer reading.0 begun going turn reading.1)
 
-  pub left_after : {answer : Answer} → MadeTurn answer → FaultLeaves s.job (source_tree old.source) start new.dest new.log
+  left_after : {answer : Answer} → MadeTurn answer → FaultLeaves s.job (source_tree old.source) start new.dest new.log
   unfolding FaultLeaves
   left_after {answer} turn = λ f t now first last source_is start_is dest_is first_is last_is.
       let reading = reading_of new.source (turn_tree job here (turning (kept_of s fed)) after old new answer turn ∙ source_is) in
@@ -161,8 +163,21 @@ module _ (s s' : State) (here : Phase) (fed fed' : List ℕ) (old new : World) (
   unstaged_after _ _ _ = tt
 
   -- by the answer
-  pub says_after : (answer : Answer) → MadeTurn answer → BlamesLogLate here answer → AnswerSays old start new s s' answer
+  says_after : (answer : Answer) → MadeTurn answer → BlamesLogLate here answer → AnswerSays old start new s s' answer
   says_after (Ok next) turn late = λ ended.
       let last : MadeTurn (Ok phase.Ended) = rw ended at turn in
       record { ends = end_whole last; states = end_states last }
   says_after (Err why) turn late = record { early = if_early why (LeavesAll start new.dest new.log) (leaves_all turn); unstaged = unstaged_after why turn late; says = halt_says turn; good = halt_good turn }
+
+  -- so the run keeps its promises in it
+  pub turn_keeps : (answer : Answer) → MadeTurn answer → s'.job ≡ s.job → IsBegun start new (record { phase = phase_after answer; state = s' }) → TurnKeeps start old new s s' answer
+  unfolding TurnKeeps
+  turn_keeps answer turn same is = record {
+    begun = is;
+    leaves = rw same at (leaves_behind start new (record { phase = phase_after answer; state = s' }) is);
+    stands = stands_after turn;
+    work = work_after turn;
+    bound = bound_after turn;
+    left = left_after turn;
+    says = says_after answer turn (turn_late turn);
+  }

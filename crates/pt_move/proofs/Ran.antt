@@ -1,10 +1,9 @@
 -- What the steps of a run over the devices as one say of the whole.
 use Rattle.std.proofs.Common.{◌≡◌, ◌≢◌, ◌<◌, ◌-◌, ◌+◌, arith, List, [], ℕ, refl, ap, ◌∙◌, subst, sym}
-use Rattle.std.specs.Prelude.{Ok, Err, Result}
-use Rattle.pt_state.proofs.Words.{HasBeenFed, new_run, Halt, Phase, Failures, World, source_tree, job_of, kept_of, Run, turning, Turn}
+use Rattle.std.specs.Prelude.{Ok, Err}
+use Rattle.pt_state.proofs.Words.{HasBeenFed, new_run, Halt, Phase, World, job_of, kept_of, Run, turning, Turn}
+use Rattle.pt_state.proofs.Words.phase
 use Rattle.pt_state.specs.declared.job.Report.{Report}
-use Rattle.pt_plan.specs.declared.phase.Phase.TheVariants as phase
-use Rattle.pt_move.specs.Lines.{HasTold, HasToldAll, HasToldFront}
 use Rattle.pt_move.specs.Fault.{fault_of}
 use Rattle.pt_move.specs.Running.{FedUntilEnd, IsNew, Running, run_of}
 use Rattle.pt_move.specs.Runs.{AtLimit, Finished, Halted, IsRun, NoTurn, OneMore, Turns}
@@ -15,29 +14,8 @@ use Rattle.pt_move.specs.declared.mover.Turn.{Turn as Motion}
 use Rattle.pt_move.specs.declared.mover.Turn.TheVariants as motion
 use Rattle.pt_move.proofs.Answering.{fed_going, fed_to_end}
 use Rattle.pt_move.proofs.Going.{is_going}
-use Rattle.pt_move.proofs.WholeLog as log
 use Rattle.pt_state.specs.declared.job.Job.{Job}
 use Rattle.pt_move.specs.Turning.{CountedTurn}
-
-pub step_tree : (old new : World) (a b : Running) (r : Result Motion Fault) → StepLeaves old new a b r → source_tree new.source ≡ source_tree old.source
-unfolding StepLeaves
-step_tree old new a b r left = left.tree
-
-pub step_job : (old new : World) (a b : Running) (r : Result Motion Fault) → StepLeaves old new a b r → b.state.job ≡ a.state.job
-unfolding StepLeaves
-step_job old new a b r left = left.job
-
-pub step_told : (first old new : World) (a b : Running) (t : Motion) → HasTold first.log old.log a.state.counts → StepLeaves old new a b (Ok t) → HasTold first.log new.log b.state.counts
-unfolding StepLeaves
-step_told first old new a b t told left = log.told_more first.log old.log new.log a.state.counts b.state.counts told left.told
-
-pub step_all : (first old new : World) (a b : Running) {t : Motion} → HasTold first.log old.log a.state.counts → StepLeaves old new a b (Ok t) → t ≡ motion.Finished → HasToldAll first.log new.log b.state.counts
-unfolding StepLeaves
-step_all first old new a b {t} told left last = log.told_finished t first.log old.log new.log a.state.counts b.state.counts told left.finished last
-
-pub step_front : (first old new : World) (a b : Running) (f : Fault) → HasTold first.log old.log a.state.counts → StepLeaves old new a b (Err f) → HasToldFront first.log new.log
-unfolding StepLeaves
-step_front first old new a b f told left = log.told_front first.log old.log new.log a.state.counts b.state.counts told left.told
 
 -- where none failed before, the step's blame is the run's
 pub none_failed : (old new : World) (t : Motion) → BlamesRightly old new (Ok t) → new.failures ≡ old.failures
@@ -46,15 +24,11 @@ none_failed old new t blames = λ i. record { source = blames.source i; dest = b
 
 pub blames_ok : (first old new : World) (t : Motion) (report : Report) → old.failures ≡ first.failures → BlamesRightly old new (Ok t) → BlamesRightly first new (Ok report)
 unfolding BlamesRightly
-blames_ok first old new t report same blames = record { source = blames.source ∙ ap (λ (f : Failures). f.source) same; dest = blames.dest ∙ ap (λ (f : Failures). f.dest) same; log = blames.log ∙ ap (λ (f : Failures). f.log) same }
+blames_ok first old new t report same blames = record { source = rw same at blames.source; dest = rw same at blames.dest; log = rw same at blames.log }
 
 pub blames_err : (first old new : World) (f : Fault) → old.failures ≡ first.failures → BlamesRightly {T = Motion} old new (Err f) → BlamesRightly {T = Report} first new (Err f)
 unfolding BlamesRightly
-blames_err first old new f same blames = record {
-  source = rw same at blames.source;
-  dest = rw same at blames.dest;
-  log = rw same at blames.log;
-}
+blames_err first old new f same blames = record { source = rw same at blames.source; dest = rw same at blames.dest; log = rw same at blames.log }
 
 -- a turn less is left to make
 pub smaller : (old new : World) (a b : Running) (t : Motion) → t ≡ motion.More → StepLeaves old new a b (Ok t) → EndsAs a b (Ok t) → b.state.job.limits.turns - b.state.counts.turns < a.state.job.limits.turns - a.state.counts.turns
@@ -78,7 +52,7 @@ pub record RanSoFar (job : Job) (first now : World) (r : Running) : Type 0 where
 pub ran_nothing : (job : Job) (w : World) (r : Running) → IsNew job r → RanSoFar job w w r
 ran_nothing job w r new = record {
   fed = [];
-  was = fed_to_end r.phase r.state.job.algorithm r.state.hasher [] (subst (λ j. HasBeenFed j.algorithm r.state.hasher []) (sym new.job_is) new.fed);
+  was = fed_to_end r.phase r.state.job.algorithm r.state.hasher [] (rw new.job_is new.fed);
   turns = subst (λ (run : Run). Turns (job_of job) w r.state.counts.turns run w) (sym run_is) (subst (λ (n : ℕ). Turns (job_of job) w n new_run w) (sym (ap (λ (c : Report). c.turns) new.counts)) NoTurn);
 }
   where

@@ -4,9 +4,9 @@ use Rattle.std.specs.Prelude.{Option, None, Some, IsSome, slice_get}
 use Rattle.std.specs.Option.{option_map_or}
 use Rattle.std.proofs.lemmas.Option.{slice_get_within}
 use Rattle.pt_state.proofs.Words.{Content, same_path, Position, HasBeenFed, Item, Frame, Held, Object, Part, Phase, held_of, job_of}
+use Rattle.pt_state.proofs.Words.part
+use Rattle.pt_state.proofs.Words.phase
 use Rattle.pt_state.specs.declared.state.State.{State}
-use Rattle.pt_plan.specs.declared.phase.Part.TheVariants as part
-use Rattle.pt_plan.specs.declared.phase.Phase.TheVariants as phase
 use Rattle.pt_begun.specs.BegunHeld.{HeldAt}
 use Rattle.pt_begun.specs.Past.{Past}
 use Rattle.pt_begun.specs.PartsMade.{IsAtStoredRow}

@@ -5,18 +5,15 @@ use Rattle.std.specs.Io.KnownBytes.{Appends}
 use Rattle.std.proofs.Math.Seq.{take-append_seam, take-append-add}
 use Rattle.std.proofs.lemmas.List.{flat_map_more}
 use Rattle.std.proofs.lemmas.List.Sums.{sum_by-append}
-use Rattle.std.proofs.lemmas.List.{append-nil, append_assoc}
+use Rattle.std.proofs.lemmas.List.{append_assoc}
 use Rattle.pt_state.proofs.Words.{Line, Done, Present, Skipped, End, line_text, AppendsFront}
+use Rattle.pt_state.proofs.LineTexts.{appends_nothing}
 use Rattle.pt_state.specs.declared.job.Report.{Report}
 use Rattle.pt_plan.specs.Lines.{end_line, is_done, is_present, is_skipped}
 use Rattle.pt_move.specs.Lines.{CountsLine, FinishTold, GotFront, GotLine, HasTold, IsReport, HasToldAll, HasToldFront, SameLines, TellsEnd, TellsFront, TellsLine}
 use Rattle.pt_move.specs.Running.{no_lines}
 use Rattle.pt_move.specs.declared.mover.Turn.{Turn}
 use Rattle.pt_move.specs.declared.mover.Turn.TheVariants as turn
-
-appends_nothing : (b : Option (List ℕ)) {a : Option (List ℕ)} → a ≡ b → Appends b a []
-appends_nothing None same = tt
-appends_nothing (Some xs) same = rw same (sym (append-nil xs))
 
 appends_on : (b m a : Option (List ℕ)) (x y : List ℕ) → Appends b m x → Appends m a y → Appends b a (x ++ y)
 appends_on None m a x y p q = tt
@@ -35,20 +32,20 @@ count_no p told {line} is = let more : count_by p (told ++ line ∷ []) ≡ coun
 
 report_more : (told : List Line) (line : Line) (c c' : Report) → IsReport told c → CountsLine line c c' → IsReport (told ++ line ∷ []) c'
 report_more told (Done at bytes empty files id to) c c' (d, p, s) (e, f, g) =
-    (count_yes is_done told {line = _} refl ∙ (ap (λ n. n + 1) d ∙ sym e), count_no is_present told {line = _} refl ∙ (p ∙ sym f), count_no is_skipped told {line = _} refl ∙ (s ∙ sym g))
+    (count_yes is_done told refl ∙ (ap (λ n. n + 1) d ∙ sym e), count_no is_present told refl ∙ (p ∙ sym f), count_no is_skipped told refl ∙ (s ∙ sym g))
 report_more told (Present at id to) c c' (d, p, s) (e, f, g) =
-    (count_no is_done told {line = _} refl ∙ (d ∙ sym e), count_yes is_present told {line = _} refl ∙ (ap (λ n. n + 1) p ∙ sym f), count_no is_skipped told {line = _} refl ∙ (s ∙ sym g))
+    (count_no is_done told refl ∙ (d ∙ sym e), count_yes is_present told refl ∙ (ap (λ n. n + 1) p ∙ sym f), count_no is_skipped told refl ∙ (s ∙ sym g))
 report_more told (Skipped at why) c c' (d, p, s) (e, f, g) =
-    (count_no is_done told {line = _} refl ∙ (d ∙ sym e), count_no is_present told {line = _} refl ∙ (p ∙ sym f), count_yes is_skipped told {line = _} refl ∙ (ap (λ n. n + 1) s ∙ sym g))
+    (count_no is_done told refl ∙ (d ∙ sym e), count_no is_present told refl ∙ (p ∙ sym f), count_yes is_skipped told refl ∙ (ap (λ n. n + 1) s ∙ sym g))
 report_more told (End done present skipped) c c' (d, p, s) (numbers, (e, f, g)) =
-    (count_no is_done told {line = _} refl ∙ (d ∙ sym e), count_no is_present told {line = _} refl ∙ (p ∙ sym f), count_no is_skipped told {line = _} refl ∙ (s ∙ sym g))
+    (count_no is_done told refl ∙ (d ∙ sym e), count_no is_present told refl ∙ (p ∙ sym f), count_no is_skipped told refl ∙ (s ∙ sym g))
 
 report_same : (told : List Line) (c c' : Report) → IsReport told c → SameLines c c' → IsReport told c'
 report_same told c c' (d, p, s) (e, f, g) = (d ∙ sym e, p ∙ sym f, s ∙ sym g)
 
 pub told_none : (b : Option (List ℕ)) (c : Report) → c ≡ no_lines → HasTold b b c
 unfolding HasTold
-told_none b c is = ([], (appends_nothing b refl, (sym (ap (λ (r : Report). r.done) is), sym (ap (λ (r : Report). r.present) is), sym (ap (λ (r : Report). r.skipped) is))))
+told_none b c is = ([], (appends_nothing b, (sym (ap (λ (r : Report). r.done) is), sym (ap (λ (r : Report). r.present) is), sym (ap (λ (r : Report). r.skipped) is))))
 
 told_on : (b m a : Option (List ℕ)) (told : List Line) (line : Line) → Appends b m (flat_map line_text told) → Appends m a (line_text line) → Appends b a (flat_map line_text (told ++ line ∷ []))
 told_on b m a told line first more = subst (Appends b a) (flat_map_more line_text [] told line) (appends_on b m a _ _ first more)
@@ -64,7 +61,7 @@ told_more b m a c c' (told, (put, report)) turn = elim turn [
 ]
 
 end_of : (told : List Line) (c : Report) → IsReport told c → End c.done c.present c.skipped ≡ end_line told
-end_of told c (d, p, s) = ap (λ n. End n c.present c.skipped) (sym d) ∙ (ap (λ n. End (count_by is_done told) n c.skipped) (sym p) ∙ ap (λ n. End (count_by is_done told) (count_by is_present told) n) (sym s))
+end_of told c (d, p, s) = λ i. End (sym d i) (sym p i) (sym s i)
 
 told_all : (b m a : Option (List ℕ)) (c c' : Report) → HasTold b m c → TellsEnd m a c c' → HasToldAll b a c'
 unfolding HasTold HasToldAll GotLine

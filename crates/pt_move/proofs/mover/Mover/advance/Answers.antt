@@ -4,6 +4,8 @@ use Rattle.pt_move.proofs.Keeping.{answered}
 use Rattle.pt_move.specs.Stepping.{StepLeaves}
 use Rattle.pt_move.proofs.mover.Mover.advance.Goals as goal
 
+-- where the turn halted the run: `keeps` by Keeping.antt (`keeps_halted`), `goes_on`, `steps` and `stays` by Answering.antt (`goes_on_halted`, and
+-- `err_answer`, `err_blames`, `leaves_halted`, `turned_halted` and `err_stays` of its list `stepping`), `calls` by what the turn promises
 pub returns-in_err-next : goal.returns-in_err-next
 returns-in_err-next g c = record {
   keeps = search (rules, stepping, answered);
@@ -18,6 +20,8 @@ returns-in_err-next g c = record {
   stays = search (rules, stepping);
 }
 
+-- where there is more to do: `keeps` by Keeping.antt (`keeps_more`), `goes_on` and `steps` by Answering.antt (`goes_on_after`, and `ok_blames`,
+-- `leaves_more` and `turned_more` of its list), `calls` by what the turn promises
 pub returns-in_default-2 : goal.returns-in_default-2
 unfolding StepLeaves
 returns-in_default-2 g c = record {
