@@ -1,6 +1,6 @@
 -- What a call of the devices came to in the world, from what the device promises.
 use Rattle.std.proofs.Common.{◌≡◌, ℕ, List, refl, sym, subst, ap, arith}
-use Rattle.std.specs.Prelude.{Option, None, Some, Err, IsTrue, IsSome}
+use Rattle.std.specs.Prelude.{Option, Some, Err, IsTrue, IsSome}
 use Rattle.std.specs.Io.KnownBytes.{Appends}
 use Rattle.std.specs.Option.{option_map}
 use Rattle.pt_state.proofs.Words.{MakeFolder, Line, line_text, Did, HasFailed, LeavesSome, Stays, Adds, Answers, Asked, Change, Changes, Creates, Failures, Finds, Finishes, Lists, Makes, OfPiece, Opens, Puts, Reads, Renames, Untouched, asks, does, source_tree, tells, Halt, Writing, IsKindAt, after_create, AppendsFront, Path, Reading, after_open, Bytes, kind_of_entry, Kind}

@@ -3,7 +3,7 @@ use Rattle.std.proofs.Common.{◌≡◌, List, ℕ, [], ◌∷◌, ◌++◌, fal
 use Rattle.std.specs.Prelude.{Some, Option, None}
 use Rattle.std.specs.Io.KnownBytes.{Appends}
 use Rattle.std.proofs.lemmas.List.{append-nil}
-use Rattle.pt_state.proofs.Words.{Line, Done, Present, Skipped, End, line_text, LeavesSome, Untouched, World, tells, Halt}
+use Rattle.pt_state.proofs.Words.{Line, Done, line_text, LeavesSome, Untouched, World, tells, Halt}
 use Rattle.pt_plan.specs.Lines.{line_tree}
 use Rattle.pt_state.proofs.Words.halt
 use Rattle.pt_state.specs.Lines.{IsTreeOf}
