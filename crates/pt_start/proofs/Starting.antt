@@ -42,39 +42,41 @@ module _ {here : Phase} {s s' : State} (w w' : World) {calls : Calls} where
 
 -- ---- the top
 
-pub kind_found : (xs : List Entry) (name : List ℕ) (i : ℕ) (here : Kind) → kind_in xs name ≡ kind_in (drop i xs) name → Some here ≡ kind_if_named (slice_get xs i) name → Some here ≡ kind_in xs name
-kind_found xs name i here so_far is = at xs i is ∙ sym so_far
-  where
-    one : (x : Entry) (rest : Option Kind) (b : Bool) → Some here ≡ cond b (Some x.1) None → Some here ≡ cond b (Some x.1) rest
-    one x rest true is = is
-    one x rest false is = absurd (cc)
+-- so far none has the name
+module _ (xs : List Entry) (name : List ℕ) (i : ℕ) (so_far : kind_in xs name ≡ kind_in (drop i xs) name) where
+  pub kind_found : (here : Kind) → Some here ≡ kind_if_named (slice_get xs i) name → Some here ≡ kind_in xs name
+  kind_found here is = at xs i is ∙ sym so_far
+    where
+      one : (x : Entry) (rest : Option Kind) (b : Bool) → Some here ≡ cond b (Some x.1) None → Some here ≡ cond b (Some x.1) rest
+      one x rest true is = is
+      one x rest false is = absurd (cc)
 
-    at : (xs : List Entry) (i : ℕ) → Some here ≡ kind_if_named (slice_get xs i) name → Some here ≡ kind_in (drop i xs) name
-    at [] i is = absurd (cc)
-    at (x ∷ xs) zero is = one x (kind_in xs name) (bytes_eq x.0 name) is
-    at (x ∷ xs) (suc i) is = at xs i is
+      at : (xs : List Entry) (i : ℕ) → Some here ≡ kind_if_named (slice_get xs i) name → Some here ≡ kind_in (drop i xs) name
+      at [] i is = absurd (cc)
+      at (x ∷ xs) zero is = one x (kind_in xs name) (bytes_eq x.0 name) is
+      at (x ∷ xs) (suc i) is = at xs i is
 
-pub kind_passed : (xs : List Entry) (name : List ℕ) (i : ℕ) → kind_in xs name ≡ kind_in (drop i xs) name → None ≡ kind_if_named (slice_get xs i) name → kind_in xs name ≡ kind_in (drop (i + 1) xs) name
-kind_passed xs name i so_far is = let e : i + 1 ≡ suc i = omega arith in rw e (so_far ∙ at xs i is)
-  where
-    one : (x : Entry) (rest : Option Kind) (b : Bool) → None ≡ cond b (Some x.1) None → cond b (Some x.1) rest ≡ rest
-    one x rest true is = absurd (cc)
-    one x rest false is = refl
+  pub kind_passed : None ≡ kind_if_named (slice_get xs i) name → kind_in xs name ≡ kind_in (drop (i + 1) xs) name
+  kind_passed is = let e : i + 1 ≡ suc i = omega arith in rw e (so_far ∙ at xs i is)
+    where
+      one : (x : Entry) (rest : Option Kind) (b : Bool) → None ≡ cond b (Some x.1) None → cond b (Some x.1) rest ≡ rest
+      one x rest true is = absurd (cc)
+      one x rest false is = refl
 
-    at : (xs : List Entry) (i : ℕ) → None ≡ kind_if_named (slice_get xs i) name → kind_in (drop i xs) name ≡ kind_in (drop (suc i) xs) name
-    at [] zero is = refl
-    at [] (suc i) is = refl
-    at (x ∷ xs) zero is = one x (kind_in xs name) (bytes_eq x.0 name) is
-    at (x ∷ xs) (suc i) is = at xs i is
+      at : (xs : List Entry) (i : ℕ) → None ≡ kind_if_named (slice_get xs i) name → kind_in (drop i xs) name ≡ kind_in (drop (suc i) xs) name
+      at [] zero is = refl
+      at [] (suc i) is = refl
+      at (x ∷ xs) zero is = one x (kind_in xs name) (bytes_eq x.0 name) is
+      at (x ∷ xs) (suc i) is = at xs i is
 
-pub kind_past : (xs : List Entry) (name : List ℕ) (i : ℕ) → kind_in xs name ≡ kind_in (drop i xs) name → length xs ≤ i → None ≡ kind_in xs name
-kind_past xs name i so_far past = at xs i past ∙ sym so_far
-  where
-    at : (xs : List Entry) (i : ℕ) → length xs ≤ i → None ≡ kind_in (drop i xs) name
-    at [] zero past = refl
-    at [] (suc i) past = refl
-    at (x ∷ xs) zero past = absurd (omega (arith, past))
-    at (x ∷ xs) (suc i) past = at xs i (omega (arith, past))
+  pub kind_past : length xs ≤ i → None ≡ kind_in xs name
+  kind_past past = at xs i past ∙ sym so_far
+    where
+      at : (xs : List Entry) (i : ℕ) → length xs ≤ i → None ≡ kind_in (drop i xs) name
+      at [] zero past = refl
+      at [] (suc i) past = refl
+      at (x ∷ xs) zero past = absurd (omega (arith, past))
+      at (x ∷ xs) (suc i) past = at xs i (omega (arith, past))
 
 pub ruleset finding_kind = (kind_found, kind_passed, kind_past)
 
@@ -116,10 +118,7 @@ has_prefix s s' w w' path block at did good prefix job trail rows contents count
     same fed = λ i. record { trail = trail i; rows = rows i; contents = contents i; fed = fed }
 
     follows : (fed : List ℕ) → Follows (job_of s.job) (counts_of s.counts) (phase.Prefix (Some kind.File)) (string_bytes s.prefix) (held_of s fed) (string_bytes s'.prefix) (held_of s' fed) (asks (OpensAndReads (prefix_file ∷ []) block)) (Ok phase.Staging)
-    follows fed =
-        rw (same fed)
-        (rw prefix
-        (Start (HasPrefix (string_bytes s.prefix) block good)))
+    follows fed = rw (same fed, prefix) (Start (HasPrefix (string_bytes s.prefix) block good))
 
 pub bad_prefix : (s s' : State) (w w' : World) (path : Path) (block : List ℕ) (f : Halt) (result : Answer) → IsErrAnd result (λ g. g ≡ f) → path ≡ prefix_file ∷ [] → Did (asks (OpensAndReads path block)) w w' → PrefixFails block f → KeepsAll s s' → Turned (phase.Prefix (Some kind.File)) s s' w w' result
 bad_prefix s s' w w' path block f (Ok next) is at did fails keeps = absurd is
@@ -182,31 +181,31 @@ has_file tuples files number none are few = by number few (none ∙ ap (λ (l : 
     by (suc (suc zero)) few e = cc
     by (suc (suc (suc number))) few e = omega (arith, few)
 
--- the item of a file of the root
-pub root_file : (tuples : Tuples) (files : List (Path × List ℕ)) (item : ℕ) (whole path : Path) (bytes : List ℕ) → whole ≡ staging ++ path → Some (path, bytes) ≡ slice_get files (5 - item) → files ≡ root_files_of tuples → 3 ≤ item → item < 6
-    → IsRootItem tuples item (MakeFile whole bytes)
-unfolding path_in bytes_in IsRootItem
-root_file tuples files item whole path bytes is file are many few = by item many few (file ∙ ap (λ (l : List (Path × List ℕ)). slice_get l (5 - item)) are)
-  where
-    same : (p : Path) (b : List ℕ) → (let o : Option (Path × List ℕ) = Some (path, bytes) in let o' : Option (Path × List ℕ) = Some (p, b) in o ≡ o') → Some (MakeFile (staging ++ p) b) ≡ Some (MakeFile whole bytes)
-    same p b e = ap (λ (q : Path). Some (MakeFile (staging ++ q) b)) (sym (ap path_in e)) ∙ ap (λ (q : Path). Some (MakeFile q b)) (sym is) ∙ ap (λ (l : List ℕ). Some (MakeFile whole l)) (sym (ap bytes_in e))
-
-    by : (item : ℕ) → 3 ≤ item → item < 6 → Some (path, bytes) ≡ slice_get (root_files_of tuples) (5 - item) → slice_get (root_script tuples) item ≡ Some (MakeFile whole bytes)
-    by zero many few e = absurd (omega (arith, many))
-    by (suc zero) many few e = absurd (omega (arith, many))
-    by (suc (suc zero)) many few e = absurd (omega (arith, many))
-    by (suc (suc (suc zero))) many few e = same _ _ e
-    by (suc (suc (suc (suc zero)))) many few e = same _ _ e
-    by (suc (suc (suc (suc (suc zero))))) many few e = same _ _ e
-    by (suc (suc (suc (suc (suc (suc item)))))) many few e = absurd (omega (arith, few))
-
 pub may_make_folder : (told : Option Writing) (tuples : Tuples) (item : ℕ) (path : Path) → MayMakeRootItem told tuples item → IsRootItem tuples item (MakeFolder path) → MayMake told path
 unfolding MayMakeRootItem IsRootItem
 may_make_folder told tuples item path may is = may (MakeFolder path) is
 
-pub may_make_file : (told : Option Writing) (tuples : Tuples) (files : List (Path × List ℕ)) (item : ℕ) (whole path : Path) (bytes : List ℕ) → MayMakeRootItem told tuples item → whole ≡ staging ++ path → Some (path, bytes) ≡ slice_get files (5 - item) → files ≡ root_files_of tuples → 3 ≤ item → item < 6 → MayMake told whole
-unfolding MayMakeRootItem IsRootItem
-may_make_file told tuples files item whole path bytes may is file are many few = may (MakeFile whole bytes) (root_file tuples files item whole path bytes is file are many few)
+-- a file of the root is the item of its number
+module _ (tuples : Tuples) (files : List (Path × List ℕ)) (item : ℕ) (whole path : Path) (bytes : List ℕ) (is : whole ≡ staging ++ path) (file : Some (path, bytes) ≡ slice_get files (5 - item)) (are : files ≡ root_files_of tuples) (many : 3 ≤ item) (few : item < 6) where
+  pub root_file : IsRootItem tuples item (MakeFile whole bytes)
+  unfolding path_in bytes_in IsRootItem
+  root_file = by item many few (file ∙ ap (λ (l : List (Path × List ℕ)). slice_get l (5 - item)) are)
+    where
+      same : (p : Path) (b : List ℕ) → (let o : Option (Path × List ℕ) = Some (path, bytes) in let o' : Option (Path × List ℕ) = Some (p, b) in o ≡ o') → Some (MakeFile (staging ++ p) b) ≡ Some (MakeFile whole bytes)
+      same p b e = ap (λ (q : Path). Some (MakeFile (staging ++ q) b)) (sym (ap path_in e)) ∙ ap (λ (q : Path). Some (MakeFile q b)) (sym is) ∙ ap (λ (l : List ℕ). Some (MakeFile whole l)) (sym (ap bytes_in e))
+
+      by : (item : ℕ) → 3 ≤ item → item < 6 → Some (path, bytes) ≡ slice_get (root_files_of tuples) (5 - item) → slice_get (root_script tuples) item ≡ Some (MakeFile whole bytes)
+      by zero many few e = absurd (omega (arith, many))
+      by (suc zero) many few e = absurd (omega (arith, many))
+      by (suc (suc zero)) many few e = absurd (omega (arith, many))
+      by (suc (suc (suc zero))) many few e = same _ _ e
+      by (suc (suc (suc (suc zero)))) many few e = same _ _ e
+      by (suc (suc (suc (suc (suc zero))))) many few e = same _ _ e
+      by (suc (suc (suc (suc (suc (suc item)))))) many few e = absurd (omega (arith, few))
+
+  pub may_make_file : (told : Option Writing) → MayMakeRootItem told tuples item → MayMake told whole
+  unfolding MayMakeRootItem IsRootItem
+  may_make_file told may = may (MakeFile whole bytes) root_file
 
 makes_item : (s : State) (item : ℕ) (it : Item) → IsRootItem s.job.layout item it → StartsAt (phase.RootMake item) s (does (Makes it)) (Ok (after_item item))
 unfolding IsRootItem
@@ -221,10 +220,10 @@ left_item s w w' number item f result is part it = left_some w w' f result is (�
 
 pub renamed_root : (s : State) (w w' : World) (from to : Path) → Did (does (Renames from to)) w w' → from ≡ staging → to ≡ storage_root → Turned phase.RootRename s s w w' (Ok phase.OpenRoot)
 renamed_root s w w' from to did is at =
-    goes w w' (RenamesRoot _) (rw (at) at (rw is at did)) refl keeps_same refl
+    goes w w' (RenamesRoot _) (rw (is, (at)) at did) refl keeps_same refl
 
 pub may_rename_root : (told : Option Writing) (from to : Path) → MayMove told staging storage_root → from ≡ staging → to ≡ storage_root → MayMove told from to
-may_rename_root told from to may is at = rw (at) (rw is may)
+may_rename_root told from to may is at = rw ((at), is) may
 
 -- ---- the root that stands
 
