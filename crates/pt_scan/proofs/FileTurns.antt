@@ -3,7 +3,7 @@ use Rattle.std.proofs.Common.{◌≡◌, ◌<◌, ◌≤◌, ℕ, ◌+◌, List,
 use Rattle.std.specs.Prelude.{Ok, Err, IsErrAnd}
 use Rattle.std.specs.String.{string_bytes}
 use Rattle.std.proofs.lemmas.Bool.{lt-ltb, le-ltb}
-use Rattle.pt_state.proofs.Words.{digest_of, HasBeenFed, Algorithm, Path, advanced, trail_path, Answer, Skipped, Held, Kept, Did, FailsLater, GoesOn, LeavesSome, Scan, logical_path, to_site, Answers, Changes, Puts, Reads, Untouched, World, asks, dest_tree, tells, Halt, Object, Phase, Turned, KeepsAll, counts_of, held_of, job_of, kept_of}
+use Rattle.pt_state.proofs.Words.{digest_of, HasBeenFed, Algorithm, Path, advanced, trail_path, Answer, Skipped, Held, Kept, Did, FailsLater, GoesOn, LeavesSome, Scan, logical_path, to_site, Answers, Changes, Puts, Reads, Untouched, World, asks, dest_tree, tells, Halt, Object, Turned, KeepsAll, counts_of, held_of, job_of, kept_of}
 use Rattle.pt_state.proofs.Words.cause
 use Rattle.pt_state.proofs.Words.halt
 use Rattle.pt_state.proofs.Words.phase

@@ -184,39 +184,40 @@ unless_own job (Ok id) = unless_reserved job id
 unless_own job (Err why) = Err why
 
 -- what the names of a site's path read
-id_of : (s : State) (site : Path) (read : Result (List ℕ) Cause) → site ≡ trail_path s.trail → read ≡ read_behind (string_bytes s.prefix) (reading_of (concat site)) → identifier_at (job_of s.job) (string_bytes s.prefix) (trail_path s.trail) ≡ unless_own (job_of s.job) read
-id_of s site read there is = ap (identifier_at (job_of s.job) (string_bytes s.prefix)) (sym there) ∙ by (reading_of (concat site)) ∙ ap (unless_own (job_of s.job)) (sym is)
-  where
-    by_utf8 : (bytes : List ℕ) (b : Bool) → cond b (unless_reserved (job_of s.job) bytes) (Err cause.Utf8) ≡ unless_own (job_of s.job) (cond b (Ok bytes) (Err cause.Utf8))
-    by_utf8 bytes true = refl
-    by_utf8 bytes false = refl
+module _ (s : State) (site : Path) (there : site ≡ trail_path s.trail) where
+  id_of : (read : Result (List ℕ) Cause) → read ≡ read_behind (string_bytes s.prefix) (reading_of (concat site)) → identifier_at (job_of s.job) (string_bytes s.prefix) (trail_path s.trail) ≡ unless_own (job_of s.job) read
+  id_of read is = ap (identifier_at (job_of s.job) (string_bytes s.prefix)) (sym there) ∙ by (reading_of (concat site)) ∙ ap (unless_own (job_of s.job)) (sym is)
+    where
+      by_utf8 : (bytes : List ℕ) (b : Bool) → cond b (unless_reserved (job_of s.job) bytes) (Err cause.Utf8) ≡ unless_own (job_of s.job) (cond b (Ok bytes) (Err cause.Utf8))
+      by_utf8 bytes true = refl
+      by_utf8 bytes false = refl
 
-    by : (o : Option (List ℕ)) → identifier_by (job_of s.job) (string_bytes s.prefix) o ≡ unless_own (job_of s.job) (read_behind (string_bytes s.prefix) o)
-    by None = refl
-    by (Some bytes) = by_utf8 (string_bytes s.prefix ++ bytes) (is_utf8 bytes)
+      by : (o : Option (List ℕ)) → identifier_by (job_of s.job) (string_bytes s.prefix) o ≡ unless_own (job_of s.job) (read_behind (string_bytes s.prefix) o)
+      by None = refl
+      by (Some bytes) = by_utf8 (string_bytes s.prefix ++ bytes) (is_utf8 bytes)
 
-named_read : (s : State) (site : Path) (id : List ℕ) (candidate : Candidate) → site ≡ trail_path s.trail → Ok id ≡ read_behind (string_bytes s.prefix) (reading_of (concat site)) → IsPlaced s.job.layout id (verdict.Carry candidate) → IsNamed s (verdict.Carry candidate)
-unfolding IsPlaced IsNamed
-named_read s site id candidate there read (same, place, own) = (id_of s site (Ok id) there read ∙ ap (λ (b : Bool). cond b (Err cause.Reserved) (Ok id)) own ∙ ap (λ (i : List ℕ). Ok i) (sym same), place ∙ ap (place_of s.job.layout) (sym same))
+  named_read : (id : List ℕ) (candidate : Candidate) → Ok id ≡ read_behind (string_bytes s.prefix) (reading_of (concat site)) → IsPlaced s.job.layout id (verdict.Carry candidate) → IsNamed s (verdict.Carry candidate)
+  unfolding IsPlaced IsNamed
+  named_read id candidate read (same, place, own) = (id_of (Ok id) read ∙ ap (λ (b : Bool). cond b (Err cause.Reserved) (Ok id)) own ∙ ap (λ (i : List ℕ). Ok i) (sym same), place ∙ ap (place_of s.job.layout) (sym same))
 
-named_reserved : (s : State) (site : Path) (id : List ℕ) (why : Cause) → site ≡ trail_path s.trail → Ok id ≡ read_behind (string_bytes s.prefix) (reading_of (concat site)) → IsPlaced s.job.layout id (verdict.Pass why) → IsNamed s (verdict.Pass why)
-unfolding IsPlaced IsNamed
-named_reserved s site id why there read (same, own) = id_of s site (Ok id) there read ∙ ap (λ (b : Bool). cond b (Err cause.Reserved) (Ok id)) own ∙ ap (λ (c : Cause). Err c) (sym same)
+  named_reserved : (id : List ℕ) (why : Cause) → Ok id ≡ read_behind (string_bytes s.prefix) (reading_of (concat site)) → IsPlaced s.job.layout id (verdict.Pass why) → IsNamed s (verdict.Pass why)
+  unfolding IsPlaced IsNamed
+  named_reserved id why read (same, own) = id_of (Ok id) read ∙ ap (λ (b : Bool). cond b (Err cause.Reserved) (Ok id)) own ∙ ap (λ (c : Cause). Err c) (sym same)
 
-named_unread : (s : State) (site : Path) (why : Cause) → site ≡ trail_path s.trail → Err why ≡ read_behind (string_bytes s.prefix) (reading_of (concat site)) → IsNamed s (verdict.Pass why)
-unfolding IsNamed
-named_unread s site why there read = id_of s site (Err why) there read
+  named_unread : (why : Cause) → Err why ≡ read_behind (string_bytes s.prefix) (reading_of (concat site)) → IsNamed s (verdict.Pass why)
+  unfolding IsNamed
+  named_unread why read = id_of (Err why) read
 
-pub named_placed : {E : Type 0} (s : State) (site : Path) (id : List ℕ) (r : Result Verdict E) → site ≡ trail_path s.trail → Ok id ≡ read_behind (string_bytes s.prefix) (reading_of (concat site)) → IfOk r (IsPlaced s.job.layout id) → IfOk r (IsNamed s)
-named_placed s site id (Ok (verdict.Carry candidate)) there read placed = named_read s site id candidate there read placed
-named_placed s site id (Ok (verdict.Pass why)) there read placed = named_reserved s site id why there read placed
-named_placed s site id (Err fault) there read placed = tt
+  pub named_placed : {E : Type 0} (id : List ℕ) (r : Result Verdict E) → Ok id ≡ read_behind (string_bytes s.prefix) (reading_of (concat site)) → IfOk r (IsPlaced s.job.layout id) → IfOk r (IsNamed s)
+  named_placed id (Ok (verdict.Carry candidate)) read placed = named_read id candidate read placed
+  named_placed id (Ok (verdict.Pass why)) read placed = named_reserved id why read placed
+  named_placed id (Err fault) read placed = tt
 
-pub not_utf8_named : (s : State) (site : Path) (text : List ℕ) → site ≡ trail_path s.trail → GivesReading (reading_of text) (Err unclean.NotUtf8) → text ≡ concat site → IsNamed s (verdict.Pass cause.Utf8)
-not_utf8_named s site text there reads joined = named_unread s site cause.Utf8 there (read_not_utf8 site text (string_bytes s.prefix) reads joined)
+  pub not_utf8_named : (text : List ℕ) → GivesReading (reading_of text) (Err unclean.NotUtf8) → text ≡ concat site → IsNamed s (verdict.Pass cause.Utf8)
+  not_utf8_named text reads joined = named_unread cause.Utf8 (read_not_utf8 site text (string_bytes s.prefix) reads joined)
 
-pub malformed_named : (s : State) (site : Path) (text : List ℕ) → site ≡ trail_path s.trail → reading_of text ≡ None → text ≡ concat site → IsNamed s (verdict.Pass cause.Name)
-malformed_named s site text there reads joined = named_unread s site cause.Name there (sym (ap (read_behind (string_bytes s.prefix)) (ap reading_of (sym joined) ∙ reads)))
+  pub malformed_named : (text : List ℕ) → reading_of text ≡ None → text ≡ concat site → IsNamed s (verdict.Pass cause.Name)
+  malformed_named text reads joined = named_unread cause.Name (sym (ap (read_behind (string_bytes s.prefix)) (ap reading_of (sym joined) ∙ reads)))
 
 pub is_placed : (tuples : Tuples) (id : List ℕ) (place : Path) → place ≡ place_of tuples id → false ≡ is_own_place tuples place → IsPlaced tuples id (verdict.Carry (record { id = id; place = place }))
 unfolding IsPlaced

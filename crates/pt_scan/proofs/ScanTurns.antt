@@ -1,6 +1,6 @@
 -- The turns of the scan of an object, from their calls.
 use Rattle.std.proofs.Common.{◌≡◌, ◌<◌, ◌≤◌, ℕ, ◌+◌, ◌-◌, ◌==◌, ◌&&◌, Bool, true, false, List, [], ◌∷◌, refl, sym, ap, ◌∙◌, length, cond, drop, arith}
-use Rattle.std.specs.Prelude.{Option, None, Some, Ok, IsErrAnd, IsSome, nat_le, nat_lt, not, ◌||◌}
+use Rattle.std.specs.Prelude.{Option, None, Some, Ok, IsErrAnd, IsSome, nat_le, nat_lt, not}
 use Rattle.std.specs.String.{string_bytes}
 use Rattle.std.proofs.lemmas.Bool.{le-leb, le-ltb, lt-leb, lt-ltb, or_from, or_left, or_right}
 use Rattle.std.proofs.Math.Dec.{eqb-suc-zero}
@@ -14,7 +14,7 @@ use Rattle.pt_state.specs.declared.state.State.{State}
 use Rattle.pt_walk.specs.Site.{is_shorty}
 use Rattle.pt_walk.specs.Trail.{has_place}
 use Rattle.pt_plan.specs.Permits.{MayEnter, MayOpen}
-use Rattle.pt_plan.specs.TurnScan.{StartsInSite, EntersObject, IsTooDeep, PassesShorty, EntersDirectory, MeetsDeep, OpensFile, MeetsLimit, MeetsOther, EndsSite, EndsObject, LeavesDirectory, is_in_site, none_listed, with_directory}
+use Rattle.pt_plan.specs.TurnScan.{StartsInSite, EntersObject, IsTooDeep, PassesShorty, EntersDirectory, MeetsDeep, OpensFile, MeetsLimit, MeetsOther, EndsSite, EndsObject, LeavesDirectory, is_in_site, none_listed}
 use Rattle.pt_state.proofs.LineTexts.{front_none}
 use Rattle.pt_state.proofs.Together.{asked_stays, did_nothing}
 use Rattle.pt_state.proofs.Turns.{left_some, turned_on, went}
@@ -130,42 +130,44 @@ pub one_too_many : (s : State) (object : Object) → IsAtFile s.trail → s.job.
 unfolding IsAtFile GivesUp
 one_too_many s object (name, at) many = λ fed. MeetsLimit _ object name at (or_left _ _ (le-leb s.job.limits.files (length s.rows) many))
 
--- a test of the logical path's length
-long_is : (s : State) (object : Object) (names : Path) (most : ℕ) (longer : Bool) → longer ≡ nat_lt most (length (joined names)) → most ≡ s.job.limits.path_bytes → names ≡ logical_path object s.trail → nat_lt s.job.limits.path_bytes (length (joined (logical_path object s.trail))) ≡ longer
-long_is s object names most longer is limit there = sym (is ∙ (λ i. nat_lt (limit i) (length (joined (there i)))))
-
-pub path_too_long : (s : State) (object : Object) (names : Path) (most : ℕ) (longer : Bool) → IsAtFile s.trail → longer ≡ nat_lt most (length (joined names)) → most ≡ s.job.limits.path_bytes → names ≡ logical_path object s.trail → longer ≡ true → GivesUp (phase.Scan object) object cause.Limit s
-unfolding IsAtFile GivesUp
-path_too_long s object names most longer (name, at) is limit there long = λ fed. MeetsLimit _ object name at (or_right (nat_le s.job.limits.files (length s.rows)) _ (long_is s object names most longer is limit there ∙ long))
-
 pub may_open_entry : (told : Option Reading) (trail : List Frame) (entry path : Path) → MayOpen told trail → IsAtFile trail → entry ≡ names_to trail → path ≡ in_pairtree entry → CanOpen told path
 unfolding MayOpen IsAtFile
 may_open_entry told trail entry path may (name, at) names there = rw (there ∙ ap in_pairtree names) (may name at)
 
-pub opened_file : (s s' : State) (a b : World) (object : Object) (entry path names : Path) (most : ℕ) (longer : Bool) → IsAtFile s.trail → length s.rows < s.job.limits.files → longer ≡ nat_lt most (length (joined names)) → most ≡ s.job.limits.path_bytes → names ≡ logical_path object s.trail → longer ≡ false
-    → Did (asks (Opens path)) a b → entry ≡ names_to s.trail → path ≡ in_pairtree entry → HasBeenFed s.job.algorithm s'.hasher [] → KeepsAll s s' → Turned (phase.Scan object) s s' a b (Ok (phase.Read object 0))
-unfolding IsAtFile
-opened_file s s' a b object entry path names most longer (name, at) few is limit logical_at short did entry_at there fed_none keeps =
-    went a b (λ fed. [])
-    (λ fed was. Scan (OpensFile _ object name at (or_from _ _ (lt-leb s.job.limits.files (length s.rows) few) (long_is s object names most longer is limit logical_at ∙ short))))
-    (rw (there ∙ ap in_pairtree entry_at) at did) refl (λ fed was. fed_none) keeps
+-- a test of the logical path's length
+module _ (s : State) (object : Object) (names : Path) (most : ℕ) (longer : Bool) (is : longer ≡ nat_lt most (length (joined names))) (limit : most ≡ s.job.limits.path_bytes) (there : names ≡ logical_path object s.trail) where
+  long_is : nat_lt s.job.limits.path_bytes (length (joined (logical_path object s.trail))) ≡ longer
+  long_is = sym (is ∙ (λ i. nat_lt (limit i) (length (joined (there i)))))
+
+  pub path_too_long : IsAtFile s.trail → longer ≡ true → GivesUp (phase.Scan object) object cause.Limit s
+  unfolding IsAtFile GivesUp
+  path_too_long (name, at) long = λ fed. MeetsLimit _ object name at (or_right (nat_le s.job.limits.files (length s.rows)) _ (long_is ∙ long))
+
+  pub opened_file : (s' : State) (a b : World) (entry path : Path) → IsAtFile s.trail → length s.rows < s.job.limits.files → longer ≡ false → Did (asks (Opens path)) a b → entry ≡ names_to s.trail → path ≡ in_pairtree entry → HasBeenFed s.job.algorithm s'.hasher [] → KeepsAll s s' → Turned (phase.Scan object) s s' a b (Ok (phase.Read object 0))
+  unfolding IsAtFile
+  opened_file s' a b entry path (name, at) few short did entry_at path_at fed_none keeps =
+      went a b (λ fed. [])
+      (λ fed was. Scan (OpensFile _ object name at (or_from _ _ (lt-leb s.job.limits.files (length s.rows) few) (long_is ∙ short))))
+      (rw (path_at ∙ ap in_pairtree entry_at) at did) refl (λ fed was. fed_none) keeps
 
 -- ---- the end of a listing
 
-pub ended_site : (s s' : State) (a : World) (object : Object) (in_site : Bool) → current_entry s.trail ≡ None → in_site ≡ is_in_site object s.trail → in_site ≡ true → Moved s.trail s.counts s s' → Turned (phase.Scan object) s s' a a (Ok (phase.Make object part.Staging))
-ended_site s s' a object in_site at place is to =
-    moves a a (λ fed. Scan (EndsSite _ object at (sym place ∙ is))) (did_nothing a) to refl
+module _ (s s' : State) (a : World) (object : Object) (in_site : Bool) (at : current_entry s.trail ≡ None) (place : in_site ≡ is_in_site object s.trail) where
+  pub ended_site : in_site ≡ true → Moved s.trail s.counts s s' → Turned (phase.Scan object) s s' a a (Ok (phase.Make object part.Staging))
+  ended_site is to = moves a a (λ fed. Scan (EndsSite _ object at (sym place ∙ is))) (did_nothing a) to refl
 
-pub ended_object : (s s' : State) (a : World) (object : Object) (in_site : Bool) (left : List Frame) → current_entry s.trail ≡ None → in_site ≡ is_in_site object s.trail → in_site ≡ false → left ≡ parent s.trail → true ≡ (not object.gathered && (length left == object.site)) → Moved left s.counts s s' → Turned (phase.Scan object) s s' a a (Ok (phase.Make object part.Staging))
-ended_object s s' a object in_site left at place outside is own to =
-    moves a a
-    (λ fed. Scan (EndsObject _ object at (sym place ∙ outside) (ap (λ (t : List Frame). not object.gathered && (length t == object.site)) (sym is) ∙ sym own)))
-    (did_nothing a) (rw is at to) refl
+  -- outside of it
+  module _ (left : List Frame) (outside : in_site ≡ false) (is : left ≡ parent s.trail) where
+    pub ended_object : true ≡ (not object.gathered && (length left == object.site)) → Moved left s.counts s s' → Turned (phase.Scan object) s s' a a (Ok (phase.Make object part.Staging))
+    ended_object own to =
+        moves a a
+        (λ fed. Scan (EndsObject _ object at (sym place ∙ outside) (sym (own ∙ (λ i. not object.gathered && (length (is i) == object.site))))))
+        (did_nothing a) (rw is at to) refl
 
-pub left_directory : (s s' : State) (a : World) (object : Object) (in_site : Bool) (left : List Frame) → current_entry s.trail ≡ None → in_site ≡ is_in_site object s.trail → in_site ≡ false → left ≡ parent s.trail → false ≡ (not object.gathered && (length left == object.site)) → Moved (advanced left) s.counts s s' → Turned (phase.Scan object) s s' a a (Ok (phase.Scan object))
-left_directory s s' a object in_site left at place outside is own to =
-    moves a a
-    (λ fed. Scan (LeavesDirectory _ object at (sym place ∙ outside) (ap (λ (t : List Frame). not object.gathered && (length t == object.site)) (sym is) ∙ sym own)))
-    (did_nothing a) (rw is at to) refl
+    pub left_directory : false ≡ (not object.gathered && (length left == object.site)) → Moved (advanced left) s.counts s s' → Turned (phase.Scan object) s s' a a (Ok (phase.Scan object))
+    left_directory own to =
+        moves a a
+        (λ fed. Scan (LeavesDirectory _ object at (sym place ∙ outside) (sym (own ∙ (λ i. not object.gathered && (length (is i) == object.site))))))
+        (did_nothing a) (rw is at to) refl
 
 pub ruleset scanning = (front_none, ended_site, ended_object, left_directory, opened_file, moved, back_at, has_entered, unasked, listed_unentered, may_list_entry, gave_up, gave_front, entered_next, begun_in_site, meets_own, site_there, passed_in_site, at_directory, at_file, meets_other, directory_is, meets_inner, too_deep, file_some, one_too_many, path_too_long, may_open_entry)

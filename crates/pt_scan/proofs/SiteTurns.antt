@@ -75,17 +75,18 @@ pub may_enter_shorty : (told : Option Reading) (trail : List Frame) (path : Path
 unfolding IsAtShorty MayEnter
 may_enter_shorty told trail path may (name, (at, is)) there = rw there (may name at)
 
-pub is_past : (s : State) (site : Path) → IsAtShorty s.trail → site ≡ trail_path s.trail → true ≡ is_last (at_of site) → PassesShorty s cause.Past
-unfolding IsAtShorty PassesShorty
-is_past s site (name, (at, is)) there last = λ fed. IsPast _ name at is (ap (λ (p : Path). is_last (at_of p)) (sym there) ∙ sym last)
+module _ (s : State) (site : Path) (shorty : IsAtShorty s.trail) (there : site ≡ trail_path s.trail) where
+  pub is_past : true ≡ is_last (at_of site) → PassesShorty s cause.Past
+  unfolding IsAtShorty PassesShorty
+  is_past last = λ fed. IsPast _ shorty.0 shorty.1.0 shorty.1.1 (sym (last ∙ (λ i. is_last (at_of (there i)))))
 
-pub is_deep : (s : State) (site : Path) → IsAtShorty s.trail → site ≡ trail_path s.trail → false ≡ is_last (at_of site) → s.job.limits.depth < length s.trail → PassesShorty s cause.Limit
-unfolding IsAtShorty PassesShorty
-is_deep s site (name, (at, is)) there last deep = λ fed. IsDeep _ name at is (ap (λ (p : Path). is_last (at_of p)) (sym there) ∙ sym last) (lt-ltb s.job.limits.depth (length s.trail) deep)
+  pub is_deep : false ≡ is_last (at_of site) → s.job.limits.depth < length s.trail → PassesShorty s cause.Limit
+  unfolding IsAtShorty PassesShorty
+  is_deep last deep = λ fed. IsDeep _ shorty.0 shorty.1.0 shorty.1.1 (sym (last ∙ (λ i. is_last (at_of (there i))))) (lt-ltb s.job.limits.depth (length s.trail) deep)
 
-pub enters_site : (s : State) (site : Path) → IsAtShorty s.trail → site ≡ trail_path s.trail → false ≡ is_last (at_of site) → length s.trail ≤ s.job.limits.depth → EntersSite s
-unfolding IsAtShorty EntersSite
-enters_site s site (name, (at, is)) there last shallow = λ fed items. EntersSiteOf _ name items at is (ap (λ (p : Path). is_last (at_of p)) (sym there) ∙ sym last) (le-ltb s.job.limits.depth (length s.trail) shallow)
+  pub enters_site : false ≡ is_last (at_of site) → length s.trail ≤ s.job.limits.depth → EntersSite s
+  unfolding IsAtShorty EntersSite
+  enters_site last shallow = λ fed items. EntersSiteOf _ shorty.0 items shorty.1.0 shorty.1.1 (sym (last ∙ (λ i. is_last (at_of (there i))))) (le-ltb s.job.limits.depth (length s.trail) shallow)
 
 -- its line is told in the first share
 is_told : (told : Bool) (line : Line) → true ≡ told → tells line ≡ tells_if told line
