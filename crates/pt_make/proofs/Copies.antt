@@ -3,7 +3,7 @@ use Rattle.std.proofs.Common.{◌≡◌, ◌<◌, ◌≤◌, ◌-◌, ◌==◌, 
 use Rattle.std.specs.Prelude.{Some, Ok, Err, IsErrAnd, slice_get}
 use Rattle.std.specs.Str.{bytes_eq}
 use Rattle.std.proofs.lemmas.Bool.{le-ltb, lt-ltb}
-use Rattle.pt_state.proofs.Words.{digest_of, HasBeenFed, Algorithm, Content, Hasher, Row, Answer, Did, LeavesSome, Make, content_at, Adds, Finishes, Reads, World, asks, does, Halt, Object, Part, Phase, Position, Turned, KeepsAll}
+use Rattle.pt_state.proofs.Words.{digest_of, HasBeenFed, Algorithm, Content, Hasher, Row, Answer, Did, LeavesSome, Make, content_at, Adds, Finishes, Reads, World, asks, does, Halt, Object, Part, Position, Turned, KeepsAll}
 use Rattle.pt_state.proofs.Words.halt
 use Rattle.pt_state.proofs.Words.phase
 use Rattle.pt_state.specs.declared.state.State.{State}
@@ -25,28 +25,6 @@ read_something (byte ∷ block) is = omega (arith)
 
 pub ruleset reading = (turned_read, read_nothing, read_something, can_write_asked)
 
--- ---- a block is copied
-
-pub reads_more : (s s' : State) (a b : World) (object : Object) (position : Position) (left : ℕ) (block : List ℕ) → Did (asks (Reads block)) a b → 0 < length block → left < length block → KeepsAll s s' → Turned (phase.Copy object position left) s s' a b (Err halt.Changed)
-reads_more s s' a b object position left [] read some more keeps = absurd (omega (arith, some))
-reads_more s s' a b object position left (byte ∷ block) read some more keeps =
-    refused a b (λ fed was. Make (ReadsMore _ object position left byte block (lt-ltb left (length (byte ∷ block)) more))) read keeps
-
--- a block that is within what is left is added and fed
-pub copies_on : (s s' : State) (a b c : World) (object : Object) (position : Position) (left : ℕ) (block : List ℕ) → Did (asks (Reads block)) a b → Did (does (Adds block)) b c → 0 < length block → length block ≤ left
-    → ((algorithm : Algorithm) (fed : List ℕ) → HasBeenFed algorithm s.hasher fed → HasBeenFed algorithm s'.hasher (fed ++ block)) → KeepsAll s s' → Turned (phase.Copy object position left) s s' a c (Ok (phase.Copy object position (left - length block)))
-copies_on s s' a b c object position left [] read added some most feeds keeps = absurd (omega (arith, some))
-copies_on s s' a b c object position left (byte ∷ block) read added some most feeds keeps =
-    went a c (λ fed. fed ++ byte ∷ block) (λ fed _. Make (CopiesOn _ object position left byte block (le-ltb left (length (byte ∷ block)) most))) (then_did _ _ a b c read added) refl (feeds s.job.algorithm) keeps
-
--- a part of the block was added
-pub copies_part : (s s' : State) (a b c : World) (object : Object) (position : Position) (left : ℕ) (block : List ℕ) (f : Halt) (result : Answer) → IsErrAnd result (λ h. h ≡ f) → Did (asks (Reads block)) a b → LeavesSome (does (Adds block)) f b c → 0 < length block → length block ≤ left → KeepsAll s s' → Turned (phase.Copy object position left) s s' a c result
-copies_part s s' a b c object position left [] f result is read part some most keeps = absurd (omega (arith, some))
-copies_part s s' a b c object position left (byte ∷ block) f result is read part some most keeps =
-    left_some a c f result is (λ fed. Make (CopiesOn _ object position left byte block (le-ltb left (length (byte ∷ block)) most))) (then_leaves _ _ f a b c read part) keeps
-
-pub ruleset copying = (reads_more, copies_on, copies_part)
-
 -- ---- the end of a file
 
 pub is_read_as : (rows : List Row) (contents : List Content) (position : Position) (left : ℕ) (digest : List ℕ) (row : Row) (next : Part) → Some row ≡ slice_get rows position.row → true ≡ ((left == 0) && bytes_eq digest row.digest) → next ≡ content_at rows (behind_stored contents position row.path) → IsAsRead rows contents position left digest next
@@ -63,21 +41,43 @@ pub ruleset comparing = (is_read_as, is_other)
 digest_fed : (s : State) (hasher : Hasher) (digest fed : List ℕ) → hasher ≡ s.hasher → ((algorithm : Algorithm) (fed : List ℕ) → HasBeenFed algorithm hasher fed → digest ≡ digest_of algorithm fed) → HasBeenFed s.job.algorithm s.hasher fed → digest ≡ digest_of s.job.algorithm fed
 digest_fed s hasher digest fed same ends was = ends s.job.algorithm fed (rw same was)
 
-pub reads_other : (s s' : State) (a b : World) (object : Object) (position : Position) (left : ℕ) (hasher : Hasher) (digest : List ℕ) → Did (asks (Reads [])) a b → IsOther s.rows position left digest → hasher ≡ s.hasher
-    → ((algorithm : Algorithm) (fed : List ℕ) → HasBeenFed algorithm hasher fed → digest ≡ digest_of algorithm fed) → KeepsAll s s' → Turned (phase.Copy object position left) s s' a b (Err halt.Changed)
-unfolding IsOther
-reads_other s s' a b object position left hasher digest read (row, (at, differs)) same ends keeps =
-    refused a b
-    (λ fed was. Make (ReadsOther _ object position row left at (rw (digest_fed s hasher digest fed same ends was) at differs)))
-    read keeps
+-- ---- turns
 
-pub copy_ended : (s s' : State) (a b c : World) (object : Object) (position : Position) (left : ℕ) (hasher : Hasher) (digest : List ℕ) (next : Part) → Did (asks (Reads [])) a b → Did (does Finishes) b c → IsAsRead s.rows s.contents position left digest next → hasher ≡ s.hasher
-    → ((algorithm : Algorithm) (fed : List ℕ) → HasBeenFed algorithm hasher fed → digest ≡ digest_of algorithm fed) → HasBeenFed s.job.algorithm s'.hasher [] → KeepsAll s s' → Turned (phase.Copy object position left) s s' a c (Ok (phase.Make object next))
-unfolding IsAsRead
-copy_ended s s' a b c object position left hasher digest next read finished (row, (at, is, then)) same ends started keeps =
-    rw then
-    (went a c (λ _. [])
-    (λ fed was. Make (EndsCopy _ object position row left at (rw (digest_fed s hasher digest fed same ends was) at is)))
-    (then_did _ _ a b c read finished) refl (λ _ _. started) keeps)
+module _ (s s' : State) (a b : World) (object : Object) (position : Position) (left : ℕ) (keeps : KeepsAll s s') where
+  pub reads_more : (block : List ℕ) → Did (asks (Reads block)) a b → 0 < length block → left < length block → Turned (phase.Copy object position left) s s' a b (Err halt.Changed)
+  reads_more [] read some more = absurd (omega (arith, some))
+  reads_more (byte ∷ block) read some more = refused a b (λ fed was. Make (ReadsMore _ object position left byte block (lt-ltb left (length (byte ∷ block)) more))) read keeps
+
+  -- a block that is within what is left is added and fed
+  pub copies_on : (c : World) (block : List ℕ) → Did (asks (Reads block)) a b → Did (does (Adds block)) b c → 0 < length block → length block ≤ left
+      → ((algorithm : Algorithm) (fed : List ℕ) → HasBeenFed algorithm s.hasher fed → HasBeenFed algorithm s'.hasher (fed ++ block)) → Turned (phase.Copy object position left) s s' a c (Ok (phase.Copy object position (left - length block)))
+  copies_on c [] read added some most feeds = absurd (omega (arith, some))
+  copies_on c (byte ∷ block) read added some most feeds =
+      went a c (λ fed. fed ++ byte ∷ block) (λ fed _. Make (CopiesOn _ object position left byte block (le-ltb left (length (byte ∷ block)) most))) (then_did _ _ a b c read added) refl (feeds s.job.algorithm) keeps
+
+  -- a part of the block was added
+  pub copies_part : (c : World) (block : List ℕ) (f : Halt) (result : Answer) → IsErrAnd result (λ h. h ≡ f) → Did (asks (Reads block)) a b → LeavesSome (does (Adds block)) f b c → 0 < length block → length block ≤ left → Turned (phase.Copy object position left) s s' a c result
+  copies_part c [] f result is read part some most = absurd (omega (arith, some))
+  copies_part c (byte ∷ block) f result is read part some most =
+      left_some a c f result is (λ fed. Make (CopiesOn _ object position left byte block (le-ltb left (length (byte ∷ block)) most))) (then_leaves _ _ f a b c read part) keeps
+
+  -- an empty block ends the file
+  module _ (hasher : Hasher) (digest : List ℕ) (read : Did (asks (Reads [])) a b) (same : hasher ≡ s.hasher) (ends : (algorithm : Algorithm) (fed : List ℕ) → HasBeenFed algorithm hasher fed → digest ≡ digest_of algorithm fed) where
+    pub reads_other : IsOther s.rows position left digest → Turned (phase.Copy object position left) s s' a b (Err halt.Changed)
+    unfolding IsOther
+    reads_other (row, (at, differs)) =
+        refused a b
+        (λ fed was. Make (ReadsOther _ object position row left at (rw (digest_fed s hasher digest fed same ends was) at differs)))
+        read keeps
+
+    pub copy_ended : (c : World) (next : Part) → Did (does Finishes) b c → IsAsRead s.rows s.contents position left digest next → HasBeenFed s.job.algorithm s'.hasher [] → Turned (phase.Copy object position left) s s' a c (Ok (phase.Make object next))
+    unfolding IsAsRead
+    copy_ended c next finished (row, (at, is, then)) started =
+        rw then
+        (went a c (λ _. [])
+        (λ fed was. Make (EndsCopy _ object position row left at (rw (digest_fed s hasher digest fed same ends was) at is)))
+        (then_did _ _ a b c read finished) refl (λ _ _. started) keeps)
+
+pub ruleset copying = (reads_more, copies_on, copies_part)
 
 pub ruleset ending = (reads_other, asked_then, copy_ended)

@@ -45,22 +45,19 @@ found_and_made a b c path here found made none = (
   made.1 ∙ found.1,
 )
 
-pub made_tuple : (s : State) (a b c : World) (path : Path) (here : Option Kind) (object : Object) (number : ℕ) (next : Phase) → Did (does (Finds path here)) a b → Did (does (Makes (MakeFolder path))) b c → here ≡ None → path ≡ tuple_folder object number → next ≡ after_tuple (job_of s.job) object number
-    → Turned (phase.Tuples object number) s s a c (Ok next)
-made_tuple s a b c path here object number next found made none is then =
-    rw then
-    (placed s a c (λ fed. MakesTuple _ object number) (rw is at (found_and_made a b c path here found made none)))
+module _ (s : State) (a b : World) (path : Path) (here : Option Kind) (object : Object) (number : ℕ) (found : Did (does (Finds path here)) a b) (is : path ≡ tuple_folder object number) where
+  pub made_tuple : (c : World) (next : Phase) → Did (does (Makes (MakeFolder path))) b c → here ≡ None → next ≡ after_tuple (job_of s.job) object number → Turned (phase.Tuples object number) s s a c (Ok next)
+  made_tuple c next made none then =
+      rw then
+      (placed s a c (λ fed. MakesTuple _ object number) (rw is at (found_and_made a b c path here found made none)))
 
-pub found_tuple : (s : State) (a b : World) (path : Path) (here : Option Kind) (object : Object) (number : ℕ) (next : Phase) → Did (does (Finds path here)) a b → here ≡ Some kind.Dir → path ≡ tuple_folder object number → next ≡ after_tuple (job_of s.job) object number
-    → Turned (phase.Tuples object number) s s a b (Ok next)
-found_tuple s a b path here object number next found dir is then =
-    rw then
-    (placed s a b (λ fed. FindsTuple _ object number) (rw (is, dir) at found))
+  pub found_tuple : (next : Phase) → here ≡ Some kind.Dir → next ≡ after_tuple (job_of s.job) object number → Turned (phase.Tuples object number) s s a b (Ok next)
+  found_tuple next dir then =
+      rw then
+      (placed s a b (λ fed. FindsTuple _ object number) (rw (is, dir) at found))
 
-pub in_the_way : (s : State) (a b : World) (path : Path) (here : Option Kind) (it : Kind) (object : Object) (number : ℕ) → Did (does (Finds path here)) a b → here ≡ Some it → is_dir_kind (Some it) ≡ false → path ≡ tuple_folder object number
-    → Turned (phase.Tuples object number) s s a b (Err halt.Target)
-in_the_way s a b path here it object number found some other is =
-    refused a b (λ fed was. Place (IsInTheWay _ object number it other)) (rw (is, some) at found) keeps_same
+  pub in_the_way : (it : Kind) → here ≡ Some it → is_dir_kind (Some it) ≡ false → Turned (phase.Tuples object number) s s a b (Err halt.Target)
+  in_the_way it some other = refused a b (λ fed was. Place (IsInTheWay _ object number it other)) (rw (is, some) at found) keeps_same
 
 pub renamed_object : (s : State) (a b : World) (from to : Path) (object : Object) → Did (does (Renames from to)) a b → from ≡ staging → to ≡ in_root object.place → Turned (phase.Rename object) s s a b (Ok (phase.Line object))
 renamed_object s a b from to object did is at =
