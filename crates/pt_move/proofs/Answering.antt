@@ -294,28 +294,20 @@ begins_begun r world begins = inl begins
 
 -- ---- what a step leaves
 
-pub leaves_more : (before after : Running) (old new : World) (next : Phase) → after.state.job ≡ before.state.job → source_tree new.source ≡ source_tree old.source → TurnLeaves before.state after.state old.log new.log old.failures new.failures (Ok next) → StepLeaves old new before after (Ok turn.More)
-unfolding StepLeaves
-leaves_more before after old new next job tree left = record { tree = tree; job = job; turns = (left.turns, left.lines); told = left.told; finished = tt; trail = left.trail; rows = left.rows; contents = left.contents }
+module _ (before after : Running) (old new : World) (job : after.state.job ≡ before.state.job) (tree : source_tree new.source ≡ source_tree old.source) where
+  pub leaves_more : (next : Phase) → TurnLeaves before.state after.state old.log new.log old.failures new.failures (Ok next) → StepLeaves old new before after (Ok turn.More)
+  unfolding StepLeaves
+  leaves_more next left = record { tree = tree; job = job; turns = (left.turns, left.lines); told = left.told; finished = tt; trail = left.trail; rows = left.rows; contents = left.contents }
 
-pub leaves_finished : (before after : Running) (old new : World) (next : Phase) → next ≡ phase.Ended → after.state.job ≡ before.state.job → source_tree new.source ≡ source_tree old.source → TurnLeaves before.state after.state old.log new.log old.failures new.failures (Ok next) → StepLeaves old new before after (Ok turn.Finished)
-unfolding StepLeaves
-leaves_finished before after old new next ended job tree left =
-    let last : TurnLeaves before.state after.state old.log new.log old.failures new.failures (Ok phase.Ended) = rw ended at left in
-    record { tree = tree; job = job; turns = (left.turns, left.lines); told = left.told; finished = last.ended; trail = left.trail; rows = left.rows; contents = left.contents }
+  pub leaves_finished : (next : Phase) → next ≡ phase.Ended → TurnLeaves before.state after.state old.log new.log old.failures new.failures (Ok next) → StepLeaves old new before after (Ok turn.Finished)
+  unfolding StepLeaves
+  leaves_finished next ended left =
+      let last : TurnLeaves before.state after.state old.log new.log old.failures new.failures (Ok phase.Ended) = rw ended at left in
+      record { tree = tree; job = job; turns = (left.turns, left.lines); told = left.told; finished = last.ended; trail = left.trail; rows = left.rows; contents = left.contents }
 
-pub leaves_halted : (before after : Running) (old new : World) (why : Halt) (f : Fault) → f ≡ fault_of why → after.state.job ≡ before.state.job → source_tree new.source ≡ source_tree old.source → TurnLeaves before.state after.state old.log new.log old.failures new.failures (Err why) → StepLeaves old new before after (Err f)
-unfolding StepLeaves
-leaves_halted before after old new why f is job tree left = record {
-  tree = tree;
-  job = job;
-  turns = err_counted before after _ _ _ is left;
-  told = left.told;
-  finished = tt;
-  trail = left.trail;
-  rows = left.rows;
-  contents = left.contents;
-}
+  pub leaves_halted : (why : Halt) (f : Fault) → f ≡ fault_of why → TurnLeaves before.state after.state old.log new.log old.failures new.failures (Err why) → StepLeaves old new before after (Err f)
+  unfolding StepLeaves
+  leaves_halted why f is left = record { tree = tree; job = job; turns = err_counted before after _ _ _ is left; told = left.told; finished = tt; trail = left.trail; rows = left.rows; contents = left.contents }
 
 -- no turn was made
 same_left : (before after : Running) (w : World) (f : Fault) → IsCounted before after (Err f) → after.state ≡ before.state → StepLeaves w w before after (Err f)

@@ -61,30 +61,7 @@ keeps_after here s s' old new answer going turned start is =
 
 -- ---- by the answer
 
--- there is more to do
-pub keeps_more : (start : Start) (old new : World) (before : Running) (s' : State) (next : Phase) → TurnKeeps start old new before.state s' (Ok next) → Keeps start old new before (record { phase = next; state = s' }) (Ok turn.More)
-unfolding Keeps TurnKeeps
-keeps_more start old new before s' next kept = record { begun = kept.begun; leaves = kept.leaves; stands = kept.stands; work = kept.work; bound = kept.bound; left = kept.left; ends = tt; states = tt; early = tt; unstaged = tt; says = tt; good = tt }
-
--- it was the last turn
-pub keeps_finished : (start : Start) (old new : World) (before : Running) (s' : State) (next : Phase) → next ≡ phase.Ended → TurnKeeps start old new before.state s' (Ok next) → Keeps start old new before (record { phase = phase.Ended; state = s' }) (Ok turn.Finished)
-unfolding Keeps TurnKeeps
-keeps_finished start old new before s' next ended kept = record {
-  begun = rw ended at kept.begun;
-  leaves = kept.leaves;
-  stands = kept.stands;
-  work = kept.work;
-  bound = kept.bound;
-  left = kept.left;
-  ends = (kept.says ended).ends;
-  states = (kept.says ended).states;
-  early = tt;
-  unstaged = tt;
-  says = tt;
-  good = tt;
-}
-
--- it halted the run
+-- it holds of a fault of a turn as it does of any but that of an ended run
 halted : (P : Fault → Type 0) (why : Halt) → P (fault_of why) → IfHalted (Err (fault_of why)) P
 halted P halt.Source p = p
 halted _ _ p = p
@@ -93,25 +70,50 @@ unless_ended : (P : Type 0) (why : Halt) → P → UnlessEnded (Err (fault_of wh
 unless_ended P halt.Source p = p
 unless_ended _ _ p = p
 
-halted_so : (start : Start) (old new : World) (before : Running) (s' : State) (why : Halt) → TurnKeeps start old new before.state s' (Err why) → Keeps start old new before (record { phase = phase.Ended; state = s' }) (Err (fault_of why))
-unfolding Keeps TurnKeeps
-halted_so start old new before s' why kept = record {
-  begun = kept.begun;
-  leaves = kept.leaves;
-  stands = kept.stands;
-  work = kept.work;
-  bound = unless_ended (HoldsWithinBound before.state.job (source_tree old.source) s') why kept.bound;
-  left = kept.left;
-  ends = tt;
-  states = tt;
-  early = halted (λ f. IfEarly f (LeavesAll start new.dest new.log)) why kept.says.early;
-  unstaged = halted (λ f. IfLog f (LeavesNoStaging new.dest)) why kept.says.unstaged;
-  says = halted (SaysRightly before.state.job (source_tree old.source) start.dest) why kept.says.says;
-  good = halted (WantsMemory before.state.job (source_tree old.source) start.dest old.failures new.failures) why kept.says.good;
-}
+module _ (start : Start) (old new : World) (before : Running) (s' : State) where
+  -- there is more to do
+  pub keeps_more : (next : Phase) → TurnKeeps start old new before.state s' (Ok next) → Keeps start old new before (record { phase = next; state = s' }) (Ok turn.More)
+  unfolding Keeps TurnKeeps
+  keeps_more next kept = record { begun = kept.begun; leaves = kept.leaves; stands = kept.stands; work = kept.work; bound = kept.bound; left = kept.left; ends = tt; states = tt; early = tt; unstaged = tt; says = tt; good = tt }
 
-pub keeps_halted : (start : Start) (old new : World) (before : Running) (s' : State) (why : Halt) (f : Fault) → f ≡ fault_of why → TurnKeeps start old new before.state s' (Err why) → Keeps start old new before (record { phase = phase.Ended; state = s' }) (Err f)
-keeps_halted start old new before s' why f is kept = rw is (halted_so start old new before s' why kept)
+  -- it was the last turn
+  pub keeps_finished : (next : Phase) → next ≡ phase.Ended → TurnKeeps start old new before.state s' (Ok next) → Keeps start old new before (record { phase = phase.Ended; state = s' }) (Ok turn.Finished)
+  unfolding Keeps TurnKeeps
+  keeps_finished next ended kept = record {
+    begun = rw ended at kept.begun;
+    leaves = kept.leaves;
+    stands = kept.stands;
+    work = kept.work;
+    bound = kept.bound;
+    left = kept.left;
+    ends = (kept.says ended).ends;
+    states = (kept.says ended).states;
+    early = tt;
+    unstaged = tt;
+    says = tt;
+    good = tt;
+  }
+
+  -- it halted the run
+  halted_so : (why : Halt) → TurnKeeps start old new before.state s' (Err why) → Keeps start old new before (record { phase = phase.Ended; state = s' }) (Err (fault_of why))
+  unfolding Keeps TurnKeeps
+  halted_so why kept = record {
+    begun = kept.begun;
+    leaves = kept.leaves;
+    stands = kept.stands;
+    work = kept.work;
+    bound = unless_ended (HoldsWithinBound before.state.job (source_tree old.source) s') why kept.bound;
+    left = kept.left;
+    ends = tt;
+    states = tt;
+    early = halted (λ f. IfEarly f (LeavesAll start new.dest new.log)) why kept.says.early;
+    unstaged = halted (λ f. IfLog f (LeavesNoStaging new.dest)) why kept.says.unstaged;
+    says = halted (SaysRightly before.state.job (source_tree old.source) start.dest) why kept.says.says;
+    good = halted (WantsMemory before.state.job (source_tree old.source) start.dest old.failures new.failures) why kept.says.good;
+  }
+
+  pub keeps_halted : (why : Halt) (f : Fault) → f ≡ fault_of why → TurnKeeps start old new before.state s' (Err why) → Keeps start old new before (record { phase = phase.Ended; state = s' }) (Err f)
+  keeps_halted why f is kept = rw is (halted_so why kept)
 
 -- ---- no turn was made
 
