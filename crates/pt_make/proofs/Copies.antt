@@ -78,6 +78,4 @@ module _ (s s' : State) (a b : World) (object : Object) (position : Position) (l
         (λ fed was. Make (EndsCopy _ object position row left at (rw (digest_fed s hasher digest fed same ends was) at is)))
         (then_did _ _ a b c read finished) refl (λ _ _. started) keeps)
 
-pub ruleset copying = (reads_more, copies_on, copies_part)
-
-pub ruleset ending = (reads_other, asked_then, copy_ended)
+pub ruleset copying = (reads_more, copies_on, copies_part, reads_other, asked_then, copy_ended)

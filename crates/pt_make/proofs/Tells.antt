@@ -4,7 +4,7 @@ use Rattle.std.specs.Prelude.{Some, Ok, IsErrAnd, slice_get}
 use Rattle.std.specs.String.{string_bytes}
 use Rattle.std.proofs.lemmas.List.{take_all}
 use Rattle.std.proofs.lemmas.List.Sums.{sum_by-cons, sum_by-take-le}
-use Rattle.pt_state.proofs.Words.{Row, Path, sought, Answer, Done, End, Line, Did, LeavesSome, Place, bytes_in_rows, World, tells, Halt, Object, KeepsAll, counts_of, Turned}
+use Rattle.pt_state.proofs.Words.{Row, Path, sought, Answer, Done, End, Did, LeavesSome, Place, bytes_in_rows, World, tells, Halt, Object, KeepsAll, counts_of, Turned}
 use Rattle.pt_state.proofs.Words.phase
 use Rattle.pt_state.specs.declared.state.State.{State}
 use Rattle.pt_plan.specs.TurnMake.{path_of_source}

@@ -32,12 +32,10 @@ pub digest_is : (s : State) (object : Object) (hasher : Hasher) (digest : List �
 unfolding HasFedInventory
 digest_is s object hasher digest was copies ends = ends s.job.algorithm (inventory_held s object) (copies s.job.algorithm (inventory_held s object) was)
 
-pub ruleset digests = (digest_is)
-
 pub sidecar_is : (a : Algorithm) (digest fed line : List ℕ) → digest ≡ digest_of a fed → line ≡ sidecar_line digest → line ≡ sidecar_text a fed
 sidecar_is a digest fed line same is = is ∙ ap sidecar_line same
 
-pub ruleset files = (contents_of_rows, fed_text, leaves_short, sidecar_is)
+pub ruleset files = (digest_is, contents_of_rows, fed_text, leaves_short, sidecar_is)
 
 -- ---- inventories
 
@@ -63,8 +61,6 @@ left_inventory s s' a b object folder.Version path bytes f result is some at sam
     left_some a b f result is (λ fed. Make (MakesVersionInventory _ object)) (rw (same, (at)) at some) keeps
 left_inventory s s' a b object folder.Top path bytes f result is some at same keeps =
     left_some a b f result is (λ fed. Make (MakesInventory _ object)) (rw (same, (at)) at some) keeps
-
-pub ruleset inventories = (may_make_at, contents_of_rows, made_version_inventory, made_top_inventory, left_inventory)
 
 -- ---- sidecars
 
@@ -92,4 +88,4 @@ left_sidecar s s' a b object folder.Version path f result is left at keeps =
 left_sidecar s s' a b object folder.Top path f result is left at keeps =
     left_some a b f result is (λ fed. Make (MakesSidecar _ object)) (rw (at) at left) keeps
 
-pub ruleset sidecars = (may_make_at, made_version_sidecar, made_top_sidecar, left_sidecar)
+pub ruleset inventories = (may_make_at, contents_of_rows, made_version_inventory, made_top_inventory, left_inventory, made_version_sidecar, made_top_sidecar, left_sidecar)

@@ -84,7 +84,7 @@ fn inventory_of(state: &State, object: &Object) -> Result<String, MemoryFault>
 }
 
 /// Makes the sidecar of the inventory in a folder. After the one at the top the object is whole.
-#[tactic(auto, using(crate::proofs::Texts::sidecars, pt_state::proofs::Turns::turns))]
+#[tactic(auto, using(crate::proofs::Texts::inventories, pt_state::proofs::Turns::turns))]
 pub(crate) fn make_sidecar<O: Outside>(
     state: &mut State,
     object: Object,
@@ -138,7 +138,7 @@ fn put_sidecar<O: Outside>(
 }
 
 // The digest of the inventory whose text the hasher has been fed.
-#[tactic(auto, using(crate::proofs::Texts::digests))]
+#[tactic(auto, using(crate::proofs::Texts::files))]
 fn inventory_digest(state: &State, object: &Object) -> Result<Digest, MemoryFault>
     requires { HasFedInventory state.now object.now }
     ensures { IfOk result (λ digest. digest
