@@ -5,3 +5,5 @@ pub mod LineTexts
 pub mod Sound
 pub mod Layouts
 pub mod Saying
+mod Pacing
+mod Following

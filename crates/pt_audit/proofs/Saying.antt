@@ -1,10 +1,10 @@
 -- What the faults of an audit say, and whom they blame.
-use Rattle.std.proofs.Common.{◌≡◌, ℕ, Bool, true, refl, ap, sym, ◌∙◌, subst, arith, inl, inr}
+use Rattle.std.proofs.Common.{◌≡◌, ℕ, zero, suc, Bool, true, refl, ap, sym, ◌∙◌, subst, arith, inl, inr}
 use Rattle.std.specs.Prelude.{IfErr, Option, Some, Result, Ok, Err}
 use Rattle.std.specs.String.{string_bytes}
 use Rattle.std.specs.Option.{ForSome}
 use Rattle.pt_audit.specs.Auditing.{IsAt}
-use Rattle.pt_audit.specs.Failing.{AuditSays, BlamesRightly, FailsAs, RootFailsAs, TellFails, failures}
+use Rattle.pt_audit.specs.Failing.{AuditSays, BlamesRightly, FailsAs, ReadFailsAs, RootFailsAs, TellFails, failures}
 use Rattle.pt_audit.specs.Layout.{IsOfAnother, TellsLayout}
 use Rattle.pt_begun.specs.BegunSource.{SourcePart}
 use Rattle.pt_move.specs.Fault.{fault_of}
@@ -45,6 +45,9 @@ says_failed job source root _ old new it = absurd it
 pub says_err : (answer : Result Bool Halt) (why : Halt) (job : own.Job) (source root : Option Forest) → answer ≡ Err why → AuditSays job source root (fault_of why) → IfErr answer (λ w. AuditSays job source root (fault_of w))
 says_err answer why job source root is says = subst (λ (r : Result Bool Halt). IfErr r (λ w. AuditSays job source root (fault_of w))) (sym is) says
 
+pub says_fault : {T : Type 0} (answer : Result T Fault) (f : Fault) (job : own.Job) (source root : Option Forest) → answer ≡ Err f → AuditSays job source root f → IfErr answer (AuditSays job source root)
+says_fault {T} answer f job source root is says = subst (λ (r : Result T Fault). IfErr r (AuditSays job source root)) (sym is) says
+
 -- what a survey says
 pub says_survey : (job : own.Job) (source root : Option Forest) (f : Fault) → SurveySays job source f → AuditSays job source root f
 says_survey job source root f says = record {
@@ -62,6 +65,8 @@ has_layout told what r job same at = subst (λ (j : own.Job). IsLayout j.layout)
 -- a root of another layout is told only of a store with a good prefix
 store_at : (here : Phase) → sight_at here ≡ sight.Store → here ≡ phase.OpenRoot
 store_at phase.OpenRoot is = refl
+store_at (phase.Read object zero) is = absurd (cc)
+store_at (phase.Read object (suc bytes)) is = absurd (cc)
 store_at _ is = absurd (cc)
 
 pub says_layout : (told : Option Reading) (root : Option Forest) (r : Running) (why : Halt) (old new : ℕ) → (job : own.Job) → job ≡ r.state.job → IsAt told sight.Store r → ForSome root (TellsLayout {T = Unit {0}} (job_of job) (Err why)) → RootFailsAs {T = Unit {0}} (Err why) old new → AuditSays r.state.job (source_tree told) root (fault_of why)
@@ -88,6 +93,17 @@ layout_fails halt.Memory a b c old new it = inl (ap (λ (n : ℕ). failures a n 
 layout_fails halt.Target a b c old new it = inr (refl, ap (λ (n : ℕ). failures a n c) it)
 layout_fails _ a b c old new it = absurd it
 
+-- what is read beside alone
+pub read_fails : (why : Halt) (a b c a' c' new : ℕ) → a' ≡ a → c' ≡ c → ReadFailsAs {T = Unit {0}} (Err why) b new → BlamesRightly {T = Sight} (failures a b c) (failures a' new c') (Err (fault_of why))
+read_fails halt.Dest a b c a' c' new sa sc it = record { source = sa; root = it; log = sc }
+read_fails halt.Memory a b c a' c' new sa sc it = record { source = sa; root = it; log = sc }
+read_fails _ a b c a' c' new sa sc it = absurd it
+
+pub says_read : (job : own.Job) (source root : Option Forest) (why : Halt) (old new : ℕ) → ReadFailsAs {T = Unit {0}} (Err why) old new → AuditSays job source root (fault_of why)
+says_read job source root halt.Dest old new it = says_failed job source root halt.Dest (failures 0 old 0) (failures 0 new 0) (refl, it, refl)
+says_read job source root halt.Memory old new it = says_failed job source root halt.Memory (failures 0 0 0) (failures 0 0 0) refl
+says_read job source root _ old new it = absurd it
+
 -- the log's calls alone
 pub log_fails : (why : Halt) (a b old new : ℕ) → FailsAs {T = Unit {0}} (Err why) (failures 0 0 old) (failures 0 0 new) → HasFailed why (failures a b old) (failures a b new)
 log_fails halt.Source a b old new it = (rose it.0, refl, it.2)
@@ -108,20 +124,21 @@ pub same_failures : {a b c a' b' c' : ℕ} {x : Bool} → BlamesRightly {T = Boo
 same_failures it = λ i. failures (it.source i) (it.root i) (it.log i)
 
 -- whom both blame
-pub blames_told : (why : Halt) (a b c a' c' a'' b'' c'' : ℕ) → a' ≡ a → c' ≡ c → TellFails {T = Bool} (Err why) (failures a' b c') (failures a'' b'' c'') → BlamesRightly {T = Bool} (failures a b c) (failures a'' b'' c'') (Err (fault_of why))
-blames_told why a b c a' c' a'' b'' c'' sa sc it =
+pub blames_told : (why : Halt) (a b c a' b' c' a'' b'' c'' : ℕ) → a' ≡ a → b' ≡ b → c' ≡ c → TellFails {T = Bool} (Err why) (failures a' b' c') (failures a'' b'' c'') → BlamesRightly {T = Bool} (failures a b c) (failures a'' b'' c'') (Err (fault_of why))
+blames_told why a b c a' b' c' a'' b'' c'' sa sb sc it =
     subst (λ (n : ℕ). BlamesRightly {T = Bool} (failures n b c) (failures a'' b'' c'') (Err (fault_of why))) sa
-    (subst (λ (n : ℕ). BlamesRightly {T = Bool} (failures a' b n) (failures a'' b'' c'') (Err (fault_of why))) sc (elim it [ inl failed ↦ by why failed | inr target ↦ not_of target ]))
+    (subst (λ (n : ℕ). BlamesRightly {T = Bool} (failures a' n c) (failures a'' b'' c'') (Err (fault_of why))) sb
+    (subst (λ (n : ℕ). BlamesRightly {T = Bool} (failures a' b' n) (failures a'' b'' c'') (Err (fault_of why))) sc (elim it [ inl failed ↦ by why failed | inr target ↦ not_of target ])))
   where
-    by : (why : Halt) → HasFailed why (failures a' b c') (failures a'' b'' c'') → BlamesRightly {T = Bool} (failures a' b c') (failures a'' b'' c'') (Err (fault_of why))
+    by : (why : Halt) → HasFailed why (failures a' b' c') (failures a'' b'' c'') → BlamesRightly {T = Bool} (failures a' b' c') (failures a'' b'' c'') (Err (fault_of why))
     by halt.Source failed = record { source = failed.0; root = failed.1; log = failed.2 }
     by halt.Dest failed = record { source = failed.0; root = failed.1; log = failed.2 }
     by halt.Log failed = record { source = failed.0; root = failed.1; log = failed.2 }
     by halt.Memory failed = record { source = ap (λ (f : Failures). f.source) failed; root = ap (λ (f : Failures). f.dest) failed; log = ap (λ (f : Failures). f.log) failed }
     by _ failed = absurd failed
 
-    not_of : (why ≡ halt.Target) × (failures a'' b'' c'' ≡ failures a' b c') → BlamesRightly {T = Bool} (failures a' b c') (failures a'' b'' c'') (Err (fault_of why))
-    not_of (is, same) = subst (λ (w : Halt). BlamesRightly {T = Bool} (failures a' b c') (failures a'' b'' c'') (Err (fault_of w))) (sym is)
+    not_of : (why ≡ halt.Target) × (failures a'' b'' c'' ≡ failures a' b' c') → BlamesRightly {T = Bool} (failures a' b' c') (failures a'' b'' c'') (Err (fault_of why))
+    not_of (is, same) = subst (λ (w : Halt). BlamesRightly {T = Bool} (failures a' b' c') (failures a'' b'' c'') (Err (fault_of w))) (sym is)
         (record { source = ap (λ (f : Failures). f.source) same; root = ap (λ (f : Failures). f.dest) same; log = ap (λ (f : Failures). f.log) same })
 
-pub ruleset saying = (has_layout, says_failed, says_survey, says_layout, layout_fails, log_fails, blames_told)
+pub ruleset saying = (read_fails, says_read, has_layout, says_failed, says_survey, says_layout, layout_fails, log_fails, blames_told)

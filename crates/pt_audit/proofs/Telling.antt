@@ -1,5 +1,5 @@
 -- What an audit tells after each step, and after an object was compared.
-use Rattle.std.proofs.Common.{◌≡◌, ℕ, suc, ◌+◌, Bool, true, false, List, [], ◌∷◌, ◌++◌, refl, ap, sym, ◌∙◌, subst, arith, append-nil, append_assoc, drop, length, min}
+use Rattle.std.proofs.Common.{◌≡◌, ◌⊎◌, inl, inr, ℕ, zero, suc, ◌+◌, Bool, true, false, List, [], ◌∷◌, ◌++◌, refl, ap, sym, ◌∙◌, subst, arith, append-nil, append_assoc, drop, length, min}
 use Rattle.std.specs.Prelude.{IfOk, IsSome, Option, None, Some, Result, Ok, Err, get_or, map, slice_get, option_to_list, count_by}
 use Rattle.std.specs.String.{string_bytes}
 use Rattle.std.specs.Option.{ForSome, option_map}
@@ -7,7 +7,7 @@ use Rattle.std.specs.Io.KnownBytes.{Appends}
 use Rattle.std.proofs.lemmas.Bool.{true≢false}
 use Rattle.std.proofs.lemmas.List.{drop-map}
 use Rattle.std.proofs.lemmas.Option.{slice_get-get_or}
-use Rattle.pt_audit.specs.Auditing.{CanCompare, EndsAs, Finds, GoesOn as AuditGoesOn, Nothing, HasToldOf, IsAt, IsFoundAtHand, IsFoundOf, IsSeen, IsUnderWay, CanGoOn, Leads, Next, Passes, TellsOf, Told, counted, last_text, sought, sought_at_hand, told_at}
+use Rattle.pt_audit.specs.Auditing.{CanCompare, EndsAs, Finds, GoesOn as AuditGoesOn, Nothing, HasToldOf, IsAt, IsFoundAtHand, IsFoundOf, IsSeen, IsUnderWay, CanGoOn, Leads, Next, is_told, Passes, TellsOf, Told, counted, last_text, sought, sought_at_hand, told_at}
 use Rattle.pt_audit.specs.Counting.{counts_with, no_counts}
 use Rattle.pt_audit.specs.Layout.{IsOfLayout}
 use Rattle.pt_audit.specs.Lines as audit
@@ -62,11 +62,13 @@ use Rattle.pt_walk.specs.Left.{bytes_at}
 -- an object is at hand
 object_at_hand : (here : Phase) → sight_at here ≡ sight.Object → (object : Object) × (here ≡ phase.Line object)
 object_at_hand (phase.Line object) is = (object, refl)
+object_at_hand (phase.Read object zero) is = absurd (cc)
+object_at_hand (phase.Read object (suc bytes)) is = absurd (cc)
 object_at_hand _ is = absurd (cc)
 
 -- where none is at hand, of the items that were seen is told
-told_there : (here : Phase) (count : ℕ) (what : Sight) → sight_at here ≡ what → what ≡ sight.More → told_at here count ≡ count
-told_there (phase.Line object) count what is more = absurd (cc)
+told_there : (here : Phase) (count : ℕ) (what : Sight) → sight_at here ≡ what → is_told what ≡ false → told_at here count ≡ count
+told_there (phase.Line object) count what is more = absurd (true≢false (ap is_told is ∙ more))
 told_there _ count what is more = refl
 
 told_store : (here : Phase) (count : ℕ) → sight_at here ≡ sight.Store → told_at here count ≡ count
@@ -85,6 +87,8 @@ no_hand r is none =
 -- the survey is at its end
 end_at : (here : Phase) → sight_at here ≡ sight.End → here ≡ phase.End
 end_at phase.End is = refl
+end_at (phase.Read object zero) is = absurd (cc)
+end_at (phase.Read object (suc bytes)) is = absurd (cc)
 end_at _ is = absurd (cc)
 
 -- ---- what a step tells
@@ -167,12 +171,12 @@ sites_after (phase.Prefix _) other later = later
 sites_after _ other later = later
 
 -- more is to be seen
-pub goes_on : {told : Option Reading} {source root : Option Forest} {first : Option (List ℕ)} (now : Option (List ℕ)) (counts : Counts) (r : Running) → sight_at r.phase ≡ sight.More → IsSeen told source root first now counts r → IsUnderWay told source root first now counts r
-goes_on now counts r is it = record {
+pub goes_on : {told : Option Reading} {source root : Option Forest} {first : Option (List ℕ)} (now : Option (List ℕ)) (counts : Counts) (r : Running) (what : Sight) → sight_at r.phase ≡ what → is_told what ≡ false → IsSeen told source root first now counts r → IsUnderWay told source root first now counts r
+goes_on now counts r what is more it = record {
   count = it.count;
   is = it.is;
-  so_far = λ s e o f old g. subst (λ (n : ℕ). HasTold (job_of r.state.job) s o old now n (counted counts r)) (sym (told_there r.phase it.count sight.More is refl)) (it.so_far s e o f old g);
-  opened = λ later. it.opened (sites_after r.phase (λ store. absurd (let no = sym is ∙ store in cc)) later);
+  so_far = λ s e o f old g. subst (λ (n : ℕ). HasTold (job_of r.state.job) s o old now n (counted counts r)) (sym (told_there r.phase it.count what is more)) (it.so_far s e o f old g);
+  opened = λ later. it.opened (sites_after r.phase (λ store. absurd (true≢false (sym (ap is_told (sym is ∙ store)) ∙ more))) later);
 }
 
 pub goes_on_store : {told : Option Reading} {source root : Option Forest} {first : Option (List ℕ)} (now : Option (List ℕ)) (counts : Counts) (r : Running) → sight_at r.phase ≡ sight.Store → CanGoOn root r → IsSeen told source root first now counts r → IsUnderWay told source root first now counts r
@@ -379,8 +383,15 @@ found_at_hand job at id from to source root (Ok finding) id_is from_is to_is is_
 pub at_object : {told : Option Reading} {r : Running} → IsAt told sight.Object r → sight_at r.phase ≡ sight.Object
 at_object it = sym it.saw
 
-pub on_more : {told : Option Reading} {source root : Option Forest} {first : Option (List ℕ)} (now : Option (List ℕ)) (counts : Counts) (r : Running) → IsAt told sight.More r → IsSeen told source root first now counts r → IsUnderWay told source root first now counts r
-on_more now counts r at it = goes_on now counts r (sym at.saw) it
+-- of most steps nothing is told
+pub not_told : (what : Sight) → (what ≡ sight.More) ⊎ ((what ≡ sight.Scan) ⊎ ((what ≡ sight.Opened) ⊎ (what ≡ sight.Block))) → is_told what ≡ false
+not_told what (inl is) = ap is_told is
+not_told what (inr (inl is)) = ap is_told is
+not_told what (inr (inr (inl is))) = ap is_told is
+not_told what (inr (inr (inr is))) = ap is_told is
+
+pub on_more : {told : Option Reading} {source root : Option Forest} {first : Option (List ℕ)} (now : Option (List ℕ)) (counts : Counts) (r : Running) (what : Sight) → is_told what ≡ false → IsAt told what r → IsSeen told source root first now counts r → IsUnderWay told source root first now counts r
+on_more now counts r what more at it = goes_on now counts r what (sym at.saw) more it
 
 pub on_store : {told : Option Reading} {source root : Option Forest} {first : Option (List ℕ)} (now : Option (List ℕ)) (counts : Counts) (r : Running) (job : own.Job) → job ≡ r.state.job → ForSome root (IsOfLayout (job_of job)) → IsAt told sight.Store r → IsSeen told source root first now counts r → IsUnderWay told source root first now counts r
 on_store {root} now counts r job same layout at it = goes_on_store now counts r (sym at.saw) (subst (λ (j : own.Job). ForSome root (IsOfLayout (job_of j))) same layout) it
@@ -395,11 +406,13 @@ pub surveys_on : (told told' : Option Reading) (now new : Option (List ℕ)) (be
 unfolding Surveys
 surveys_on told told' now new before after (count, it) on = let later = on count it in (later.next, later.is)
 
-pub step_told : (more : Bool) (told told' told'' : Option Reading) (root : Option Forest) (first now new last : Option (List ℕ)) (counts later : Counts) (before after : Running) → source_tree told' ≡ source_tree told → (is_before_store before.phase ≡ true → is_before_sites after.phase ≡ true) → ((count : ℕ) → IsSurvey told count before → GoesOn told told' now new count before after)
-    → ((first : Option (List ℕ)) → IsSeen told' (source_tree told') root first new counts after → AuditGoesOn more told'' (source_tree told') root first last later after) → IsUnderWay told (source_tree told) root first now counts before → AuditGoesOn more told'' (source_tree told) root first last later after
-step_told more told told' told'' root first now new last counts later before after same order on tells it =
+pub step_told : (more : Bool) (told told' told'' : Option Reading) (root root' : Option Forest) (first now new last : Option (List ℕ)) (counts later : Counts) (before after : Running) → source_tree told' ≡ source_tree told → root' ≡ root → (is_before_store before.phase ≡ true → is_before_sites after.phase ≡ true) → ((count : ℕ) → IsSurvey told count before → GoesOn told told' now new count before after)
+    → ((first : Option (List ℕ)) → IsSeen told' (source_tree told') root' first new counts after → AuditGoesOn more told'' (source_tree told') root' first last later after) → IsUnderWay told (source_tree told) root first now counts before → AuditGoesOn more told'' (source_tree told) root first last later after
+step_told more told told' told'' root root' first now new last counts later before after same stays order on tells it =
     subst (λ (s : Option Forest). AuditGoesOn more told'' s root first last later after) same
-    (tells first (subst (λ (s : Option Forest). IsSeen told' s root first new counts after) (sym same) (seen_after told told' (source_tree told) root first now new counts before after refl order it (on it.count it.is))))
+    (subst (λ (t : Option Forest). AuditGoesOn more told'' (source_tree told') t first last later after) stays
+    (tells first (subst (λ (s : Option Forest). IsSeen told' s root' first new counts after) (sym same)
+    (subst (λ (t : Option Forest). IsSeen told' (source_tree told) t first new counts after) (sym stays) (seen_after told told' (source_tree told) root first now new counts before after refl order it (on it.count it.is))))))
 
 -- an audit that is to begin
 pub first_step : (job : own.Job) (told : Option Reading) (source root : Option Forest) (first : Option (List ℕ)) (counts : Counts) (r : Running) → IsNew job r → IsSurvey told 0 r → counts ≡ no_counts → IsUnderWay told source root first first counts r
@@ -436,4 +449,4 @@ same_layout more job told source root root' first now counts r is j o it =
     subst (λ (x : own.Job). ForSome root' (IsOfLayout (job_of x))) j
     (subst (λ (t : Option Forest). ForSome t (IsOfLayout (job_of r.state.job))) (sym o) (subst (λ (b : Bool). AuditGoesOn b told source root first now counts r) is it).1)
 
-pub ruleset auditing = (no_hand, surveys_again, can_compare, at_object, on_more, on_store, on_end, surveys_on, first_step, same_trees, same_end, same_layout)
+pub ruleset auditing = (no_hand, surveys_again, can_compare, at_object, on_store, on_end, surveys_on, first_step, same_trees, same_end, same_layout)

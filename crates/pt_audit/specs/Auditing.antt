@@ -24,6 +24,7 @@ use Rattle.pt_state.specs.States.{job_of}
 use Rattle.pt_state.specs.declared.job.Job as own
 use Rattle.pt_survey.specs.Surveying.{IsSurvey, Surveys, is_before_sites, is_before_store, sight_at}
 use Rattle.pt_survey.specs.declared.survey.Sight.{Sight}
+use Rattle.pt_survey.specs.declared.survey.Sight.TheVariants as sight
 use Rattle.pt_survey.specs.declared.survey.AtHand.{AtHand}
 use Rattle.pt_tree.specs.Failures.{greatest_count}
 use Rattle.pt_tree.specs.Forest.{Forest}
@@ -110,6 +111,13 @@ pub record IsSeen (told : Option Reading) (source root : Option Forest) (first n
   pub is : IsSurvey told count r
   pub so_far : HasToldOf (job_of r.state.job) source root first now count (counted counts r)
   pub opened : is_before_sites r.phase ≡ false → CanGoOn root r
+
+-- something is told or looked at that a step came to
+abbrev pub is_told : Sight → Bool
+is_told sight.Store = true
+is_told sight.Object = true
+is_told sight.End = true
+is_told _ = false
 
 -- a survey is under way that saw this by its last step
 pub record IsAt (told : Option Reading) (what : Sight) (r : Running) : Type 0 where

@@ -33,6 +33,13 @@ RootFailsAs (Err halt.Memory) old new = new ≡ old
 RootFailsAs (Err halt.Target) old new = new ≡ old
 RootFailsAs (Err why) old new = ⊥
 
+-- so it is where nothing but files is read of it
+abbrev pub ReadFailsAs : {T : Type 0} → Result T Halt → ℕ → ℕ → Type 0
+ReadFailsAs (Ok x) old new = new ≡ old
+ReadFailsAs (Err halt.Dest) old new = HasRisen old new
+ReadFailsAs (Err halt.Memory) old new = new ≡ old
+ReadFailsAs (Err why) old new = ⊥
+
 -- or so it is with all calls
 abbrev pub TellFails : {T : Type 0} → Result T Halt → Failures → Failures → Type 0
 TellFails (Ok x) old new = new ≡ old

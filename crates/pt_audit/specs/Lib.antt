@@ -1,5 +1,6 @@
 pub mod AuditLaws
 pub mod Auditing
+pub mod Beside
 pub mod Counting
 pub mod Failing
 pub mod Layout

@@ -4,6 +4,7 @@ ghost use Rattle.std.specs.Prelude.{◌≡◌, ℕ, IfErr, IfOk, List, OnOk, Opt
 ghost use Rattle.pt_audit.specs.Auditing.{CanCompare, EndsAs, GoesOn, IsAt, IsFoundAtHand, IsSeen, IsUnderWay, last_text};
 ghost use Rattle.std.specs.Option.{ForSome};
 ghost use Rattle.std.specs.Io.KnownBytes.{Appends};
+ghost use Rattle.pt_audit.specs.Beside.{AreAlikeAtHand, Follows};
 ghost use Rattle.pt_audit.specs.Failing.{AuditSays, BlamesRightly, FailsAs, TellFails, failures};
 ghost use Rattle.pt_audit.specs.Layout.{IsOfLayout};
 ghost use Rattle.pt_move.specs.Fault.{fault_of};
@@ -11,10 +12,11 @@ ghost use Rattle.pt_compare.specs.Root.{KeepsRoot, tree_in};
 ghost use Rattle.pt_state.specs.States.{job_of};
 ghost use Rattle.pt_plan.specs.World.{source_tree};
 ghost use Rattle.pt_survey.specs.Growing.{KeepsLog};
-ghost use Rattle.pt_survey.specs.Surveying.{Steps, Surveys, sight_at};
+ghost use Rattle.pt_survey.specs.Surveying.{GoesOn as SurveyGoesOn, IsSurvey, Steps, Surveys, sight_at};
 ghost use Rattle.pt_survey.specs.declared.survey.Sight.TheVariants as sight;
 
 use crate::Counts;
+use crate::beside::Beside;
 use crate::layout::check_layout;
 use crate::lines::{end_line, object_line};
 use pt_compare::{Finding, Root, Scanned, compare};
@@ -54,8 +56,17 @@ pub fn audit<S: Source, R: Root, L: Log>(
 {
     let mut survey = Survey::start(alloc, job);
     let mut counts = Counts::none();
+    let mut beside = Beside::new(alloc);
     loop {
-        if !go_on(alloc, &mut survey, &mut counts, source, root, log)? {
+        if !go_on(
+            alloc,
+            &mut survey,
+            &mut counts,
+            &mut beside,
+            source,
+            root,
+            log,
+        )? {
             return Ok(counts.with_skipped(survey.report().skipped));
         }
     }
@@ -66,18 +77,50 @@ fn go_on<S: Source, R: Root, L: Log>(
     alloc: Global,
     survey: &mut Survey,
     counts: &mut Counts,
+    beside: &mut Beside,
     source: &mut S,
     root: &mut R,
     log: &mut L,
 ) -> Result<bool, Fault>
-    requires { Surveys (S.told source.old) survey.old }
+    requires under_way { Surveys (S.told source.old) survey.old }
+    requires paced { Follows (S.told source.old) (R.told root.old) beside.old survey.old }
     ensures on { (first : Option (List ℕ)) → IsUnderWay (S.told source.old)
         (tree_in (S.told source.old)) (tree_in (R.told root.old)) first (L.told log.old)
         counts.old survey.old
         → IfOk result (λ more. GoesOn more (S.told source.new) (tree_in (S.told source.old))
         (tree_in (R.told root.old)) first (L.told log.new) counts.new survey.new) }
     ensures still { OnOk result (Surveys (S.told source.new) survey.new
-        × Steps (source_tree (S.told source.old)) survey.old survey.new) }
+        × Steps (source_tree (S.told source.old)) survey.old survey.new
+        × Follows (S.told source.new) (R.told root.new) beside.new survey.new) }
+    ensures source { KeepsRoot S.told S.keeps source.old source.new }
+    ensures root { KeepsRoot R.told R.keeps root.old root.new }
+    ensures log { KeepsLog L.told L.keeps log.old log.new }
+    ensures blames { BlamesRightly
+        (failures (S.failed source.old) (R.failed root.old) (L.failed log.old))
+        (failures (S.failed source.new) (R.failed root.new) (L.failed log.new)) result }
+    ensures says { IfErr result (AuditSays survey.old.state.job
+        (source_tree (S.told source.old)) (tree_in (R.told root.old))) }
+{
+    let sight = see(survey, beside, source, root, log)?;
+    Ok(tell(alloc, survey, sight, counts, beside, source, root, log)?)
+}
+
+// Makes one step of the survey, and reads the root as far.
+fn see<S: Source, R: Root, L: Log>(
+    survey: &mut Survey,
+    beside: &mut Beside,
+    source: &mut S,
+    root: &mut R,
+    log: &mut L,
+) -> Result<Sight, Fault>
+    requires under_way { Surveys (S.told source.old) survey.old }
+    requires paced { Follows (S.told source.old) (R.told root.old) beside.old survey.old }
+    ensures on { (count : ℕ) → IsSurvey (S.told source.old) count survey.old
+        → OnOk result (SurveyGoesOn (S.told source.old) (S.told source.new)
+        (L.told log.old) (L.told log.new) count survey.old survey.new) }
+    ensures saw { IfOk result (λ what. (what ≡ sight_at survey.new.phase)
+        × Steps (source_tree (S.told source.old)) survey.old survey.new
+        × Follows (S.told source.new) (R.told root.new) beside.new survey.new) }
     ensures source { KeepsRoot S.told S.keeps source.old source.new }
     ensures root { KeepsRoot R.told R.keeps root.old root.new }
     ensures log { KeepsLog L.told L.keeps log.old log.new }
@@ -88,7 +131,8 @@ fn go_on<S: Source, R: Root, L: Log>(
         (source_tree (S.told source.old)) (tree_in (R.told root.old))) }
 {
     let sight = survey.step(source, log)?;
-    Ok(tell(alloc, survey, sight, counts, source, root, log)?)
+    beside.follow(root, survey, sight)?;
+    Ok(sight)
 }
 
 // Tells of what was seen by a step. Whether there is more to see.
@@ -97,17 +141,20 @@ fn tell<S: Source, R: Root, L: Log>(
     survey: &Survey,
     sight: Sight,
     counts: &mut Counts,
+    beside: &Beside,
     source: &mut S,
     root: &mut R,
     log: &mut L,
 ) -> Result<bool, Halt>
-    requires { IsAt (S.told source.old) sight survey.now }
+    requires at_sight { IsAt (S.told source.old) sight survey.now }
+    requires paced { Follows (S.told source.old) (R.told root.old) beside.now survey.now }
     ensures on { (first : Option (List ℕ)) → IsSeen (S.told source.old)
         (tree_in (S.told source.old)) (tree_in (R.told root.old)) first (L.told log.old)
         counts.old survey.now
         → IfOk result (λ more. GoesOn more (S.told source.new) (tree_in (S.told source.old))
         (tree_in (R.told root.old)) first (L.told log.new) counts.new survey.now) }
-    ensures still { OnOk result (Surveys (S.told source.new) survey.now) }
+    ensures still { OnOk result (Surveys (S.told source.new) survey.now
+        × Follows (S.told source.new) (R.told root.new) beside.now survey.now) }
     ensures source { KeepsRoot S.told S.keeps source.old source.new }
     ensures root { KeepsRoot R.told R.keeps root.old root.new }
     ensures log { KeepsLog L.told L.keeps log.old log.new }
@@ -118,13 +165,13 @@ fn tell<S: Source, R: Root, L: Log>(
         (source_tree (S.told source.old)) (tree_in (R.told root.old)) (fault_of why)) }
 {
     match sight {
-        Sight::More => Ok(true),
+        Sight::More | Sight::Scan | Sight::Opened | Sight::Block => Ok(true),
         Sight::Store => {
             check_layout(alloc, root, survey.job())?;
             Ok(true)
         }
         Sight::Object => {
-            tell_object(alloc, survey, counts, source, root, log)?;
+            tell_object(alloc, survey, counts, beside, source, root, log)?;
             Ok(true)
         }
         Sight::End => {
@@ -139,10 +186,12 @@ fn tell_object<S: Source, R: Root, L: Log>(
     alloc: Global,
     survey: &Survey,
     counts: &mut Counts,
+    beside: &Beside,
     source: &mut S,
     root: &mut R,
     log: &mut L,
 ) -> Result<(), Halt>
+    requires paced { Follows (S.told source.old) (R.told root.old) beside.now survey.now }
     requires under_way { Surveys (S.told source.old) survey.now }
     requires at_hand { sight_at survey.now.phase ≡ sight.Object }
     ensures on { (first : Option (List ℕ)) → IsSeen (S.told source.old)
@@ -161,7 +210,8 @@ fn tell_object<S: Source, R: Root, L: Log>(
     let Some(hand) = survey.at_hand()? else {
         unreachable!()
     };
-    let finding = found(alloc, source, root, survey.job(), &hand)?;
+    let alike = beside.alike_at(&hand.told.at, hand.told.to);
+    let finding = found(alloc, source, root, survey.job(), &hand, alike)?;
     let line = object_line(alloc, &hand.told, &finding)?;
     log.put(line.as_bytes()).map_err(Halt::of_log)?;
     *counts = counts.with(&finding);
@@ -175,8 +225,11 @@ fn found<S: Source, R: Root>(
     root: &mut R,
     job: &Job,
     hand: &AtHand<'_>,
+    alike: usize,
 ) -> Result<Finding, Halt>
-    requires { CanCompare (S.told source.old) hand.now }
+    requires compared { CanCompare (S.told source.old) hand.now }
+    requires alike { AreAlikeAtHand (tree_in (S.told source.old)) (tree_in (R.told root.old))
+        hand.now alike }
     ensures found { IfOk result (IsFoundAtHand job.now hand.now (tree_in (S.told source.old))
         (tree_in (R.told root.old))) }
     ensures source { KeepsRoot S.told S.keeps source.old source.new }
@@ -190,6 +243,7 @@ fn found<S: Source, R: Root>(
         id: hand.told.id.as_str(),
         rows: hand.rows,
         contents: hand.contents,
+        alike,
         algorithm: job.algorithm,
         from: &from,
         to: &to,

@@ -2,6 +2,7 @@
 #![tactic(auto)]
 
 mod auditing;
+mod beside;
 mod counts;
 pub mod laws;
 mod layout;

@@ -1,4 +1,5 @@
 pub mod Alike
+mod Beside
 pub mod Compared
 pub mod Contents
 pub mod Cut
@@ -11,6 +12,7 @@ pub mod Listed
 pub mod Made
 pub mod Noted
 pub mod OnWay
+mod Opening
 pub mod Passed
 pub mod Reading
 pub mod Roots

@@ -27,7 +27,7 @@ seen_stands (Some f) p k seen = ap (λ o. option_map_or (same_kind k) o false) (
 pub seen_kind : (tree : Option Forest) (p : Path) (here : Option Kind) (k : Kind) → IsSeen tree p here → here ≡ Some k → Stands tree (p, k)
 seen_kind tree p here k seen is = seen_stands tree p k (subst (IsSeen tree p) is seen)
 
-below : (x : Node) (p : Path) (n : List ℕ) (q : Path) → is_dir (option_map kind_of (node_at x p)) ≡ false → node_at x (p ++ n ∷ q) ≡ None
+pub below : (x : Node) (p : Path) (n : List ℕ) (q : Path) → is_dir (option_map kind_of (node_at x p)) ≡ false → node_at x (p ++ n ∷ q) ≡ None
 below (File b) [] n q other = refl
 below Other [] n q other = refl
 below (Dir d) [] n q other = absurd (cc)

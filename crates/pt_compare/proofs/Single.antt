@@ -46,7 +46,7 @@ kind_is kind.Dir (Some kind.Other) is = absurd (cc)
 kind_is kind.Other (Some kind.File) is = absurd (cc)
 kind_is kind.Other (Some kind.Dir) is = absurd (cc)
 
-kind_other : (k l : Kind) → is_kind_of k (Some l) ≡ false → l ≢ k
+pub kind_other : (k l : Kind) → is_kind_of k (Some l) ≡ false → l ≢ k
 kind_other k l is = λ same. let taken_so = ap (same_kind k) same ∙ itself k in cc
 
 folder_of : (e : Entry) → kind_of_entry e ≡ kind.Dir → e ≡ Folder
@@ -61,10 +61,10 @@ bytes_in Special is = absurd (cc)
 
 -- ---- one item
 
-one_stands : (t : Tree) (item : Item) → t (item_path item) ≡ Some (item_entry item) → All (StandsSo t) (item ∷ [])
+pub one_stands : (t : Tree) (item : Item) → t (item_path item) ≡ Some (item_entry item) → All (StandsSo t) (item ∷ [])
 one_stands t item is = All-cons (StandsSo t) item [] is (All-nil (StandsSo t))
 
-one_stops : (t : Tree) (marks : Marks) (item : Item) (p : Path) (w : Why) → p ≡ item_path item → IsWrongItem t marks item w → StopsAt t marks (item ∷ []) p w
+pub one_stops : (t : Tree) (marks : Marks) (item : Item) (p : Path) (w : Why) → p ≡ item_path item → IsWrongItem t marks item w → StopsAt t marks (item ∷ []) p w
 one_stops t marks item p w is wrong = record {
   front = [];
   item = item;
@@ -131,7 +131,7 @@ wrong_file before after place p q old new here e is at was other = subst (λ (e 
     by None was other = sym was
     by (Some k) was other = (k, sym was, kind_other kind.File k other)
 
-as_item : (t : Tree) (marks : Marks) (p : Path) (bytes : List ℕ) (w : Why) → IsWrongFile marks p w → IsWrongItem t marks (MakeFile p bytes) w
+pub as_item : (t : Tree) (marks : Marks) (p : Path) (bytes : List ℕ) (w : Why) → IsWrongFile marks p w → IsWrongItem t marks (MakeFile p bytes) w
 as_item t marks p bytes why.Missing wrong = wrong
 as_item t marks p bytes why.Kind wrong = wrong
 as_item t marks p bytes why.Bytes wrong = absurd wrong

@@ -16,11 +16,7 @@ const PIECE: usize = 8192;
 const MOST: u64 = 1 << 51;
 
 /// Whether these bytes come next in the open file of a root: block by block, of which all but the last have to be full.
-pub(crate) fn come_next<R: Root>(
-    root: &mut R,
-    block: &mut Block,
-    bytes: &[u8],
-) -> Result<bool, TreeFault>
+pub fn come_next<R: Root>(root: &mut R, block: &mut Block, bytes: &[u8]) -> Result<bool, TreeFault>
     requires { Reads (R.told root.old) }
     ensures tree { tree_in (R.told root.new) ≡ tree_in (R.told root.old) }
     ensures keeps { R.keeps root.old root.new }
@@ -43,7 +39,7 @@ pub(crate) fn come_next<R: Root>(
 }
 
 /// Whether the open file of a root has no further bytes.
-pub(crate) fn has_ended<R: Root>(root: &mut R, block: &mut Block) -> Result<bool, TreeFault>
+pub fn has_ended<R: Root>(root: &mut R, block: &mut Block) -> Result<bool, TreeFault>
     requires { Reads (R.told root.old) }
     ensures tree { tree_in (R.told root.new) ≡ tree_in (R.told root.old) }
     ensures keeps { R.keeps root.old root.new }

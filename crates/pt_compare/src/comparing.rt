@@ -1,11 +1,12 @@
 //! An object of a store, held against what stands at its place in a storage root.
 ghost use Rattle.std.specs.Prelude.{◌≡◌, ◌≤◌, ◌++◌, IfOk, length, map, true, All, IfErr, None, OnOk};
 ghost use Rattle.std.specs.Option.{ForSome};
+ghost use Rattle.pt_compare.specs.Beside.{AreAlike};
 ghost use Rattle.pt_compare.specs.Found.{HaltsAs, IsFound, IsLeft, MeetsInventories, MeetsObject, sought_of, texts_of_object};
 ghost use Rattle.pt_compare.specs.Marks.{inside, marks_of};
 ghost use Rattle.pt_compare.specs.Meeting.{FailsAs, FailsInRoot, MeetsFrom, MeetsIn, NotedStand, both};
 ghost use Rattle.pt_compare.specs.Parts.{content_items, files_of, first_items, fronts, last_items, way_items};
-ghost use Rattle.pt_compare.specs.Ways.{AreMet, common_names};
+ghost use Rattle.pt_compare.specs.Ways.{AreMet};
 ghost use Rattle.pt_compare.specs.Root.{KeepsRoot, tree_in};
 ghost use Rattle.pt_plan.specs.declared.halt.Halt.TheVariants as halt;
 ghost use Rattle.pt_object.specs.Distinct.{content_of_row, distinct};
@@ -13,13 +14,14 @@ ghost use Rattle.pt_object.specs.FilePaths.{part_in_order, row_paths};
 ghost use Rattle.pt_tree.specs.Source.{CanOpen};
 
 use crate::entries::Entries;
-use crate::meeting::{meet_bytes, meet_content, meet_folder, meet_inventory};
+use crate::meeting::{meet_bytes, meet_folder, meet_inventory, meet_stored};
+use crate::names::alike_names;
 use crate::paths::{content_path, joined, path_of, sidecar_name};
 use crate::stop::Stop;
 use crate::{Difference, Finding, Root, Scanned, Why, standing};
 use pt_object::{object_declaration, sidecar};
 use pt_plan::Halt;
-use pt_tree::{Known, Name, NamePath, Source};
+use pt_tree::{Known, NamePath, Source};
 use std::alloc::Global;
 
 /// Holds an object against what stands at its place, in the order in which a run makes it (OCFL 1.1, "Object Structure"): the
@@ -28,7 +30,7 @@ use std::alloc::Global;
 /// the paths; else that just the object stands. The inventory in the version's folder may be any that a run could make of these
 /// files, with whatever moment, user and message; the one at the top has to be the same as that, byte for byte.
 ///
-/// Each side is read once. `Source` where a call of the source failed, `Dest` where one of the root did, and `Memory` where a
+/// What is known to be alike isn't read again. `Source` where a call of the source failed, `Dest` where one of the root did, and `Memory` where a
 /// growth was refused, or a file has more than 2^77 bytes.
 pub fn compare<S: Source, R: Root>(
     alloc: Global,
@@ -41,6 +43,7 @@ pub fn compare<S: Source, R: Root>(
     requires order { part_in_order (row_paths object.now.rows.now) ≡ true }
     requires files { All (λ row. CanOpen (S.told source.old) (object.now.from.now ++ row.path))
         object.now.rows.now }
+    requires alike { AreAlike (tree_in (S.told source.old)) (tree_in (R.told root.old)) object.now }
     ensures source { KeepsRoot S.told S.keeps source.old source.new }
     ensures root { KeepsRoot R.told R.keeps root.old root.new }
     ensures failures { HaltsAs result (both (S.failed source.old) (R.failed root.old))
@@ -88,6 +91,7 @@ fn meet_object<S: Source, R: Root>(
         ≡ map content_of_row (distinct object.now.rows.now) }
     requires files { All (λ row. CanOpen (S.told source.old) (object.now.from.now ++ row.path))
         object.now.rows.now }
+    requires alike { AreAlike (tree_in (S.told source.old)) (tree_in (R.told root.old)) object.now }
     requires noted { NotedStand (tree_in (R.told root.old)) object.now.to.now
         (marks_of entries.old) }
     ensures source { KeepsRoot S.told S.keeps source.old source.new }
@@ -133,6 +137,7 @@ fn meet_contents<S: Source, R: Root>(
 ) -> Result<(), Stop>
     requires files { All (λ content. CanOpen (S.told source.old)
         (object.now.from.now ++ content.path)) object.now.contents.now }
+    requires alike { AreAlike (tree_in (S.told source.old)) (tree_in (R.told root.old)) object.now }
     requires noted { NotedStand (tree_in (R.told root.old)) object.now.to.now
         (marks_of entries.old) }
     ensures source { KeepsRoot S.told S.keeps source.old source.new }
@@ -153,8 +158,9 @@ fn meet_contents<S: Source, R: Root>(
         };
         meet_way(alloc, root, object.to, entries, &last, &content.path)?;
         let path = content_path(alloc, &content.path, content.path.len())?;
+        let is_alike = i < object.alike;
         let from = joined(object.from, &content.path)?;
-        meet_content(source, root, object.to, entries, &path, &from)?;
+        meet_stored(source, root, object.to, entries, &path, &from, is_alike)?;
         last = Some(path);
     }
     Ok(())
@@ -199,24 +205,6 @@ fn folders_met(last: &Option<NamePath>, path: &NamePath) -> usize
     };
     let alike = alike_names(path.names(), last.names());
     alike.saturating_sub(1)
-}
-
-// How many names two paths begin with alike.
-fn alike_names(path: &[Name], other: &[Name]) -> usize
-    ensures alike { result ≡ common_names path.now other.now }
-    ensures within { result ≤ length path.now }
-{
-    let [name, path @ ..] = path else {
-        return 0;
-    };
-    let [first, other @ ..] = other else {
-        return 0;
-    };
-    if name == first {
-        1 + alike_names(path, other)
-    } else {
-        0
-    }
 }
 
 // Meets the inventories and their sidecars (OCFL 1.1, "Inventory", "Inventory Digest").

@@ -16,7 +16,8 @@ mod root;
 mod scanned;
 mod stop;
 
+pub use bytes::{come_next, has_ended};
 pub use comparing::compare;
 pub use difference::{Difference, Finding, Why};
-pub use root::{Root, standing};
+pub use root::{Root, open_standing, standing};
 pub use scanned::Scanned;

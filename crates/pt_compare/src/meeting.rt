@@ -1,5 +1,6 @@
 //! Single entries of an object, held against what stands at its place: one that stands is taken out of what is noted.
-ghost use Rattle.std.specs.Prelude.{◌≡◌, ◌∷◌, [], OnOk, map};
+ghost use Rattle.std.specs.Prelude.{◌≡◌, ◌∷◌, [], true, OnOk, map};
+ghost use Rattle.pt_compare.specs.Beside.{StandsAlike, TakesFile};
 ghost use Rattle.pt_compare.specs.Found.{texts_of_object};
 ghost use Rattle.pt_compare.specs.Marks.{is_kind_of, marks_of, without_mark};
 ghost use Rattle.pt_compare.specs.Meeting.{FailsAs, FailsInRoot, MeetsFrom, MeetsIn, MeetsTextIn, NotedStand, OpensIn, both, why_for};
@@ -67,8 +68,51 @@ pub(crate) fn meet_bytes<R: Root>(
     }
 }
 
-/// Meets a content, which has the bytes of a file of the source.
-pub(crate) fn meet_content<S: Source, R: Root>(
+/// Meets a content, which has the bytes of a file of the source; what is known to be alike isn't read again.
+pub(crate) fn meet_stored<S: Source, R: Root>(
+    source: &mut S,
+    root: &mut R,
+    place: &NamePath,
+    entries: &mut Entries,
+    path: &NamePath,
+    from: &NamePath,
+    is_alike: bool,
+) -> Result<(), Stop>
+    requires noted { NotedStand (tree_in (R.told root.old)) place.now (marks_of entries.old) }
+    requires file { CanOpen (S.told source.old) from.now }
+    requires alike { is_alike ≡ true → StandsAlike (tree_in (S.told source.old))
+        (tree_in (R.told root.old)) place.now path.now from.now }
+    ensures source { KeepsRoot S.told S.keeps source.old source.new }
+    ensures root { KeepsRoot R.told R.keeps root.old root.new }
+    ensures failures { FailsAs result (both (S.failed source.old) (R.failed root.old))
+        (both (S.failed source.new) (R.failed root.new)) }
+    ensures met { MeetsFrom (tree_in (S.told source.old)) (tree_in (R.told root.old)) place.now
+        (λ s. MakeFile path.now (bytes_at s from.now) ∷ [])
+        (marks_of entries.old) (marks_of entries.new) result }
+    ensures noted { OnOk result (marks_of entries.new
+        ≡ without_mark path.now (marks_of entries.old)) }
+{
+    if is_alike {
+        take_file(entries, path)
+    } else {
+        meet_content(source, root, place, entries, path, from)
+    }
+}
+
+// Takes a file out of what is noted.
+fn take_file(entries: &mut Entries, path: &NamePath) -> Result<(), Stop>
+    ensures taken { TakesFile path.now (marks_of entries.old) (marks_of entries.new) result }
+{
+    let here = entries.take(path)?;
+    if is_of_kind(here, Kind::File) {
+        Ok(())
+    } else {
+        Err(wrong(path.copy()?, here))
+    }
+}
+
+// Meets a content, which has the bytes of a file of the source.
+fn meet_content<S: Source, R: Root>(
     source: &mut S,
     root: &mut R,
     place: &NamePath,

@@ -1,9 +1,10 @@
 //! The text of a path, and the names that are cut out of it.
-ghost use Rattle.std.specs.Prelude.{◌≡◌, ◌==◌, ◌++◌, ◌∷◌, [], IfOk, OnOk};
+ghost use Rattle.std.specs.Prelude.{◌≡◌, ◌≤◌, ◌==◌, ◌++◌, ◌∷◌, [], IfOk, OnOk, length};
 ghost use Rattle.std.specs.List.{position};
 ghost use Rattle.pt_tree.specs.Path.{joined};
 ghost use Rattle.pt_folder.specs.Laws.{IsPath};
 ghost use Rattle.pt_compare.specs.Entries.{names_in, pieces};
+ghost use Rattle.pt_compare.specs.Ways.{common_names};
 
 use pt_tree::{MemoryFault, Name, NamePath};
 use std::alloc::Global;
@@ -71,5 +72,23 @@ fn add_name(alloc: Global, path: &mut NamePath, bytes: &[u8]) -> Result<(), Memo
     match Name::of(alloc, bytes) {
         Ok(name) => path.push(name),
         Err(_) => Err(MemoryFault::Memory),
+    }
+}
+
+/// How many names two paths begin with alike.
+pub(crate) fn alike_names(path: &[Name], other: &[Name]) -> usize
+    ensures alike { result ≡ common_names path.now other.now }
+    ensures within { result ≤ length path.now }
+{
+    let [name, path @ ..] = path else {
+        return 0;
+    };
+    let [first, other @ ..] = other else {
+        return 0;
+    };
+    if name == first {
+        1 + alike_names(path, other)
+    } else {
+        0
     }
 }

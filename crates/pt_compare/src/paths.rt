@@ -41,8 +41,8 @@ pub(crate) fn content_path(
     extended(above, &path.names()[..names])
 }
 
-// A path with these names behind it.
-fn extended(mut path: NamePath, names: &[Name]) -> Result<NamePath, MemoryFault>
+/// A path with these names behind it. `Memory` where a growth was refused.
+pub(crate) fn extended(mut path: NamePath, names: &[Name]) -> Result<NamePath, MemoryFault>
     ensures { IfOk result (λ longer. longer ≡ path ++ names.now) }
 {
     path.reserve(names.len())?;

@@ -1,9 +1,14 @@
 //! The storage root that stands, as an audit reads it.
-ghost use Rattle.std.specs.Prelude.{◌≡◌, IfOk};
+ghost use Rattle.std.specs.Prelude.{◌≡◌, IfOk, IsTrue};
+ghost use Rattle.pt_plan.specs.TurnStart.{is_file_kind};
+ghost use Rattle.pt_compare.specs.Beside.{OpensStanding};
+ghost use Rattle.pt_tree.specs.declared.kind.Kind.TheVariants as kind;
 ghost use Rattle.pt_tree.specs.Failures.{IsCounted};
-ghost use Rattle.pt_compare.specs.Root.{CanLook, IsSeen, is_dir as is_dir_kind, tree_in};
+ghost use Rattle.pt_compare.specs.Root.{CanLook, IsSeen, Stands, is_dir as is_dir_kind, tree_in};
 
-use pt_tree::{Kind, NamePath, Source, TreeFault};
+use crate::names::alike_names;
+use crate::paths::extended;
+use pt_tree::{Kind, Name, NamePath, Source, TreeFault};
 use std::alloc::Global;
 
 /// A source that is asked, too, what stands at a path.
@@ -48,4 +53,73 @@ fn is_dir(here: Option<Kind>) -> bool
     ensures { result ≡ is_dir_kind here }
 {
     matches!(here, Some(Kind::Dir))
+}
+
+/// Opens the file at a path of a root, if one stands there; whether it does.
+///
+/// Each folder on its way is looked at, but for those that lead to a folder that is known to stand. The folder of the file is
+/// that one from then on, if it isn't above it.
+#[tactic(auto, using(crate::proofs::Reading::calls, crate::proofs::Opening::opening))]
+pub fn open_standing<R: Root>(
+    alloc: Global,
+    root: &mut R,
+    folder: &mut NamePath,
+    path: &NamePath,
+) -> Result<bool, TreeFault>
+    requires { Stands (tree_in (R.told root.old)) (folder.old, kind.Dir) }
+    ensures opened { IfOk result (OpensStanding path.now (R.told root.old) (R.told root.new)) }
+    ensures folder { Stands (tree_in (R.told root.new)) (folder.new, kind.Dir) }
+    ensures tree { tree_in (R.told root.new) ≡ tree_in (R.told root.old) }
+    ensures failures { IsCounted (R.failed root.old) (R.failed root.new) result }
+    ensures keeps { R.keeps root.old root.new }
+{
+    let Some((above, _)) = path.split() else {
+        return Ok(false);
+    };
+    if !stand_above(alloc, root, folder, above)? {
+        return Ok(false);
+    }
+    if !is_file(root.kind(path)?) {
+        return Ok(false);
+    }
+    root.open(path)?;
+    Ok(true)
+}
+
+// Whether the folder of these names stands. It is the one that is known to stand from then on, unless that is below it.
+#[tactic(auto, using(crate::proofs::Roots::roots, crate::proofs::Opening::opening))]
+fn stand_above<R: Root>(
+    alloc: Global,
+    root: &mut R,
+    folder: &mut NamePath,
+    above: &[Name],
+) -> Result<bool, TreeFault>
+    requires { Stands (tree_in (R.told root.old)) (folder.old, kind.Dir) }
+    ensures stands { IfOk result (λ stand. IsTrue stand
+        → Stands (tree_in (R.told root.old)) (above.now, kind.Dir)) }
+    ensures folder { Stands (tree_in (R.told root.old)) (folder.new, kind.Dir) }
+    ensures same { R.told root.new ≡ R.told root.old }
+    ensures failures { IsCounted (R.failed root.old) (R.failed root.new) result }
+    ensures keeps { R.keeps root.old root.new }
+{
+    let alike = alike_names(above, folder.names());
+    let (first, rest) = above.split_at(alike);
+    if rest.is_empty() {
+        return Ok(true);
+    }
+    let mut way = extended(NamePath::new(alloc), first)?;
+    for name in rest {
+        way.push(name.copy()?)?;
+        if !is_dir(root.kind(&way)?) {
+            return Ok(false);
+        }
+    }
+    *folder = way;
+    Ok(true)
+}
+
+fn is_file(here: Option<Kind>) -> bool
+    ensures { result ≡ is_file_kind here }
+{
+    matches!(here, Some(Kind::File))
 }

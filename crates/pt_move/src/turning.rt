@@ -4,6 +4,7 @@ ghost use Rattle.std.specs.Prelude.{◌<◌, []};
 ghost use Rattle.pt_plan.specs.declared.phase.Phase.TheVariants as phase;
 ghost use Rattle.pt_move.specs.Running.{IsNew};
 ghost use Rattle.pt_plan.specs.Permits.{Permits};
+ghost use Rattle.pt_scan.specs.Blocks.{ReadsNext};
 ghost use Rattle.pt_state.specs.Outside.{TakesTurn};
 ghost use Rattle.pt_state.specs.States.{held_of, job_of, kept_of};
 ghost use Rattle.pt_move.specs.Bounds.{IsBounded, most_calls};
@@ -55,6 +56,7 @@ pub fn turn<O: Outside>(state: &mut State, phase: Phase, out: &mut O) -> Result<
     requires within { state.old.counts.turns < state.old.job.limits.turns }
     ensures turn { TakesCounted O.world (O.within (most_calls phase)) phase state.old state.new
         out.old out.new result }
+    ensures block { ReadsNext phase (O.world out.old).source state.new.block.items result }
 {
     let _most = state.job.limits.turns();
     state.counts.turns += 1;
@@ -69,6 +71,7 @@ fn turn_at<O: Outside>(state: &mut State, phase: Phase, out: &mut O) -> Result<P
     requires adds { CanAdd phase state.old }
     ensures turn { TakesTurn O.world (O.within (most_calls phase)) phase state.old state.new
         out.old out.new result }
+    ensures block { ReadsNext phase (O.world out.old).source state.new.block.items result }
 {
     match phase {
         Phase::Begin => store::begin(state, out),

@@ -1,3 +1,4 @@
+mod Blocks
 pub mod FileTurns
 pub mod HeldTurns
 pub mod JoinedLength

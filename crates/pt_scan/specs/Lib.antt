@@ -1,3 +1,4 @@
+pub mod Blocks
 pub mod Judging
 pub mod Scanning
 pub mod Walking

@@ -1,11 +1,12 @@
 #![tactic(auto, using(crate::proofs::FileTurns::reading, crate::proofs::ObjectPaths::paths, pt_state::proofs::Turns::turns))]
 //! The turns that read a file of an object, for its digest and its length.
-ghost use Rattle.std.specs.Prelude.{◌≡◌, ◌<◌, ◌+◌, length};
+ghost use Rattle.std.specs.Prelude.{◌≡◌, ◌<◌, ◌+◌, IfOk, length};
 ghost use Rattle.pt_plan.specs.Turn.{Did};
 ghost use Rattle.pt_plan.specs.World.{World, Reads, asks};
 ghost use Rattle.pt_plan.specs.declared.phase.Phase.TheVariants as phase;
 ghost use Rattle.pt_tree.specs.Source.{CanRead};
 ghost use Rattle.pt_state.specs.Outside.{EndsTurn, TakesTurn, Turned};
+ghost use Rattle.pt_scan.specs.Blocks.{IsNextBlock, KeepsBlock};
 ghost use Rattle.pt_scan.specs.Scanning.{CanPassOver, CanReadOn};
 
 use crate::scanning::{give_up, logical_names};
@@ -34,6 +35,7 @@ pub fn read<O: Outside>(
     requires reads { CanReadOn object bytes state.old }
     ensures turn { TakesTurn O.world (O.within 1) (phase.Read object bytes) state.old state.new
         out.old out.new result }
+    ensures block { IfOk result (IsNextBlock (O.world out.old).source state.new.block.items) }
 {
     out.next(&mut state.block)?;
     take_block(state, object, bytes, out)
@@ -49,6 +51,7 @@ fn take_block<O: Outside>(
     requires { CanReadOn object bytes state.old }
     ensures turn { EndsTurn O.world (O.within 0) (asks (Reads state.old.block.items))
         (phase.Read object bytes) state.old state.new out.old out.new result }
+    ensures block { IfOk result (KeepsBlock state.old.block.items state.new.block.items) }
 {
     if state.block.is_empty() {
         return end_file(state, object, bytes);
@@ -67,6 +70,7 @@ fn end_file(state: &mut State, object: Object, bytes: u64) -> Result<Phase, Halt
     requires reads { CanReadOn object bytes state.old }
     ensures turn { (before after : World) → Did (asks (Reads state.old.block.items)) before after
         → Turned (phase.Read object bytes) state.old state.new before after result }
+    ensures scans { IfOk result (λ next. next ≡ phase.Scan object) }
 {
     let entry = entry_path(&state.trail)?;
     let names = logical_names(&object, &state.trail, &entry);
@@ -91,6 +95,7 @@ fn pass_object<O: Outside>(
     requires passes { CanPassOver object state.old }
     ensures turn { EndsTurn O.world (O.within 0) (asks (Reads state.old.block.items))
         (phase.Read object bytes) state.old state.new out.old out.new result }
+    ensures walks { IfOk result (λ next. next ≡ phase.Walk) }
 {
     give_up(state, &object, Cause::Limit, out)?;
     Ok(Phase::Walk)

@@ -1,3 +1,4 @@
+mod Files
 pub mod Alone
 pub mod Seen
 pub mod Stepping

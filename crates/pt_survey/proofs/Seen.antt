@@ -186,7 +186,7 @@ has_at_hand {job} {past} {s} {object} {held} at part =
 -- ---- each turn that looks
 
 -- the turns that make an object and that bring it to its place are none
-making_is_none : {job : Job} {here : Phase} {held new : Held} {calls : Calls} {answer : Answer} → make.Makings job here held new calls answer → is_looking here ≡ false
+pub making_is_none : {job : Job} {here : Phase} {held new : Held} {calls : Calls} {answer : Answer} → make.Makings job here held new calls answer → is_looking here ≡ false
 making_is_none (make.MakesStaging _ _) = refl
 making_is_none (make.MakesDeclaration _ _) = refl
 making_is_none (make.MakesVersion _ _) = refl
@@ -202,7 +202,7 @@ making_is_none (make.MakesVersionSidecar _ _) = refl
 making_is_none (make.MakesInventory _ _) = refl
 making_is_none (make.MakesSidecar _ _) = refl
 
-placing_is_none : {job : Job} {counts : Counts} {here : Phase} {held new : Held} {calls : Calls} {answer : Answer} → place.Places job counts here held new calls answer → is_looking here ≡ false
+pub placing_is_none : {job : Job} {counts : Counts} {here : Phase} {held new : Held} {calls : Calls} {answer : Answer} → place.Places job counts here held new calls answer → is_looking here ≡ false
 placing_is_none (place.MakesTuple _ _ _) = refl
 placing_is_none (place.FindsTuple _ _ _) = refl
 placing_is_none (place.IsInTheWay _ _ _ _ _) = refl

@@ -212,7 +212,7 @@ at_hand_seen : {job : Job} {source : Forest} {count : ℕ} {object : Object} {he
 at_hand_seen it {same} is = WasAtHand (record { item = it.item; is = it.is; lines_are = it.lines_are ∙ ap (λ (l : Line). l ∷ []) is })
 
 -- the turn that passes it
-line_follows : {job : Job} {counts : Counts} {object : Object} {next : Phase} {prefix read : List ℕ} {held after : Held} {calls : Calls} → Follows job counts (phase.Line object) prefix held read after calls (Ok next) → (next ≡ phase.Walk) × (calls.line ≡ Some (done_line object held))
+pub line_follows : {job : Job} {counts : Counts} {object : Object} {next : Phase} {prefix read : List ℕ} {held after : Held} {calls : Calls} → Follows job counts (phase.Line object) prefix held read after calls (Ok next) → (next ≡ phase.Walk) × (calls.line ≡ Some (done_line object held))
 line_follows (Start turn) = elim turn [ ]
 line_follows (Walk turn) = elim turn [ ]
 line_follows (Scan turn) = elim turn [ ]

@@ -1,3 +1,4 @@
 pub mod Bare
+pub mod Files
 pub mod Growing
 pub mod Surveying

@@ -1,5 +1,5 @@
 -- A survey under way: the turns of a run that look at a store, over a destination in which nothing stands. Its neighbours are the source's, since nothing is made.
-use Rattle.std.specs.Prelude.{◌≡◌, ◌<◌, ◌≤◌, ℕ, suc, Bool, true, false, List, [], ◌∷◌, ◌++◌, ◌+◌, count_by, map, sum_by, Option, None, Some, option_to_list, slice_get}
+use Rattle.std.specs.Prelude.{◌≡◌, ◌<◌, ◌≤◌, ℕ, zero, suc, Bool, true, false, List, [], ◌∷◌, ◌++◌, ◌+◌, count_by, map, sum_by, Option, None, Some, option_to_list, slice_get}
 use Rattle.std.specs.Option.{ForSome}
 use Rattle.pt_begun.specs.Begun.{IsPast, Start}
 use Rattle.pt_begun.specs.Past.{Past}
@@ -85,6 +85,9 @@ passed here = here
 -- what is seen there
 abbrev pub sight_at : Phase → Sight
 sight_at phase.OpenRoot = sight.Store
+sight_at (phase.Scan object) = sight.Scan
+sight_at (phase.Read object zero) = sight.Opened
+sight_at (phase.Read object (suc bytes)) = sight.Block
 sight_at (phase.Line object) = sight.Object
 sight_at phase.End = sight.End
 sight_at _ = sight.More

@@ -4,4 +4,4 @@
 mod bare;
 mod survey;
 
-pub use survey::{AtHand, Sight, Survey};
+pub use survey::{AtHand, Opened, Sight, Survey};

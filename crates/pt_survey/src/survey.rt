@@ -1,7 +1,7 @@
 #![tactic(auto, using(crate::proofs::Stepping::steps))]
 // A survey under way, made step by step.
 ghost use Rattle.std.specs.Option.{ForSome};
-ghost use Rattle.std.specs.Prelude.{◌≡◌, ◌≢◌, ℕ, true, Option, Some, None, IfErr, OnOk, IfOk};
+ghost use Rattle.std.specs.Prelude.{◌≡◌, ◌≢◌, ℕ, true, length, Option, Some, None, IfErr, OnOk, IfOk};
 ghost use Rattle.pt_move.specs.Running.{IsNew};
 ghost use Rattle.pt_move.specs.Running.{IsWell};
 ghost use Rattle.pt_plan.specs.Answer.{phase_after};
@@ -11,6 +11,8 @@ ghost use Rattle.pt_state.specs.Outside.{world};
 ghost use Rattle.pt_survey.specs.Bare.{bare};
 ghost use Rattle.pt_move.specs.Turning.{CountedTurn};
 ghost use Rattle.pt_plan.specs.declared.phase.Phase.TheVariants as phase;
+ghost use Rattle.pt_scan.specs.Blocks.{ReadsNext};
+ghost use Rattle.pt_survey.specs.Files.{IsOpened, ScansOn, names_before as names_before_file};
 ghost use Rattle.pt_survey.specs.Surveying.{GoesOn, IsHand, IsReady, IsSurvey, Steps, SurveySays, Surveys, is_at_hand as is_at_hand_there, is_looking, passed as passed_phase, sight_at};
 ghost use Rattle.pt_tree.specs.Forest.{is_proper};
 ghost use Rattle.pt_tree.specs.Source.{Reading};
@@ -19,9 +21,10 @@ use crate::bare::{Bare, Unread};
 use pt_move::turning::{new_state, turn};
 use pt_move::{Carried, Fault, Job, Report, as_told};
 use pt_object::{Contents, Rows};
-use pt_plan::{Halt, Part, Phase};
+use pt_plan::{Halt, Object, Part, Phase};
+use pt_state::paths::entry_path;
 use pt_state::{Devices, State};
-use pt_tree::{Log, MemoryFault, Source};
+use pt_tree::{Block, Log, MemoryFault, NamePath, Source};
 use std::alloc::Global;
 use std::marker::Model;
 use std::mem;
@@ -33,6 +36,12 @@ pub enum Sight {
     More,
     /// It is a store with a good prefix; its sites come next.
     Store,
+    /// The entries of an object are looked at.
+    Scan,
+    /// A file of the object was opened.
+    Opened,
+    /// A block of that file was read, and is held until the next step.
+    Block,
     /// An object was scanned whole, and is at hand until the next step.
     Object,
     /// All was seen.
@@ -48,6 +57,17 @@ pub struct AtHand<'s> {
     pub rows: &'s Rows,
     /// Which of them are stored.
     pub contents: &'s Contents,
+}
+
+/// A file of an object that was opened.
+#[derive(Drop)]
+pub struct Opened<'s> {
+    /// The object's place in a storage root.
+    pub place: &'s NamePath,
+    /// The path of the file in the source, from below `pairtree_root` on.
+    pub path: NamePath,
+    /// How many names of the path lead to the object; the others are the logical path (OCFL 1.1, "Manifest").
+    pub before: usize,
 }
 
 /// A survey of a store under way, seen as what a run holds.
@@ -97,6 +117,8 @@ impl Survey {
             (L.told log.old) (L.told log.new) count self.old self.new) }
         ensures sight { IfOk result (λ sight. sight ≡ sight_at self.new.phase) }
         ensures steps { OnOk result (Steps (source_tree (S.told source.old)) self.old self.new) }
+        ensures scans { OnOk result (ScansOn (S.told source.old) (S.told source.new)
+            self.old self.new) }
         ensures source { KeepsTree S.told S.keeps source.old source.new }
         ensures log { KeepsLog L.told L.keeps log.old log.new }
         ensures blames { BlamesRightly (S.failed source.old) (S.failed source.new)
@@ -127,6 +149,34 @@ impl Survey {
             })),
             _ => Ok(None),
         }
+    }
+
+    /// The file that was opened, if one was; `Memory` where a growth was refused.
+    pub fn opened(&self) -> Result<Option<Opened<'_>>, MemoryFault>
+        ensures { IfOk result (IsOpened self.now) }
+    {
+        match &self.phase {
+            Phase::Read(object, 0) => Ok(Some(Opened {
+                place: &object.place,
+                path: entry_path(&self.state.trail)?,
+                before: names_before(object),
+            })),
+            _ => Ok(None),
+        }
+    }
+
+    /// The block that was read of the open file.
+    pub fn block(&self) -> &Block
+        ensures { result.now ≡ self.now.state.block }
+    {
+        &self.state.block
+    }
+
+    /// How many files of the object are stored so far.
+    pub fn stored(&self) -> usize
+        ensures { result ≡ length self.now.state.contents }
+    {
+        self.state.contents.len()
     }
 
     /// What it was asked for.
@@ -166,6 +216,9 @@ fn stepped<S: Source, L: Log>(
     ensures steps { IfOk result (λ next. Steps (source_tree (S.told source.old))
         (record { phase = here; state = state.old })
         (record { phase = next; state = state.new })) }
+    ensures scans { IfOk result (λ next. ScansOn (S.told source.old) (S.told source.new)
+        (record { phase = here; state = state.old })
+        (record { phase = next; state = state.new })) }
     ensures source_stays { S.keeps source.old source.new }
     ensures log_stays { L.keeps log.old log.new }
 {
@@ -197,6 +250,7 @@ fn look<S: Source, L: Log>(
         (S.failed source.old) 0 (L.failed log.old))
         (world (S.told source.new) (Some bare) (L.told log.new)
         (S.failed source.new) 0 (L.failed log.new)) result }
+    ensures block { ReadsNext here (S.told source.old) state.new.block.items result }
     ensures source_stays { S.keeps source.old source.new }
     ensures log_stays { L.keeps log.old log.new }
 {
@@ -248,8 +302,22 @@ fn seen_at(here: &Phase) -> Sight
 {
     match here {
         Phase::OpenRoot => Sight::Store,
+        Phase::Scan(_) => Sight::Scan,
+        Phase::Read(_, 0) => Sight::Opened,
+        Phase::Read(_, _) => Sight::Block,
         Phase::Line(_) => Sight::Object,
         Phase::End => Sight::End,
         _ => Sight::More,
+    }
+}
+
+// How many names lead to an object, of the path of a file of it.
+fn names_before(object: &Object) -> usize
+    ensures { result ≡ names_before_file object.now }
+{
+    if object.gathered {
+        object.site.saturating_sub(1)
+    } else {
+        object.site
     }
 }

@@ -1,20 +1,22 @@
 use Rattle.std.proofs.Common.{◌≡◌, ◌-◌}
 use Rattle.pt_audit.specs.Auditing.{IsUnderWay}
+use Rattle.pt_audit.specs.Beside.{Follows}
 use Rattle.pt_audit.specs.Failing.{failures}
 use Rattle.pt_compare.specs.Root.{KeepsRoot, tree_in}
 use Rattle.pt_survey.specs.Growing.{KeepsLog}
 use Rattle.pt_survey.specs.Surveying.{Surveys}
 use Rattle.pt_audit.proofs.auditing.audit.Given as goal
 
-abbrev pub invariant-loop-survey : goal.invariant-loop-survey
-invariant-loop-survey g l =
+abbrev pub invariant-loop-beside : goal.invariant-loop-beside
+invariant-loop-beside g l =
     IsUnderWay (g.S.Source.told l.source) (tree_in (g.S.Source.told l.source)) (tree_in (g.R.Source.told l.root)) (g.L.Log.told l.fn.log) (g.L.Log.told l.log) l.counts l.survey
     × Surveys (g.S.Source.told l.source) l.survey
+    × Follows (g.S.Source.told l.source) (g.R.Source.told l.root) l.beside l.survey
     × (l.survey.state.job ≡ l.fn.job)
     × KeepsRoot g.S.Source.told g.S.Source.keeps l.fn.source l.source
     × KeepsRoot g.R.Source.told g.R.Source.keeps l.fn.root l.root
     × KeepsLog g.L.Log.told g.L.Log.keeps l.fn.log l.log
     × (failures (g.S.Source.failed l.source) (g.R.Source.failed l.root) (g.L.Log.failed l.log) ≡ failures (g.S.Source.failed l.fn.source) (g.R.Source.failed l.fn.root) (g.L.Log.failed l.fn.log))
 
-abbrev pub decreases-loop-survey : goal.decreases-loop-survey
-decreases-loop-survey g l = l.survey.state.job.limits.turns - l.survey.state.counts.turns
+abbrev pub decreases-loop-beside : goal.decreases-loop-beside
+decreases-loop-beside g l = l.survey.state.job.limits.turns - l.survey.state.counts.turns

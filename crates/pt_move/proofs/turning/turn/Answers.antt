@@ -11,4 +11,5 @@ returns g c = record {
     turn = counted_turn _ c.args.state.now _ _ _ _ _ c.turn_at.ensures.turn.turn refl refl (λ fed. refl);
     few = c.turn_at.ensures.turn.few;
   };
+  block = c.turn_at.ensures.block;
 }

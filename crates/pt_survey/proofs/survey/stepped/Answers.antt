@@ -1,6 +1,7 @@
 use Rattle.std.proofs.Common.{rules}
 use Rattle.std.specs.Prelude.{None}
 use Rattle.pt_survey.proofs.Stepping.{halt_leaves, halt_leaves_log, halt_well, looking_is, step_leaves, step_leaves_log, step_looks, step_passes, step_well}
+use Rattle.pt_survey.proofs.Files.{step_scans, step_scans_none}
 use Rattle.pt_survey.proofs.Steps.{step_steps}
 use Rattle.pt_survey.proofs.survey.stepped.Goals as goal
 
@@ -52,3 +53,12 @@ returns-in_ok-look-clause-leaves g c =
 pub returns-in_ok-look-clause-steps : goal.returns-in_ok-look-clause-steps
 returns-in_ok-look-clause-steps g c =
     step_steps c.args.here c.in_ok-look.field-0 _ _ _ _ _ _ _ _ _ _ _ _ _ _ _ (search rules) c.requires.ready c.in_ok-look.ensures.turn
+
+pub returns-in_ok-pass-clause-scans : goal.returns-in_ok-pass-clause-scans
+returns-in_ok-pass-clause-scans g c =
+    step_scans_none c.args.here c.in_ok-pass.field-0 _ _ _ _ _ _ _ _ _ _ _ _ _ _ _ (search rules) (search rules) c.requires.ready.under_way c.in_ok-pass.ensures.turn
+
+pub returns-in_ok-look-clause-scans : goal.returns-in_ok-look-clause-scans
+returns-in_ok-look-clause-scans g c =
+    step_scans c.args.here c.in_ok-look.field-0 _ _ _ _ _ _ _ _ _ _ _ _ _ _ _ (search rules)
+    (looking_is _ c.args.here _ c.requires.ready.under_way (search rules) c.requires.more) c.requires.ready.under_way c.in_ok-look.ensures.turn c.in_ok-look.ensures.block

@@ -1,0 +1,65 @@
+-- Folders that are known to stand, and what is opened below them.
+use Rattle.std.proofs.Common.{◌≡◌, ◌<◌, ◌+◌, ℕ, zero, suc, List, [], ◌∷◌, ◌++◌, Bool, true, false, refl, sym, ap, ◌∙◌, subst, drop, take, length, append-nil, append_assoc, get_or}
+use Rattle.std.specs.Prelude.{Option, None, Some, cond}
+use Rattle.std.specs.Option.{ForSome, option_map, option_map_or}
+use Rattle.std.specs.Cmp.Lexicographic.{other_text, same_text}
+use Rattle.std.specs.Str.{bytes_eq}
+use Rattle.std.proofs.lemmas.Bool.{true≢false}
+use Rattle.std.proofs.lemmas.List.{drop_more, take-append-drop}
+use Rattle.pt_compare.specs.Root.{CanLook, Stands, is_dir, kind_at, same_kind}
+use Rattle.pt_compare.specs.Ways.{common_names}
+use Rattle.pt_compare.proofs.Roots.{below, stands_dir}
+use Rattle.pt_tree.specs.Forest.{Dir, Forest, kind_of, node_at}
+use Rattle.pt_tree.specs.Path.{Path, parent, split_path}
+use Rattle.pt_tree.specs.declared.kind.Kind.TheVariants as kind
+
+-- above a directory stands a directory
+pub dir_above : (tree : Option Forest) (p q : Path) → Stands tree (p ++ q, kind.Dir) → Stands tree (p, kind.Dir)
+dir_above None p q stands = refl
+dir_above (Some f) p [] stands = subst (λ (x : Path). Stands (Some f) (x, kind.Dir)) (append-nil p) stands
+dir_above (Some f) p (n ∷ q) stands = by (is_dir (kind_at f p)) refl
+  where
+    by : (b : Bool) → is_dir (kind_at f p) ≡ b → is_dir (kind_at f p) ≡ true
+    by true is = is
+    by false is = absurd (let none = below (Dir f) p n q is in true≢false (sym stands ∙ ap (λ o. option_map_or (same_kind kind.Dir) (option_map kind_of o) false) none))
+
+-- the names that two paths begin with alike are the same
+pub take_alike : (p q : Path) → take (common_names p q) p ≡ take (common_names p q) q
+take_alike [] q = by q
+  where
+    by : (q : Path) → [] ≡ take 0 q
+    by q = refl
+take_alike (n ∷ p) [] = refl
+take_alike (n ∷ p) (m ∷ q) = by (bytes_eq n m) refl (take_alike p q)
+  where
+    by : (b : Bool) → bytes_eq n m ≡ b → take (common_names p q) p ≡ take (common_names p q) q → take (cond b (suc (common_names p q)) 0) (n ∷ p) ≡ take (cond b (suc (common_names p q)) 0) (m ∷ q)
+    by true is rest = ap (λ (x : List ℕ). x ∷ take (common_names p q) p) (same_text n m (sym is)) ∙ ap (λ (x : Path). m ∷ x) rest
+    by false is rest = refl
+
+-- so the folder of those that a path has in common with one that stands stands
+pub dir_alike : (tree : Option Forest) (p folder first : Path) (n : ℕ) → Stands tree (folder, kind.Dir) → n ≡ common_names p folder → first ≡ take n p → Stands tree (first, kind.Dir)
+dir_alike tree p folder first n stands is begin =
+    let front : first ≡ take n folder = begin ∙ (rw is (take_alike p folder)) in
+    subst (λ (x : Path). Stands tree (x, kind.Dir)) (sym front) (dir_above tree (take n folder) (drop n folder) (subst (λ (x : Path). Stands tree (x, kind.Dir)) (sym (take-append-drop n folder)) stands))
+
+-- and where the path has no more names, it stands itself
+pub dir_whole : (tree : Option Forest) (p folder first : Path) (n : ℕ) {rest : Path} → first ≡ take n p → rest ≡ drop n p → length rest ≡ 0 → n ≡ common_names p folder → Stands tree (folder, kind.Dir) → Stands tree (p, kind.Dir)
+dir_whole tree p folder first n {rest = []} begin back none is stands =
+    let whole : first ≡ p = begin ∙ sym (append-nil (take n p)) ∙ ap (λ (q : Path). take n p ++ q) back ∙ take-append-drop n p in
+    subst (λ (x : Path). Stands tree (x, kind.Dir)) whole (dir_alike tree p folder first n stands is begin)
+dir_whole tree p folder first n {rest = m ∷ rest} begin back none is stands = absurd (cc)
+
+-- a way goes on by the next name
+pub way_on : (way longer rest above : Path) (n d : List ℕ) (i : ℕ) → way ++ drop i rest ≡ above → i < length rest → n ≡ get_or rest i d → longer ≡ way ++ n ∷ [] → longer ++ drop (i + 1) rest ≡ above
+way_on way longer rest above n d i whole within is long =
+    ap (λ (p : Path). p ++ drop (i + 1) rest) long ∙ append_assoc way (n ∷ []) (drop (i + 1) rest) ∙ ap (λ (p : Path). way ++ p) (ap (λ (x : List ℕ). x ∷ drop (i + 1) rest) is ∙ sym (drop_more rest i d within)) ∙ whole
+
+-- the folder of a path may be looked into where it stands
+pub look_in : (tree : Option Forest) (above path : Path) (name : List ℕ) → Stands tree (above, kind.Dir) → Some (above, name) ≡ split_path path → CanLook tree path
+unfolding CanLook
+look_in tree above [] name stands is = absurd (cc)
+look_in tree above (n ∷ p) name stands is = λ f told.
+    let same : above ≡ parent (n ∷ p) = ap (λ o. option_map_or (λ (s : Path × List ℕ). s.0) o []) is in
+    stands_dir tree (parent (n ∷ p)) (rw same at stands) f told
+
+pub ruleset opening = (dir_alike, look_in)

@@ -1,0 +1,28 @@
+use Rattle.std.proofs.Common.{rules, sym, subst, ◌∙◌, ◌++◌, ◌∷◌, []}
+use Rattle.pt_tree.specs.Path.{Path}
+use Rattle.pt_compare.specs.Root.{CanLook, IsSeen, tree_in}
+use Rattle.pt_compare.proofs.Opening.{dir_whole, way_on}
+use Rattle.pt_compare.proofs.Roots.{can_look, seen_dir}
+use Rattle.pt_compare.proofs.root.stand_above.Goals as goal
+
+pub returns-then-is_empty-clause-stands : goal.returns-then-is_empty-clause-stands
+returns-then-is_empty-clause-stands g c = λ is.
+    dir_whole _ c.args.above.now c.names.result.now _ c.alike_names-alike.result c.split_at.ensures.front c.split_at.ensures.back (search rules) c.alike_names-alike.ensures.alike (search rules)
+
+pub kind-requires : goal.kind-requires
+kind-requires g c =
+    let at = c.loop-name.invariant in
+    subst (λ (p : Path). CanLook (tree_in (g.R.Source.told c.loop-name.root)) p) (sym c.in_ok-push.ensures.ok)
+    (subst (λ t. CanLook (tree_in t) (c.loop-name.way ++ c.in_ok-copy.field-0 ∷ [])) (sym at.1) (can_look (tree_in (g.R.Source.told c.args.root.now)) c.loop-name.way c.in_ok-copy.field-0 at.3))
+
+pub loop-name-preserved : goal.loop-name-preserved
+loop-name-preserved g c =
+    let at = c.loop-name.invariant in
+    let told = g.R.Source.told in (
+      way_on c.loop-name.way c.push.new.self c.split_at.result.1.now c.args.above.now c.in_ok-copy.field-0 _ c.loop-name.name-index at.0 c.loop-name-test.true (c.in_ok-copy.ensures.bytes ∙ c.name-item.is) c.in_ok-push.ensures.ok,
+      c.in_ok-kind.ensures.same ∙ at.1,
+      c.in_ok-kind.ensures.failures ∙ at.2,
+      seen_dir (tree_in (told c.args.root.now)) c.push.new.self c.in_ok-kind.field-0 (subst (λ t. IsSeen (tree_in t) c.push.new.self c.in_ok-kind.field-0) at.1 c.in_ok-kind.ensures.kind) (search rules),
+      g.met.R.Source.keeps_on _ _ _ at.4 c.in_ok-kind.ensures.keeps,
+      at.5,
+    )

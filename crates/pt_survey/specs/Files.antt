@@ -1,0 +1,62 @@
+-- The files of an object that a survey scans: which one is read, and what a step reads of it.
+use Rattle.std.specs.Prelude.{◌≡◌, ℕ, zero, ◌-◌, Bool, true, false, cond, List, Option, None, Some, Ok}
+use Rattle.std.specs.Bool.{MatchBool, OnTrue}
+use Rattle.pt_move.specs.Running.{Running}
+use Rattle.pt_plan.specs.TurnScan.{Scans}
+use Rattle.pt_plan.specs.World.{Answers, Calls}
+use Rattle.pt_plan.specs.declared.object.Object.{Object}
+use Rattle.pt_plan.specs.declared.phase.Phase.{Phase}
+use Rattle.pt_plan.specs.declared.phase.Phase.TheVariants as phase
+use Rattle.pt_scan.specs.Blocks.{IsNextBlock, is_reading}
+use Rattle.pt_state.specs.States.{held_of, job_of}
+use Rattle.pt_state.specs.declared.state.State.{State}
+use Rattle.pt_survey.specs.Surveying.{passed}
+use Rattle.pt_survey.specs.declared.survey.Opened.{Opened}
+use Rattle.pt_tree.specs.Source.{Reading}
+use Rattle.pt_walk.specs.Trail.{names_to}
+
+-- an object is opened, its entries are looked at, or a file of it is read
+abbrev pub is_scanning : Phase → Bool
+is_scanning (phase.OpenObject object) = true
+is_scanning (phase.Scan object) = true
+is_scanning (phase.Read object bytes) = true
+is_scanning _ = false
+
+-- a turn of a scan was made, with these answers of the source; where a file is read on, the block that is held is its next one
+pub record Scanned (told told' : Option Reading) (before after : Running) : Type 0 where
+  pub fed : List ℕ
+  pub later : List ℕ
+  pub next : Phase
+  pub calls : Calls
+  pub scans : Scans (job_of before.state.job) before.phase (held_of before.state fed)
+      (held_of after.state later) calls (Ok next)
+  pub answers : Answers calls.asked told told'
+  pub here : after.phase ≡ passed next
+  pub block : OnTrue (is_reading before.phase) (IsNextBlock told after.state.block.items next)
+
+-- something is held of an object that is scanned, or was
+abbrev pub is_of_object : Phase → Bool
+is_of_object (phase.Scan object) = true
+is_of_object (phase.Read object bytes) = true
+is_of_object (phase.Line object) = true
+is_of_object _ = false
+
+-- so it is with a step in an object; and no other step leads into one
+abbrev pub ScansOn : Option Reading → Option Reading → Running → Running → Type 0
+ScansOn told told' before after =
+    MatchBool (is_scanning before.phase) (Scanned told told' before after)
+    (is_of_object after.phase ≡ false)
+
+-- how many names lead to an object, of the path of a file of it
+abbrev pub names_before : Object → ℕ
+names_before object = cond object.gathered (object.site - 1) object.site
+
+-- it is the file that was just opened, if one was
+abbrev pub IsOpenedAt : Phase → State → Option Opened → Type 0
+IsOpenedAt (phase.Read object zero) s (Some file) =
+    (file.place.now ≡ object.place) × (file.path ≡ names_to s.trail) × (file.before ≡ names_before object)
+IsOpenedAt (phase.Read object zero) s None = ⊥
+IsOpenedAt _ s file = file ≡ None
+
+abbrev pub IsOpened : Running → Option Opened → Type 0
+IsOpened r file = IsOpenedAt r.phase r.state file
