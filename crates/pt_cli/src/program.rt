@@ -8,18 +8,13 @@ ghost use Rattle.pt_run.specs.Made.{Runs};
 use crate::auditing::audit_asked_for;
 use crate::migration::{Asked, run_asked_for};
 use crate::{Audit, Command, Migrate, Named, NamesFault, Text, WordsFault, names_to, read_words};
+use pt_run::status::{DONE, FAILED, REFUSED};
 use pt_run::{Host, Terminals};
 use std::alloc::AllocGlobal;
 use std::env::Env;
 use std::process::ExitCode;
 use std::rt::{Clock, Files};
 use std::{env, io};
-
-const DONE: u8 = 0;
-
-const REFUSED: u8 = 2;
-
-const FAILED: u8 = 3;
 
 /// Runs the program on the words that it was started with, on a machine, and gives its exit status: 0 the names were written, all was
 /// carried, each object stands, or help or the version was asked for; 1 a run or an audit ended whose log has other lines; 2 the words were

@@ -5,7 +5,8 @@ ghost use Rattle.pt_run.specs.Audits.{Audits, AuditsOver, audit_status};
 use crate::host::{Ground, Host};
 use crate::log::{DurableLog, Syncs};
 use crate::migration::refused;
-use crate::running::{Ended, FAILED, TOLD};
+use crate::running::Ended;
+use crate::status::{DONE, FAILED, TOLD};
 use crate::tally::{TalliedLog, Tally};
 use crate::terminal::Terminals;
 use crate::watch::{Progress, Watched, Watching, Words};
@@ -18,8 +19,6 @@ use pt_move::{Fault, Job};
 use std::alloc::AllocGlobal;
 use std::io::Write;
 use std::rt::{Clock, Files};
-
-const SAME: u8 = 0;
 
 // How many seconds pass between two lines of progress that don't go to a terminal.
 const INTERVAL: u32 = 10;
@@ -166,7 +165,7 @@ fn status_of(ran: &Result<Counts, Fault>) -> u8
 {
     match ran {
         Ok(counts) if counts.absent > 0 || counts.differs > 0 || counts.skipped > 0 => TOLD,
-        Ok(_) => SAME,
+        Ok(_) => DONE,
         Err(_) => FAILED,
     }
 }

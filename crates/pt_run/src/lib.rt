@@ -14,6 +14,7 @@ mod reason;
 mod room;
 mod running;
 mod shown;
+pub mod status;
 mod tally;
 mod terminal;
 mod watch;

@@ -7,7 +7,8 @@ use crate::devices::equipped;
 use crate::expected::lines_expected;
 use crate::host::Host;
 use crate::log::Syncs;
-use crate::running::{Ended, FAILED, log_failed, run};
+use crate::running::{Ended, log_failed, run};
+use crate::status::{FAILED, REFUSED};
 use crate::terminal::Terminals;
 use crate::watch::Progress;
 use crate::{prefix, reason};
@@ -18,8 +19,6 @@ use std::alloc::AllocGlobal;
 use std::io;
 use std::io::ErrorKind;
 use std::rt::{Clock, Files};
-
-const REFUSED: u8 = 2;
 
 /// What a run is asked for, beside its folders.
 #[derive(Debug, Drop)]

@@ -11,6 +11,7 @@ ghost use Rattle.pt_state.specs.Outside.{world};
 use crate::devices::Devices;
 use crate::host::Ground;
 use crate::log::Syncs;
+use crate::status::{DONE, FAILED, TOLD};
 use crate::tally::{TalliedLog, Tally};
 use crate::terminal::Terminals;
 use crate::watch::{Watched, Watching, Words};
@@ -23,14 +24,6 @@ use pt_tree::{Log, Source};
 use std::alloc::{AllocGlobal, Global};
 use std::io::Write;
 use std::rt::Clock;
-
-const CARRIED: u8 = 0;
-
-/// The exit status where the log has lines of what wasn't carried, or isn't the same.
-pub(crate) const TOLD: u8 = 1;
-
-/// The exit status of a fault.
-pub(crate) const FAILED: u8 = 3;
 
 /// A run that has ended: its status, and what it was made over.
 #[derive(Drop)]
@@ -191,7 +184,7 @@ fn status_of(ran: &Result<Report, Fault>) -> u8
 {
     match ran {
         Ok(report) if report.present > 0 || report.skipped > 0 => TOLD,
-        Ok(_) => CARRIED,
+        Ok(_) => DONE,
         Err(_) => FAILED,
     }
 }
