@@ -115,12 +115,22 @@ fn outputs_that_fail(rt: HostRuntime) -> Result<(), Fail> {
         names_to(alloc, &Layout::default_form(), "", "abc", &mut Full),
         Err(NamesFault::Write)
     );
+    Ok(())
+}
+
+#[test]
+fn the_empty_identifier_is_refused(rt: HostRuntime) {
+    let alloc = rt.alloc();
     let mut out = Vec::new(alloc);
     assert_eq!(rt;
         names_to(alloc, &Layout::default_form(), "", "", &mut out),
         Err(NamesFault::Empty)
     );
     assert!(rt; out.is_empty());
+}
+
+#[test]
+fn numbers_of_names_faults(rt: HostRuntime) {
     assert_eq!(rt;
         [
             NamesFault::Empty.number(),
@@ -129,5 +139,4 @@ fn outputs_that_fail(rt: HostRuntime) -> Result<(), Fail> {
         ],
         [1, 2, 3]
     );
-    Ok(())
 }

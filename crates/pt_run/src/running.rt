@@ -1,5 +1,5 @@
 //! A run over its devices, and what it came to.
-ghost use Rattle.std.specs.Prelude.{◌≡◌, ℕ, None};
+ghost use Rattle.std.specs.Prelude.{◌≡◌, None};
 ghost use Rattle.pt_folder.specs.DestHeld.{told_with as dest_told};
 ghost use Rattle.pt_folder.specs.Reading.{unread_open};
 ghost use Rattle.pt_folder.specs.SourceHeld.{told_of as source_told};

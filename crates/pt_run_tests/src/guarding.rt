@@ -124,35 +124,21 @@ fn others_begin_where_they_have_the_lock(rt: HostRuntime) -> Result<(), Fail> {
     ];
     for (leads, folders) in rows {
         let alloc = rt.alloc();
-        assert!(rt;
-            matches!(
-                begin(
-                    &mut &among(folders, map(leads, true, false)),
-                    alloc,
-                    "s",
-                    "d"
-                ),
-                Ok(Ok(7))
-            )
-        );
-        let taken = begin(
-            &mut &among(folders, map(leads, true, true)),
-            alloc,
-            "s",
-            "d",
-        );
+        let held = begun(alloc, among(folders, map(leads, true, false)));
+        assert!(rt; matches!(held, Ok(Ok(7))));
+        let taken = begun(alloc, among(folders, map(leads, true, true)));
         assert!(rt; matches!(taken, Err(GuardFault::Taken)));
-        match begin(
-            &mut &among(folders, map(leads, false, true)),
-            alloc,
-            "s",
-            "d",
-        ) {
+        match begun(alloc, among(folders, map(leads, false, true))) {
             Ok(Err(error)) => assert!(rt; error.kind() == ErrorKind::PermissionDenied),
             _ => assert!(rt; false),
         }
     }
     Ok(())
+}
+
+// What comes of a run between the two folders.
+fn begun(alloc: Global, places: Paths) -> Result<io::Result<u8>, GuardFault> {
+    begin(&mut &places, alloc, "s", "d")
 }
 
 // What comes of folders that lie apart by their paths.
@@ -161,8 +147,7 @@ fn by_folders(
     leads: &'static [(&'static str, &'static str)],
     folders: &'static [(&'static str, u64)],
 ) -> Option<GuardFault> {
-    let places = among(folders, map(leads, true, false));
-    begin(&mut &places, alloc, "s", "d").err()
+    begun(alloc, among(folders, map(leads, true, false))).err()
 }
 
 #[test]
