@@ -10,8 +10,8 @@ use Rattle.pt_cli.specs.declared.command.Named.{Named}
 use Rattle.pt_cli.specs.declared.names.NamesFault.{NamesFault}
 use Rattle.pt_cli.specs.declared.names.NamesFault.TheVariants as names
 use Rattle.pt_run.specs.declared.host.Ground.{Ground}
-use Rattle.pt_run.specs.declared.auditing.WantedAudit.{WantedAudit}
-use Rattle.pt_run.specs.declared.migration.Wanted.{Wanted}
+use Rattle.pt_run.specs.declared.guarded_audit.WantedAudit.{WantedAudit}
+use Rattle.pt_run.specs.declared.guarded_run.Wanted.{Wanted}
 use Rattle.pt_walk.specs.Limits.{greatest_limits}
 
 -- what is wanted of the run that the words of a migration ask for: each field as it was given, and the greatest limits

@@ -72,7 +72,10 @@ pub(crate) fn audit_options<'m, 'a>(matches: &'m ArgMatches<'a>) -> Option<Given
 }
 
 // The command that the options of `audit` ask for.
-pub(crate) fn audit(alloc: Global, given: &GivenAudit<'_, '_>) -> Result<Command, WordsFault>
+pub(crate) fn audit_command(
+    alloc: Global,
+    given: &GivenAudit<'_, '_>,
+) -> Result<Command, WordsFault>
     ensures { OrMemory (audit_answer given.now) result }
 {
     let layout = Layout::of(given.size, given.count)?;

@@ -1,11 +1,11 @@
 //! The program `pairtree2ocfl`: its words, its commands and its statuses.
 #![tactic(auto)]
 
+mod asked_audit;
+mod asked_run;
 mod audit_words;
-mod auditing;
 mod command;
 mod grammar;
-mod migration;
 mod names;
 mod program;
 mod text;

@@ -5,11 +5,11 @@ ghost use Rattle.pt_cli.specs.Statuses.{Ends, EndsWith};
 ghost use Rattle.pt_run.specs.Audits.{Audits};
 ghost use Rattle.pt_run.specs.Made.{Runs};
 
-use crate::auditing::audit_asked_for;
-use crate::migration::{Asked, run_asked_for};
+use crate::asked_audit::audit_asked_for;
+use crate::asked_run::{AskedRun, run_asked_for};
 use crate::{Audit, Command, Migrate, Named, NamesFault, Text, WordsFault, names_to, read_words};
 use pt_run::status::{DONE, FAILED, REFUSED};
-use pt_run::{Host, Terminals};
+use pt_run::{Host, Terminals, audit_guarded, run_guarded};
 use std::alloc::AllocGlobal;
 use std::env::Env;
 use std::process::ExitCode;
@@ -59,9 +59,9 @@ where
         (map string_bytes words.now) host.old host.new result }
 {
     match read_words(rt.alloc(), words) {
-        Ok(Command::Names(asked)) => names(rt, host, &asked),
-        Ok(Command::Migrate(words)) => migrate(rt, host, words),
-        Ok(Command::Audit(words)) => audit(rt, host, words),
+        Ok(Command::Names(asked)) => write_names(rt, host, &asked),
+        Ok(Command::Migrate(words)) => make_run(rt, host, words),
+        Ok(Command::Audit(words)) => make_audit(rt, host, words),
         Err(WordsFault::Help(text)) => tell(rt, &text),
         Err(WordsFault::Version(text)) => tell(rt, &text),
         Err(WordsFault::Words(text)) => {
@@ -88,25 +88,25 @@ fn tell<R: Print + Eprint>(rt: &R, text: &Text) -> u8
 }
 
 // Makes the run that the words ask for, and gives its status.
-fn migrate<R, H: Host>(rt: &R, host: &mut H, words: Migrate) -> u8
+fn make_run<R, H: Host>(rt: &R, host: &mut H, words: Migrate) -> u8
 where
     R: Files + Clock + Eprint + AllocGlobal + Terminals,
     ensures { Runs H.resolves H.identifies H.holds H.releases H.finds H.File.syncs
         H.lends H.takes_back H.Store.forest H.Folder.kept H.Output.contents
         (wanted_of words) words.source words.dest host.old host.new result }
 {
-    let Asked {
+    let AskedRun {
         wanted,
         expected,
         source,
         dest,
     } = run_asked_for(words);
     let expected = expected.as_ref().map(|log| log.as_str());
-    pt_run::migrate(rt, host, wanted, expected, source.as_str(), dest.as_str())
+    run_guarded(rt, host, wanted, expected, source.as_str(), dest.as_str())
 }
 
 // Makes the audit that the words ask for, and gives its status.
-fn audit<R, H: Host>(rt: &R, host: &mut H, words: Audit) -> u8
+fn make_audit<R, H: Host>(rt: &R, host: &mut H, words: Audit) -> u8
 where
     R: Files + Clock + Eprint + AllocGlobal + Terminals,
     ensures { AuditsFor (Audits H.resolves H.identifies H.holds H.releases
@@ -114,7 +114,7 @@ where
         words host.old host.new result }
 {
     match audit_asked_for(rt.alloc(), words) {
-        Ok(asked) => pt_run::audit(
+        Ok(asked) => audit_guarded(
             rt,
             host,
             asked.wanted,
@@ -126,7 +126,7 @@ where
 }
 
 // Writes the names that are asked for to the machine's output, and gives the status of that.
-fn names<R: Eprint + AllocGlobal, H: Host>(rt: &R, host: &mut H, asked: &Named) -> u8
+fn write_names<R: Eprint + AllocGlobal, H: Host>(rt: &R, host: &mut H, asked: &Named) -> u8
     ensures { TellsNames H.lends H.takes_back H.Output.contents asked.now
         host.old host.new result }
 {

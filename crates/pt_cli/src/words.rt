@@ -7,7 +7,7 @@ ghost use Rattle.pt_cli.specs.Options.{algorithm_of, asked_in, is_set_in, number
 ghost use Rattle.pt_cli.specs.Words.{Answers, OrMemory, OrNone, ReadsWords, RefusedAs, answer_to};
 ghost use Rattle.pt_cli.specs.Words.{AreNamed, migrate_answer, names_answer, not_a_name, share_asked, share_in, words_number};
 
-use crate::audit_words::{audit, audit_options};
+use crate::audit_words::{audit_command, audit_options};
 use crate::grammar::{
     ADDRESS, AUDIT, CREATED, DEST, DIGEST, EXPECT, GATHER, ID, IGNORE, INTERVAL, MESSAGE, MIGRATE,
     NAME, NAMES, PREFIX, PROGRESS, REHEARSE, SHARE, SOURCE, SYNC, TUPLE_SIZE, TUPLES, VERBOSE,
@@ -235,9 +235,9 @@ fn answer(alloc: Global, matches: &ArgMatches<'_>) -> Option<Result<Command, Wor
     ensures { OrNone (answer_to (subcommand_rows_of matches.now)) result }
 {
     match entered(matches)? {
-        (NAMES, inner) => Some(names(alloc, &asked(inner)?)),
-        (MIGRATE, inner) => Some(migrate(alloc, &options(inner)?)),
-        (AUDIT, inner) => Some(audit(alloc, &audit_options(inner)?)),
+        (NAMES, inner) => Some(names_command(alloc, &asked(inner)?)),
+        (MIGRATE, inner) => Some(migrate_command(alloc, &options(inner)?)),
+        (AUDIT, inner) => Some(audit_command(alloc, &audit_options(inner)?)),
         _ => None,
     }
 }
@@ -250,7 +250,8 @@ fn entered<'m, 'a>(matches: &'m ArgMatches<'a>) -> Option<(&'a str, &'m ArgMatch
     matches.subcommand()
 }
 
-fn names(alloc: Global, given: &Request<'_>) -> Result<Command, WordsFault>
+// The command that the words of `names` ask for.
+fn names_command(alloc: Global, given: &Request<'_>) -> Result<Command, WordsFault>
     ensures { OrMemory (names_answer given.now) result }
 {
     if given.id.is_empty() {
@@ -264,7 +265,8 @@ fn names(alloc: Global, given: &Request<'_>) -> Result<Command, WordsFault>
     }))
 }
 
-fn migrate(alloc: Global, given: &Given<'_, '_>) -> Result<Command, WordsFault>
+// The command that the options of `migrate` ask for.
+fn migrate_command(alloc: Global, given: &Given<'_, '_>) -> Result<Command, WordsFault>
     ensures { OrMemory (migrate_answer given.now) result }
 {
     let meta = Meta::of(

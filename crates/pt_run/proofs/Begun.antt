@@ -10,7 +10,7 @@ use Rattle.pt_folder.specs.declared.writing.Writing.{Writing as Open}
 use Rattle.pt_ignore.specs.Ignoring.{told_without}
 use Rattle.pt_run.specs.Made.{RunsFrom, RunsOver}
 use Rattle.pt_run.specs.declared.host.Ground.{Ground}
-use Rattle.pt_run.specs.declared.migration.Wanted.{Wanted}
+use Rattle.pt_run.specs.declared.guarded_run.Wanted.{Wanted}
 use Rattle.pt_state.specs.Outside.{world}
 use Rattle.pt_tree.specs.Forest.{Forest}
 

@@ -15,7 +15,7 @@ use Rattle.pt_guard.specs.declared.places.Hold.{Hold}
 use Rattle.pt_ignore.specs.Ignoring.{told_without}
 use Rattle.pt_move.specs.declared.fault.Fault.{Fault}
 use Rattle.pt_run.specs.Made.{Guarded}
-use Rattle.pt_run.specs.declared.auditing.WantedAudit.{WantedAudit}
+use Rattle.pt_run.specs.declared.guarded_audit.WantedAudit.{WantedAudit}
 use Rattle.pt_run.specs.declared.host.Ground.{Ground}
 use Rattle.pt_state.specs.States.{job_of}
 use Rattle.pt_survey.specs.Growing.{Grows}
@@ -34,7 +34,7 @@ store_tree ignored tree = tree_in (told_without ignored (source_told tree None))
 abbrev pub root_tree : Option Forest → Option Forest
 root_tree tree = tree_in (source_told tree None)
 
--- an audit was made over these folders of the systems, with what `audit` promises of it: where it ended well the output got its log, of both trees as they stood, and the root is one that a run could go on with; and they stand
+-- an audit was made over these folders of the systems, with what `audit` of pt_audit promises of it: where it ended well the output got its log, of both trees as they stood, and the root is one that a run could go on with; and they stand
 pub record AuditsOver {S D W : Type 0} (forest : S → List ℕ → Option Forest)
     (folders : D → List ℕ → Option Forest) (contents : W → Option (List ℕ)) (wanted : WantedAudit)
     (store folder : List ℕ) (old new : Ground S D W) (status : ℕ) : Type 0 where
@@ -50,7 +50,7 @@ pub record AuditsOver {S D W : Type 0} (forest : S → List ℕ → Option Fores
   pub grows : Grows (contents old.output) (contents new.output)
   pub status_is : status ≡ audit_status ran
 
--- what `audit` does on a machine, by the words of its calls and of what is lent: the guard, the audit over what is lent, which is given back, and the lock
+-- what `audit_guarded` does on a machine, by the words of its calls and of what is lent: the guard, the audit over what is lent, which is given back, and the lock
 abbrev pub Audits : {H L S D W : Type 0}
     → (H → List ℕ → Result Place Error → H → Type 0) → (H → List ℕ → Result Folder Error → H → Type 0)
     → (H → List ℕ → Hold L → H → Type 0) → (H → L → H → Type 0)

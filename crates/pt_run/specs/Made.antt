@@ -24,7 +24,7 @@ use Rattle.pt_tree.specs.Dest.{Writing}
 use Rattle.pt_tree.specs.Forest.{Forest}
 use Rattle.pt_run.specs.Ends.{guard_status, run_status}
 use Rattle.pt_run.specs.declared.host.Ground.{Ground}
-use Rattle.pt_run.specs.declared.migration.Wanted.{Wanted}
+use Rattle.pt_run.specs.declared.guarded_run.Wanted.{Wanted}
 
 -- the world of a rehearsal, whose destination tells this; that of a run is its own
 abbrev pub seen : Bool → Option Writing → World → World
@@ -160,7 +160,7 @@ Guarded {H} {L} begins carries releases old new status =
     (answer : Result (Result L Error) GuardFault) × (mid : H) × begins old mid answer
     × GoesOn carries releases answer mid new status
 
--- what `migrate` does on a machine, by the words of its calls (where paths lead, what they are known by, the lock
+-- what `run_guarded` does on a machine, by the words of its calls (where paths lead, what they are known by, the lock
 -- taken and given back; the log's file; what is lent and taken back) and of what is lent (the trees of the two
 -- systems, and what the output holds): the guard, the run that is wanted from one folder to the other, and the lock
 abbrev pub Runs : {H L S D W E F : Type 0} → (H → List ℕ → Result Place Error → H → Type 0)

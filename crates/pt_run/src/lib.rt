@@ -2,13 +2,13 @@
 //! ends with.
 #![tactic(auto)]
 
-mod auditing;
 mod devices;
 mod expected;
+mod guarded_audit;
+mod guarded_run;
 mod host;
 pub mod laws;
 mod log;
-mod migration;
 mod prefix;
 mod reason;
 mod room;
@@ -19,10 +19,10 @@ mod tally;
 mod terminal;
 mod watch;
 
-pub use auditing::{WantedAudit, audit};
+pub use guarded_audit::{WantedAudit, audit_guarded};
+pub use guarded_run::{Wanted, run_guarded};
 pub use host::{Ground, Host, OutputFile};
 pub use log::{DurableLog, Syncs};
-pub use migration::{Wanted, migrate};
 pub use room::longest_made;
 pub use terminal::Terminals;
 pub use watch::Progress;

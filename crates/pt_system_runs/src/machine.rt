@@ -8,7 +8,7 @@ use pt_memory_system::{Faults, MemorySystem};
 use pt_move::Job;
 use pt_name::{Layout, Share};
 use pt_object::{Algorithm, Meta};
-use pt_run::{Ground, Host, Progress, Syncs, Wanted, migrate};
+use pt_run::{Ground, Host, Progress, Syncs, Wanted, run_guarded};
 use pt_walk::Limits;
 use std::alloc::{AllocGlobal, Global};
 use std::io::ErrorKind;
@@ -122,7 +122,7 @@ pub fn carried(
 
 // The status of a run on a machine.
 fn status_of(rt: &HostRuntime, machine: &mut Machine<'_>, wanted: Wanted) -> u8 {
-    migrate(rt, machine, wanted, None, "store", "root")
+    run_guarded(rt, machine, wanted, None, "store", "root")
 }
 
 // What a run of this status left on a machine.

@@ -1,6 +1,6 @@
 use Rattle.pt_cli.proofs.Comparing.{compared, no_layout, no_names, no_share}
 use Rattle.pt_cli.proofs.Migrating.{no_some}
-use Rattle.pt_cli.proofs.audit_words.audit.Goals as goal
+use Rattle.pt_cli.proofs.audit_words.audit_command.Goals as goal
 
 pub returns-in_err-layout : goal.returns-in_err-layout
 returns-in_err-layout c = no_layout _ _ c.given.view_is c.in_err-layout.field-0.0 c.from_residual.result c.in_err-layout.ensures c.from_residual.ensures.1

@@ -2,9 +2,9 @@
 ghost use Rattle.std.specs.Prelude.{◌≡◌};
 ghost use Rattle.pt_run.specs.Audits.{Audits, AuditsOver, audit_status};
 
+use crate::guarded_run::refused;
 use crate::host::{Ground, Host};
 use crate::log::{DurableLog, Syncs};
-use crate::migration::refused;
 use crate::running::Ended;
 use crate::status::{DONE, FAILED, TOLD};
 use crate::tally::{TalliedLog, Tally};
@@ -43,7 +43,13 @@ pub struct WantedAudit {
 /// The guard is asked first. Where the audit may begin it is made over what the machine lends, which is given back then; and at
 /// last the lock is given back. Where it ends well the output has got its log, of both folders as their systems keep them.
 /// Nothing is made or changed in either folder.
-pub fn audit<R, H: Host>(rt: &R, host: &mut H, wanted: WantedAudit, source: &str, dest: &str) -> u8
+pub fn audit_guarded<R, H: Host>(
+    rt: &R,
+    host: &mut H,
+    wanted: WantedAudit,
+    source: &str,
+    dest: &str,
+) -> u8
 where
     R: Files + Clock + Eprint + AllocGlobal + Terminals,
     ensures { Audits H.resolves H.identifies H.holds H.releases H.lends H.takes_back

@@ -1,6 +1,6 @@
 use Rattle.std.proofs.Common.{Ok}
 use Rattle.pt_run.proofs.Begun.{begun}
-use Rattle.pt_run.proofs.migration.carry.Goals as goal
+use Rattle.pt_run.proofs.guarded_run.carry.Goals as goal
 
 pub returns : goal.returns
 returns g c =

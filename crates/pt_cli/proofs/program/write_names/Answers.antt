@@ -1,6 +1,6 @@
 use Rattle.std.proofs.Common.{ℕ, List, subst}
 use Rattle.pt_cli.specs.Calls.{WritesNames}
-use Rattle.pt_cli.proofs.program.names.Goals as goal
+use Rattle.pt_cli.proofs.program.write_names.Goals as goal
 
 pub returns : goal.returns
 returns g c =

@@ -1,5 +1,5 @@
 use Rattle.pt_cli.proofs.Migrating.{carried, no_layout, no_meta, no_names, no_share, no_some}
-use Rattle.pt_cli.proofs.words.migrate.Goals as goal
+use Rattle.pt_cli.proofs.words.migrate_command.Goals as goal
 
 pub returns-in_err-meta : goal.returns-in_err-meta
 returns-in_err-meta c = no_meta _ _ c.given.view_is c.in_err-meta.field-0.0 c.from_residual.result c.in_err-meta.ensures c.from_residual.ensures.1

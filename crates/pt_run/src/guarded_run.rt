@@ -46,7 +46,7 @@ pub struct Wanted {
 /// `expected` is the path of a log, of a rehearsal say, whose end line tells how many lines there may be: then the share done and the time left
 /// are shown too. The guard is asked first. Where the run may begin it is made over what the machine lends, which is given back then; and at last the
 /// lock is given back.
-pub fn migrate<R, H: Host>(
+pub fn run_guarded<R, H: Host>(
     rt: &R,
     host: &mut H,
     wanted: Wanted,

@@ -6,7 +6,7 @@ use Rattle.pt_audit.specs.Layout.{IsOfLayout}
 use Rattle.pt_state.specs.States.{job_of}
 use Rattle.pt_survey.specs.Growing.{Grows}
 use Rattle.pt_run.proofs.Audited.{ends_as, root_is, says_as, store_is}
-use Rattle.pt_run.proofs.auditing.compare.Goals as goal
+use Rattle.pt_run.proofs.guarded_audit.compare.Goals as goal
 
 pub returns : goal.returns
 returns g c =

@@ -9,7 +9,7 @@ use pt_walk::Limits;
 
 /// A migration by its words: what is wanted of the run, and its two folders.
 #[derive(Drop)]
-pub(crate) struct Asked {
+pub(crate) struct AskedRun {
     pub wanted: Wanted,
     pub expected: Option<Text>,
     pub source: Text,
@@ -17,7 +17,7 @@ pub(crate) struct Asked {
 }
 
 // What the words of a migration ask of a run, and between which folders.
-pub(crate) fn run_asked_for(words: Migrate) -> Asked
+pub(crate) fn run_asked_for(words: Migrate) -> AskedRun
     ensures wanted { result.wanted ≡ wanted_of words }
     ensures source { result.source ≡ words.source }
     ensures dest { result.dest ≡ words.dest }
@@ -39,7 +39,7 @@ pub(crate) fn run_asked_for(words: Migrate) -> Asked
         progress: words.progress,
         interval: words.interval,
     };
-    Asked {
+    AskedRun {
         wanted,
         expected: words.expected,
         source: words.source,
