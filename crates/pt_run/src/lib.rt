@@ -17,6 +17,7 @@ mod shown;
 pub mod status;
 mod tally;
 mod terminal;
+mod turns;
 mod watch;
 
 pub use guarded_audit::{WantedAudit, audit_guarded};

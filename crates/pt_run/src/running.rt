@@ -12,8 +12,9 @@ use crate::devices::Devices;
 use crate::host::Ground;
 use crate::log::Syncs;
 use crate::status::{DONE, FAILED, TOLD};
-use crate::tally::{TalliedLog, Tally};
+use crate::tally::Tally;
 use crate::terminal::Terminals;
+use crate::turns::make_turns;
 use crate::watch::{Watched, Watching, Words};
 use crate::{Wanted, reason};
 use pt_folder::{HostDest, HostSource, System};
@@ -62,7 +63,11 @@ where
 {
     let alloc = rt.alloc();
     let tally = Tally::new();
-    let Devices { source, dest, log } = devices;
+    let Devices {
+        source,
+        dest,
+        mut log,
+    } = devices;
     let watching = Watching {
         when: wanted.progress,
         interval: wanted.interval,
@@ -73,7 +78,6 @@ where
     let ignores = !wanted.ignored.names().is_empty();
     let ignoring = Ignoring::new(source, wanted.ignored);
     let mut source = Watched::new(ignoring, rt, alloc, &tally, watching);
-    let mut log = TalliedLog::new(log, &tally);
     let Ran { ran, dest } = made(
         alloc,
         &mut source,
@@ -81,6 +85,7 @@ where
         &mut log,
         wanted.rehearse,
         wanted.job,
+        &tally,
     );
     source.end();
     let ignoring = source.into_source();
@@ -90,7 +95,7 @@ where
     let ground = Ground {
         store: source.into_system(),
         folder: dest.into_system(),
-        output: log.into_log().into_writer(),
+        output: log.into_writer(),
     };
     Ended { status, ground }
 }
@@ -102,7 +107,7 @@ struct Ran<'a, D: System> {
     dest: HostDest<'a, D>,
 }
 
-// Makes a run, or rehearses it.
+// Makes a run, or rehearses it. The tally says after each turn how far it is.
 fn made<'a, S: Source, D: System, L: Log>(
     alloc: Global,
     source: &mut S,
@@ -110,6 +115,7 @@ fn made<'a, S: Source, D: System, L: Log>(
     log: &mut L,
     rehearse: bool,
     job: Job,
+    tally: &Tally,
 ) -> Ran<'a, D>
     ensures promises { IsRun job rehearse
         (dest_told (D.kept dest.entry.system dest.entry.folder.path.now) None None)
@@ -133,14 +139,14 @@ fn made<'a, S: Source, D: System, L: Log>(
 {
     if rehearse {
         let mut rehearsal = Rehearsal::new(alloc, dest);
-        let ran = pt_move::migrate(alloc, source, &mut rehearsal, log, job);
+        let ran = make_turns(alloc, source, &mut rehearsal, log, job, tally);
         return Ran {
             ran,
             dest: rehearsal.into_dest(),
         };
     }
     let mut dest = dest;
-    let ran = pt_move::migrate(alloc, source, &mut dest, log, job);
+    let ran = make_turns(alloc, source, &mut dest, log, job, tally);
     Ran { ran, dest }
 }
 

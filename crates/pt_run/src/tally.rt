@@ -1,6 +1,7 @@
 //! How far a run is, as its devices see it.
 ghost use Rattle.std.specs.Prelude.{◌≡◌};
 
+use pt_move::Report;
 use pt_tree::{Log, TreeFault};
 use std::cell::Cell;
 
@@ -49,11 +50,18 @@ impl Tally {
         self.bytes.set(self.bytes.get().saturating_add(count));
     }
 
-    // Counts a line by its kind, which stands at its start.
+    /// A run has put so many lines of each kind.
+    pub fn set_lines(&self, report: Report) {
+        self.done.set(report.done);
+        self.present.set(report.present);
+        self.skipped.set(report.skipped);
+    }
+
+    // Counts a line of an audit by its kind, which stands at its start.
     fn add_line(&self, line: &[u8]) {
-        let counter = if begins(line, "done") || begins(line, "same") {
+        let counter = if begins(line, "same") {
             &self.done
-        } else if begins(line, "present") || begins(line, "absent") || begins(line, "differs") {
+        } else if begins(line, "absent") || begins(line, "differs") {
             &self.present
         } else if begins(line, "skip") {
             &self.skipped
@@ -72,7 +80,7 @@ fn begins(line: &[u8], word: &str) -> bool {
     }
 }
 
-/// A log that counts the lines put into another, and is that one in all else.
+/// The log of an audit that counts the lines put into another, and is that one in all else.
 #[derive(Drop)]
 pub struct TalliedLog<'a, L: Log> {
     log: L,

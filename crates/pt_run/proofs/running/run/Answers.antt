@@ -10,7 +10,7 @@ returns g c =
       unread_open g.S.File.Input.bytes source.reading,
       dest.stuck,
       dest.writing,
-      record { source = source.failures; dest = dest.failures; log = c.made-ran.new.log.log.failures },
+      record { source = source.failures; dest = dest.failures; log = c.made-ran.new.log.failures },
       (
         c.made-ran.result.ran,
         rw (
@@ -19,11 +19,9 @@ returns g c =
           c.into_writer.ensures,
           c.into_source-source.ensures,
           c.into_source-ignoring.ensures,
-          c.into_log.ensures,
           ← c.new-ignoring.ensures.source,
           ← c.new-ignoring.ensures.names,
           ← c.new-source.ensures,
-          ← c.new-log.ensures,
         ) (rw (made.source.1, made.source.0) at made.promises),
         c.told-status.ensures,
       ),
