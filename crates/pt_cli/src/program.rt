@@ -8,8 +8,9 @@ ghost use Rattle.pt_run.specs.Made.{Runs};
 use crate::asked_audit::audit_asked_for;
 use crate::asked_run::{AskedRun, run_asked_for};
 use crate::{Audit, Command, Migrate, Named, NamesFault, Text, WordsFault, names_to, read_words};
-use pt_run::status::{DONE, FAILED, REFUSED};
-use pt_run::{Host, Terminals, audit_guarded, run_guarded};
+use pt_move::Fault;
+use pt_run::status::{DONE, REFUSED};
+use pt_run::{Host, Terminals, audit_guarded, failed, run_guarded};
 use std::alloc::AllocGlobal;
 use std::env::Env;
 use std::process::ExitCode;
@@ -36,7 +37,7 @@ where
 {
     let status = match words(rt) {
         Ok(words) => answer(rt, host, words.as_slice()),
-        Err(error) if error.kind() == io::ErrorKind::OutOfMemory => failed(rt, NamesFault::Memory),
+        Err(error) if error.kind() == io::ErrorKind::OutOfMemory => failed(rt, &Fault::Memory),
         Err(_) => refused(rt, "the arguments are not text"),
     };
     ExitCode::from(status)
@@ -68,7 +69,7 @@ where
             let _ = eprint!(rt; "{text}");
             REFUSED
         }
-        Err(WordsFault::Memory) => failed(rt, NamesFault::Memory),
+        Err(WordsFault::Memory) => failed(rt, &Fault::Memory),
         Err(fault) => {
             let _ = eprintln!(rt; "pairtree2ocfl: {fault}");
             REFUSED
@@ -83,7 +84,7 @@ fn tell<R: Print + Eprint>(rt: &R, text: &Text) -> u8
     match print!(rt; "{text}") {
         Ok(()) => DONE,
         Err(error) if error.kind() == io::ErrorKind::BrokenPipe => DONE,
-        Err(_) => failed(rt, NamesFault::Write),
+        Err(_) => failed(rt, &Fault::Log),
     }
 }
 
@@ -121,7 +122,7 @@ where
             asked.source.as_str(),
             asked.dest.as_str(),
         ),
-        Err(_) => failed(rt, NamesFault::Memory),
+        Err(_) => failed(rt, &Fault::Memory),
     }
 }
 
@@ -144,7 +145,8 @@ fn told(rt: &impl Eprint, written: Result<(), NamesFault>) -> u8
     match written {
         Ok(()) => DONE,
         Err(NamesFault::Empty) => refused(rt, "the identifier is empty"),
-        Err(fault) => failed(rt, fault),
+        Err(NamesFault::Write) => failed(rt, &Fault::Log),
+        Err(NamesFault::Memory) => failed(rt, &Fault::Memory),
     }
 }
 
@@ -154,13 +156,4 @@ fn refused(rt: &impl Eprint, reason: &str) -> u8
 {
     let _ = eprintln!(rt; "pairtree2ocfl: {reason}");
     REFUSED
-}
-
-// Says which fault ended the program: 3 an output that fails, 4 want of memory.
-fn failed(rt: &impl Eprint, fault: NamesFault) -> u8
-    ensures { result ≡ 3 }
-{
-    let number = if fault == NamesFault::Memory { 4 } else { 3 };
-    let _ = eprintln!(rt; "pairtree2ocfl: fault {number}: {fault}");
-    FAILED
 }

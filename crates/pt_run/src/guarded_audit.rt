@@ -2,18 +2,18 @@
 ghost use Rattle.std.specs.Prelude.{◌≡◌};
 ghost use Rattle.pt_run.specs.Audits.{Audits, AuditsOver, audit_status};
 
-use crate::guarded_run::refused;
+use crate::beginning::begun;
 use crate::host::{Ground, Host};
 use crate::log::{DurableLog, Syncs};
+use crate::reason;
 use crate::running::Ended;
+use crate::saying::{refused, tell_fault};
 use crate::status::{DONE, FAILED, TOLD};
 use crate::tally::{TalliedLog, Tally};
 use crate::terminal::Terminals;
 use crate::watch::{Progress, Watched, Watching, Words};
-use crate::{prefix, reason, running};
 use pt_audit::Counts;
 use pt_folder::{HostSource, System};
-use pt_guard::begin;
 use pt_ignore::{Ignored, Ignoring};
 use pt_move::{Fault, Job};
 use std::alloc::AllocGlobal;
@@ -56,22 +56,13 @@ where
         H.Store.forest H.Folder.forest H.Output.contents
         wanted source.now dest.now host.old host.new result }
 {
-    match begin(host, rt.alloc(), source, dest) {
+    match begun(rt, host, wanted.verbose, source, dest) {
         Ok(Ok(lock)) => {
-            if wanted.verbose {
-                prefix::tell(rt, source);
-            }
             let status = hold(rt, host, wanted, source, dest);
             host.release(lock);
             status
         }
-        Ok(Err(error)) => {
-            if wanted.verbose {
-                prefix::tell(rt, source);
-                reason::unlocked(rt, dest, &error);
-            }
-            hold(rt, host, wanted, source, dest)
-        }
+        Ok(Err(_)) => hold(rt, host, wanted, source, dest),
         Err(fault) => refused(rt, fault),
     }
 }
@@ -161,7 +152,7 @@ fn failed(rt: &impl Eprint, fault: &Fault) {
             let number = fault.number();
             let _ = eprintln!(rt; "pairtree2ocfl: fault {number}: cannot read the destination");
         }
-        _ => running::failed(rt, fault),
+        _ => tell_fault(rt, fault),
     }
 }
 

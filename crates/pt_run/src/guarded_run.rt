@@ -1,20 +1,18 @@
 //! A run from one folder to another, on a machine.
-ghost use Rattle.std.specs.Prelude.{◌≡◌};
-ghost use Rattle.pt_run.specs.Ends.{guard_status};
 ghost use Rattle.pt_run.specs.Made.{FindsLog, GoesOver, Runs, RunsOver};
 
+use crate::beginning::begun;
 use crate::devices::equipped;
 use crate::expected::lines_expected;
 use crate::host::Host;
 use crate::log::Syncs;
-use crate::running::{Ended, log_failed, run};
-use crate::status::{FAILED, REFUSED};
+use crate::reason;
+use crate::running::{Ended, run};
+use crate::saying::{failed, refused};
 use crate::terminal::Terminals;
 use crate::watch::Progress;
-use crate::{prefix, reason};
-use pt_guard::{GuardFault, begin};
 use pt_ignore::Ignored;
-use pt_move::Job;
+use pt_move::{Fault, Job};
 use std::alloc::AllocGlobal;
 use std::io;
 use std::io::ErrorKind;
@@ -60,37 +58,14 @@ where
         H.lends H.takes_back H.Store.forest H.Folder.kept H.Output.contents
         wanted source.now dest.now host.old host.new result }
 {
-    match begin(host, rt.alloc(), source, dest) {
+    match begun(rt, host, wanted.verbose, source, dest) {
         Ok(Ok(lock)) => {
-            if wanted.verbose {
-                prefix::tell(rt, source);
-            }
             let status = carry(rt, host, wanted, expected, source, dest);
             host.release(lock);
             status
         }
-        Ok(Err(error)) => {
-            if wanted.verbose {
-                prefix::tell(rt, source);
-                reason::unlocked(rt, dest, &error);
-            }
-            carry(rt, host, wanted, expected, source, dest)
-        }
+        Ok(Err(_)) => carry(rt, host, wanted, expected, source, dest),
         Err(fault) => refused(rt, fault),
-    }
-}
-
-// Says why a run may not begin.
-pub(crate) fn refused(rt: &impl Eprint, fault: GuardFault) -> u8
-    ensures { result ≡ guard_status fault }
-{
-    let _ = match fault {
-        GuardFault::Memory => eprintln!(rt; "pairtree2ocfl: fault 4: {fault}"),
-        _ => eprintln!(rt; "pairtree2ocfl: {fault}"),
-    };
-    match fault {
-        GuardFault::Overlap | GuardFault::Hidden => REFUSED,
-        GuardFault::Taken | GuardFault::Memory => FAILED,
     }
 }
 
@@ -113,7 +88,7 @@ where
 {
     let file = match synced_output(rt, host, wanted.sync) {
         Ok(file) => file,
-        Err(_) => return log_failed(rt),
+        Err(_) => return failed(rt, &Fault::Log),
     };
     let expected = lines_expected(rt, expected);
     let ground = host.lend();

@@ -2,6 +2,7 @@
 //! ends with.
 #![tactic(auto)]
 
+mod beginning;
 mod devices;
 mod expected;
 mod guarded_audit;
@@ -13,6 +14,7 @@ mod prefix;
 mod reason;
 mod room;
 mod running;
+mod saying;
 mod shown;
 pub mod status;
 mod tally;
@@ -25,5 +27,6 @@ pub use guarded_run::{Wanted, run_guarded};
 pub use host::{Ground, Host, OutputFile};
 pub use log::{DurableLog, Syncs};
 pub use room::longest_made;
+pub use saying::failed;
 pub use terminal::Terminals;
 pub use watch::Progress;

@@ -11,6 +11,7 @@ ghost use Rattle.pt_state.specs.Outside.{world};
 use crate::devices::Devices;
 use crate::host::Ground;
 use crate::log::Syncs;
+use crate::saying::tell_fault;
 use crate::status::{DONE, FAILED, TOLD};
 use crate::tally::Tally;
 use crate::terminal::Terminals;
@@ -162,26 +163,12 @@ fn told<R: Eprint + AllocGlobal, S: System, D: System>(
     ensures { result ≡ run_status ran.now }
 {
     if let Err(fault) = ran {
-        failed(rt, fault);
+        tell_fault(rt, fault);
         if verbose {
             reason::tell(rt, fault, source, dest, store);
         }
     }
     status_of(ran)
-}
-
-/// Says that the log can't be put onto its disk, and gives the status of that fault.
-pub(crate) fn log_failed(rt: &impl Eprint) -> u8
-    ensures { result ≡ 3 }
-{
-    failed(rt, &Fault::Log);
-    FAILED
-}
-
-/// Says which fault it was that ended a run or an audit, in its own words.
-pub(crate) fn failed(rt: &impl Eprint, fault: &Fault) {
-    let number = fault.number();
-    let _ = eprintln!(rt; "pairtree2ocfl: fault {number}: {fault}");
 }
 
 // The exit status of a run.

@@ -1,7 +1,6 @@
 use Rattle.std.proofs.Common.{ap, sym, subst, ◌∙◌}
-use Rattle.std.specs.Prelude.{IfErr, OnOk}
+use Rattle.std.specs.Prelude.{OnOk}
 use Rattle.std.specs.Option.{ForSome}
-use Rattle.pt_audit.specs.Failing.{AuditSays}
 use Rattle.pt_audit.specs.Layout.{IsOfLayout}
 use Rattle.pt_state.specs.States.{job_of}
 use Rattle.pt_survey.specs.Growing.{Grows}

@@ -1,0 +1,31 @@
+//! What is seen to before a run or an audit.
+ghost use Rattle.pt_guard.specs.Guard.{Begins};
+
+use crate::host::Host;
+use crate::{prefix, reason};
+use pt_guard::{GuardFault, begin};
+use std::alloc::AllocGlobal;
+use std::io;
+use std::rt::Files;
+
+/// Asks the guard whether a run or an audit may begin. Where it may, and that is wanted, standard error is told of a prefix that reads
+/// otherwise than it looks, and of a destination that can't be locked.
+pub(crate) fn begun<R: Files + Eprint + AllocGlobal, H: Host>(
+    rt: &R,
+    host: &mut H,
+    verbose: bool,
+    source: &str,
+    dest: &str,
+) -> Result<io::Result<H::Lock>, GuardFault>
+    ensures { Begins H.resolves H.identifies H.holds source.now dest.now
+        host.old host.new result }
+{
+    let answer = begin(host, rt.alloc(), source, dest);
+    if verbose && let Ok(lock) = &answer {
+        prefix::tell(rt, source);
+        if let Err(error) = lock {
+            reason::unlocked(rt, dest, error);
+        }
+    }
+    answer
+}
