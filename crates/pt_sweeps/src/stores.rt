@@ -47,13 +47,9 @@ pub const CASES: [Case; 4] = [
     },
 ];
 
-/// A run with the greatest limits and three tuples of three digits.
-pub fn run(
-    alloc: Global,
-    source: &mut MemSource,
-    dest: &mut MemDest,
-    log: &mut MemLog,
-) -> Option<Result<Report, Fault>> {
+// The greatest limits, and three tuples of three digits.
+fn job(alloc: Global) -> Option<Job> {
+    let limits = Limits::of(1_000_000, 4_000, 600, 1 << 43, 1 << 40).ok()?;
     let meta = Meta::of(
         alloc,
         "2024-05-01T12:00:00Z",
@@ -61,28 +57,37 @@ pub fn run(
         None,
         "Migrated from Pairtree",
     );
-    let job = Job {
+    Some(Job {
         meta: meta.ok()?,
         layout: Layout::default_form(),
         algorithm: Algorithm::Sha512,
-        limits: Limits::of(1_000_000, 4_000, 600, 1 << 43, 1 << 40).ok()?,
+        limits,
         gather: false,
         share: Share::whole(),
-    };
-    Some(migrate(alloc, source, dest, log, job))
+    })
+}
+
+/// A run of that job.
+pub fn run(
+    alloc: Global,
+    source: &mut MemSource,
+    dest: &mut MemDest,
+    log: &mut MemLog,
+) -> Option<Result<Report, Fault>> {
+    Some(migrate(alloc, source, dest, log, job(alloc)?))
+}
+
+// Carries a store with these entries, by a run that nothing stops.
+fn carry(alloc: Global, entries: &str, dest: &mut MemDest) -> Option<Report> {
+    let mut source = store(alloc, entries).ok()?;
+    run(alloc, &mut source, dest, &mut MemLog::new(alloc))?.ok()
 }
 
 /// The destination before the run.
 pub fn before(alloc: Global, case: &Case) -> Option<MemDest> {
     let mut dest = MemDest::new(alloc);
     if let Some(entries) = case.earlier {
-        run(
-            alloc,
-            &mut store(alloc, entries).ok()?,
-            &mut dest,
-            &mut MemLog::new(alloc),
-        )?
-        .ok()?;
+        carry(alloc, entries, &mut dest)?;
     }
     Some(dest)
 }
@@ -90,12 +95,6 @@ pub fn before(alloc: Global, case: &Case) -> Option<MemDest> {
 /// The destination after a run that nothing stops.
 pub fn whole(alloc: Global, case: &Case) -> Option<MemDest> {
     let mut dest = before(alloc, case)?;
-    run(
-        alloc,
-        &mut store(alloc, case.entries).ok()?,
-        &mut dest,
-        &mut MemLog::new(alloc),
-    )?
-    .ok()?;
+    carry(alloc, case.entries, &mut dest)?;
     Some(dest)
 }

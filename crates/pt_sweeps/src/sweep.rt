@@ -80,7 +80,7 @@ fn stopped(alloc: Global, case: &Case, ends: &Allowed, device: Device, at: u64) 
     }
     let answer = run(alloc, &mut source, &mut dest, &mut log)?;
     dest.fuse(None);
-    let _ = dest.take_away(&path(alloc, "staging").ok()?);
+    clear_staging(alloc, &mut dest)?;
     let Err(fault) = answer else {
         return Some(Stop::Past);
     };
@@ -90,7 +90,13 @@ fn stopped(alloc: Global, case: &Case, ends: &Allowed, device: Device, at: u64) 
     if !ends.left.iter().any(|left| left.same(&dest)) {
         return Some(Stop::Wrong("something else is left"));
     }
-    again(alloc, case, &ends.all, dest, &log)
+    again(alloc, case, &ends.all, &mut dest, &log)
+}
+
+// Takes `staging` away, where it stands.
+fn clear_staging(alloc: Global, dest: &mut MemDest) -> Option<()> {
+    let _ = dest.take_away(&path(alloc, "staging").ok()?);
+    Some(())
 }
 
 fn fault_of(device: Device) -> Fault {
@@ -110,18 +116,30 @@ fn on_the_way(
     tuples: usize,
 ) -> Option<MemDest> {
     let mut dest = whole(alloc, case)?;
+    take_objects_away(alloc, case, done, &mut dest)?;
+    plant_tuples(alloc, next, tuples, &mut dest)?;
+    Some(dest)
+}
+
+// Takes the objects behind the first ones away, with their tuple directories.
+fn take_objects_away(alloc: Global, case: &Case, done: usize, dest: &mut MemDest) -> Option<()> {
     for place in case.places.split(' ').skip(done) {
         let tuple = place.split('/').next()?;
         let at = format!(in alloc; "ocfl/{tuple}").ok()?;
         dest.take_away(&path(alloc, at.as_str()).ok()?).ok()?;
     }
+    Some(())
+}
+
+// Plants the first tuple directories of a place.
+fn plant_tuples(alloc: Global, place: &str, tuples: usize, dest: &mut MemDest) -> Option<()> {
     let mut at = String::from_str(alloc, "ocfl").ok()?;
-    for tuple in next.split('/').take(tuples) {
+    for tuple in place.split('/').take(tuples) {
         at.push('/').ok()?;
         at.push_str(tuple).ok()?;
         dest.plant_dir(&path(alloc, at.as_str()).ok()?).ok()?;
     }
-    Some(dest)
+    Some(())
 }
 
 // The run after a stopped one.
@@ -129,31 +147,34 @@ fn again(
     alloc: Global,
     case: &Case,
     all: &MemDest,
-    mut dest: MemDest,
+    dest: &mut MemDest,
     first: &MemLog,
 ) -> Option<Stop> {
+    let mut source = store(alloc, case.entries).ok()?;
     let mut log = MemLog::new(alloc);
-    let answer = run(
-        alloc,
-        &mut store(alloc, case.entries).ok()?,
-        &mut dest,
-        &mut log,
-    )?;
-    if answer.is_err() {
-        return Some(Stop::Wrong("the second run ends in a fault"));
-    }
-    if !dest.same(all) {
-        return Some(Stop::Wrong("the second run leaves something else"));
-    }
+    let answer = run(alloc, &mut source, dest, &mut log)?;
+    Some(if answer.is_err() {
+        Stop::Wrong("the second run ends in a fault")
+    } else if !dest.same(all) {
+        Stop::Wrong("the second run leaves something else")
+    } else if !are_told_once(alloc, case, first, &log)? {
+        Stop::Wrong("an object isn't told once")
+    } else {
+        Stop::Well
+    })
+}
+
+// Whether two logs tell once of each object: the first as done, or the second as done, or as present.
+fn are_told_once(alloc: Global, case: &Case, first: &MemLog, second: &MemLog) -> Option<bool> {
     for place in case.places.split(' ') {
         let earlier = lines(alloc, first, "done", place)?;
-        let done = lines(alloc, &log, "done", place)?;
-        let present = lines(alloc, &log, "present", place)?;
+        let done = lines(alloc, second, "done", place)?;
+        let present = lines(alloc, second, "present", place)?;
         if (earlier, done, present) != (0, 1, 0) && (done, present) != (0, 1) {
-            return Some(Stop::Wrong("an object isn't told once"));
+            return Some(false);
         }
     }
-    Some(Stop::Well)
+    Some(true)
 }
 
 // How many whole lines of a log tell of this place with this word.
