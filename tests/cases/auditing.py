@@ -4,6 +4,7 @@ extension 0003, apart from the program."""
 import fcntl
 import json
 import os
+import re
 import subprocess
 
 import stores
@@ -348,6 +349,35 @@ def link_on_the_way(program, folder):
     return judged(program, folder, "a link", [("ab/c/obj", "abc", ABC)], [])
 
 
+def shared_contents(program, folder):
+    """What stands where a run stores nothing, since an earlier file has the bytes, is extra, whatever it is; also where the contents before and behind it differ."""
+    files = {"a": b"a" * 20000, "b": b"a" * 20000, "c": b"c", "d/e": b"c", "f": b"f" * 8192}
+    objects = [("ab/c/obj", "abc", files)]
+    fresh(folder, store({f"ab/c/obj/{path}": content for path, content in files.items()}))
+    migrate(program, folder)
+    whole, faults = read_tree(f"{folder}/d"), []
+    content = f"{folder}/d/ocfl/{place('abc')}/v1/content"
+    beside = [files["b"], files["b"][:-1], files["b"] + b"a", b"", files["f"]]
+    for path in ("b", "d/e"):
+        for entry in (*beside, files[path], DIR, Link("a")):
+            for other in (None, "a", "c", "f"):
+                build(content, {path: entry, **({other: b"other"} if other else {})})
+                faults += judged(program, folder, f"{path}, {other}", objects, [])
+                subprocess.run(["rm", "-rf", f"{folder}/d/ocfl"], check=True)
+                build(f"{folder}/d", whole)
+    return faults
+
+
+def read_once(program, folder):
+    """Each file of the store is read once, for its digest: what is alike is read beside it."""
+    files = {"a": b"a" * 100000, "b/c": b"b" * 8192, "b/d": b"d", "e": b"", "f": b"a" * 100000}
+    fresh(folder, store({f"ab/{at}/obj/{path}": content for at in ("c", "d") for path, content in files.items()}))
+    migrate(program, folder)
+    status, _, err = audit(program, folder, "--progress", "always", "--interval", "0")
+    read, most = [int(count) for count in re.findall(rb"(\d+) bytes read", err)], 2 * sum(map(len, files.values()))
+    return differs(status=(status, 0), read=(most // 2 < max(read, default=0) <= most, True))
+
+
 CASES = [
     *(Alone(f"audit: each change of {name}", each_change(name)) for name in STORES),
     Alone("audit: another moment, user and message", another_meta),
@@ -358,4 +388,6 @@ CASES = [
     Alone("audit: options", options),
     Alone("audit: unreadable files", unreadable),
     Alone("audit: a link on the way", link_on_the_way),
+    Alone("audit: shared contents", shared_contents),
+    Alone("audit: each file is read once", read_once),
 ]
