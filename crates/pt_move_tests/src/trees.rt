@@ -28,20 +28,43 @@ pub fn framed(
     digest: &str,
 ) -> Result<MemDest, Fail> {
     let mut dest = tree(alloc, &ROOT)?;
-    let sidecar = format!(in alloc; "{digest} inventory.json\n")?;
     for (name, text) in [
         ("0=ocfl_object_1.1", "ocfl_object_1.1\n"),
         ("inventory.json", inventory),
         ("v1/inventory.json", inventory),
     ] {
-        let at = format!(in alloc; "{place}/{name}")?;
-        add(alloc, &mut dest, &[(at.as_str(), text)])?;
+        add_in(alloc, &mut dest, place, name, text)?;
     }
     for version in ["", "v1/"] {
-        let at = format!(in alloc; "{place}/{version}inventory.json.{word}")?;
-        add(alloc, &mut dest, &[(at.as_str(), sidecar.as_str())])?;
+        add_sidecar(alloc, &mut dest, place, version, word, digest)?;
     }
     Ok(dest)
+}
+
+// Adds a file to what stands at a place.
+fn add_in(
+    alloc: Global,
+    dest: &mut MemDest,
+    place: &str,
+    name: &str,
+    text: &str,
+) -> Result<(), Fail> {
+    let at = format!(in alloc; "{place}/{name}")?;
+    Ok(add(alloc, dest, &[(at.as_str(), text)])?)
+}
+
+// Adds the sidecar of the inventory at the top of what stands at a place, or in its version.
+fn add_sidecar(
+    alloc: Global,
+    dest: &mut MemDest,
+    place: &str,
+    version: &str,
+    word: &str,
+    digest: &str,
+) -> Result<(), Fail> {
+    let name = format!(in alloc; "{version}inventory.json.{word}")?;
+    let line = format!(in alloc; "{digest} inventory.json\n")?;
+    add_in(alloc, dest, place, name.as_str(), line.as_str())
 }
 
 // Where a storage root says its layout.
