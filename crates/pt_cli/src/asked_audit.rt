@@ -24,7 +24,8 @@ pub(crate) struct AskedAudit {
 
 // What the words of an audit ask for, and between which folders. What its inventories say of their version isn't compared.
 pub(crate) fn audit_asked_for(alloc: Global, words: Audit) -> Result<AskedAudit, MemoryFault>
-    ensures { IfOk result (λ asked. ((meta : MetaParts) × (asked.wanted ≡ wanted_audit meta words))
+    ensures { IfOk result (λ asked.
+        ((meta : MetaParts) × (asked.wanted ≡ wanted_audit meta words))
         × (asked.source ≡ words.source) × (asked.dest ≡ words.dest)) }
 {
     let Ok(meta) = Meta::of(alloc, MOMENT, "audit", None, "") else {

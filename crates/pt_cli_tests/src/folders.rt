@@ -130,11 +130,8 @@ fn files_are_read_by_blocks(rt: HostRuntime) -> Result<(), Fail> {
         ("long", true, 0, 8192),
     ];
     for (name, there, start, len) in rows {
-        assert_eq!(rt;
-            opened(&mut source, rt.alloc(), name)?.is_ok(),
-            there,
-            "{start}"
-        );
+        let is_open = opened(&mut source, rt.alloc(), name)?.is_ok();
+        assert_eq!(rt; is_open, there, "{start}");
         next(&mut source, &mut block)?;
         assert_eq!(rt; block.len(), len, "{start}");
         assert!(rt; are_letters(&block, start), "{start}");

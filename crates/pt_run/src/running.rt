@@ -141,10 +141,8 @@ fn made<'a, S: Source, D: System, L: Log>(
     if rehearse {
         let mut rehearsal = Rehearsal::new(alloc, dest);
         let ran = make_turns(alloc, source, &mut rehearsal, log, job, tally);
-        return Ran {
-            ran,
-            dest: rehearsal.into_dest(),
-        };
+        let dest = rehearsal.into_dest();
+        return Ran { ran, dest };
     }
     let mut dest = dest;
     let ran = make_turns(alloc, source, &mut dest, log, job, tally);

@@ -12,7 +12,7 @@ returns-then-rehearse-clause-promises g c =
     rehearsed c.args.job (dest_told (g.D.System.kept c.args.dest.system c.args.dest.folder.path.now) None None) _ _ _ _ _ _ _ _ _
     c.args.rehearse (told begun) (told ended) _ _ _ _ begun.dest.failures ended.dest.failures
     c.if-rehearse.true c.new-rehearsal.ensures.told (tells_still begun ended c.make_turns-ran.ensures.dest_stays)
-    c.new-rehearsal.ensures.failures (ap (λ d. d.failures) (sym c.into_dest.ensures)) c.make_turns-ran.ensures.promises
+    c.new-rehearsal.ensures.failures (ap (λ d. d.failures) (sym c.into_dest-dest.ensures)) c.make_turns-ran.ensures.promises
 
 pub returns-clause-promises : goal.returns-clause-promises
 returns-clause-promises g c =
@@ -23,7 +23,7 @@ returns-clause-promises g c =
 pub returns-then-rehearse-clause-stuck : goal.returns-then-rehearse-clause-stuck
 returns-then-rehearse-clause-stuck g c =
     let stays = c.make_turns-ran.ensures.dest_stays in
-    none_stuck_by _ _ _ _ (ap (λ d. d.stuck) c.into_dest.ensures ∙ stays.3 ∙ c.new-rehearsal.ensures.stuck)
+    none_stuck_by _ _ _ _ (ap (λ d. d.stuck) c.into_dest-dest.ensures ∙ stays.3 ∙ c.new-rehearsal.ensures.stuck)
 
 pub returns-clause-stuck : goal.returns-clause-stuck
 returns-clause-stuck g c =
