@@ -58,8 +58,9 @@ opened {told} {object} {s} (count, it) =
     let n = names_before object in
     let short = length-drop n names in
     record {
-      within = logical_within object s.trail names n is_one there.0 there.1 refl refl;
-      logical = logical_is object s.trail names names (drop n names) n is_one there.0 there.1 refl refl refl (sym (take_all (length names - n) (drop n names) (omega (arith, short))));
+      within = logical_within object s.trail is_one there.0 there.1 names n refl refl;
+      logical = logical_is object s.trail is_one there.0 there.1 names n refl refl names (drop n names) refl
+          (sym (take_all (length names - n) (drop n names) (omega (arith, short))));
       unread = λ r e.
           let known = (it.is.source r e).at in
           known.2.read.left ∙ ap (λ o. Some (unwrap_or o [])) (sym (file_in_pairtree r.tree names known.0.store));
