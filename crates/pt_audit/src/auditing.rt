@@ -15,10 +15,10 @@ ghost use Rattle.pt_survey.specs.Growing.{KeepsLog};
 ghost use Rattle.pt_survey.specs.Surveying.{GoesOn as SurveyGoesOn, IsSurvey, Steps, Surveys, sight_at};
 ghost use Rattle.pt_survey.specs.declared.survey.Sight.TheVariants as sight;
 
-use crate::Counts;
 use crate::beside::Beside;
 use crate::layout::check_layout;
 use crate::lines::{end_line, object_line};
+use crate::{Counting, Counts};
 use pt_compare::{Finding, Root, Scanned, compare};
 use pt_move::{Fault, Job};
 use pt_plan::Halt;
@@ -34,13 +34,15 @@ use std::alloc::Global;
 /// job's description of the version nothing is compared: moment, user and message may be whatever the inventory that stands
 /// gives. `Dest` is answered where the root can't be read, `Target` where it isn't one of this layout, once the store was found
 /// to be one with a good prefix, `Turns` only where the limit is less than a survey's work, and the other faults as by
-/// `migrate`; `StagingLeft` never. Nothing is made or changed, but that the log gets its lines.
-pub fn audit<S: Source, R: Root, L: Log>(
+/// `migrate`; `StagingLeft` never. Nothing is made or changed, but that the log gets its lines; how many there are is told after
+/// each step. Each file of the store is read once, and what stands in the root beside it.
+pub fn audit<S: Source, R: Root, L: Log, C: Counting>(
     alloc: Global,
     source: &mut S,
     root: &mut R,
     log: &mut L,
     job: Job,
+    counting: &C,
 ) -> Result<Counts, Fault>
     ensures ends { IfOk result (EndsAs (job_of job) (tree_in (S.told source.old))
         (tree_in (R.told root.old)) (L.told log.old) (L.told log.new)) }
@@ -58,7 +60,7 @@ pub fn audit<S: Source, R: Root, L: Log>(
     let mut counts = Counts::none();
     let mut beside = Beside::new(alloc);
     loop {
-        if !go_on(
+        let more = go_on(
             alloc,
             &mut survey,
             &mut counts,
@@ -66,8 +68,11 @@ pub fn audit<S: Source, R: Root, L: Log>(
             source,
             root,
             log,
-        )? {
-            return Ok(counts.with_skipped(survey.report().skipped));
+        )?;
+        let so_far = counts.with_skipped(survey.report().skipped);
+        counting.counted(so_far);
+        if !more {
+            return Ok(so_far);
         }
     }
 }

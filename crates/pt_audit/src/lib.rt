@@ -9,5 +9,5 @@ mod layout;
 mod lines;
 
 pub use auditing::audit;
-pub use counts::Counts;
+pub use counts::{Counting, Counts};
 pub use pt_compare::{Difference, Finding, Root, Why};

@@ -9,7 +9,7 @@ use crate::reason;
 use crate::running::Ended;
 use crate::saying::{refused, tell_fault};
 use crate::status::{DONE, FAILED, TOLD};
-use crate::tally::{TalliedLog, Tally};
+use crate::tally::Tally;
 use crate::terminal::Terminals;
 use crate::watch::{Progress, Watched, Watching, Words};
 use pt_audit::Counts;
@@ -109,8 +109,8 @@ where
     let ignoring = Ignoring::new(HostSource::new(ground.store, alloc, store), wanted.ignored);
     let mut source = Watched::new(ignoring, rt, alloc, &tally, watching);
     let mut root = HostSource::new(ground.folder, alloc, folder);
-    let mut log = TalliedLog::new(DurableLog::new(ground.output, file), &tally);
-    let ran = pt_audit::audit(alloc, &mut source, &mut root, &mut log, wanted.job);
+    let mut log = DurableLog::new(ground.output, file);
+    let ran = pt_audit::audit(alloc, &mut source, &mut root, &mut log, wanted.job, &tally);
     source.end();
     let ignoring = source.into_source();
     reason::left_out(rt, verbose & ignores, ignoring.left_out());
@@ -119,7 +119,7 @@ where
     let ground = Ground {
         store: source.into_system(),
         folder: root.into_system(),
-        output: log.into_log().into_writer(),
+        output: log.into_writer(),
     };
     Ended { status, ground }
 }

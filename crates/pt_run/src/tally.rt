@@ -1,8 +1,7 @@
-//! How far a run is, as its devices see it.
-ghost use Rattle.std.specs.Prelude.{◌≡◌};
+//! How far a run or an audit is.
 
+use pt_audit::{Counting, Counts};
 use pt_move::Report;
-use pt_tree::{Log, TreeFault};
 use std::cell::Cell;
 
 /// The lines of each kind that were put, and the bytes that were read.
@@ -56,71 +55,13 @@ impl Tally {
         self.present.set(report.present);
         self.skipped.set(report.skipped);
     }
-
-    // Counts a line of an audit by its kind, which stands at its start.
-    fn add_line(&self, line: &[u8]) {
-        let counter = if begins(line, "same") {
-            &self.done
-        } else if begins(line, "absent") || begins(line, "differs") {
-            &self.present
-        } else if begins(line, "skip") {
-            &self.skipped
-        } else {
-            return;
-        };
-        counter.set(counter.get().saturating_add(1));
-    }
 }
 
-// Whether a line's first member says this.
-fn begins(line: &[u8], word: &str) -> bool {
-    match line.strip_prefix(b"{\"as\":\"".as_slice()) {
-        Some(rest) => rest.starts_with(word.as_bytes()),
-        None => false,
-    }
-}
-
-/// The log of an audit that counts the lines put into another, and is that one in all else.
-#[derive(Drop)]
-pub struct TalliedLog<'a, L: Log> {
-    log: L,
-    tally: &'a Tally,
-}
-
-impl<'a, L: Log> TalliedLog<'a, L> {
-    /// Counts the lines of a log from now on.
-    pub fn new(log: L, tally: &'a Tally) -> TalliedLog<'a, L>
-        ensures { result.log ≡ log }
-    {
-        TalliedLog { log, tally }
-    }
-
-    /// The log whose lines were counted, as the calls left it.
-    pub fn into_log(self) -> L
-        ensures { result ≡ self.entry.log }
-    {
-        self.log
-    }
-}
-
-impl<'a, L: Log> Log for TalliedLog<'a, L> {
-    ghost told = { λ l. L.told l.log };
-
-    ghost failed = { λ l. L.failed l.log };
-
-    ghost keeps = { λ a b. L.keeps a.log b.log };
-
-    ghost is_kept = { λ a. L.is_kept a.log };
-
-    ghost keeps_on = { λ a b c p q. L.keeps_on a.log b.log c.log p q };
-
-    fn failures(&self) -> u64 {
-        self.log.failures()
-    }
-
-    fn put(&mut self, piece: &[u8]) -> Result<(), TreeFault> {
-        self.log.put(piece)?;
-        self.tally.add_line(piece);
-        Ok(())
+impl Counting for Tally {
+    fn counted(&self, counts: Counts) {
+        self.done.set(counts.same);
+        self.present
+            .set(counts.absent.saturating_add(counts.differs));
+        self.skipped.set(counts.skipped);
     }
 }

@@ -18,59 +18,59 @@ loop-beside-init g c =
       refl,
     )
 
-pub returns-in_err-go_on-clause-source : goal.returns-in_err-go_on-clause-source
-returns-in_err-go_on-clause-source g c =
+pub returns-in_err-more-clause-source : goal.returns-in_err-more-clause-source
+returns-in_err-more-clause-source g c =
     let was = c.loop-beside.invariant in
-    let went = c.in_err-go_on.ensures in
+    let went = c.in_err-more.ensures in
     (g.met.S.Source.keeps_on _ _ _ was.4.0 went.source.0, went.source.1 ∙ was.4.1)
 
-pub returns-in_err-go_on-clause-root : goal.returns-in_err-go_on-clause-root
-returns-in_err-go_on-clause-root g c =
+pub returns-in_err-more-clause-root : goal.returns-in_err-more-clause-root
+returns-in_err-more-clause-root g c =
     let was = c.loop-beside.invariant in
-    let went = c.in_err-go_on.ensures in
+    let went = c.in_err-more.ensures in
     (g.met.R.Source.keeps_on _ _ _ was.5.0 went.root.0, went.root.1 ∙ was.5.1)
 
-pub returns-in_err-go_on-clause-log : goal.returns-in_err-go_on-clause-log
-returns-in_err-go_on-clause-log g c =
+pub returns-in_err-more-clause-log : goal.returns-in_err-more-clause-log
+returns-in_err-more-clause-log g c =
     let was = c.loop-beside.invariant in
-    let went = c.in_err-go_on.ensures in
+    let went = c.in_err-more.ensures in
     (g.met.L.Log.keeps_on _ _ _ was.6.0 went.log.0, grows_on _ _ _ was.6.1 went.log.1)
 
-pub returns-then-not-branch-clause-ends : goal.returns-then-not-branch-clause-ends
-returns-then-not-branch-clause-ends g c =
+pub returns-then-not-more-clause-ends : goal.returns-then-not-more-clause-ends
+returns-then-not-more-clause-ends g c =
     let was = c.loop-beside.invariant in
-    let went = c.in_ok-go_on.ensures in
-    same_end c.in_ok-go_on.field-0 c.args.job _ _ _ _ _ _ _ _ c.with_skipped.result c.go_on.new.survey (search rules) (went.still.1.job ∙ was.3) (search rules) (sym was.4.1) (sym was.5.1) (went.on _ was.0)
+    let went = c.in_ok-more.ensures in
+    same_end c.in_ok-more.more c.args.job _ _ _ _ _ _ _ _ c.with_skipped-so_far.result c.go_on.new.survey (search rules) (went.still.1.job ∙ was.3) (search rules) (sym was.4.1) (sym was.5.1) (went.on _ was.0)
 
-pub returns-then-not-branch-clause-layout : goal.returns-then-not-branch-clause-layout
-returns-then-not-branch-clause-layout g c =
+pub returns-then-not-more-clause-layout : goal.returns-then-not-more-clause-layout
+returns-then-not-more-clause-layout g c =
     let was = c.loop-beside.invariant in
-    let went = c.in_ok-go_on.ensures in
-    same_layout c.in_ok-go_on.field-0 c.args.job _ _ _ _ _ _ _ c.go_on.new.survey (search rules) (went.still.1.job ∙ was.3) (sym was.5.1) (went.on _ was.0)
+    let went = c.in_ok-more.ensures in
+    same_layout c.in_ok-more.more c.args.job _ _ _ _ _ _ _ c.go_on.new.survey (search rules) (went.still.1.job ∙ was.3) (sym was.5.1) (went.on _ was.0)
 
-pub returns-then-not-branch-clause-source : goal.returns-then-not-branch-clause-source
-returns-then-not-branch-clause-source g c =
+pub returns-then-not-more-clause-source : goal.returns-then-not-more-clause-source
+returns-then-not-more-clause-source g c =
     let was = c.loop-beside.invariant in
-    let went = c.in_ok-go_on.ensures in
+    let went = c.in_ok-more.ensures in
     (g.met.S.Source.keeps_on _ _ _ was.4.0 went.source.0, went.source.1 ∙ was.4.1)
 
-pub returns-then-not-branch-clause-root : goal.returns-then-not-branch-clause-root
-returns-then-not-branch-clause-root g c =
+pub returns-then-not-more-clause-root : goal.returns-then-not-more-clause-root
+returns-then-not-more-clause-root g c =
     let was = c.loop-beside.invariant in
-    let went = c.in_ok-go_on.ensures in
+    let went = c.in_ok-more.ensures in
     (g.met.R.Source.keeps_on _ _ _ was.5.0 went.root.0, went.root.1 ∙ was.5.1)
 
-pub returns-then-not-branch-clause-log : goal.returns-then-not-branch-clause-log
-returns-then-not-branch-clause-log g c =
+pub returns-then-not-more-clause-log : goal.returns-then-not-more-clause-log
+returns-then-not-more-clause-log g c =
     let was = c.loop-beside.invariant in
-    let went = c.in_ok-go_on.ensures in
+    let went = c.in_ok-more.ensures in
     (g.met.L.Log.keeps_on _ _ _ was.6.0 went.log.0, grows_on _ _ _ was.6.1 went.log.1)
 
 pub loop-beside-preserved : goal.loop-beside-preserved
 loop-beside-preserved g c =
     let was = c.loop-beside.invariant in
-    let went = c.in_ok-go_on.ensures in (
-      same_trees c.in_ok-go_on.field-0 _ _ _ _ _ _ _ _ c.go_on.new.survey (search rules) went.source.1 went.root.1 (went.on _ was.0),
+    let went = c.in_ok-more.ensures in (
+      same_trees c.in_ok-more.more _ _ _ _ _ _ _ _ c.go_on.new.survey (search rules) went.source.1 went.root.1 (went.on _ was.0),
       went.still.0,
       went.still.2,
       went.still.1.job ∙ was.3,
