@@ -1,6 +1,6 @@
 -- The root is read as far as the survey has seen: what a step of the survey leaves to be read.
 use Rattle.std.proofs.Common.{◌≡◌, ◌<◌, ◌≤◌, ◌+◌, ◌-◌, ℕ, zero, suc, Bool, true, false, List, [], ◌∷◌, ◌++◌, refl, ap, sym, ◌∙◌, subst, arith, inl, inr, ◌⊎◌, append-nil, cond, drop, length, take}
-use Rattle.std.specs.Prelude.{All, Option, None, Some, Ok, unwrap_or, ⊤}
+use Rattle.std.specs.Prelude.{All, Option, None, Some, Ok, is_some, unwrap_or, ⊤}
 use Rattle.std.specs.Bool.{MatchBool, OnTrue}
 use Rattle.std.specs.Option.{ForSome, option_map}
 use Rattle.std.proofs.lemmas.Bool.{true≢false}
@@ -11,6 +11,7 @@ use Rattle.pt_audit.specs.Beside.{AreAlike, AreAlikeAtHand, AreFew, BehindAt, Fo
 use Rattle.pt_audit.specs.declared.beside.Beside.{Beside}
 use Rattle.pt_begun.proofs.source.InPairtree.{file_in_pairtree}
 use Rattle.pt_begun.specs.BegunHeld.{RowsAt}
+use Rattle.pt_compare.proofs.Opening.{dir_above}
 use Rattle.pt_compare.proofs.Passed.{block_is, left_next}
 use Rattle.pt_compare.specs.Beside.{StandsAlike}
 use Rattle.pt_compare.specs.Bytes.{left_in}
@@ -40,7 +41,8 @@ use Rattle.pt_survey.specs.declared.survey.AtHand.{AtHand}
 use Rattle.pt_survey.specs.declared.survey.Sight.{Sight}
 use Rattle.pt_survey.specs.declared.survey.Sight.TheVariants as sight
 use Rattle.pt_tree.specs.Forest.{Forest}
-use Rattle.pt_tree.specs.Path.{Path}
+use Rattle.pt_tree.proofs.Below.{whole_of}
+use Rattle.pt_tree.specs.Path.{Path, rest_below}
 use Rattle.pt_tree.specs.Source.{IsRead, Reading, after_next}
 use Rattle.pt_tree.specs.declared.kind.Kind.TheVariants as kind
 use Rattle.pt_walk.specs.Left.{bytes_at}
@@ -309,5 +311,13 @@ alike_at_hand source root b r hand alike is at it so = by r.phase is at it.paced
     by (phase.Read object zero) is at paced = absurd (cc)
     by (phase.Read object (suc bytes)) is at paced = absurd (cc)
     by _ is at paced = absurd (cc)
+
+-- a folder that is known to stand has those above it
+pub folder_stands : (tree : Option Forest) (path folder : Path) (known : Bool) → Stands tree (folder, kind.Dir) → known ≡ is_some (rest_below path folder) → known ≡ true → Stands tree (path, kind.Dir)
+folder_stands tree path folder known stands is so = by (rest_below path folder) refl (sym is ∙ so)
+  where
+    by : (o : Option Path) → rest_below path folder ≡ o → is_some o ≡ true → Stands tree (path, kind.Dir)
+    by None at some = absurd (cc)
+    by (Some rest) at some = dir_above tree path rest (subst (λ (p : Path). Stands tree (p, kind.Dir)) (whole_of path folder rest at) stands)
 
 pub ruleset pacing = (behind)

@@ -4,7 +4,7 @@ ghost use Rattle.std.specs.Prelude.{◌≡◌, ℕ, IfErr, IfOk, List, OnOk, Opt
 ghost use Rattle.pt_audit.specs.Auditing.{CanCompare, EndsAs, GoesOn, IsAt, IsFoundAtHand, IsSeen, IsUnderWay, last_text};
 ghost use Rattle.std.specs.Option.{ForSome};
 ghost use Rattle.std.specs.Io.KnownBytes.{Appends};
-ghost use Rattle.pt_audit.specs.Beside.{AreAlikeAtHand, Follows};
+ghost use Rattle.pt_audit.specs.Beside.{AreAlikeAtHand, CanFollow, Follows};
 ghost use Rattle.pt_audit.specs.Failing.{AuditSays, BlamesRightly, FailsAs, TellFails, failures};
 ghost use Rattle.pt_audit.specs.Layout.{IsOfLayout};
 ghost use Rattle.pt_move.specs.Fault.{fault_of};
@@ -216,7 +216,7 @@ fn tell_object<S: Source, R: Root, L: Log>(
         unreachable!()
     };
     let alike = beside.alike_at(&hand.told.at, hand.told.to);
-    let finding = found(alloc, source, root, survey.job(), &hand, alike)?;
+    let finding = found(alloc, source, root, survey.job(), &hand, beside, alike)?;
     let line = object_line(alloc, &hand.told, &finding)?;
     log.put(line.as_bytes()).map_err(Halt::of_log)?;
     *counts = counts.with(&finding);
@@ -230,9 +230,11 @@ fn found<S: Source, R: Root>(
     root: &mut R,
     job: &Job,
     hand: &AtHand<'_>,
+    beside: &Beside,
     alike: usize,
 ) -> Result<Finding, Halt>
     requires compared { CanCompare (S.told source.old) hand.now }
+    requires folder { CanFollow (R.told root.old) beside.now }
     requires alike { AreAlikeAtHand (tree_in (S.told source.old)) (tree_in (R.told root.old))
         hand.now alike }
     ensures found { IfOk result (IsFoundAtHand job.now hand.now (tree_in (S.told source.old))
@@ -249,6 +251,7 @@ fn found<S: Source, R: Root>(
         rows: hand.rows,
         contents: hand.contents,
         alike,
+        stands: beside.has_folder(&to),
         algorithm: job.algorithm,
         from: &from,
         to: &to,

@@ -1,7 +1,7 @@
 #![tactic(auto, using(crate::proofs::Pacing::pacing))]
 //! The files of the root that are read beside those of an object, while these are read for their digests: so what is alike needn't
 //! be read again when the object is compared.
-ghost use Rattle.std.specs.Prelude.{◌≡◌, ◌++◌, IfOk, OnOk, Option};
+ghost use Rattle.std.specs.Prelude.{◌≡◌, ◌++◌, IfOk, OnOk, Option, is_some};
 ghost use Rattle.pt_audit.specs.Beside.{CanFollow, HasBegun, IsAlikeAt, IsAtObject, IsBehind, IsPaced};
 ghost use Rattle.pt_audit.specs.Failing.{ReadFailsAs};
 ghost use Rattle.pt_compare.specs.Parts.{in_content};
@@ -9,6 +9,7 @@ ghost use Rattle.pt_compare.specs.Root.{KeepsRoot};
 ghost use Rattle.pt_plan.specs.TurnWalk.{in_root};
 ghost use Rattle.pt_survey.specs.Surveying.{sight_at};
 ghost use Rattle.pt_survey.specs.declared.survey.Sight.TheVariants as sight;
+ghost use Rattle.pt_tree.specs.Path.{rest_below};
 ghost use Rattle.pt_tree.specs.Source.{Reading};
 
 use pt_compare::{Root, come_next, has_ended, open_standing};
@@ -158,6 +159,13 @@ impl Beside {
             }
         }
         Ok(())
+    }
+
+    /// Whether a directory is known to stand at a path of the root.
+    pub(crate) fn has_folder(&self, path: &NamePath) -> bool
+        ensures { result ≡ is_some (rest_below path.now self.now.folder) }
+    {
+        self.folder.is_within(path)
     }
 
     /// How many contents of an object are alike, from the first on: none where it isn't the one that was read beside.

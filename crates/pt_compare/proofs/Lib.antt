@@ -12,7 +12,7 @@ pub mod Listed
 pub mod Made
 pub mod Noted
 pub mod OnWay
-mod Opening
+pub mod Opening
 pub mod Passed
 pub mod Reading
 pub mod Roots

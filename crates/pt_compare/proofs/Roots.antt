@@ -52,6 +52,17 @@ pub seen_dir : (tree : Option Forest) (p : Path) (here : Option Kind) → IsSeen
 seen_dir None p here seen is = refl
 seen_dir (Some f) p here seen is = ap is_dir (seen f refl) ∙ is
 
+-- and what stands as one is seen
+pub dir_seen : (tree : Option Forest) (p : Path) → Stands tree (p, kind.Dir) → IsSeen tree p (Some kind.Dir)
+dir_seen None p stands = λ f is. absurd (cc)
+dir_seen (Some g) p stands = λ f is. let same : g ≡ f = cc in subst (λ f. kind_at f p ≡ Some kind.Dir) same (by (kind_at g p) stands)
+  where
+    by : (o : Option Kind) → option_map_or (same_kind kind.Dir) o false ≡ true → o ≡ Some kind.Dir
+    by None is = absurd (cc)
+    by (Some kind.Dir) is = refl
+    by (Some kind.File) is = absurd (cc)
+    by (Some kind.Other) is = absurd (cc)
+
 -- the top stands as a directory
 pub top_stands : (tree : Option Forest) → Stands tree ([], kind.Dir)
 top_stands None = refl

@@ -27,6 +27,10 @@ AreAlike source root object =
     All (λ content. StandsAlike source root object.to.now (in_content content.path)
     (object.from.now ++ content.path)) (take object.alike object.contents.now)
 
+-- where a directory is said to stand at its place, it does
+abbrev pub IsKnownToStand : Option Forest → Scanned → Type 0
+IsKnownToStand root object = object.stands ≡ true → Stands root (object.to.now, kind.Dir)
+
 -- a file is taken out of what is noted, where it is noted as one
 abbrev pub TakesFile : Path → Marks → Marks → Result (Unit {0}) Stop → Type 0
 TakesFile p old new (Ok x) = new ≡ without_mark p old

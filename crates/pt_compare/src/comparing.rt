@@ -1,13 +1,14 @@
 //! An object of a store, held against what stands at its place in a storage root.
 ghost use Rattle.std.specs.Prelude.{◌≡◌, ◌≤◌, ◌++◌, IfOk, length, map, true, All, IfErr, None, OnOk};
 ghost use Rattle.std.specs.Option.{ForSome};
-ghost use Rattle.pt_compare.specs.Beside.{AreAlike};
+ghost use Rattle.pt_compare.specs.Beside.{AreAlike, IsKnownToStand};
 ghost use Rattle.pt_compare.specs.Found.{HaltsAs, IsFound, IsLeft, MeetsInventories, MeetsObject, sought_of, texts_of_object};
 ghost use Rattle.pt_compare.specs.Marks.{inside, marks_of};
 ghost use Rattle.pt_compare.specs.Meeting.{FailsAs, FailsInRoot, MeetsFrom, MeetsIn, NotedStand, both};
 ghost use Rattle.pt_compare.specs.Parts.{content_items, files_of, first_items, fronts, last_items, way_items};
 ghost use Rattle.pt_compare.specs.Ways.{AreMet};
-ghost use Rattle.pt_compare.specs.Root.{KeepsRoot, tree_in};
+ghost use Rattle.pt_compare.specs.Root.{IsSeen, KeepsRoot, tree_in};
+ghost use Rattle.pt_tree.specs.Failures.{IsCounted};
 ghost use Rattle.pt_plan.specs.declared.halt.Halt.TheVariants as halt;
 ghost use Rattle.pt_object.specs.Distinct.{content_of_row, distinct};
 ghost use Rattle.pt_object.specs.FilePaths.{part_in_order, row_paths};
@@ -21,7 +22,7 @@ use crate::stop::Stop;
 use crate::{Difference, Finding, Root, Scanned, Why, standing};
 use pt_object::{object_declaration, sidecar};
 use pt_plan::Halt;
-use pt_tree::{Known, NamePath, Source};
+use pt_tree::{Kind, Known, NamePath, Source, TreeFault};
 use std::alloc::Global;
 
 /// Holds an object against what stands at its place, in the order in which a run makes it (OCFL 1.1, "Object Structure"): the
@@ -44,6 +45,7 @@ pub fn compare<S: Source, R: Root>(
     requires files { All (λ row. CanOpen (S.told source.old) (object.now.from.now ++ row.path))
         object.now.rows.now }
     requires alike { AreAlike (tree_in (S.told source.old)) (tree_in (R.told root.old)) object.now }
+    requires stands { IsKnownToStand (tree_in (R.told root.old)) object.now }
     ensures source { KeepsRoot S.told S.keeps source.old source.new }
     ensures root { KeepsRoot R.told R.keeps root.old root.new }
     ensures failures { HaltsAs result (both (S.failed source.old) (R.failed root.old))
@@ -52,7 +54,7 @@ pub fn compare<S: Source, R: Root>(
         (λ s. ForSome (tree_in (R.told root.old))
         (λ r. IsFound (sought_of object.now s) (inside r object.now.to.now) finding))) }
 {
-    let here = standing(alloc, root, object.to).map_err(Halt::of_dest)?;
+    let here = at_place(alloc, root, object).map_err(Halt::of_dest)?;
     let Some(kind) = here else {
         return Ok(Finding::Absent);
     };
@@ -62,6 +64,25 @@ pub fn compare<S: Source, R: Root>(
         Ok(()) => left_over(&entries),
         Err(Stop::Differs(difference)) => Ok(Finding::Differs(difference)),
         Err(Stop::Halt(why)) => Err(why),
+    }
+}
+
+// The kind of what stands at an object's place, if anything does; what is known of it isn't looked at.
+fn at_place<R: Root>(
+    alloc: Global,
+    root: &mut R,
+    object: &Scanned<'_>,
+) -> Result<Option<Kind>, TreeFault>
+    requires { IsKnownToStand (tree_in (R.told root.old)) object.now }
+    ensures kind { IfOk result (λ here. IsSeen (tree_in (R.told root.old)) object.now.to.now here) }
+    ensures same { R.told root.new ≡ R.told root.old }
+    ensures failures { IsCounted (R.failed root.old) (R.failed root.new) result }
+    ensures keeps { R.keeps root.old root.new }
+{
+    if object.stands {
+        Ok(Some(Kind::Dir))
+    } else {
+        standing(alloc, root, object.to)
     }
 }
 

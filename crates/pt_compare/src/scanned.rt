@@ -14,6 +14,8 @@ pub struct Scanned<'a> {
     pub contents: &'a Contents,
     /// How many of the contents, from the first on, are known to stand at its place with the bytes that the source has.
     pub alike: usize,
+    /// Whether a directory is known to stand at its place.
+    pub stands: bool,
     /// The algorithm of its digests.
     pub algorithm: Algorithm,
     /// The path in the source of the directory that its logical paths begin in, from the source's top on.
