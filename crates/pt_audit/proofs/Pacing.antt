@@ -6,8 +6,8 @@ use Rattle.std.specs.Option.{ForSome, option_map}
 use Rattle.std.proofs.lemmas.Bool.{true≢false}
 use Rattle.std.proofs.lemmas.List.{length-append, length-drop, take-append-drop, take-append-le, take_all}
 use Rattle.std.proofs.lemmas.List.Elements.{All-nil}
-use Rattle.pt_audit.specs.Auditing.{is_told}
-use Rattle.pt_audit.specs.Beside.{AreAlike, AreAlikeAtHand, AreFew, BehindAt, Follows, HasBegun, HasEnded, HaveRead, IsAlikeAt, IsBehind, IsClosed, IsOpened, IsPaced, PacedAt, ReadBehind, ReadBeside}
+use Rattle.pt_audit.specs.Auditing.{IsAt, is_told}
+use Rattle.pt_audit.specs.Beside.{AreAlike, AreAlikeAtHand, AreFew, BehindAt, Follows, HasBegun, HasEnded, HaveRead, IsAlikeAt, IsBehind, IsClosed, IsOpened, IsPaced, PacedAt, ReadBehind, ReadBeside, Saw}
 use Rattle.pt_audit.specs.declared.beside.Beside.{Beside}
 use Rattle.pt_begun.proofs.source.InPairtree.{file_in_pairtree}
 use Rattle.pt_begun.specs.BegunHeld.{RowsAt}
@@ -252,8 +252,9 @@ behind told told' root b r r' was now step tree paced = by (is_scanning r.phase)
 
 -- ---- an audit that is to begin
 
-pub follows_first : (source root : Option Reading) (b : Beside) (r : Running) → HasBegun b → r.phase ≡ phase.Begin → Follows source root b r
-follows_first source root b r new begin = record {
+pub follows_first : (source root : Option Reading) (b : Beside) (r : Running) → HasBegun b → r.phase ≡ phase.Begin → Surveys source r → Follows source root b r
+follows_first source root b r new begin under_way = record {
+  under_way = under_way;
   paced = subst (λ (p : Phase). PacedAt source root b p r.state) (sym begin) new.1;
   can = record {
     folder = subst (λ (p : Path). Stands (tree_in root) (p, kind.Dir)) (sym new.2) (top_stands (tree_in root));
@@ -270,9 +271,10 @@ still_alike source source' root root' b contents same stays alike =
     let P : Option Forest → Option Forest → Content → Type 0 = λ s t content. StandsAlike s t (in_root b.place) (in_content content.path) (in_pairtree (b.from ++ content.path)) in
     subst (λ t. All (P (tree_in source') t) (take b.alike contents)) (sym stays) (subst (λ s. All (P s (tree_in root)) (take b.alike contents)) (sym same) alike)
 
-pub follows_told : (source source' root root' : Option Reading) (b : Beside) (r : Running) (what : Sight) → what ≡ sight_at r.phase → is_told what ≡ true → tree_in source' ≡ tree_in source → tree_in root' ≡ tree_in root → Follows source root b r → Follows source' root' b r
-follows_told source source' root root' b r what saw told same stays it =
+pub follows_told : (source source' root root' : Option Reading) (b : Beside) (r : Running) (what : Sight) → what ≡ sight_at r.phase → is_told what ≡ true → tree_in source' ≡ tree_in source → tree_in root' ≡ tree_in root → Surveys source' r → Follows source root b r → Follows source' root' b r
+follows_told source source' root root' b r what saw told same stays under_way it =
     let stood = there r.phase (ap is_told (sym saw) ∙ told) it.paced in record {
+      under_way = under_way;
       paced = stood.1;
       can = record {
         folder = subst (λ t. Stands t (b.folder, kind.Dir)) (sym stays) it.can.folder;
@@ -287,6 +289,10 @@ follows_told source source' root root' b r what saw told same stays it =
     there (phase.Read object zero) is paced = absurd (true≢false (sym is))
     there (phase.Read object (suc bytes)) is paced = absurd (true≢false (sym is))
     there _ is paced = absurd (true≢false (sym is))
+
+-- what a step came to
+pub at_sight : {source root : Option Reading} {b : Beside} {what : Sight} {r : Running} → Saw source root b what r → IsAt source what r
+at_sight it = record { under_way = it.follows.under_way; saw = it.saw }
 
 -- ---- the object at hand
 
@@ -320,4 +326,4 @@ folder_stands tree path folder known stands is so = by (rest_below path folder) 
     by None at some = absurd (cc)
     by (Some rest) at some = dir_above tree path rest (subst (λ (p : Path). Stands tree (p, kind.Dir)) (whole_of path folder rest at) stands)
 
-pub ruleset pacing = (behind)
+pub ruleset pacing = (behind, at_sight)

@@ -16,7 +16,9 @@ use Rattle.pt_plan.specs.declared.phase.Phase.{Phase}
 use Rattle.pt_plan.specs.declared.phase.Phase.TheVariants as phase
 use Rattle.pt_state.specs.declared.state.State.{State}
 use Rattle.pt_survey.specs.Files.{names_before}
+use Rattle.pt_survey.specs.Surveying.{Surveys, sight_at}
 use Rattle.pt_survey.specs.declared.survey.AtHand.{AtHand}
+use Rattle.pt_survey.specs.declared.survey.Sight.{Sight}
 use Rattle.pt_tree.specs.Forest.{Forest}
 use Rattle.pt_tree.specs.Path.{Path}
 use Rattle.pt_tree.specs.Source.{Reading}
@@ -136,7 +138,13 @@ AreAlikeAtHand source root hand alike =
     All (λ content. StandsAlike source root (in_root hand.told.to.now) (in_content content.path)
     (in_pairtree (hand.told.at ++ content.path))) (take alike hand.contents.now)
 
--- the root is read as far as the survey has seen, and can be read on
+-- the survey is under way, and the root is read as far as it has seen, and can be read on
 pub record Follows (source root : Option Reading) (b : Beside) (r : Running) : Type 0 where
+  pub under_way : Surveys source r
   pub paced : IsPaced source root b r
   pub can : CanFollow root b
+
+-- so it is where a step was made that came to this
+pub record Saw (source root : Option Reading) (b : Beside) (what : Sight) (r : Running) : Type 0 where
+  pub follows : Follows source root b r
+  pub saw : what ≡ sight_at r.phase

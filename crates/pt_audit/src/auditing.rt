@@ -1,10 +1,10 @@
 #![tactic(auto, using(crate::proofs::Telling::auditing, crate::proofs::Saying::saying))]
 //! A whole audit.
 ghost use Rattle.std.specs.Prelude.{◌≡◌, ℕ, IfErr, IfOk, List, OnOk, Option};
-ghost use Rattle.pt_audit.specs.Auditing.{CanCompare, EndsAs, GoesOn, IsAt, IsFoundAtHand, IsSeen, IsUnderWay, last_text};
+ghost use Rattle.pt_audit.specs.Auditing.{CanCompare, EndsAs, GoesOn, IsFoundAtHand, IsSeen, IsUnderWay, last_text};
 ghost use Rattle.std.specs.Option.{ForSome};
 ghost use Rattle.std.specs.Io.KnownBytes.{Appends};
-ghost use Rattle.pt_audit.specs.Beside.{AreAlikeAtHand, CanFollow, Follows};
+ghost use Rattle.pt_audit.specs.Beside.{AreAlikeAtHand, CanFollow, Follows, Saw};
 ghost use Rattle.pt_audit.specs.Failing.{AuditSays, BlamesRightly, FailsAs, TellFails, failures};
 ghost use Rattle.pt_audit.specs.Layout.{IsOfLayout};
 ghost use Rattle.pt_move.specs.Fault.{fault_of};
@@ -87,15 +87,13 @@ fn go_on<S: Source, R: Root, L: Log>(
     root: &mut R,
     log: &mut L,
 ) -> Result<bool, Fault>
-    requires under_way { Surveys (S.told source.old) survey.old }
-    requires paced { Follows (S.told source.old) (R.told root.old) beside.old survey.old }
+    requires { Follows (S.told source.old) (R.told root.old) beside.old survey.old }
     ensures on { (first : Option (List ℕ)) → IsUnderWay (S.told source.old)
         (tree_in (S.told source.old)) (tree_in (R.told root.old)) first (L.told log.old)
         counts.old survey.old
         → IfOk result (λ more. GoesOn more (S.told source.new) (tree_in (S.told source.old))
         (tree_in (R.told root.old)) first (L.told log.new) counts.new survey.new) }
-    ensures still { OnOk result (Surveys (S.told source.new) survey.new
-        × Steps (source_tree (S.told source.old)) survey.old survey.new
+    ensures still { OnOk result (Steps (source_tree (S.told source.old)) survey.old survey.new
         × Follows (S.told source.new) (R.told root.new) beside.new survey.new) }
     ensures source { KeepsRoot S.told S.keeps source.old source.new }
     ensures root { KeepsRoot R.told R.keeps root.old root.new }
@@ -118,14 +116,12 @@ fn see<S: Source, R: Root, L: Log>(
     root: &mut R,
     log: &mut L,
 ) -> Result<Sight, Fault>
-    requires under_way { Surveys (S.told source.old) survey.old }
-    requires paced { Follows (S.told source.old) (R.told root.old) beside.old survey.old }
+    requires { Follows (S.told source.old) (R.told root.old) beside.old survey.old }
     ensures on { (count : ℕ) → IsSurvey (S.told source.old) count survey.old
         → OnOk result (SurveyGoesOn (S.told source.old) (S.told source.new)
         (L.told log.old) (L.told log.new) count survey.old survey.new) }
-    ensures saw { IfOk result (λ what. (what ≡ sight_at survey.new.phase)
-        × Steps (source_tree (S.told source.old)) survey.old survey.new
-        × Follows (S.told source.new) (R.told root.new) beside.new survey.new) }
+    ensures saw { IfOk result (λ what. Steps (source_tree (S.told source.old)) survey.old survey.new
+        × Saw (S.told source.new) (R.told root.new) beside.new what survey.new) }
     ensures source { KeepsRoot S.told S.keeps source.old source.new }
     ensures root { KeepsRoot R.told R.keeps root.old root.new }
     ensures log { KeepsLog L.told L.keeps log.old log.new }
@@ -151,15 +147,14 @@ fn tell<S: Source, R: Root, L: Log>(
     root: &mut R,
     log: &mut L,
 ) -> Result<bool, Halt>
-    requires at_sight { IsAt (S.told source.old) sight survey.now }
-    requires paced { Follows (S.told source.old) (R.told root.old) beside.now survey.now }
+    requires { Saw (S.told source.old) (R.told root.old) beside.now sight survey.now }
     ensures on { (first : Option (List ℕ)) → IsSeen (S.told source.old)
         (tree_in (S.told source.old)) (tree_in (R.told root.old)) first (L.told log.old)
         counts.old survey.now
         → IfOk result (λ more. GoesOn more (S.told source.new) (tree_in (S.told source.old))
         (tree_in (R.told root.old)) first (L.told log.new) counts.new survey.now) }
-    ensures still { OnOk result (Surveys (S.told source.new) survey.now
-        × Follows (S.told source.new) (R.told root.new) beside.now survey.now) }
+    ensures still { OnOk result (Follows (S.told source.new) (R.told root.new)
+        beside.now survey.now) }
     ensures source { KeepsRoot S.told S.keeps source.old source.new }
     ensures root { KeepsRoot R.told R.keeps root.old root.new }
     ensures log { KeepsLog L.told L.keeps log.old log.new }
@@ -197,7 +192,6 @@ fn tell_object<S: Source, R: Root, L: Log>(
     log: &mut L,
 ) -> Result<(), Halt>
     requires paced { Follows (S.told source.old) (R.told root.old) beside.now survey.now }
-    requires under_way { Surveys (S.told source.old) survey.now }
     requires at_hand { sight_at survey.now.phase ≡ sight.Object }
     ensures on { (first : Option (List ℕ)) → IsSeen (S.told source.old)
         (tree_in (S.told source.old)) (tree_in (R.told root.old)) first (L.told log.old)

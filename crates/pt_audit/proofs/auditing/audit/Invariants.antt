@@ -4,13 +4,11 @@ use Rattle.pt_audit.specs.Beside.{Follows}
 use Rattle.pt_audit.specs.Failing.{failures}
 use Rattle.pt_compare.specs.Root.{KeepsRoot, tree_in}
 use Rattle.pt_survey.specs.Growing.{KeepsLog}
-use Rattle.pt_survey.specs.Surveying.{Surveys}
 use Rattle.pt_audit.proofs.auditing.audit.Given as goal
 
 abbrev pub invariant-loop-beside : goal.invariant-loop-beside
 invariant-loop-beside g l =
     IsUnderWay (g.S.Source.told l.source) (tree_in (g.S.Source.told l.source)) (tree_in (g.R.Source.told l.root)) (g.L.Log.told l.fn.log) (g.L.Log.told l.log) l.counts l.survey
-    × Surveys (g.S.Source.told l.source) l.survey
     × Follows (g.S.Source.told l.source) (g.R.Source.told l.root) l.beside l.survey
     × (l.survey.state.job ≡ l.fn.job)
     × KeepsRoot g.S.Source.told g.S.Source.keeps l.fn.source l.source

@@ -1,16 +1,10 @@
 use Rattle.std.proofs.Common.{◌∙◌}
-use Rattle.pt_audit.proofs.Telling.{step_told, surveys_on}
+use Rattle.pt_audit.proofs.Telling.{step_told}
 use Rattle.pt_survey.specs.Growing.{grows_on}
 use Rattle.pt_audit.proofs.auditing.go_on.Goals as goal
 
-pub tell-requires-clause-at_sight : goal.tell-requires-clause-at_sight
-tell-requires-clause-at_sight g c = record {
-  under_way = surveys_on _ _ _ _ _ _ c.requires.under_way c.in_ok-sight.ensures.on;
-  saw = c.in_ok-sight.ensures.saw.0;
-}
-
-pub tell-requires-clause-paced : goal.tell-requires-clause-paced
-tell-requires-clause-paced g c = c.in_ok-sight.ensures.saw.2
+pub tell-requires : goal.tell-requires
+tell-requires g c = c.in_ok-sight.ensures.saw.1
 
 pub returns-in_err-tell-clause-log : goal.returns-in_err-tell-clause-log
 returns-in_err-tell-clause-log g c = (
@@ -26,7 +20,7 @@ returns-in_err-tell-clause-root g c = (
 
 pub returns-clause-on : goal.returns-clause-on
 returns-clause-on g c = λ first it.
-    step_told c.in_ok-tell.field-0 _ _ _ _ _ first _ _ _ _ _ _ _ c.in_ok-sight.ensures.source.1 c.in_ok-sight.ensures.root.1 c.in_ok-sight.ensures.saw.1.order c.in_ok-sight.ensures.on c.in_ok-tell.ensures.on it
+    step_told c.in_ok-tell.field-0 _ _ _ _ _ first _ _ _ _ _ _ _ c.in_ok-sight.ensures.source.1 c.in_ok-sight.ensures.root.1 c.in_ok-sight.ensures.saw.0.order c.in_ok-sight.ensures.on c.in_ok-tell.ensures.on it
 
 pub returns-clause-log : goal.returns-clause-log
 returns-clause-log g c = (

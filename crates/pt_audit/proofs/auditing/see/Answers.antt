@@ -10,12 +10,15 @@ returns-in_err-follow-clause-says g c =
     says_fault c.from_residual-in_err-follow.result (fault_of c.in_err-follow.field-0.0) _ _ _ (search rules) (says_read _ _ _ c.in_err-follow.field-0.0 _ _ c.in_err-follow.ensures.failures)
 
 pub returns-clause-saw : goal.returns-clause-saw
-returns-clause-saw g c = (
-  c.in_ok-sight.ensures.sight,
-  c.in_ok-sight.ensures.steps,
-  record {
-    paced = c.in_ok-follow.ensures.paced _
-        (behind _ _ _ _ _ _ c.requires.under_way (surveys_on _ _ _ _ _ _ c.requires.under_way c.in_ok-sight.ensures.on) c.in_ok-sight.ensures.scans c.in_ok-sight.ensures.source.1 c.requires.paced.paced);
-    can = c.in_ok-follow.ensures.still;
-  },
-)
+returns-clause-saw g c =
+    let now = surveys_on _ _ _ _ _ _ c.requires.under_way c.in_ok-sight.ensures.on in (
+      c.in_ok-sight.ensures.steps,
+      record {
+        follows = record {
+          under_way = now;
+          paced = c.in_ok-follow.ensures.paced _ (behind _ _ _ _ _ _ c.requires.under_way now c.in_ok-sight.ensures.scans c.in_ok-sight.ensures.source.1 c.requires.paced);
+          can = c.in_ok-follow.ensures.still;
+        };
+        saw = c.in_ok-sight.ensures.sight;
+      },
+    )

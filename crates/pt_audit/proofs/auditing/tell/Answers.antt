@@ -1,6 +1,6 @@
 use Rattle.std.proofs.Common.{ap, refl, rules, subst}
 use Rattle.pt_audit.proofs.Saying.{has_layout, says_err, says_failed, says_layout}
-use Rattle.pt_audit.proofs.Pacing.{follows_told}
+use Rattle.pt_audit.proofs.Pacing.{at_sight, follows_told}
 use Rattle.pt_audit.proofs.Telling.{not_told, on_end, on_more, on_store}
 use Rattle.pt_audit.specs.Auditing.{IsAt, is_told}
 use Rattle.pt_survey.specs.Growing.{grows_none}
@@ -10,17 +10,17 @@ use Rattle.pt_audit.proofs.auditing.tell.Goals as goal
 
 pub returns-in_ok-tell_end-in-End-clause-on : goal.returns-in_ok-tell_end-in-End-clause-on
 returns-in_ok-tell_end-in-End-clause-on g c = λ first it.
-    on_end _ c.args.sight _ first _ _ c.args.counts.now c.with_skipped.result c.args.survey.now c.in-End.is c.requires.at_sight (search rules) c.in_ok-tell_end-in-End.ensures.told it
+    on_end _ c.args.sight _ first _ _ c.args.counts.now c.with_skipped.result c.args.survey.now c.in-End.is (at_sight c.requires) (search rules) c.in_ok-tell_end-in-End.ensures.told it
 
 pub check_layout-requires : goal.check_layout-requires
-check_layout-requires g c = has_layout _ c.args.sight c.args.survey.now c.job.result.now c.job.ensures c.requires.at_sight
+check_layout-requires g c = has_layout _ c.args.sight c.args.survey.now c.job.result.now c.job.ensures (at_sight c.requires)
 
 pub returns-in_err-check_layout-in-Store-clause-says : goal.returns-in_err-check_layout-in-Store-clause-says
 returns-in_err-check_layout-in-Store-clause-says g c =
     let why = c.in_err-check_layout-in-Store.field-0.0 in
     says_err c.from_residual.result why c.args.survey.now.state.job (source_tree (g.S.Source.told c.args.source.now)) (tree_in (g.R.Source.told c.args.root.now)) (search rules)
     (says_layout (g.S.Source.told c.args.source.now) _ c.args.survey.now why _ _ c.job.result.now c.job.ensures
-    (subst (λ w. IsAt (g.S.Source.told c.args.source.now) w c.args.survey.now) c.in-Store.is c.requires.at_sight)
+    (subst (λ w. IsAt (g.S.Source.told c.args.source.now) w c.args.survey.now) c.in-Store.is (at_sight c.requires))
     c.in_err-check_layout-in-Store.ensures.layout c.in_err-check_layout-in-Store.ensures.failures)
 
 pub returns-in_err-tell_object-in-Object-clause-says : goal.returns-in_err-tell_object-in-Object-clause-says
@@ -39,12 +39,12 @@ pub returns-in_ok-check_layout-in-Store-clause-on : goal.returns-in_ok-check_lay
 returns-in_ok-check_layout-in-Store-clause-on g c = λ first it.
     on_store {told = g.S.Source.told c.args.source.now} {root = tree_in (g.R.Source.told c.args.root.now)} {first = first} (g.L.Log.told c.args.log.now) c.args.counts.now c.args.survey.now c.job.result.now c.job.ensures
     c.in_ok-check_layout-in-Store.ensures.layout
-    (subst (λ w. IsAt (g.S.Source.told c.args.source.now) w c.args.survey.now) c.in-Store.is c.requires.at_sight) it
+    (subst (λ w. IsAt (g.S.Source.told c.args.source.now) w c.args.survey.now) c.in-Store.is (at_sight c.requires)) it
 
 pub returns-in-More : goal.returns-in-More
 returns-in-More g c = record {
-  on = λ first it. on_more _ c.args.counts.now c.args.survey.now c.args.sight (not_told c.args.sight c.in-More.is) c.requires.at_sight it;
-  still = (c.requires.at_sight.under_way, c.requires.paced);
+  on = λ first it. on_more _ c.args.counts.now c.args.survey.now c.args.sight (not_told c.args.sight c.in-More.is) (at_sight c.requires) it;
+  still = c.requires.follows;
   source = (g.met.S.Source.is_kept _, refl);
   root = (g.met.R.Source.is_kept _, refl);
   log = (g.met.L.Log.is_kept _, grows_none _);
@@ -53,7 +53,5 @@ returns-in-More g c = record {
 }
 
 pub returns-in_ok-tell_object-in-Object-clause-still : goal.returns-in_ok-tell_object-in-Object-clause-still
-returns-in_ok-tell_object-in-Object-clause-still g c = (
-  c.in_ok-tell_object-in-Object.ensures.still,
-  follows_told _ _ _ _ c.args.beside.now c.args.survey.now c.args.sight c.requires.at_sight.saw (ap is_told c.in-Object.is) c.in_ok-tell_object-in-Object.ensures.source.1 c.in_ok-tell_object-in-Object.ensures.root.1 c.requires.paced,
-)
+returns-in_ok-tell_object-in-Object-clause-still g c =
+    follows_told _ _ _ _ c.args.beside.now c.args.survey.now c.args.sight c.requires.saw (ap is_told c.in-Object.is) c.in_ok-tell_object-in-Object.ensures.source.1 c.in_ok-tell_object-in-Object.ensures.root.1 c.in_ok-tell_object-in-Object.ensures.still c.requires.follows

@@ -13,7 +13,7 @@ found-requires-clause-alike g c =
 
 pub found-requires-clause-compared : goal.found-requires-clause-compared
 found-requires-clause-compared g c =
-    can_compare _ c.args.survey.now c.in-Some.hand c.requires.at_hand c.requires.under_way
+    can_compare _ c.args.survey.now c.in-Some.hand c.requires.at_hand c.requires.paced.under_way
     (subst (λ (o : Option AtHand). IsHand c.args.survey.now o) c.in-Some.is c.in_ok-hand.ensures)
 
 pub returns-clause-on : goal.returns-clause-on
