@@ -7,8 +7,7 @@ use Rattle.pt_audit.specs.Auditing.{IsAt}
 use Rattle.pt_audit.specs.Failing.{AuditSays, BlamesRightly, FailsAs, ReadFailsAs, RootFailsAs, TellFails, failures}
 use Rattle.pt_audit.specs.Layout.{IsOfAnother, TellsLayout}
 use Rattle.pt_begun.specs.BegunSource.{SourcePart}
-use Rattle.pt_move.specs.Fault.{fault_of}
-use Rattle.pt_move.specs.declared.fault.Fault.{Fault}
+use Rattle.pt_plan.specs.declared.fault.Fault.{Fault}
 use Rattle.pt_name.specs.Tuples.{IsLayout}
 use Rattle.std.proofs.lemmas.Bool.{true≢false}
 use Rattle.pt_move.specs.Outcome.{SaysRightly}
@@ -17,8 +16,7 @@ use Rattle.pt_move.proofs.Outcomes.{reading_of}
 use Rattle.pt_plan.specs.Store.{has_prefix, is_store}
 use Rattle.pt_plan.specs.Turn.{HasFailed}
 use Rattle.pt_plan.specs.World.{Failures, source_tree}
-use Rattle.pt_plan.specs.declared.halt.Halt.{Halt}
-use Rattle.pt_plan.specs.declared.halt.Halt.TheVariants as halt
+use Rattle.pt_plan.specs.declared.fault.Fault.TheVariants as fault
 use Rattle.pt_plan.specs.declared.phase.Phase.{Phase}
 use Rattle.pt_plan.specs.declared.phase.Phase.TheVariants as phase
 use Rattle.pt_state.specs.States.{held_of, job_of}
@@ -33,17 +31,17 @@ use Rattle.pt_tree.specs.Source.{Reading}
 -- ---- what they say
 
 -- a device's fault and want of memory say nothing of source and root
-pub says_failed : (job : own.Job) (source root : Option Forest) (why : Halt) (old new : Failures) → HasFailed why old new → AuditSays job source root (fault_of why)
+pub says_failed : (job : own.Job) (source root : Option Forest) (why : Fault) (old new : Failures) → HasFailed why old new → AuditSays job source root why
 unfolding SaysRightly
-says_failed job source root halt.Source old new it = record { rightly = (λ s e. tt, λ t e. absurd (cc), λ s t e f. absurd (cc)); target = λ is. absurd (cc); staging = λ is. absurd (cc); turns = λ is. absurd (cc) }
-says_failed job source root halt.Dest old new it = record { rightly = (λ s e. tt, λ t e. absurd (cc), λ s t e f. absurd (cc)); target = λ is. absurd (cc); staging = λ is. absurd (cc); turns = λ is. absurd (cc) }
-says_failed job source root halt.Log old new it = record { rightly = (λ s e. tt, λ t e. absurd (cc), λ s t e f. absurd (cc)); target = λ is. absurd (cc); staging = λ is. absurd (cc); turns = λ is. absurd (cc) }
-says_failed job source root halt.Memory old new it = record { rightly = (λ s e. tt, λ t e. absurd (cc), λ s t e f. absurd (cc)); target = λ is. absurd (cc); staging = λ is. absurd (cc); turns = λ is. absurd (cc) }
+says_failed job source root fault.Source old new it = record { rightly = (λ s e. tt, λ t e. absurd (cc), λ s t e f. absurd (cc)); target = λ is. absurd (cc); staging = λ is. absurd (cc); turns = λ is. absurd (cc) }
+says_failed job source root fault.Dest old new it = record { rightly = (λ s e. tt, λ t e. absurd (cc), λ s t e f. absurd (cc)); target = λ is. absurd (cc); staging = λ is. absurd (cc); turns = λ is. absurd (cc) }
+says_failed job source root fault.Log old new it = record { rightly = (λ s e. tt, λ t e. absurd (cc), λ s t e f. absurd (cc)); target = λ is. absurd (cc); staging = λ is. absurd (cc); turns = λ is. absurd (cc) }
+says_failed job source root fault.Memory old new it = record { rightly = (λ s e. tt, λ t e. absurd (cc), λ s t e f. absurd (cc)); target = λ is. absurd (cc); staging = λ is. absurd (cc); turns = λ is. absurd (cc) }
 says_failed job source root _ old new it = absurd it
 
 -- so an answer with it says
-pub says_err : (answer : Result Bool Halt) (why : Halt) (job : own.Job) (source root : Option Forest) → answer ≡ Err why → AuditSays job source root (fault_of why) → IfErr answer (λ w. AuditSays job source root (fault_of w))
-says_err answer why job source root is says = subst (λ (r : Result Bool Halt). IfErr r (λ w. AuditSays job source root (fault_of w))) (sym is) says
+pub says_err : (answer : Result Bool Fault) (why : Fault) (job : own.Job) (source root : Option Forest) → answer ≡ Err why → AuditSays job source root why → IfErr answer (λ w. AuditSays job source root w)
+says_err answer why job source root is says = subst (λ (r : Result Bool Fault). IfErr r (λ w. AuditSays job source root w)) (sym is) says
 
 pub says_fault : {T : Type 0} (answer : Result T Fault) (f : Fault) (job : own.Job) (source root : Option Forest) → answer ≡ Err f → AuditSays job source root f → IfErr answer (AuditSays job source root)
 says_fault {T} answer f job source root is says = subst (λ (r : Result T Fault). IfErr r (AuditSays job source root)) (sym is) says
@@ -69,11 +67,11 @@ store_at (phase.Read object zero) is = absurd (cc)
 store_at (phase.Read object (suc bytes)) is = absurd (cc)
 store_at _ is = absurd (cc)
 
-pub says_layout : (told : Option Reading) (root : Option Forest) (r : Running) (why : Halt) (old new : ℕ) → (job : own.Job) → job ≡ r.state.job → IsAt told sight.Store r → ForSome root (TellsLayout {T = Unit {0}} (job_of job) (Err why)) → RootFailsAs {T = Unit {0}} (Err why) old new → AuditSays r.state.job (source_tree told) root (fault_of why)
+pub says_layout : (told : Option Reading) (root : Option Forest) (r : Running) (why : Fault) (old new : ℕ) → (job : own.Job) → job ≡ r.state.job → IsAt told sight.Store r → ForSome root (TellsLayout {T = Unit {0}} (job_of job) (Err why)) → RootFailsAs {T = Unit {0}} (Err why) old new → AuditSays r.state.job (source_tree told) root why
 unfolding SaysRightly Surveys
-says_layout told root r halt.Dest old new job same at layout it = says_failed r.state.job (source_tree told) root halt.Dest (failures 0 old 0) (failures 0 new 0) (refl, it, refl)
-says_layout told root r halt.Memory old new job same at layout it = says_failed r.state.job (source_tree told) root halt.Memory (failures 0 old 0) (failures 0 old 0) refl
-says_layout told root r halt.Target old new job same at layout it = record {
+says_layout told root r fault.Dest old new job same at layout it = says_failed r.state.job (source_tree told) root fault.Dest (failures 0 old 0) (failures 0 new 0) (refl, it, refl)
+says_layout told root r fault.Memory old new job same at layout it = says_failed r.state.job (source_tree told) root fault.Memory (failures 0 old 0) (failures 0 old 0) refl
+says_layout told root r fault.Target old new job same at layout it = record {
   rightly = (λ s e. started s e at.under_way, λ t e. absurd (cc), λ s t e f. absurd (cc));
   target = λ is. subst (λ (j : own.Job). ForSome root (IsOfAnother (job_of j))) same layout;
   staging = λ is. absurd (cc);
@@ -87,35 +85,35 @@ says_layout told root r halt.Target old new job same at layout it = record {
         subst (λ (t : Forest). (is_store t ≡ true) × (has_prefix t ≡ true)) had.2 (part.at.2.store, part.at.2.good)
 says_layout told root r _ old new job same at layout it = absurd it
 
-pub layout_fails : (why : Halt) (a b c old new : ℕ) → RootFailsAs {T = Unit {0}} (Err why) old new → TellFails {T = Bool} (Err why) (failures a old c) (failures a new c)
-layout_fails halt.Dest a b c old new it = inl (refl, it, refl)
-layout_fails halt.Memory a b c old new it = inl (ap (λ (n : ℕ). failures a n c) it)
-layout_fails halt.Target a b c old new it = inr (refl, ap (λ (n : ℕ). failures a n c) it)
+pub layout_fails : (why : Fault) (a b c old new : ℕ) → RootFailsAs {T = Unit {0}} (Err why) old new → TellFails {T = Bool} (Err why) (failures a old c) (failures a new c)
+layout_fails fault.Dest a b c old new it = inl (refl, it, refl)
+layout_fails fault.Memory a b c old new it = inl (ap (λ (n : ℕ). failures a n c) it)
+layout_fails fault.Target a b c old new it = inr (refl, ap (λ (n : ℕ). failures a n c) it)
 layout_fails _ a b c old new it = absurd it
 
 -- what is read beside alone
-pub read_fails : (why : Halt) (a b c a' c' new : ℕ) → a' ≡ a → c' ≡ c → ReadFailsAs {T = Unit {0}} (Err why) b new → BlamesRightly {T = Sight} (failures a b c) (failures a' new c') (Err (fault_of why))
-read_fails halt.Dest a b c a' c' new sa sc it = record { source = sa; root = it; log = sc }
-read_fails halt.Memory a b c a' c' new sa sc it = record { source = sa; root = it; log = sc }
+pub read_fails : (why : Fault) (a b c a' c' new : ℕ) → a' ≡ a → c' ≡ c → ReadFailsAs {T = Unit {0}} (Err why) b new → BlamesRightly {T = Sight} (failures a b c) (failures a' new c') (Err why)
+read_fails fault.Dest a b c a' c' new sa sc it = record { source = sa; root = it; log = sc }
+read_fails fault.Memory a b c a' c' new sa sc it = record { source = sa; root = it; log = sc }
 read_fails _ a b c a' c' new sa sc it = absurd it
 
-pub says_read : (job : own.Job) (source root : Option Forest) (why : Halt) (old new : ℕ) → ReadFailsAs {T = Unit {0}} (Err why) old new → AuditSays job source root (fault_of why)
-says_read job source root halt.Dest old new it = says_failed job source root halt.Dest (failures 0 old 0) (failures 0 new 0) (refl, it, refl)
-says_read job source root halt.Memory old new it = says_failed job source root halt.Memory (failures 0 0 0) (failures 0 0 0) refl
+pub says_read : (job : own.Job) (source root : Option Forest) (why : Fault) (old new : ℕ) → ReadFailsAs {T = Unit {0}} (Err why) old new → AuditSays job source root why
+says_read job source root fault.Dest old new it = says_failed job source root fault.Dest (failures 0 old 0) (failures 0 new 0) (refl, it, refl)
+says_read job source root fault.Memory old new it = says_failed job source root fault.Memory (failures 0 0 0) (failures 0 0 0) refl
 says_read job source root _ old new it = absurd it
 
 -- the log's calls alone
-pub log_fails : (why : Halt) (a b old new : ℕ) → FailsAs {T = Unit {0}} (Err why) (failures 0 0 old) (failures 0 0 new) → HasFailed why (failures a b old) (failures a b new)
-log_fails halt.Source a b old new it = (rose it.0, refl, it.2)
+pub log_fails : (why : Fault) (a b old new : ℕ) → FailsAs {T = Unit {0}} (Err why) (failures 0 0 old) (failures 0 0 new) → HasFailed why (failures a b old) (failures a b new)
+log_fails fault.Source a b old new it = (rose it.0, refl, it.2)
   where
     rose : HasRisen 0 0 → HasRisen a a
     rose it = absurd (omega (arith, it))
-log_fails halt.Dest a b old new it = (refl, rose it.1, it.2)
+log_fails fault.Dest a b old new it = (refl, rose it.1, it.2)
   where
     rose : HasRisen 0 0 → HasRisen b b
     rose it = absurd (omega (arith, it))
-log_fails halt.Log a b old new it = (refl, refl, it.2)
-log_fails halt.Memory a b old new it = ap (λ (f : Failures). failures a b f.log) it
+log_fails fault.Log a b old new it = (refl, refl, it.2)
+log_fails fault.Memory a b old new it = ap (λ (f : Failures). failures a b f.log) it
 log_fails _ a b old new it = absurd it
 
 -- ---- whom they blame
@@ -124,21 +122,21 @@ pub same_failures : {a b c a' b' c' : ℕ} {x : Bool} → BlamesRightly {T = Boo
 same_failures it = λ i. failures (it.source i) (it.root i) (it.log i)
 
 -- whom both blame
-pub blames_told : (why : Halt) (a b c a' b' c' a'' b'' c'' : ℕ) → a' ≡ a → b' ≡ b → c' ≡ c → TellFails {T = Bool} (Err why) (failures a' b' c') (failures a'' b'' c'') → BlamesRightly {T = Bool} (failures a b c) (failures a'' b'' c'') (Err (fault_of why))
+pub blames_told : (why : Fault) (a b c a' b' c' a'' b'' c'' : ℕ) → a' ≡ a → b' ≡ b → c' ≡ c → TellFails {T = Bool} (Err why) (failures a' b' c') (failures a'' b'' c'') → BlamesRightly {T = Bool} (failures a b c) (failures a'' b'' c'') (Err why)
 blames_told why a b c a' b' c' a'' b'' c'' sa sb sc it =
-    subst (λ (n : ℕ). BlamesRightly {T = Bool} (failures n b c) (failures a'' b'' c'') (Err (fault_of why))) sa
-    (subst (λ (n : ℕ). BlamesRightly {T = Bool} (failures a' n c) (failures a'' b'' c'') (Err (fault_of why))) sb
-    (subst (λ (n : ℕ). BlamesRightly {T = Bool} (failures a' b' n) (failures a'' b'' c'') (Err (fault_of why))) sc (elim it [ inl failed ↦ by why failed | inr target ↦ not_of target ])))
+    subst (λ (n : ℕ). BlamesRightly {T = Bool} (failures n b c) (failures a'' b'' c'') (Err why)) sa
+    (subst (λ (n : ℕ). BlamesRightly {T = Bool} (failures a' n c) (failures a'' b'' c'') (Err why)) sb
+    (subst (λ (n : ℕ). BlamesRightly {T = Bool} (failures a' b' n) (failures a'' b'' c'') (Err why)) sc (elim it [ inl failed ↦ by why failed | inr target ↦ not_of target ])))
   where
-    by : (why : Halt) → HasFailed why (failures a' b' c') (failures a'' b'' c'') → BlamesRightly {T = Bool} (failures a' b' c') (failures a'' b'' c'') (Err (fault_of why))
-    by halt.Source failed = record { source = failed.0; root = failed.1; log = failed.2 }
-    by halt.Dest failed = record { source = failed.0; root = failed.1; log = failed.2 }
-    by halt.Log failed = record { source = failed.0; root = failed.1; log = failed.2 }
-    by halt.Memory failed = record { source = ap (λ (f : Failures). f.source) failed; root = ap (λ (f : Failures). f.dest) failed; log = ap (λ (f : Failures). f.log) failed }
+    by : (why : Fault) → HasFailed why (failures a' b' c') (failures a'' b'' c'') → BlamesRightly {T = Bool} (failures a' b' c') (failures a'' b'' c'') (Err why)
+    by fault.Source failed = record { source = failed.0; root = failed.1; log = failed.2 }
+    by fault.Dest failed = record { source = failed.0; root = failed.1; log = failed.2 }
+    by fault.Log failed = record { source = failed.0; root = failed.1; log = failed.2 }
+    by fault.Memory failed = record { source = ap (λ (f : Failures). f.source) failed; root = ap (λ (f : Failures). f.dest) failed; log = ap (λ (f : Failures). f.log) failed }
     by _ failed = absurd failed
 
-    not_of : (why ≡ halt.Target) × (failures a'' b'' c'' ≡ failures a' b' c') → BlamesRightly {T = Bool} (failures a' b' c') (failures a'' b'' c'') (Err (fault_of why))
-    not_of (is, same) = subst (λ (w : Halt). BlamesRightly {T = Bool} (failures a' b' c') (failures a'' b'' c'') (Err (fault_of w))) (sym is)
+    not_of : (why ≡ fault.Target) × (failures a'' b'' c'' ≡ failures a' b' c') → BlamesRightly {T = Bool} (failures a' b' c') (failures a'' b'' c'') (Err why)
+    not_of (is, same) = subst (λ (w : Fault). BlamesRightly {T = Bool} (failures a' b' c') (failures a'' b'' c'') (Err w)) (sym is)
         (record { source = ap (λ (f : Failures). f.source) same; root = ap (λ (f : Failures). f.dest) same; log = ap (λ (f : Failures). f.log) same })
 
 pub ruleset saying = (read_fails, says_read, has_layout, says_failed, says_survey, says_layout, layout_fails, log_fails, blames_told)

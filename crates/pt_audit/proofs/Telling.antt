@@ -37,7 +37,7 @@ use Rattle.pt_plan.specs.TurnPlace.{bytes_in_rows, done_line}
 use Rattle.pt_plan.specs.TurnMake.{path_of_source}
 use Rattle.pt_plan.specs.TurnWalk.{in_pairtree, in_root}
 use Rattle.pt_plan.specs.World.{Puts, source_tree}
-use Rattle.pt_plan.specs.declared.halt.Halt.{Halt}
+use Rattle.pt_plan.specs.declared.fault.Fault.{Fault}
 use Rattle.pt_plan.specs.declared.object.Object.{Object}
 use Rattle.pt_plan.specs.declared.phase.Part.TheVariants as part
 use Rattle.pt_plan.specs.declared.phase.Phase.{Phase}
@@ -365,7 +365,7 @@ sought_from job at id from s = record {
 }
 
 -- what was found of the object that was compared is what was found of the one at hand
-pub found_at_hand : (job : own.Job) (at : hand.AtHand) (id : List ℕ) (from to : Path) (source root : Option Forest) (result : Result Finding Halt) → id ≡ at.told.id.now → from ≡ in_pairtree at.told.at → to ≡ in_root at.told.to.now
+pub found_at_hand : (job : own.Job) (at : hand.AtHand) (id : List ℕ) (from to : Path) (source root : Option Forest) (result : Result Finding Fault) → id ≡ at.told.id.now → from ≡ in_pairtree at.told.at → to ≡ in_root at.told.to.now
     → IfOk result (λ finding. ForSome source (λ s. ForSome root (λ r. IsFound (sought_from job at id from s) (inside r to) finding))) → IfOk result (IsFoundAtHand job at source root)
 found_at_hand job at id from to source root (Err why) id_is from_is to_is is_found = tt
 found_at_hand job at id from to source root (Ok finding) id_is from_is to_is is_found = λ s e r f.

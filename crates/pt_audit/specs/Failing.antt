@@ -4,12 +4,10 @@ use Rattle.std.specs.Option.{ForSome}
 use Rattle.pt_audit.specs.Layout.{IsOfAnother}
 use Rattle.pt_move.specs.Counting.{Counts}
 use Rattle.pt_move.specs.Outcome.{SaysRightly}
-use Rattle.pt_move.specs.declared.fault.Fault.{Fault}
-use Rattle.pt_move.specs.declared.fault.Fault.TheVariants as fault
+use Rattle.pt_plan.specs.declared.fault.Fault.{Fault}
+use Rattle.pt_plan.specs.declared.fault.Fault.TheVariants as fault
 use Rattle.pt_plan.specs.Turn.{HasFailed}
 use Rattle.pt_plan.specs.World.{Failures}
-use Rattle.pt_plan.specs.declared.halt.Halt.{Halt}
-use Rattle.pt_plan.specs.declared.halt.Halt.TheVariants as halt
 use Rattle.pt_state.specs.States.{job_of}
 use Rattle.pt_state.specs.declared.job.Job as own
 use Rattle.pt_survey.specs.Surveying.{MeetsLimit}
@@ -21,29 +19,29 @@ abbrev pub failures : ℕ → ℕ → ℕ → Failures
 failures source root log = record { source = source; dest = root; log = log }
 
 -- the device that is blamed has failed, and no other; else memory was wanting, and none has
-abbrev pub FailsAs : {T : Type 0} → Result T Halt → Failures → Failures → Type 0
+abbrev pub FailsAs : {T : Type 0} → Result T Fault → Failures → Failures → Type 0
 FailsAs (Ok x) old new = new ≡ old
 FailsAs (Err why) old new = HasFailed why old new
 
 -- so it is with the calls of the root alone; or what stands there isn't of this layout, and none has failed
-abbrev pub RootFailsAs : {T : Type 0} → Result T Halt → ℕ → ℕ → Type 0
+abbrev pub RootFailsAs : {T : Type 0} → Result T Fault → ℕ → ℕ → Type 0
 RootFailsAs (Ok x) old new = new ≡ old
-RootFailsAs (Err halt.Dest) old new = HasRisen old new
-RootFailsAs (Err halt.Memory) old new = new ≡ old
-RootFailsAs (Err halt.Target) old new = new ≡ old
+RootFailsAs (Err fault.Dest) old new = HasRisen old new
+RootFailsAs (Err fault.Memory) old new = new ≡ old
+RootFailsAs (Err fault.Target) old new = new ≡ old
 RootFailsAs (Err why) old new = ⊥
 
 -- so it is where nothing but files is read of it
-abbrev pub ReadFailsAs : {T : Type 0} → Result T Halt → ℕ → ℕ → Type 0
+abbrev pub ReadFailsAs : {T : Type 0} → Result T Fault → ℕ → ℕ → Type 0
 ReadFailsAs (Ok x) old new = new ≡ old
-ReadFailsAs (Err halt.Dest) old new = HasRisen old new
-ReadFailsAs (Err halt.Memory) old new = new ≡ old
+ReadFailsAs (Err fault.Dest) old new = HasRisen old new
+ReadFailsAs (Err fault.Memory) old new = new ≡ old
 ReadFailsAs (Err why) old new = ⊥
 
 -- or so it is with all calls
-abbrev pub TellFails : {T : Type 0} → Result T Halt → Failures → Failures → Type 0
+abbrev pub TellFails : {T : Type 0} → Result T Fault → Failures → Failures → Type 0
 TellFails (Ok x) old new = new ≡ old
-TellFails (Err why) old new = HasFailed why old new ⊎ ((why ≡ halt.Target) × (new ≡ old))
+TellFails (Err why) old new = HasFailed why old new ⊎ ((why ≡ fault.Target) × (new ≡ old))
 
 -- a device is blamed only where its count of failures rose, and else its count stayed
 pub record BlamesRightly {T : Type 0} (old new : Failures) (result : Result T Fault) : Type 0 where

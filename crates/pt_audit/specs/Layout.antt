@@ -5,8 +5,8 @@ use Rattle.pt_begun.specs.RefusalLaws.{IsBadTarget}
 use Rattle.pt_object.specs.Holding.{IsFree}
 use Rattle.pt_plan.specs.Job.{Job}
 use Rattle.pt_plan.specs.Roots.{root_in}
-use Rattle.pt_plan.specs.declared.halt.Halt.{Halt}
-use Rattle.pt_plan.specs.declared.halt.Halt.TheVariants as halt
+use Rattle.pt_plan.specs.declared.fault.Fault.{Fault}
+use Rattle.pt_plan.specs.declared.fault.Fault.TheVariants as fault
 use Rattle.pt_tree.specs.Forest.{Forest}
 use Rattle.pt_tree.specs.Path.{Path}
 use Rattle.pt_tree.specs.Tree.{Bytes, Folder, Tree, tree_of}
@@ -31,9 +31,9 @@ abbrev pub IsSo : Job → Bool → Forest → Type 0
 IsSo job true standing = IsOfLayout job standing
 IsSo job false standing = IsOfAnother job standing
 
-abbrev pub TellsLayout : {T : Type 0} → Job → Result T Halt → Forest → Type 0
+abbrev pub TellsLayout : {T : Type 0} → Job → Result T Fault → Forest → Type 0
 TellsLayout job (Ok x) standing = IsOfLayout job standing
-TellsLayout job (Err halt.Target) standing = IsOfAnother job standing
+TellsLayout job (Err fault.Target) standing = IsOfAnother job standing
 TellsLayout job (Err why) standing = ⊤
 
 -- whether a file of these bytes stands there

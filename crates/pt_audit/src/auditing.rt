@@ -7,7 +7,6 @@ ghost use Rattle.std.specs.Io.KnownBytes.{Appends};
 ghost use Rattle.pt_audit.specs.Beside.{AreAlikeAtHand, CanFollow, Follows, Saw};
 ghost use Rattle.pt_audit.specs.Failing.{AuditSays, BlamesRightly, FailsAs, TellFails, failures};
 ghost use Rattle.pt_audit.specs.Layout.{IsOfLayout};
-ghost use Rattle.pt_move.specs.Fault.{fault_of};
 ghost use Rattle.pt_compare.specs.Root.{KeepsRoot, tree_in};
 ghost use Rattle.pt_state.specs.States.{job_of};
 ghost use Rattle.pt_plan.specs.World.{source_tree};
@@ -20,8 +19,8 @@ use crate::layout::check_layout;
 use crate::lines::{end_line, object_line};
 use crate::{Counting, Counts};
 use pt_compare::{Finding, Root, Scanned, compare};
-use pt_move::{Fault, Job};
-use pt_plan::Halt;
+use pt_move::Job;
+use pt_plan::Fault;
 use pt_state::paths::{in_pairtree, in_storage_root};
 use pt_survey::{AtHand, Sight, Survey};
 use pt_tree::{Log, Source};
@@ -146,7 +145,7 @@ fn tell<S: Source, R: Root, L: Log>(
     source: &mut S,
     root: &mut R,
     log: &mut L,
-) -> Result<bool, Halt>
+) -> Result<bool, Fault>
     requires { Saw (S.told source.old) (R.told root.old) beside.now sight survey.now }
     ensures on { (first : Option (List ℕ)) → IsSeen (S.told source.old)
         (tree_in (S.told source.old)) (tree_in (R.told root.old)) first (L.told log.old)
@@ -162,7 +161,7 @@ fn tell<S: Source, R: Root, L: Log>(
         (failures (S.failed source.old) (R.failed root.old) (L.failed log.old))
         (failures (S.failed source.new) (R.failed root.new) (L.failed log.new)) }
     ensures says { IfErr result (λ why. AuditSays survey.now.state.job
-        (source_tree (S.told source.old)) (tree_in (R.told root.old)) (fault_of why)) }
+        (source_tree (S.told source.old)) (tree_in (R.told root.old)) why) }
 {
     match sight {
         Sight::More | Sight::Scan | Sight::Opened | Sight::Block => Ok(true),
@@ -190,7 +189,7 @@ fn tell_object<S: Source, R: Root, L: Log>(
     source: &mut S,
     root: &mut R,
     log: &mut L,
-) -> Result<(), Halt>
+) -> Result<(), Fault>
     requires paced { Follows (S.told source.old) (R.told root.old) beside.now survey.now }
     requires at_hand { sight_at survey.now.phase ≡ sight.Object }
     ensures on { (first : Option (List ℕ)) → IsSeen (S.told source.old)
@@ -212,7 +211,7 @@ fn tell_object<S: Source, R: Root, L: Log>(
     let alike = beside.alike_at(&hand.told.at, hand.told.to);
     let finding = found(alloc, source, root, survey.job(), &hand, beside, alike)?;
     let line = object_line(alloc, &hand.told, &finding)?;
-    log.put(line.as_bytes()).map_err(Halt::of_log)?;
+    log.put(line.as_bytes()).map_err(Fault::of_log)?;
     *counts = counts.with(&finding);
     Ok(())
 }
@@ -226,7 +225,7 @@ fn found<S: Source, R: Root>(
     hand: &AtHand<'_>,
     beside: &Beside,
     alike: usize,
-) -> Result<Finding, Halt>
+) -> Result<Finding, Fault>
     requires compared { CanCompare (S.told source.old) hand.now }
     requires folder { CanFollow (R.told root.old) beside.now }
     requires alike { AreAlikeAtHand (tree_in (S.told source.old)) (tree_in (R.told root.old))
@@ -254,12 +253,12 @@ fn found<S: Source, R: Root>(
 }
 
 // Tells the end, with the counts.
-fn tell_end<L: Log>(alloc: Global, counts: Counts, log: &mut L) -> Result<(), Halt>
+fn tell_end<L: Log>(alloc: Global, counts: Counts, log: &mut L) -> Result<(), Fault>
     ensures told { OnOk result (Appends (L.told log.old) (L.told log.new) (last_text counts)) }
     ensures log { KeepsLog L.told L.keeps log.old log.new }
     ensures fails { FailsAs result (failures 0 0 (L.failed log.old))
         (failures 0 0 (L.failed log.new)) }
 {
     let line = end_line(alloc, &counts)?;
-    log.put(line.as_bytes()).map_err(Halt::of_log)
+    log.put(line.as_bytes()).map_err(Fault::of_log)
 }

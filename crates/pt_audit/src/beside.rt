@@ -13,7 +13,7 @@ ghost use Rattle.pt_tree.specs.Path.{rest_below};
 ghost use Rattle.pt_tree.specs.Source.{Reading};
 
 use pt_compare::{Root, come_next, has_ended, open_standing};
-use pt_plan::Halt;
+use pt_plan::Fault;
 use pt_state::paths::{extended, path_of};
 use pt_survey::{Sight, Survey};
 use pt_tree::{Block, Known, MemoryFault, Name, NamePath};
@@ -59,7 +59,7 @@ impl Beside {
         root: &mut R,
         survey: &Survey,
         sight: Sight,
-    ) -> Result<(), Halt>
+    ) -> Result<(), Fault>
         requires ready { CanFollow (R.told root.old) self.old }
         requires saw { sight ≡ sight_at survey.now.phase }
         ensures paced { (source : Option Reading)
@@ -81,7 +81,7 @@ impl Beside {
     }
 
     // Opens the file of the root beside the one that was opened, where all contents before it are alike.
-    fn open<R: Root>(&mut self, root: &mut R, survey: &Survey) -> Result<(), Halt>
+    fn open<R: Root>(&mut self, root: &mut R, survey: &Survey) -> Result<(), Fault>
         requires ready { CanFollow (R.told root.old) self.old }
         requires saw { sight_at survey.now.phase ≡ sight.Opened }
         ensures paced { (source : Option Reading)
@@ -104,7 +104,7 @@ impl Beside {
         }
         let path = stored_at(self.alloc, file.place, logical)?;
         self.reads = open_standing(self.alloc, root, &mut self.folder, &path).map_err(
-            Halt::of_dest,
+            Fault::of_dest,
         )?;
         Ok(())
     }
@@ -122,7 +122,7 @@ impl Beside {
     }
 
     // Reads a block of the root's file, as long as all is alike.
-    fn read<R: Root>(&mut self, root: &mut R, survey: &Survey) -> Result<(), Halt>
+    fn read<R: Root>(&mut self, root: &mut R, survey: &Survey) -> Result<(), Fault>
         requires ready { CanFollow (R.told root.old) self.old }
         requires saw { sight_at survey.now.phase ≡ sight.Block }
         ensures paced { (source : Option Reading)
@@ -134,14 +134,14 @@ impl Beside {
     {
         if self.reads {
             self.reads = come_next(root, &mut self.block, survey.block().as_slice()).map_err(
-                Halt::of_dest,
+                Fault::of_dest,
             )?;
         }
         Ok(())
     }
 
     // Ends the root's file with that of the source: where both end here and it is stored, one content more is alike.
-    fn end<R: Root>(&mut self, root: &mut R, survey: &Survey) -> Result<(), Halt>
+    fn end<R: Root>(&mut self, root: &mut R, survey: &Survey) -> Result<(), Fault>
         requires ready { CanFollow (R.told root.old) self.old }
         requires saw { sight_at survey.now.phase ≡ sight.Scan }
         ensures paced { (source : Option Reading)
@@ -153,7 +153,7 @@ impl Beside {
     {
         if self.reads {
             self.reads = false;
-            let ended = has_ended(root, &mut self.block).map_err(Halt::of_dest)?;
+            let ended = has_ended(root, &mut self.block).map_err(Fault::of_dest)?;
             if ended && survey.stored() > self.alike {
                 self.alike += 1;
             }

@@ -13,7 +13,7 @@ ghost use Rattle.pt_state.specs.States.{job_of};
 use pt_compare::{Root, standing};
 use pt_move::Job;
 use pt_object::root_files;
-use pt_plan::Halt;
+use pt_plan::Fault;
 use pt_state::paths::{in_storage_root, path_of};
 use pt_tree::{Block, Kind, Known, NamePath, TreeFault};
 use std::alloc::Global;
@@ -21,14 +21,14 @@ use std::alloc::Global;
 /// Whether a run could go on with the root that stands: nothing stands at `ocfl`, or a directory with the three files of this
 /// layout (OCFL 1.1, "Root Structure"; extension 0003). `Target` where something else does; `Dest` where the root can't be
 /// read, or there is no folder for it; `Memory` where a growth was refused.
-pub(crate) fn check_layout<R: Root>(alloc: Global, root: &mut R, job: &Job) -> Result<(), Halt>
+pub(crate) fn check_layout<R: Root>(alloc: Global, root: &mut R, job: &Job) -> Result<(), Fault>
     requires { IsLayout job.now.layout }
     ensures layout { ForSome (tree_in (R.told root.old)) (TellsLayout (job_of job.now) result) }
     ensures root { KeepsRoot R.told R.keeps root.old root.new }
     ensures failures { RootFailsAs result (R.failed root.old) (R.failed root.new) }
 {
-    let same = is_of_layout(alloc, root, job).map_err(Halt::of_dest)?;
-    if same { Ok(()) } else { Err(Halt::Target) }
+    let same = is_of_layout(alloc, root, job).map_err(Fault::of_dest)?;
+    if same { Ok(()) } else { Err(Fault::Target) }
 }
 
 // Whether nothing stands at `ocfl`, or a directory with the files of this layout.

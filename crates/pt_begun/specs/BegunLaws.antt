@@ -6,7 +6,7 @@ use Rattle.pt_plan.specs.Permits.{Permits}
 use Rattle.pt_plan.specs.Run.{Kept, Run, new_run, turning}
 use Rattle.pt_plan.specs.Turn.{Turn}
 use Rattle.pt_plan.specs.World.{World}
-use Rattle.pt_plan.specs.declared.halt.Halt.{Halt}
+use Rattle.pt_plan.specs.declared.fault.Fault.{Fault}
 use Rattle.pt_plan.specs.declared.phase.Phase.{Phase}
 use Rattle.pt_plan.specs.declared.phase.Phase.TheVariants as phase
 use Rattle.pt_begun.specs.Begun.{Begun, IsWorld, Start, start_of}
@@ -31,6 +31,6 @@ TurnKeepsBegun =
 -- a turn that halts the run leaves it ended, and what is left may be kept
 abbrev pub TurnEndsBegun : Type 0
 TurnEndsBegun =
-    (job : Job) (start : Start) (old new : World) (run : Run) (after : Kept) (why : Halt)
+    (job : Job) (start : Start) (old new : World) (run : Run) (after : Kept) (why : Fault)
     → Begun job start old run → Turn job run.phase (turning run.kept) after old new (Err why)
     → Begun job start new (record { phase = phase.Ended; kept = after })

@@ -6,7 +6,7 @@ use Rattle.pt_plan.specs.Job.{Job}
 use Rattle.pt_plan.specs.Run.{Kept, Run, turning}
 use Rattle.pt_plan.specs.Turn.{Turn}
 use Rattle.pt_plan.specs.World.{World}
-use Rattle.pt_plan.specs.declared.halt.Halt.{Halt}
+use Rattle.pt_plan.specs.declared.fault.Fault.{Fault}
 use Rattle.pt_begun.specs.Begun.{Begun, Start}
 use Rattle.pt_begun.specs.BegunSource.{IsWithinBound}
 use Rattle.pt_begun.specs.EndLaws.{is_ended}
@@ -14,7 +14,7 @@ use Rattle.pt_begun.specs.EndLaws.{is_ended}
 -- after a turn that halts the run no more is held than the source's bound, where the source told before it
 abbrev pub HaltedIsWithinBound : Type 0
 HaltedIsWithinBound =
-    (job : Job) (start : Start) (old new : World) (run : Run) (after : Kept) (why : Halt)
+    (job : Job) (start : Start) (old new : World) (run : Run) (after : Kept) (why : Fault)
     (s : Reading) → Begun job start old run → is_ended run.phase ≡ false
     → Turn job run.phase (turning run.kept) after old new (Err why) → old.source ≡ Some s
     → IsWithinBound job s.tree after.held

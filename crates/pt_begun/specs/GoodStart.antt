@@ -11,8 +11,8 @@ use Rattle.pt_plan.specs.Roots.{root_in}
 use Rattle.pt_plan.specs.Run.{Kept, Run, turning}
 use Rattle.pt_plan.specs.Turn.{Turn}
 use Rattle.pt_plan.specs.World.{Failures, World}
-use Rattle.pt_plan.specs.declared.halt.Halt.{Halt}
-use Rattle.pt_plan.specs.declared.halt.Halt.TheVariants as halt
+use Rattle.pt_plan.specs.declared.fault.Fault.{Fault}
+use Rattle.pt_plan.specs.declared.fault.Fault.TheVariants as fault
 use Rattle.pt_begun.specs.Begun.{Begun, Start}
 
 -- of no device the count of failures rose, or stood at its greatest value
@@ -24,9 +24,9 @@ pub record NoneRose (old new : Failures) : Type 0 where
 -- then a turn halts a run for want of memory alone, where source and destination tell, the start was a good one and nothing stood at `staging`
 abbrev pub NothingIsRefused : Type 0
 NothingIsRefused =
-    (job : Job) (start : Start) (old new : World) (run : Run) (after : Kept) (why : Halt)
+    (job : Job) (start : Start) (old new : World) (run : Run) (after : Kept) (why : Fault)
     (s : Reading) (t : Tree) → Begun job start old run
     → Turn job run.phase (turning run.kept) after old new (Err why) → old.source ≡ Some s
     → start.dest ≡ Some t
     → IsStart job s.tree (root_in t) → IsFree t staging → NoneRose old.failures new.failures
-    → why ≡ halt.Memory
+    → why ≡ fault.Memory

@@ -7,7 +7,7 @@ use Rattle.pt_plan.specs.Job.{Job}
 use Rattle.pt_plan.specs.Run.{Kept, Run, turning}
 use Rattle.pt_plan.specs.Turn.{Turn}
 use Rattle.pt_plan.specs.World.{World}
-use Rattle.pt_plan.specs.declared.halt.Halt.{Halt}
+use Rattle.pt_plan.specs.declared.fault.Fault.{Fault}
 use Rattle.pt_begun.specs.Begun.{Begun, Start}
 use Rattle.pt_begun.specs.FaultLeft.{IsLeftByFault}
 
@@ -23,7 +23,7 @@ StopsLeave =
 -- so they are after a turn that halts the run
 abbrev pub HaltsLeave : Type 0
 HaltsLeave =
-    (job : Job) (start : Start) (old new : World) (run : Run) (after : Kept) (why : Halt)
+    (job : Job) (start : Start) (old new : World) (run : Run) (after : Kept) (why : Fault)
     (s : Reading) (t : Tree) (now : Writing) (first last : List ℕ) → Begun job start old run
     → Turn job run.phase (turning run.kept) after old new (Err why)
     → old.source ≡ Some s → start.dest ≡ Some t → new.dest ≡ Some now → start.log ≡ Some first

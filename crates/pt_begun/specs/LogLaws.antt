@@ -7,7 +7,7 @@ use Rattle.pt_plan.specs.Job.{Job}
 use Rattle.pt_plan.specs.Run.{Kept, Run, turning}
 use Rattle.pt_plan.specs.Turn.{Turn}
 use Rattle.pt_plan.specs.World.{World}
-use Rattle.pt_plan.specs.declared.halt.Halt.TheVariants as halt
+use Rattle.pt_plan.specs.declared.fault.Fault.TheVariants as fault
 use Rattle.pt_plan.specs.declared.phase.Phase.{Phase}
 use Rattle.pt_plan.specs.declared.phase.Phase.TheVariants as phase
 use Rattle.pt_begun.specs.Begun.{Begun, Start}
@@ -28,6 +28,6 @@ may_tell _ = false
 abbrev pub FailedLogLeavesNoStaging : Type 0
 FailedLogLeavesNoStaging =
     (job : Job) (start : Start) (old new : World) (run : Run) (after : Kept) (now : Writing)
-    → Begun job start old run → Turn job run.phase (turning run.kept) after old new (Err halt.Log)
+    → Begun job start old run → Turn job run.phase (turning run.kept) after old new (Err fault.Log)
     → may_tell run.phase ≡ true → new.dest ≡ Some now
     → IsFree now.tree staging

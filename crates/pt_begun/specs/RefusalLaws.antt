@@ -17,23 +17,23 @@ use Rattle.pt_plan.specs.Run.{Kept, Run, turning}
 use Rattle.pt_plan.specs.Store.{has_prefix, is_store}
 use Rattle.pt_plan.specs.Turn.{Turn}
 use Rattle.pt_plan.specs.World.{World}
-use Rattle.pt_plan.specs.declared.halt.Halt.{Halt}
-use Rattle.pt_plan.specs.declared.halt.Halt.TheVariants as halt
+use Rattle.pt_plan.specs.declared.fault.Fault.{Fault}
+use Rattle.pt_plan.specs.declared.fault.Fault.TheVariants as fault
 use Rattle.pt_begun.specs.Begun.{Begun, Start}
 
 -- it is no store; it is one, but its prefix isn't good; a destination is refused only after it was found to be one with a good prefix; no file of it changes while it is read, so for that none is refused
-abbrev pub SaysOfSource : Halt → Forest → Type 0
-SaysOfSource halt.NotPairtree source = is_store source ≡ false
-SaysOfSource halt.Prefix source = (is_store source ≡ true) × (has_prefix source ≡ false)
-SaysOfSource halt.StagingLeft source = (is_store source ≡ true) × (has_prefix source ≡ true)
-SaysOfSource halt.Target source = (is_store source ≡ true) × (has_prefix source ≡ true)
-SaysOfSource halt.Changed source = ⊥
+abbrev pub SaysOfSource : Fault → Forest → Type 0
+SaysOfSource fault.NotPairtree source = is_store source ≡ false
+SaysOfSource fault.Prefix source = (is_store source ≡ true) × (has_prefix source ≡ false)
+SaysOfSource fault.StagingLeft source = (is_store source ≡ true) × (has_prefix source ≡ true)
+SaysOfSource fault.Target source = (is_store source ≡ true) × (has_prefix source ≡ true)
+SaysOfSource fault.Changed source = ⊥
 SaysOfSource _ source = ⊤
 
 -- a turn that halts the run says so rightly, where the source tells
 abbrev pub RefusesRightly : Type 0
 RefusesRightly =
-    (job : Job) (start : Start) (old new : World) (run : Run) (after : Kept) (why : Halt)
+    (job : Job) (start : Start) (old new : World) (run : Run) (after : Kept) (why : Fault)
     (s : Reading) → Begun job start old run
     → Turn job run.phase (turning run.kept) after old new (Err why) → old.source ≡ Some s
     → SaysOfSource why s.tree
@@ -43,7 +43,7 @@ abbrev pub FindsStaging : Type 0
 FindsStaging =
     (job : Job) (start : Start) (old new : World) (run : Run) (after : Kept) (t : Tree)
     → Begun job start old run
-    → Turn job run.phase (turning run.kept) after old new (Err halt.StagingLeft)
+    → Turn job run.phase (turning run.kept) after old new (Err fault.StagingLeft)
     → start.dest ≡ Some t → is_some (t staging) ≡ true
 
 -- ---- a root that can't be gone on with
@@ -66,7 +66,7 @@ abbrev pub FindsTarget : Type 0
 FindsTarget =
     (job : Job) (start : Start) (old new : World) (run : Run) (after : Kept) (t : Tree)
     → Begun job start old run
-    → Turn job run.phase (turning run.kept) after old new (Err halt.Target) → start.dest ≡ Some t
+    → Turn job run.phase (turning run.kept) after old new (Err fault.Target) → start.dest ≡ Some t
     → IsFree t staging × IsBadTarget job (root_in t) (λ object. ⊤)
 
 -- where the source tells too, an object whose way is barred is one that is carried
@@ -74,23 +74,23 @@ abbrev pub FindsTargetOf : Type 0
 FindsTargetOf =
     (job : Job) (start : Start) (old new : World) (run : Run) (after : Kept) (s : Reading)
     (t : Tree) → Begun job start old run
-    → Turn job run.phase (turning run.kept) after old new (Err halt.Target) → old.source ≡ Some s
+    → Turn job run.phase (turning run.kept) after old new (Err fault.Target) → old.source ≡ Some s
     → start.dest ≡ Some t
     → IsFree t staging × IsBadTarget job (root_in t) (IsCarriedOf job s.tree (root_in t))
 
 -- ---- what is left
 
 -- a halt for what the source is, or for what stands at `staging`
-abbrev pub is_early : Halt → Bool
-is_early halt.NotPairtree = true
-is_early halt.Prefix = true
-is_early halt.StagingLeft = true
+abbrev pub is_early : Fault → Bool
+is_early fault.NotPairtree = true
+is_early fault.Prefix = true
+is_early fault.StagingLeft = true
 is_early _ = false
 
 -- where the destination tells, it is as it was at the start after such a halt
 abbrev pub EarlyLeavesDest : Type 0
 EarlyLeavesDest =
-    (job : Job) (start : Start) (old new : World) (run : Run) (after : Kept) (why : Halt) (t : Tree)
+    (job : Job) (start : Start) (old new : World) (run : Run) (after : Kept) (why : Fault) (t : Tree)
     (now : Writing) → Begun job start old run
     → Turn job run.phase (turning run.kept) after old new (Err why) → is_early why ≡ true
     → start.dest ≡ Some t → new.dest ≡ Some now → now.tree ≡ t
@@ -98,7 +98,7 @@ EarlyLeavesDest =
 -- and so is a log that tells
 abbrev pub EarlyLeavesLog : Type 0
 EarlyLeavesLog =
-    (job : Job) (start : Start) (old new : World) (run : Run) (after : Kept) (why : Halt)
+    (job : Job) (start : Start) (old new : World) (run : Run) (after : Kept) (why : Fault)
     (first last : List ℕ) → Begun job start old run
     → Turn job run.phase (turning run.kept) after old new (Err why) → is_early why ≡ true
     → start.log ≡ Some first → new.log ≡ Some last → last ≡ first

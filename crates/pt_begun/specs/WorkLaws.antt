@@ -19,7 +19,7 @@ use Rattle.pt_plan.specs.TurnStart.{Starts}
 use Rattle.pt_plan.specs.TurnWalk.{Walks}
 use Rattle.pt_plan.specs.Work.{work}
 use Rattle.pt_plan.specs.World.{Answers, Calls, World}
-use Rattle.pt_plan.specs.declared.halt.Halt.{Halt}
+use Rattle.pt_plan.specs.declared.fault.Fault.{Fault}
 use Rattle.pt_plan.specs.declared.phase.Phase.{Phase}
 use Rattle.pt_plan.specs.declared.phase.Phase.TheVariants as phase
 use Rattle.pt_begun.specs.Begun.{Begun, IsPast, IsWorld, Start, start_of}
@@ -79,7 +79,7 @@ TurnsAreWithinWork =
 -- a turn that halts the run leaves it so, ended
 abbrev pub TurnEndsWithinWork : Type 0
 TurnEndsWithinWork =
-    (job : Job) (start : Start) (old new : World) (run : Run) (after : Kept) (why : Halt)
+    (job : Job) (start : Start) (old new : World) (run : Run) (after : Kept) (why : Fault)
     → BegunWithinWork job start old run → is_ended run.phase ≡ false
     → Turn job run.phase (turning run.kept) after old new (Err why)
     → BegunWithinWork job start new (record { phase = phase.Ended; kept = after })

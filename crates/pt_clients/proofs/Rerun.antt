@@ -24,7 +24,7 @@ use Rattle.pt_move.specs.Lines.{HasToldAll, HasToldFront}
 use Rattle.pt_move.specs.Migrates.{Migrates}
 use Rattle.pt_move.specs.Outcome.{EndsWhole, FaultLeaves}
 use Rattle.pt_move.specs.Running.{LeavesBehind}
-use Rattle.pt_move.specs.declared.fault.Fault.{Fault}
+use Rattle.pt_plan.specs.declared.fault.Fault.{Fault}
 use Rattle.pt_clients.specs.Mending.{MayEndAs, TakesStaging, undisturbed}
 
 -- ---- taking away where nothing stands

@@ -21,7 +21,7 @@ pub alike_taken : (source tree : Option Forest) (place p from : Path) (old new :
 unfolding StandsAlike MeetsFrom MeetsIn
 alike_taken source tree place p from old new (Ok x) alike took = λ s read f told. (one_stands (inside f place) (MakeFile p (bytes_at s from)) (alike s read f told), took)
 alike_taken source tree place p from old new (Err (stop.Differs d)) alike took = λ s read f told. one_stops (inside f place) old (MakeFile p (bytes_at s from)) d.path d.why took.0 (as_item (inside f place) old p (bytes_at s from) d.why took.1)
-alike_taken source tree place p from old new (Err (stop.Halt why)) alike took = λ s read f told. tt
+alike_taken source tree place p from old new (Err (stop.Fault why)) alike took = λ s read f told. tt
 
 -- each of the first contents is
 first_of_all : (P : Content → Type 0) (i n : ℕ) (contents : List Content) (content : Content) → i < n → slice_get contents i ≡ Some content → All P (take n contents) → P content

@@ -124,7 +124,7 @@ by_inventories sought t old now new (Ok x) early met = (
 )
 by_inventories sought t old now new (Err (stop.Differs d)) early (inl between) = inr (inl (between.0, early.stand, subst (λ (m : Marks). IsWrongInventory t m version_inventory sought.text_with d.why) early.noted between.1))
 by_inventories sought t old now new (Err (stop.Differs d)) early (inr late) = inr (inr (late.0, (late.2, late.1), stops_later t old now (early_items sought.stored) (inventory_items sought.algorithm late.0) d.path d.why early.stand early.noted late.3))
-by_inventories sought t old now new (Err (stop.Halt why)) early met = tt
+by_inventories sought t old now new (Err (stop.Fault why)) early met = tt
 
 early_of : (sought : Sought) (t : Tree) (old mid now : Marks) → All (StandsSo t) first_items × (mid ≡ all_met t first_items old) → All (StandsSo t) (content_items None sought.stored) × (now ≡ all_met t (content_items None sought.stored) mid) → Early sought t old now
 early_of sought t old mid now first contents = record {
@@ -137,15 +137,15 @@ stops_object sought t old mid new e answer is met = subst (MeetsObject sought t 
   where
     by : (e : Stop) → Meets {T = Unit {0}} t (early_items sought.stored) old mid (Err e) → MeetsObject sought t old new (Err e)
     by (stop.Differs d) stops = inl stops
-    by (stop.Halt why) stops = tt
+    by (stop.Fault why) stops = tt
 
 meets_first_stop : (t : Tree) (a b : List Item) (old new : Marks) (e : Stop) → Meets {T = Unit {0}} t a old new (Err e) → Meets {T = Unit {0}} t (a ++ b) old new (Err e)
 meets_first_stop t a b old new (stop.Differs d) stops = stops_first t old a b d.path d.why stops
-meets_first_stop t a b old new (stop.Halt why) stops = tt
+meets_first_stop t a b old new (stop.Fault why) stops = tt
 
 meets_later_stop : (t : Tree) (a b : List Item) (old mid new : Marks) (e : Stop) → All (StandsSo t) a → mid ≡ all_met t a old → Meets {T = Unit {0}} t b mid new (Err e) → Meets {T = Unit {0}} t (a ++ b) old new (Err e)
 meets_later_stop t a b old mid new (stop.Differs d) stand is stops = stops_later t old mid a b d.path d.why stand is stops
-meets_later_stop t a b old mid new (stop.Halt why) stand is stops = tt
+meets_later_stop t a b old mid new (stop.Fault why) stand is stops = tt
 
 -- where the source and the root tell, as the parts of an object are met in turn
 module _ (src tree : Option Forest) (place : Path) (sought : Forest → Sought) (old : Marks) where
@@ -208,7 +208,7 @@ inventory_stops tree place p algorithm text_with old mid new e answer is at met 
   where
     by : (f : Forest) (e : Stop) → MeetsText (inside f place) version_inventory text_with old mid (Err e) → MeetsInventories algorithm text_with (inside f place) old new (Err e)
     by f (stop.Differs d) here = inl here
-    by f (stop.Halt why) here = tt
+    by f (stop.Fault why) here = tt
 
 pub inventory_noted : (tree next : Option Forest) (place p : Path) (text_with : MetaParts → List ℕ) (old new : Marks) (text : String Global) → next ≡ tree → NotedStand tree place old → MeetsTextIn tree place p text_with old new (Ok text) → NotedStand next place new
 unfolding NotedStand MeetsTextIn
@@ -231,7 +231,7 @@ inventory_then tree next place p algorithm text_with now old mid new stands r sa
       copies.1 ∙ ap (all_met (inside f place) (last_items algorithm (string_bytes stands))) here.2,
     )
     by f (Err (stop.Differs d)) here copies = inr (string_bytes stands, here.1, here.0, stops_later (inside f place) old mid (MakeFile version_inventory (string_bytes stands) ∷ []) (last_items algorithm (string_bytes stands)) d.path d.why (file_first (inside f place) version_inventory (string_bytes stands) here.0) here.2 copies)
-    by f (Err (stop.Halt why)) here copies = tt
+    by f (Err (stop.Fault why)) here copies = tt
 
 -- what is found is right where both sides tell, as it is where one doesn't
 pub found_absent : (src tree : Option Forest) (place : Path) (sought : Forest → Sought) → IsSeen tree place None → ForSome src (λ s. ForSome tree (λ f. IsFound (sought s) (inside f place) finding.Absent))

@@ -10,7 +10,7 @@ use Rattle.pt_compare.specs.declared.stop.Stop.TheVariants as stop
 use Rattle.pt_object.specs.Script.{Item}
 use Rattle.pt_tree.specs.Forest.{Forest}
 use Rattle.pt_tree.specs.Path.{Path}
-use Rattle.pt_plan.specs.declared.halt.Halt.{Halt}
+use Rattle.pt_plan.specs.declared.fault.Fault.{Fault}
 use Rattle.pt_tree.specs.Tree.{Tree}
 
 abbrev pub Answer : Type 0
@@ -53,14 +53,14 @@ stops_later t marks mid a b p why stand is s = record {
 pub meets_then : (T : Type 0) (t : Tree) (a b : List Item) (old mid new : Marks) (r : Result T Stop) → All (StandsSo t) a → mid ≡ all_met t a old → Meets t b mid new r → Meets t (a ++ b) old new r
 meets_then T t a b old mid new (Ok x) stand is then = (all_both (StandsSo t) a b stand then.0, then.1 ∙ ap (all_met t b) is ∙ sym (all_met-append t a b old))
 meets_then T t a b old mid new (Err (stop.Differs d)) stand is then = stops_later t old mid a b d.path d.why stand is then
-meets_then T t a b old mid new (Err (stop.Halt why)) stand is then = tt
+meets_then T t a b old mid new (Err (stop.Fault why)) stand is then = tt
 
 pub meets_stop : (T U : Type 0) (t : Tree) (a b : List Item) (old new other : Marks) (e : Stop) (r : Result T Stop) (s : Result U Stop) → r ≡ Err e → s ≡ Err e → Meets t a old new r → Meets t (a ++ b) old other s
 meets_stop T U t a b old new other e r s is same met = subst (Meets {T = U} t (a ++ b) old other) (sym same) (on e (subst (Meets {T = T} t a old new) is met))
   where
     on : (e : Stop) → Meets {T = T} t a old new (Err e) → Meets {T = U} t (a ++ b) old other (Err e)
     on (stop.Differs d) stops = stops_first t old a b d.path d.why stops
-    on (stop.Halt why) stops = tt
+    on (stop.Fault why) stops = tt
 
 -- what the exit of a `?` gives
 pub err_of : (r : Answer) (e : Stop) → IsErrAnd r (λ f. f ≡ e) → r ≡ Err e
@@ -92,9 +92,9 @@ goes_stop T tree place a rest whole old now next new r e answer is same goes met
     goes answer new (λ f told. meets_stop T (Unit {0}) (inside f place) a rest now next new e r answer is (err_of answer e same) (met f told))
 
 -- it can't go on
-pub halts_in : (tree : Option Forest) (place : Path) (items : List Item) (old new : Marks) (r : Answer) (why : Halt) → IsErrAnd r (λ e. e ≡ stop.Halt why) → MeetsIn tree place items old new r
+pub halts_in : (tree : Option Forest) (place : Path) (items : List Item) (old new : Marks) (r : Answer) (why : Fault) → IsErrAnd r (λ e. e ≡ stop.Fault why) → MeetsIn tree place items old new r
 unfolding MeetsIn
-halts_in tree place items old new r why is = λ f told. subst (Meets {T = Unit {0}} (inside f place) items old new) (sym (err_of r (stop.Halt why) is)) tt
+halts_in tree place items old new r why is = λ f told. subst (Meets {T = Unit {0}} (inside f place) items old new) (sym (err_of r (stop.Fault why) is)) tt
 
 pub goes_end : (tree : Option Forest) (place : Path) (whole : List Item) (old now : Marks) (r : Answer) → r ≡ Ok tt → GoesOn tree place [] now whole old → MeetsIn tree place whole old now r
 unfolding GoesOn MeetsIn
@@ -134,18 +134,18 @@ pub met_anyhow : (source tree : Option Forest) (place : Path) (a : List Item) (o
 unfolding MeetsFrom
 met_anyhow source tree place a old new r met = λ g read. met
 
-pub halts_from : (source tree : Option Forest) (place : Path) (items : Forest → List Item) (old new : Marks) (r : Answer) (why : Halt) → IsErrAnd r (λ e. e ≡ stop.Halt why) → MeetsFrom source tree place items old new r
+pub halts_from : (source tree : Option Forest) (place : Path) (items : Forest → List Item) (old new : Marks) (r : Answer) (why : Fault) → IsErrAnd r (λ e. e ≡ stop.Fault why) → MeetsFrom source tree place items old new r
 unfolding MeetsFrom
 halts_from source tree place items old new r why is = λ g read. halts_in tree place (items g) old new r why is
 
 -- ---- a comparison that can't go on
 
-pub halt_is : (e : Stop) (why : Halt) → e ≡ stop.Halt why → IsHalt e
+pub halt_is : (e : Stop) (why : Fault) → e ≡ stop.Fault why → IsHalt e
 halt_is e why is = subst IsHalt (sym is) tt
 
-why_of : (e : Stop) → IsHalt e → (why : Halt) × (e ≡ stop.Halt why)
+why_of : (e : Stop) → IsHalt e → (why : Fault) × (e ≡ stop.Fault why)
 why_of (stop.Differs d) h = absurd h
-why_of (stop.Halt why) h = (why, refl)
+why_of (stop.Fault why) h = (why, refl)
 
 pub halted : (tree : Option Forest) (place : Path) (items : List Item) (old new : Marks) (r : Answer) (e : Stop) → IsErrAnd r (λ f. f ≡ e) → IsHalt e → MeetsIn tree place items old new r
 halted tree place items old new r e is h = let w = why_of e h in halts_in tree place items old new r w.0 (subst (λ (e : Stop). IsErrAnd r (λ f. f ≡ e)) w.1 is)

@@ -139,7 +139,7 @@ as_item t marks p bytes why.Extra wrong = absurd wrong
 
 open_failed : (t : Tree) (before after : Option Reading) (place p : Path) (bytes : List ℕ) (old new other : Marks) (e : Stop) → OpensIn before after place p old new (Err e) → Meets {T = Unit {0}} t (MakeFile p bytes ∷ []) old other (Err e)
 open_failed t before after place p bytes old new other (stop.Differs d) wrong = one_stops t old (MakeFile p bytes) d.path d.why wrong.0 (as_item t old p bytes d.why wrong.1)
-open_failed t before after place p bytes old new other (stop.Halt w) wrong = tt
+open_failed t before after place p bytes old new other (stop.Fault w) wrong = tt
 
 pub unopened : (before after : Option Reading) (place p : Path) (bytes : List ℕ) (old new other : Marks) (e : Stop) (answer : Answer) → IsErrAnd answer (λ f. f ≡ e) → OpensIn before after place p old new (Err e) → MeetsIn (tree_in before) place (MakeFile p bytes ∷ []) old other answer
 unfolding MeetsIn
@@ -213,7 +213,7 @@ open_failed_text t before after place p text_with old new other (stop.Differs d)
     by why.Kind wrong = wrong
     by why.Bytes wrong = absurd wrong
     by why.Extra wrong = absurd wrong
-open_failed_text t before after place p text_with old new other (stop.Halt w) wrong = tt
+open_failed_text t before after place p text_with old new other (stop.Fault w) wrong = tt
 
 err_of_text : (r : TextAnswer) (e : Stop) → IsErrAnd r (λ f. f ≡ e) → r ≡ Err e
 err_of_text (Ok x) e is = absurd is
@@ -268,4 +268,4 @@ halted_text tree place p text_with old new answer e is h = λ f told. subst (Mee
   where
     by : (f : Forest) (e : Stop) → IsHalt e → MeetsText (inside f place) p text_with old new (Err e)
     by f (stop.Differs d) h = absurd h
-    by f (stop.Halt why) h = tt
+    by f (stop.Fault why) h = tt

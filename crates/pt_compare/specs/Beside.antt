@@ -8,7 +8,7 @@ use Rattle.pt_compare.specs.Root.{Stands, tree_in}
 use Rattle.pt_compare.specs.declared.scanned.Scanned.{Scanned}
 use Rattle.pt_compare.specs.declared.stop.Stop.{Stop}
 use Rattle.pt_compare.specs.declared.stop.Stop.TheVariants as stop
-use Rattle.pt_plan.specs.declared.halt.Halt.TheVariants as halt
+use Rattle.pt_plan.specs.declared.fault.Fault.TheVariants as fault
 use Rattle.pt_tree.specs.Forest.{Forest}
 use Rattle.pt_tree.specs.Path.{Path}
 use Rattle.pt_tree.specs.Source.{Reading, after_open}
@@ -31,11 +31,16 @@ AreAlike source root object =
 abbrev pub IsKnownToStand : Option Forest → Scanned → Type 0
 IsKnownToStand root object = object.stands ≡ true → Stands root (object.to.now, kind.Dir)
 
+-- what is said to be known of an object is so
+pub record IsKnown (source root : Option Forest) (object : Scanned) : Type 0 where
+  pub alike : AreAlike source root object
+  pub stands : IsKnownToStand root object
+
 -- a file is taken out of what is noted, where it is noted as one
 abbrev pub TakesFile : Path → Marks → Marks → Result (Unit {0}) Stop → Type 0
 TakesFile p old new (Ok x) = new ≡ without_mark p old
 TakesFile p old new (Err (stop.Differs d)) = (d.path ≡ p) × IsWrongFile old p d.why
-TakesFile p old new (Err (stop.Halt why)) = why ≡ halt.Memory
+TakesFile p old new (Err (stop.Fault why)) = why ≡ fault.Memory
 
 -- a file stands at a path and was opened, or nothing was
 abbrev pub OpensStanding : Path → Option Reading → Option Reading → Bool → Type 0

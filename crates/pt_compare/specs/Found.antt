@@ -12,7 +12,7 @@ use Rattle.pt_compare.specs.declared.stop.Stop.{Stop}
 use Rattle.pt_compare.specs.declared.stop.Stop.TheVariants as stop
 use Rattle.pt_plan.specs.Turn.{HasFailed}
 use Rattle.pt_plan.specs.World.{Failures}
-use Rattle.pt_plan.specs.declared.halt.Halt.{Halt}
+use Rattle.pt_plan.specs.declared.fault.Fault.{Fault}
 use Rattle.pt_object.specs.Script.{Item, MakeFile, item_path}
 use Rattle.pt_object.specs.Scripts.{object_items}
 use Rattle.pt_compare.specs.declared.difference.Why.TheVariants as why
@@ -124,7 +124,7 @@ IsFound sought t (Differs difference) = IsWrong sought t difference.path differe
     × IsFirst sought t difference.path difference.why
 
 -- a comparison halts only as the device that is blamed has failed
-abbrev pub HaltsAs : Result Finding Halt → Failures → Failures → Type 0
+abbrev pub HaltsAs : Result Finding Fault → Failures → Failures → Type 0
 HaltsAs (Ok finding) old new = new ≡ old
 HaltsAs (Err why) old new = HasFailed why old new
 
@@ -147,7 +147,7 @@ MeetsInventories algorithm text_with t old new (Err (stop.Differs d)) =
     ((d.path ≡ version_inventory) × IsWrongInventory t old version_inventory text_with d.why)
     ⊎ ((inventory : List ℕ) × IsMade text_with inventory × (t version_inventory ≡ Some (Bytes inventory))
     × StopsAt t old (inventory_items algorithm inventory) d.path d.why)
-MeetsInventories algorithm text_with t old new (Err (stop.Halt why)) = ⊤
+MeetsInventories algorithm text_with t old new (Err (stop.Fault why)) = ⊤
 
 -- all items of the object with this inventory
 abbrev pub all_items : Sought → List ℕ → List Item
@@ -163,4 +163,4 @@ MeetsObject sought t old new (Err (stop.Differs d)) =
     × IsWrongInventory t (all_met t (early_items sought.stored) old) version_inventory sought.text_with d.why)
     ⊎ ((inventory : List ℕ) × IsHeld sought t inventory
     × StopsAt t old (all_items sought inventory) d.path d.why))
-MeetsObject sought t old new (Err (stop.Halt why)) = ⊤
+MeetsObject sought t old new (Err (stop.Fault why)) = ⊤

@@ -16,8 +16,8 @@ use Rattle.pt_object.specs.MetaParts.{MetaParts}
 use Rattle.pt_object.specs.Script.{Item, MakeFolder, MakeFile, item_entry, item_path}
 use Rattle.pt_plan.specs.Turn.{HasFailed}
 use Rattle.pt_plan.specs.World.{Failures}
-use Rattle.pt_plan.specs.declared.halt.Halt.{Halt}
-use Rattle.pt_plan.specs.declared.halt.Halt.TheVariants as halt
+use Rattle.pt_plan.specs.declared.fault.Fault.{Fault}
+use Rattle.pt_plan.specs.declared.fault.Fault.TheVariants as fault
 use Rattle.pt_tree.specs.Failures.{HasRisen}
 use Rattle.pt_tree.specs.Forest.{Forest}
 use Rattle.pt_tree.specs.Path.{Path}
@@ -61,7 +61,7 @@ pub record StopsAt (t : Tree) (marks : Marks) (items : List Item) (path : Path) 
 abbrev pub Meets : {T : Type 0} → Tree → List Item → Marks → Marks → Result T Stop → Type 0
 Meets t items old new (Ok x) = All (StandsSo t) items × (new ≡ all_met t items old)
 Meets t items old new (Err (stop.Differs d)) = StopsAt t old items d.path d.why
-Meets t items old new (Err (stop.Halt why)) = ⊤
+Meets t items old new (Err (stop.Fault why)) = ⊤
 
 -- so it is where the root tells its tree
 unfoldable pub MeetsIn : {T : Type 0} → Option Forest → Path → List Item → Marks → Marks → Result T Stop → Type 0
@@ -86,7 +86,7 @@ MeetsText t p text_with old new (Ok text) = (t p ≡ Some (Bytes (string_bytes t
     × IsMade text_with (string_bytes text) × (new ≡ met t (MakeFile p (string_bytes text)) old)
 MeetsText t p text_with old new (Err (stop.Differs d)) =
     (d.path ≡ p) × IsWrongInventory t old p text_with d.why
-MeetsText t p text_with old new (Err (stop.Halt why)) = ⊤
+MeetsText t p text_with old new (Err (stop.Fault why)) = ⊤
 
 unfoldable pub MeetsTextIn : Option Forest → Path → Path → (MetaParts → List ℕ) → Marks → Marks → Result (String Global) Stop → Type 0
 MeetsTextIn tree place p text_with old new result =
@@ -105,18 +105,18 @@ both source root = record { source = source; dest = root; log = 0 }
 abbrev pub FailsAs : {T : Type 0} → Result T Stop → Failures → Failures → Type 0
 FailsAs (Ok x) old new = new ≡ old
 FailsAs (Err (stop.Differs d)) old new = new ≡ old
-FailsAs (Err (stop.Halt why)) old new = HasFailed why old new
+FailsAs (Err (stop.Fault why)) old new = HasFailed why old new
 
 -- one over a root alone
-abbrev pub RootHasFailed : Halt → ℕ → ℕ → Type 0
-RootHasFailed halt.Dest old new = HasRisen old new
-RootHasFailed halt.Memory old new = new ≡ old
+abbrev pub RootHasFailed : Fault → ℕ → ℕ → Type 0
+RootHasFailed fault.Dest old new = HasRisen old new
+RootHasFailed fault.Memory old new = new ≡ old
 RootHasFailed _ old new = ⊥
 
 abbrev pub FailsInRoot : {T : Type 0} → Result T Stop → ℕ → ℕ → Type 0
 FailsInRoot (Ok x) old new = new ≡ old
 FailsInRoot (Err (stop.Differs d)) old new = new ≡ old
-FailsInRoot (Err (stop.Halt why)) old new = RootHasFailed why old new
+FailsInRoot (Err (stop.Fault why)) old new = RootHasFailed why old new
 
 -- what is wrong with a file before it is read
 abbrev pub IsWrongFile : Marks → Path → Why → Type 0
@@ -132,7 +132,7 @@ OpensIn before after place p old new (Ok x) =
     (λ f. (bytes : List ℕ) × (inside f place p ≡ Some (Bytes bytes)) × (left_in after ≡ Some bytes))
 OpensIn before after place p old new (Err (stop.Differs d)) =
     (d.path ≡ p) × IsWrongFile old p d.why
-OpensIn before after place p old new (Err (stop.Halt why)) = ⊤
+OpensIn before after place p old new (Err (stop.Fault why)) = ⊤
 
 -- both open files tell whether they have the same bytes left
 unfoldable pub TellsAlike : Option Reading → Option Reading → Bool → Type 0
@@ -147,4 +147,4 @@ why_for (Some kind) = why.Kind
 -- it isn't a difference that stops a comparison
 abbrev pub IsHalt : Stop → Type 0
 IsHalt (stop.Differs d) = ⊥
-IsHalt (stop.Halt why) = ⊤
+IsHalt (stop.Fault why) = ⊤

@@ -6,7 +6,7 @@ ghost use Rattle.pt_compare.specs.Root.{KeepsRoot, Reads};
 
 use crate::Root;
 use crate::stop::{Stop, of_root, of_source};
-use pt_plan::Halt;
+use pt_plan::Fault;
 use pt_tree::{Block, Source};
 
 /// Whether what is left of both files has the same bytes; both are read block by block, up to the first that differ. `Memory`
@@ -33,5 +33,5 @@ pub(crate) fn are_alike<S: Source, R: Root>(source: &mut S, root: &mut R) -> Res
             return Ok(true);
         }
     }
-    Err(Stop::Halt(Halt::Memory))
+    Err(Stop::Fault(Fault::Memory))
 }

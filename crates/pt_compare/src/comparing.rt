@@ -1,7 +1,7 @@
 //! An object of a store, held against what stands at its place in a storage root.
 ghost use Rattle.std.specs.Prelude.{◌≡◌, ◌≤◌, ◌++◌, IfOk, length, map, true, All, IfErr, None, OnOk};
 ghost use Rattle.std.specs.Option.{ForSome};
-ghost use Rattle.pt_compare.specs.Beside.{AreAlike, IsKnownToStand};
+ghost use Rattle.pt_compare.specs.Beside.{AreAlike, IsKnown, IsKnownToStand};
 ghost use Rattle.pt_compare.specs.Found.{HaltsAs, IsFound, IsLeft, MeetsInventories, MeetsObject, sought_of, texts_of_object};
 ghost use Rattle.pt_compare.specs.Marks.{inside, marks_of};
 ghost use Rattle.pt_compare.specs.Meeting.{FailsAs, FailsInRoot, MeetsFrom, MeetsIn, NotedStand, both};
@@ -9,7 +9,7 @@ ghost use Rattle.pt_compare.specs.Parts.{content_items, files_of, first_items, f
 ghost use Rattle.pt_compare.specs.Ways.{AreMet};
 ghost use Rattle.pt_compare.specs.Root.{IsSeen, KeepsRoot, tree_in};
 ghost use Rattle.pt_tree.specs.Failures.{IsCounted};
-ghost use Rattle.pt_plan.specs.declared.halt.Halt.TheVariants as halt;
+ghost use Rattle.pt_plan.specs.declared.fault.Fault.TheVariants as fault;
 ghost use Rattle.pt_object.specs.Distinct.{content_of_row, distinct};
 ghost use Rattle.pt_object.specs.FilePaths.{part_in_order, row_paths};
 ghost use Rattle.pt_tree.specs.Source.{CanOpen};
@@ -21,7 +21,7 @@ use crate::paths::{content_path, joined, path_of, sidecar_name};
 use crate::stop::Stop;
 use crate::{Difference, Finding, Root, Scanned, Why, standing};
 use pt_object::{object_declaration, sidecar};
-use pt_plan::Halt;
+use pt_plan::Fault;
 use pt_tree::{Kind, Known, NamePath, Source, TreeFault};
 use std::alloc::Global;
 
@@ -38,14 +38,13 @@ pub fn compare<S: Source, R: Root>(
     source: &mut S,
     root: &mut R,
     object: &Scanned<'_>,
-) -> Result<Finding, Halt>
+) -> Result<Finding, Fault>
     requires contents { object.now.contents.now
         ≡ map content_of_row (distinct object.now.rows.now) }
     requires order { part_in_order (row_paths object.now.rows.now) ≡ true }
     requires files { All (λ row. CanOpen (S.told source.old) (object.now.from.now ++ row.path))
         object.now.rows.now }
-    requires alike { AreAlike (tree_in (S.told source.old)) (tree_in (R.told root.old)) object.now }
-    requires stands { IsKnownToStand (tree_in (R.told root.old)) object.now }
+    requires known { IsKnown (tree_in (S.told source.old)) (tree_in (R.told root.old)) object.now }
     ensures source { KeepsRoot S.told S.keeps source.old source.new }
     ensures root { KeepsRoot R.told R.keeps root.old root.new }
     ensures failures { HaltsAs result (both (S.failed source.old) (R.failed root.old))
@@ -54,7 +53,7 @@ pub fn compare<S: Source, R: Root>(
         (λ s. ForSome (tree_in (R.told root.old))
         (λ r. IsFound (sought_of object.now s) (inside r object.now.to.now) finding))) }
 {
-    let here = at_place(alloc, root, object).map_err(Halt::of_dest)?;
+    let here = at_place(alloc, root, object).map_err(Fault::of_dest)?;
     let Some(kind) = here else {
         return Ok(Finding::Absent);
     };
@@ -63,7 +62,7 @@ pub fn compare<S: Source, R: Root>(
     match meet_object(alloc, source, root, object, &mut entries) {
         Ok(()) => left_over(&entries),
         Err(Stop::Differs(difference)) => Ok(Finding::Differs(difference)),
-        Err(Stop::Halt(why)) => Err(why),
+        Err(Stop::Fault(why)) => Err(why),
     }
 }
 
@@ -87,8 +86,8 @@ fn at_place<R: Root>(
 }
 
 // What is found where all of an object stands, and this is still noted beside it.
-fn left_over(entries: &Entries) -> Result<Finding, Halt>
-    ensures halts { IfErr result (λ why. why ≡ halt.Memory) }
+fn left_over(entries: &Entries) -> Result<Finding, Fault>
+    ensures halts { IfErr result (λ why. why ≡ fault.Memory) }
     ensures left { IfOk result (IsLeft (marks_of entries.now)) }
 {
     match entries.first()? {

@@ -1,11 +1,11 @@
 //! Why a comparison stops before its end.
 ghost use Rattle.std.specs.Prelude.{◌≡◌};
 ghost use Rattle.pt_compare.specs.declared.stop.Stop.TheVariants as stop;
-ghost use Rattle.pt_plan.specs.Halts.{dest_halt, source_halt};
-ghost use Rattle.pt_plan.specs.declared.halt.Halt.TheVariants as halt;
+ghost use Rattle.pt_plan.specs.RunFaults.{dest_fault, source_fault};
+ghost use Rattle.pt_plan.specs.declared.fault.Fault.TheVariants as fault;
 
 use crate::Difference;
-use pt_plan::Halt;
+use pt_plan::Fault;
 use pt_tree::{MemoryFault, TreeFault};
 
 /// Why a comparison stops before its end.
@@ -14,27 +14,27 @@ pub(crate) enum Stop {
     /// The first difference was found.
     Differs(Difference),
     /// It can't go on.
-    Halt(Halt),
+    Fault(Fault),
 }
 
 /// What a fault of the source is for it.
 pub(crate) fn of_source(fault: TreeFault) -> Stop
-    ensures { result ≡ stop.Halt (source_halt fault) }
+    ensures { result ≡ stop.Fault (source_fault fault) }
 {
-    Stop::Halt(Halt::of_source(fault))
+    Stop::Fault(Fault::of_source(fault))
 }
 
 /// What a fault of the root is for it.
 pub(crate) fn of_root(fault: TreeFault) -> Stop
-    ensures { result ≡ stop.Halt (dest_halt fault) }
+    ensures { result ≡ stop.Fault (dest_fault fault) }
 {
-    Stop::Halt(Halt::of_dest(fault))
+    Stop::Fault(Fault::of_dest(fault))
 }
 
 impl From<MemoryFault> for Stop {
-    ghost from_gives = { λ _ e. e ≡ stop.Halt halt.Memory };
+    ghost from_gives = { λ _ e. e ≡ stop.Fault fault.Memory };
 
     fn from(_: MemoryFault) -> Self {
-        Stop::Halt(Halt::Memory)
+        Stop::Fault(Fault::Memory)
     }
 }

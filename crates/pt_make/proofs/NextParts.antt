@@ -4,7 +4,7 @@ use Rattle.std.specs.Prelude.{Option, None, Some, Ok, IsErrAnd, slice_get}
 use Rattle.std.specs.Option.{option_map}
 use Rattle.std.proofs.lemmas.Bool.{le-ltb, lt-ltb}
 use Rattle.std.proofs.lemmas.List.{take_all}
-use Rattle.pt_state.proofs.Words.{HasBeenFed, MakeFolder, Row, Writing, MayMake, Path, Reading, CanOpen, after_open, Answer, Did, LeavesSome, Make, Stays, content_at, in_pairtree, Answers, Calls, Changes, Creates, Makes, NewFile, Opens, Puts, World, asks, dest_tree, does, source_tree, Halt, Object, Part, Position, KeepsAll, held_of, Turned}
+use Rattle.pt_state.proofs.Words.{HasBeenFed, MakeFolder, Row, Writing, MayMake, Path, Reading, CanOpen, after_open, Answer, Did, LeavesSome, Make, Stays, content_at, in_pairtree, Answers, Calls, Changes, Creates, Makes, NewFile, Opens, Puts, World, asks, dest_tree, does, source_tree, Fault, Object, Part, Position, KeepsAll, held_of, Turned}
 use Rattle.pt_state.proofs.Words.part
 use Rattle.pt_state.proofs.Words.phase
 use Rattle.pt_state.specs.declared.state.State.{State}
@@ -92,7 +92,7 @@ copy_opened s s' a b c object position copied created opened (row, (at, stored, 
     (both_did _ _ a b c (rw there at created) (rw here at opened)) refl (λ _ _. started) keeps)
 
 -- the file was made, and the other not opened
-left_new : (to from : Path) (f : Halt) (a b c : World) → Did (does (Creates to)) a b → Stays f b c → LeavesSome (opens_copy to from) f a c
+left_new : (to from : Path) (f : Fault) (a b c : World) → Did (does (Creates to)) a b → Stays f b c → LeavesSome (opens_copy to from) f a c
 unfolding Did Stays LeavesSome Answers Changes Puts
 left_new to from f a b c created stays = (
   record {
@@ -106,7 +106,7 @@ left_new to from f a b c created stays = (
   stays.4,
 )
 
-pub copy_unopened : (s s' : State) (a b c : World) (object : Object) (position : Position) (copied : Copied) (f : Halt) (result : Answer) → IsErrAnd result (λ h. h ≡ f) → Did (does (Creates copied.to)) a b → Stays f b c → IsNextCopy s object position copied → KeepsAll s s'
+pub copy_unopened : (s s' : State) (a b c : World) (object : Object) (position : Position) (copied : Copied) (f : Fault) (result : Answer) → IsErrAnd result (λ h. h ≡ f) → Did (does (Creates copied.to)) a b → Stays f b c → IsNextCopy s object position copied → KeepsAll s s'
     → Turned (phase.Make object (part.Content position)) s s' a c result
 unfolding IsNextCopy
 copy_unopened s s' a b c object position copied f result is created stays (row, (at, stored, most, there, here, same)) keeps =

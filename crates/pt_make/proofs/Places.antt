@@ -3,7 +3,7 @@ use Rattle.std.proofs.Common.{◌≡◌, ℕ, List, refl, sym, ap, ◌∙◌, fa
 use Rattle.std.specs.Prelude.{Option, None, Some, Ok, Err}
 use Rattle.std.specs.Option.{option_map}
 use Rattle.pt_state.proofs.Words.{MakeFolder, staging, Writing, IsKindAt, MayMake, Path, kind_of_entry, Kind, Did, Place, Answers, Change, Changes, Finds, Makes, Puts, Renames, World, does, Object, Phase, counts_of, held_of, job_of, Turned}
-use Rattle.pt_state.proofs.Words.halt
+use Rattle.pt_state.proofs.Words.fault
 use Rattle.pt_state.proofs.Words.kind
 use Rattle.pt_state.proofs.Words.phase
 use Rattle.pt_state.specs.declared.state.State.{State}
@@ -56,7 +56,7 @@ module _ (s : State) (a b : World) (path : Path) (here : Option Kind) (object : 
       rw then
       (placed s a b (λ fed. FindsTuple _ object number) (rw (is, dir) at found))
 
-  pub in_the_way : (it : Kind) → here ≡ Some it → is_dir_kind (Some it) ≡ false → Turned (phase.Tuples object number) s s a b (Err halt.Target)
+  pub in_the_way : (it : Kind) → here ≡ Some it → is_dir_kind (Some it) ≡ false → Turned (phase.Tuples object number) s s a b (Err fault.Target)
   in_the_way it some other = refused a b (λ fed was. Place (IsInTheWay _ object number it other)) (rw (is, some) at found) keeps_same
 
 pub renamed_object : (s : State) (a b : World) (from to : Path) (object : Object) → Did (does (Renames from to)) a b → from ≡ staging → to ≡ in_root object.place → Turned (phase.Rename object) s s a b (Ok (phase.Line object))

@@ -4,7 +4,7 @@ use Rattle.std.specs.Prelude.{Some, Ok, IsErrAnd, slice_get}
 use Rattle.std.specs.String.{string_bytes}
 use Rattle.std.proofs.lemmas.List.{take_all}
 use Rattle.std.proofs.lemmas.List.Sums.{sum_by-cons, sum_by-take-le}
-use Rattle.pt_state.proofs.Words.{Row, Path, sought, Answer, Done, End, Did, LeavesSome, Place, bytes_in_rows, World, tells, Halt, Object, KeepsAll, counts_of, Turned}
+use Rattle.pt_state.proofs.Words.{Row, Path, sought, Answer, Done, End, Did, LeavesSome, Place, bytes_in_rows, World, tells, Fault, Object, KeepsAll, counts_of, Turned}
 use Rattle.pt_state.proofs.Words.phase
 use Rattle.pt_state.specs.declared.state.State.{State}
 use Rattle.pt_plan.specs.TurnMake.{path_of_source}
@@ -47,7 +47,7 @@ pub told_done : (s s' : State) (object : Object) (at : Path) (bytes : ℕ) (a b 
 told_done s s' object at bytes a b did is sum trail rows contents counts prefix hasher job =
     turned_on s s' a b (λ fed. Place (TellsDone _ object)) (rw (is, sum) at did) trail rows contents (ap counts_of counts) prefix hasher job
 
-pub told_front : (s s' : State) (object : Object) (at : Path) (bytes : ℕ) (a b : World) (f : Halt) (result : Answer) → IsErrAnd result (λ h. h ≡ f) → LeavesSome (tells (Done at bytes object.empty (length s.rows) object.id object.place)) f a b → at ≡ path_of_source object s.trail → bytes ≡ bytes_in_rows s.rows → KeepsAll s s'
+pub told_front : (s s' : State) (object : Object) (at : Path) (bytes : ℕ) (a b : World) (f : Fault) (result : Answer) → IsErrAnd result (λ h. h ≡ f) → LeavesSome (tells (Done at bytes object.empty (length s.rows) object.id object.place)) f a b → at ≡ path_of_source object s.trail → bytes ≡ bytes_in_rows s.rows → KeepsAll s s'
     → Turned (phase.Line object) s s' a b result
 told_front s s' object at bytes a b f result is front there sum keeps =
     left_some a b f result is (λ fed. Place (TellsDone _ object)) (rw (there, sum) at front) keeps
@@ -56,7 +56,7 @@ pub told_end : (s : State) (a b : World) → Did (tells (End s.counts.done s.cou
 told_end s a b did =
     turned_on s s a b (λ fed. Place (TellsEnd _)) did refl refl refl refl refl refl refl
 
-pub end_front : (s : State) (a b : World) (f : Halt) (result : Answer) → IsErrAnd result (λ h. h ≡ f) → LeavesSome (tells (End s.counts.done s.counts.present s.counts.skipped)) f a b → Turned phase.End s s a b result
+pub end_front : (s : State) (a b : World) (f : Fault) (result : Answer) → IsErrAnd result (λ h. h ≡ f) → LeavesSome (tells (End s.counts.done s.counts.present s.counts.skipped)) f a b → Turned phase.End s s a b result
 end_front s a b f result is front =
     left_some a b f result is (λ fed. Place (TellsEnd _)) front keeps_same
 

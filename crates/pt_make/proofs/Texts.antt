@@ -1,7 +1,7 @@
 -- The turns that make an inventory and its sidecar, from their calls.
 use Rattle.std.proofs.Common.{◌≡◌, ℕ, List, [], ◌∷◌, ◌++◌, refl, ap, ◌∙◌}
 use Rattle.std.specs.Prelude.{Ok, IsErrAnd, map}
-use Rattle.pt_state.proofs.Words.{digest_of, HasBeenFed, Algorithm, Hasher, Path, Answer, Did, LeavesSome, Make, World, Halt, Object, Phase, KeepsAll, job_of, Turned}
+use Rattle.pt_state.proofs.Words.{digest_of, HasBeenFed, Algorithm, Hasher, Path, Answer, Did, LeavesSome, Make, World, Fault, Object, Phase, KeepsAll, job_of, Turned}
 use Rattle.pt_state.proofs.Words.part
 use Rattle.pt_state.proofs.Words.phase
 use Rattle.pt_state.specs.declared.state.State.{State}
@@ -55,7 +55,7 @@ made_top_inventory s s' a b object here path bytes which fed did is same hasher 
     was : HasFedInventory s object
     was = rw which at fed
 
-pub left_inventory : (s s' : State) (a b : World) (object : Object) (here : Folder) (path : Path) (bytes : List ℕ) (f : Halt) (result : Answer) → IsErrAnd result (λ h. h ≡ f) → LeavesSome (makes_file path bytes) f a b → path ≡ in_folder here (inventory_name ∷ []) → bytes ≡ inventory_held s object → KeepsAll s s'
+pub left_inventory : (s s' : State) (a b : World) (object : Object) (here : Folder) (path : Path) (bytes : List ℕ) (f : Fault) (result : Answer) → IsErrAnd result (λ h. h ≡ f) → LeavesSome (makes_file path bytes) f a b → path ≡ in_folder here (inventory_name ∷ []) → bytes ≡ inventory_held s object → KeepsAll s s'
     → Turned (phase.Make object (inventory_part here)) s s' a b result
 left_inventory s s' a b object folder.Version path bytes f result is some at same keeps =
     left_some a b f result is (λ fed. Make (MakesVersionInventory _ object)) (rw (same, (at)) at some) keeps
@@ -81,7 +81,7 @@ made_top_sidecar s s' a b object here path next which did is then started keeps 
     rw (then, which)
     (went a b (λ _. []) (λ fed _. Make (MakesSidecar _ object)) (rw (is, which) at did) refl (λ _ _. started) keeps)
 
-pub left_sidecar : (s s' : State) (a b : World) (object : Object) (here : Folder) (path : Path) (f : Halt) (result : Answer) → IsErrAnd result (λ h. h ≡ f) → LeavesSome (makes_file path (sidecar_held s object)) f a b → path ≡ in_folder here (sidecar_name s.job.algorithm ∷ []) → KeepsAll s s'
+pub left_sidecar : (s s' : State) (a b : World) (object : Object) (here : Folder) (path : Path) (f : Fault) (result : Answer) → IsErrAnd result (λ h. h ≡ f) → LeavesSome (makes_file path (sidecar_held s object)) f a b → path ≡ in_folder here (sidecar_name s.job.algorithm ∷ []) → KeepsAll s s'
     → Turned (phase.Make object (sidecar_part here)) s s' a b result
 left_sidecar s s' a b object folder.Version path f result is left at keeps =
     left_some a b f result is (λ fed. Make (MakesVersionSidecar _ object)) (rw (at) at left) keeps

@@ -13,7 +13,7 @@ ghost use Rattle.pt_tree.specs.Source.{CanOpen};
 ghost use Rattle.pt_make.specs.Making.{IsNextCopy, IsNextFolder, IsStep};
 
 use pt_object::{Contents, Hasher, Rows};
-use pt_plan::{Halt, Object, Part, Phase, Position};
+use pt_plan::{Fault, Object, Part, Phase, Position};
 use pt_state::paths::{content_path, source_path};
 use pt_state::{Outside, State};
 use pt_tree::{MemoryFault, NamePath};
@@ -43,7 +43,7 @@ pub(crate) fn make_content<O: Outside>(
     object: Object,
     position: Position,
     out: &mut O,
-) -> Result<Phase, Halt>
+) -> Result<Phase, Fault>
     requires row { position.row < length state.old.rows }
     requires may { MayMakeContent (O.world out.old).source (O.world out.old).dest object
         (held_of state.old []) position }
@@ -110,7 +110,7 @@ fn make_folder<O: Outside>(
     position: Position,
     path: &NamePath,
     out: &mut O,
-) -> Result<Phase, Halt>
+) -> Result<Phase, Fault>
     requires next { IsNextFolder state.now position path.now }
     requires may { MayMake (O.world out.old).dest path.now }
     ensures turn { TakesTurn O.world (O.within 0) (phase.Make object (part.Content position))
@@ -132,7 +132,7 @@ fn open_copy<O: Outside>(
     position: Position,
     copied: &Copied,
     out: &mut O,
-) -> Result<Phase, Halt>
+) -> Result<Phase, Fault>
     requires next { IsNextCopy state.old object position copied.now }
     requires may { MayMake (O.world out.old).dest copied.now.to
         × CanOpen (O.world out.old).source copied.now.from }

@@ -16,7 +16,7 @@ ghost use Rattle.pt_tree.specs.Known.{known_text};
 ghost use Rattle.pt_make.specs.Making.{HasContentsOfRows, HasFedInventory, IsFedFor, in_folder, inventory_held, inventory_part, makes_file, sidecar_part};
 
 use pt_object::{Algorithm, Digest, Hasher, inventory, sidecar_of};
-use pt_plan::{Halt, Object, Part, Phase};
+use pt_plan::{Fault, Object, Part, Phase};
 use pt_state::files::put_file;
 use pt_state::paths::path_of;
 use pt_state::{Outside, State};
@@ -40,7 +40,7 @@ pub(crate) fn make_inventory<O: Outside>(
     object: Object,
     folder: Folder,
     out: &mut O,
-) -> Result<Phase, Halt>
+) -> Result<Phase, Fault>
     requires contents { HasContentsOfRows state.old }
     requires fed { IsFedFor folder state.old object }
     requires may { MayMake (O.world out.old).dest (in_folder folder (inventory_name ∷ [])) }
@@ -90,7 +90,7 @@ pub(crate) fn make_sidecar<O: Outside>(
     object: Object,
     folder: Folder,
     out: &mut O,
-) -> Result<Phase, Halt>
+) -> Result<Phase, Fault>
     requires fed { HasFedInventory state.old object }
     requires may { MayMake (O.world out.old).dest
         (in_folder folder (sidecar_name_of state.old.job.algorithm ∷ [])) }
@@ -125,7 +125,7 @@ fn put_sidecar<O: Outside>(
     object: &Object,
     path: &NamePath,
     out: &mut O,
-) -> Result<(), Halt>
+) -> Result<(), Fault>
     requires fed { HasFedInventory state.now object.now }
     requires may { MayMake (O.world out.old).dest path.now }
     ensures { Wrote O.world (O.within 0) (makes_file path.now

@@ -15,7 +15,7 @@ ghost use Rattle.pt_make.specs.Making.{IsReadyFor};
 use crate::contents::{make_content, next_content};
 use crate::inventories::{Folder, make_inventory, make_sidecar};
 use pt_object::object_declaration;
-use pt_plan::{Halt, Object, Part, Phase, Position};
+use pt_plan::{Fault, Object, Part, Phase, Position};
 use pt_state::files::put_file;
 use pt_state::paths::path_of;
 use pt_state::{Outside, State};
@@ -29,7 +29,7 @@ pub fn make<O: Outside>(
     object: Object,
     part: Part,
     out: &mut O,
-) -> Result<Phase, Halt>
+) -> Result<Phase, Fault>
     requires may { MayMakePart (job_of state.old.job) object part (held_of state.old [])
         (O.world out.old).source (O.world out.old).dest }
     requires ready { IsReadyFor part object state.old }
@@ -49,7 +49,7 @@ pub fn make<O: Outside>(
 }
 
 // Makes `staging`.
-fn make_staging<O: Outside>(state: &State, object: Object, out: &mut O) -> Result<Phase, Halt>
+fn make_staging<O: Outside>(state: &State, object: Object, out: &mut O) -> Result<Phase, Fault>
     requires may { MayMake (O.world out.old).dest staging }
     ensures turn { TakesTurn O.world (O.within 0) (phase.Make object part.Staging)
         state.now state.now out.old out.new result }
@@ -60,7 +60,7 @@ fn make_staging<O: Outside>(state: &State, object: Object, out: &mut O) -> Resul
 }
 
 // Makes the object's declaration (OCFL 1.1, "Object Conformance Declaration").
-fn make_declaration<O: Outside>(state: &State, object: Object, out: &mut O) -> Result<Phase, Halt>
+fn make_declaration<O: Outside>(state: &State, object: Object, out: &mut O) -> Result<Phase, Fault>
     requires may { MayMake (O.world out.old).dest (staging ++ object_declaration_name ∷ []) }
     ensures turn { TakesTurn O.world (O.within 0) (phase.Make object part.Declaration)
         state.now state.now out.old out.new result }
@@ -71,7 +71,7 @@ fn make_declaration<O: Outside>(state: &State, object: Object, out: &mut O) -> R
 }
 
 // Makes the version's folder (OCFL 1.1, "Version Directories").
-fn make_version<O: Outside>(state: &State, object: Object, out: &mut O) -> Result<Phase, Halt>
+fn make_version<O: Outside>(state: &State, object: Object, out: &mut O) -> Result<Phase, Fault>
     requires may { MayMake (O.world out.old).dest (in_version []) }
     ensures turn { TakesTurn O.world (O.within 0) (phase.Make object part.Version)
         state.now state.now out.old out.new result }

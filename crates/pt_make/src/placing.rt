@@ -10,7 +10,7 @@ ghost use Rattle.pt_state.specs.States.{job_of};
 ghost use Rattle.pt_state.specs.Outside.{TakesTurn};
 ghost use Rattle.pt_tree.specs.Dest.{MayMove};
 
-use pt_plan::{Halt, Object, Phase};
+use pt_plan::{Fault, Object, Phase};
 use pt_state::paths::{front_in_storage_root, in_storage_root, path_of};
 use pt_state::{Outside, State};
 use pt_tree::{Kind, Known, NamePath};
@@ -21,7 +21,7 @@ pub fn make_tuple<O: Outside>(
     object: Object,
     index: usize,
     out: &mut O,
-) -> Result<Phase, Halt>
+) -> Result<Phase, Fault>
     requires few { index < state.now.job.layout.count }
     requires may { HasParent (O.world out.old).dest (tuple_folder object index) }
     ensures turn { TakesTurn O.world (O.within 0) (phase.Tuples object index) state.now state.now
@@ -39,7 +39,7 @@ fn enter_tuple<O: Outside>(
     index: usize,
     path: &NamePath,
     out: &mut O,
-) -> Result<Phase, Halt>
+) -> Result<Phase, Fault>
     requires few { index < state.now.job.layout.count }
     requires path { path.now ≡ tuple_folder object index }
     requires may { HasParent (O.world out.old).dest path.now }
@@ -52,7 +52,7 @@ fn enter_tuple<O: Outside>(
             Ok(after_tuple(state, object, index))
         }
         Some(Kind::Dir) => Ok(after_tuple(state, object, index)),
-        Some(_) => Err(Halt::Target),
+        Some(_) => Err(Fault::Target),
     }
 }
 
@@ -70,7 +70,7 @@ fn after_tuple(state: &State, object: Object, index: usize) -> Phase
 }
 
 /// Renames `staging` to an object's place.
-pub fn rename<O: Outside>(state: &State, object: Object, out: &mut O) -> Result<Phase, Halt>
+pub fn rename<O: Outside>(state: &State, object: Object, out: &mut O) -> Result<Phase, Fault>
     requires may { MayMove (O.world out.old).dest staging (in_root object.place) }
     ensures turn { TakesTurn O.world (O.within 0) (phase.Rename object) state.now state.now
         out.old out.new result }
@@ -87,7 +87,7 @@ fn move_object<O: Outside>(
     from: &NamePath,
     to: &NamePath,
     out: &mut O,
-) -> Result<Phase, Halt>
+) -> Result<Phase, Fault>
     requires may { MayMove (O.world out.old).dest from.now to.now }
     requires paths { (from.now ≡ staging) × (to.now ≡ in_root object.place) }
     ensures turn { TakesTurn O.world (O.within 0) (phase.Rename object) state.now state.now

@@ -7,14 +7,14 @@ ghost use Rattle.pt_state.specs.Outside.{TakesTurn};
 ghost use Rattle.pt_make.specs.Making.{CanTellDone};
 
 use pt_object::Rows;
-use pt_plan::{Halt, Object, Phase};
+use pt_plan::{Fault, Object, Phase};
 use pt_state::lines::{Done, put_done, put_end};
 use pt_state::paths::object_path;
 use pt_state::site::back_to_site;
 use pt_state::{Outside, State};
 
 /// Tells that an object is done, and walks on from its site.
-pub fn tell_done<O: Outside>(state: &mut State, object: Object, out: &mut O) -> Result<Phase, Halt>
+pub fn tell_done<O: Outside>(state: &mut State, object: Object, out: &mut O) -> Result<Phase, Fault>
     requires { CanTellDone state.old }
     ensures turn { TakesTurn O.world (O.within 0) (phase.Line object) state.old state.new
         out.old out.new result }
@@ -34,7 +34,7 @@ pub fn tell_done<O: Outside>(state: &mut State, object: Object, out: &mut O) -> 
 }
 
 /// Tells that the run is done.
-pub fn tell_end<O: Outside>(state: &State, out: &mut O) -> Result<Phase, Halt>
+pub fn tell_end<O: Outside>(state: &State, out: &mut O) -> Result<Phase, Fault>
     ensures turn { TakesTurn O.world (O.within 0) phase.End state.now state.now
         out.old out.new result }
 {

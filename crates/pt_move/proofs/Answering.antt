@@ -2,8 +2,8 @@
 use Rattle.std.proofs.Common.{◌≡◌, ◌≢◌, ◌<◌, ◌≤◌, ◌+◌, ◌==◌, Bool, cond, false, true, ℕ, List, [], refl, sym, ap, ◌∙◌, arith, inl, inr}
 use Rattle.std.proofs.lemmas.Bool.{OnFalse_at, OnFalse_from}
 use Rattle.std.specs.Prelude.{Option, None, Some, Ok, Err}
-use Rattle.pt_state.proofs.Words.{HasBeenFed, Algorithm, Hasher, Writing, Reading, Answer, phase_after, Job, Held, Run, new_run, Failures, World, source_tree, Halt, Phase, held_of, job_of, kept_of, IsLayout, Tree, counts_of}
-use Rattle.pt_state.proofs.Words.halt
+use Rattle.pt_state.proofs.Words.{HasBeenFed, Algorithm, Hasher, Writing, Reading, Answer, phase_after, Job, Held, Run, new_run, Failures, World, source_tree, Fault, Phase, held_of, job_of, kept_of, IsLayout, Tree, counts_of}
+use Rattle.pt_state.proofs.Words.fault
 use Rattle.pt_state.proofs.Words.part
 use Rattle.pt_state.proofs.Words.phase
 use Rattle.pt_state.specs.declared.state.State.{State}
@@ -14,15 +14,13 @@ use Rattle.pt_move.specs.Stands.{Stands}
 use Rattle.pt_move.specs.Turning.{HasFed, CountedTurn}
 use Rattle.pt_move.proofs.Bounding.{turn_keeps_bounds}
 use Rattle.pt_move.specs.Counting.{Rose}
-use Rattle.pt_move.specs.Fault.{fault_number, fault_of}
+use Rattle.pt_plan.specs.RunFaults.{IsOfTurn, fault_number}
 use Rattle.pt_move.specs.Leaving.{TurnLeaves}
 use Rattle.pt_move.specs.Lines.{TellsFront}
 use Rattle.pt_move.specs.Promises.{TurnKeeps}
 use Rattle.pt_move.specs.Running.{BeganSomewhere, FedUntilEnd, HasBegun, InProgress, IsBegun, IsFresh, IsNew, IsWell, LeavesBehind, Running, as_told, fresh_kept, run_of}
 use Rattle.pt_move.specs.Stepping.{Any, BlamesRightly, EndsAs, IsCounted, IsTurn, MakesTurn, StepLeaves, Stays as StaysAs, most_calls_at}
 use Rattle.pt_move.proofs.Told.{to_told}
-use Rattle.pt_move.specs.declared.fault.Fault.{Fault}
-use Rattle.pt_move.specs.declared.fault.Fault.TheVariants as fault
 use Rattle.pt_move.proofs.Going.{is_going}
 use Rattle.pt_move.proofs.Changes.{gains_same, moves_to}
 use Rattle.pt_move.proofs.Leaves.{turn_leaves}
@@ -185,15 +183,15 @@ none_blamed old new f same a b c = record {
   log = rw c (ap (λ (f : Failures). f.log) same);
 }
 
-blames_by : (why : Halt) (old new : World) → Blames why old.failures new.failures → BlamesRightly {T = own_turn.Turn} old new (Err (fault_of why))
+blames_by : (why : Fault) (old new : World) → Blames why old.failures new.failures → BlamesRightly {T = own_turn.Turn} old new (Err why)
 unfolding BlamesRightly
-blames_by halt.Source old new is = record { source = is.0; dest = is.1; log = is.2 }
-blames_by halt.Dest old new is = record { source = is.0; dest = is.1; log = is.2 }
-blames_by halt.Log old new is = record { source = is.0; dest = is.1; log = is.2 }
-blames_by why old new is = none_blamed old new (fault_of why) is refl refl refl
+blames_by fault.Source old new is = record { source = is.0; dest = is.1; log = is.2 }
+blames_by fault.Dest old new is = record { source = is.0; dest = is.1; log = is.2 }
+blames_by fault.Log old new is = record { source = is.0; dest = is.1; log = is.2 }
+blames_by why old new is = none_blamed old new why is refl refl refl
 
-pub err_blames : (s s' : State) (old new : World) (why : Halt) (f : Fault) → f ≡ fault_of why → TurnLeaves s s' old.log new.log old.failures new.failures (Err why) → BlamesRightly {T = own_turn.Turn} old new (Err f)
-err_blames s s' old new why f is left = rw is (blames_by why old new left.failures)
+pub err_blames : (s s' : State) (old new : World) (why : Fault) → TurnLeaves s s' old.log new.log old.failures new.failures (Err why) → BlamesRightly {T = own_turn.Turn} old new (Err why)
+err_blames s s' old new why left = blames_by why old new left.failures
 
 pub none_blamed_for_turns : (w : World) → BlamesRightly {T = own_turn.Turn} w w (Err fault.Turns)
 unfolding BlamesRightly
@@ -203,27 +201,21 @@ pub none_blamed_for_ended : (w : World) → BlamesRightly {T = own_turn.Turn} w 
 unfolding BlamesRightly
 none_blamed_for_ended w = record { source = refl; dest = refl; log = refl }
 
--- no halt is an answer of a run that made no turn
-counted_halt : (why : Halt) {old : Running} (new : Running) → IsTurn old → new.phase ≡ phase.Ended → (new.state.counts.turns ≡ old.state.counts.turns + 1) × (lines_put (counts_of new.state.counts) ≤ lines_put (counts_of old.state.counts) + 1) → EndsAs old new (Err (fault_of why)) × IsCounted old new (Err (fault_of why))
-counted_halt halt.Source new turn ended counted = ((turn, ended), counted)
-counted_halt _ _ turn ended counted = ((turn, ended), counted)
+-- a fault of a turn is no answer of a run that made none
+pub err_answer : (old new : Running) (g g' : Option (List ℕ)) (F F' : Failures) (why : Fault) → IsOfTurn why → IsTurn old → new.phase ≡ phase.Ended → TurnLeaves old.state new.state g g' F F' (Err why) → EndsAs old new (Err why)
+err_answer old new g g' F F' fault.Turns own = absurd own
+err_answer old new g g' F F' fault.Ended own = absurd own
+err_answer old new g g' F F' _ _ turn ended left = (turn, ended)
 
-stays_halt : {X : Type 0} (why : Halt) (old new : X) → StaysAs Any (Err (fault_of why)) old new
-stays_halt halt.Source old new = tt
-stays_halt _ _ _ = tt
+pub err_counted : (old new : Running) {g : Option (List ℕ)} (g' : Option (List ℕ)) (F F' : Failures) (why : Fault) → IsOfTurn why → TurnLeaves old.state new.state g g' F F' (Err why) → IsCounted old new (Err why)
+err_counted old new g' F F' fault.Turns own left = absurd own
+err_counted old new g' F F' fault.Ended own left = absurd own
+err_counted old new g' F F' _ _ left = (left.turns, left.lines)
 
-pub err_answer : (old new : Running) (g g' : Option (List ℕ)) (F F' : Failures) (why : Halt) (f : Fault) → f ≡ fault_of why → IsTurn old → new.phase ≡ phase.Ended → TurnLeaves old.state new.state g g' F F' (Err why) → EndsAs old new (Err f)
-err_answer old new g g' F F' why f is turn ended left = rw is (counted_halt why new turn ended (left.turns, left.lines)).0
-
-pub err_counted : (old new : Running) {g : Option (List ℕ)} (g' : Option (List ℕ)) (F F' : Failures) {why : Halt} {f : Fault} → f ≡ fault_of why → TurnLeaves old.state new.state g g' F F' (Err why) → IsCounted old new (Err f)
-err_counted old new g' F F' {why} {f} is left = rw is (by why)
-  where
-    by : (why : Halt) → IsCounted old new (Err (fault_of why))
-    by halt.Source = (left.turns, left.lines)
-    by _ = (left.turns, left.lines)
-
-pub err_stays : {X : Type 0} (why : Halt) (f : Fault) (old new : X) → f ≡ fault_of why → StaysAs Any (Err f) old new
-err_stays why f old new is = rw is (stays_halt why old new)
+pub err_stays : {X : Type 0} (why : Fault) (old new : X) → IsOfTurn why → StaysAs Any (Err why) old new
+err_stays fault.Turns old new own = absurd own
+err_stays fault.Ended old new own = absurd own
+err_stays _ _ _ _ = tt
 
 new_bounded : (job : Job) → IsBounded job phase.Begin fresh_kept
 new_bounded job = record { lines = omega (arith); turns = omega (arith); few = record { rows = omega (arith); lengths = omega (arith) }; within = refl; prefix = omega (arith) }
@@ -277,7 +269,7 @@ pub goes_on_after : (here next : Phase) (s s' : State) (old new : World) → Beg
 unfolding HasBegun BeganSomewhere TurnKeeps
 goes_on_after here next s s' old new (start, begun) on = inr (start, (on start begun).begun)
 
-pub goes_on_halted : (here after : Phase) (s s' : State) (old new : World) (why : Halt) → after ≡ phase.Ended → BeganSomewhere old (record { phase = here; state = s }) → ((start : Start) → IsBegun start old (record { phase = here; state = s }) → TurnKeeps start old new s s' (Err why)) → HasBegun new (record { phase = after; state = s' })
+pub goes_on_halted : (here after : Phase) (s s' : State) (old new : World) (why : Fault) → after ≡ phase.Ended → BeganSomewhere old (record { phase = here; state = s }) → ((start : Start) → IsBegun start old (record { phase = here; state = s }) → TurnKeeps start old new s s' (Err why)) → HasBegun new (record { phase = after; state = s' })
 unfolding HasBegun BeganSomewhere TurnKeeps
 goes_on_halted here after s s' old new why ended (start, begun) on = inr (start, rw ended (on start begun).begun)
 
@@ -305,9 +297,9 @@ module _ (before after : Running) (old new : World) (job : after.state.job ≡ b
       let last : TurnLeaves before.state after.state old.log new.log old.failures new.failures (Ok phase.Ended) = rw ended at left in
       record { tree = tree; job = job; turns = (left.turns, left.lines); told = left.told; finished = last.ended; trail = left.trail; rows = left.rows; contents = left.contents }
 
-  pub leaves_halted : (why : Halt) (f : Fault) → f ≡ fault_of why → TurnLeaves before.state after.state old.log new.log old.failures new.failures (Err why) → StepLeaves old new before after (Err f)
+  pub leaves_halted : (why : Fault) → IsOfTurn why → TurnLeaves before.state after.state old.log new.log old.failures new.failures (Err why) → StepLeaves old new before after (Err why)
   unfolding StepLeaves
-  leaves_halted why f is left = record { tree = tree; job = job; turns = err_counted before after _ _ _ is left; told = left.told; finished = tt; trail = left.trail; rows = left.rows; contents = left.contents }
+  leaves_halted why own left = record { tree = tree; job = job; turns = err_counted before after _ _ _ why own left; told = left.told; finished = tt; trail = left.trail; rows = left.rows; contents = left.contents }
 
 -- no turn was made
 same_left : (before after : Running) (w : World) (f : Fault) → IsCounted before after (Err f) → after.state ≡ before.state → StepLeaves w w before after (Err f)
@@ -339,13 +331,11 @@ pub turned_last : (here next : Phase) (s s' : State) (old new : World) → next 
 unfolding MakesTurn
 turned_last here next s s' old new ended turned = rw ended at turned
 
-turned_by : (why : Halt) (before after : Running) (old new : World) → CountedTurn before.phase before.state after.state old new (Err why) → MakesTurn old new before after (Err (fault_of why))
+pub turned_halted : (why : Fault) (before after : Running) (old new : World) → IsOfTurn why → CountedTurn before.phase before.state after.state old new (Err why) → MakesTurn old new before after (Err why)
 unfolding MakesTurn
-turned_by halt.Source before after old new turned = (halt.Source, refl, turned)
-turned_by why _ _ _ _ turned = (why, refl, turned)
-
-pub turned_halted : (why : Halt) (f : Fault) (before after : Running) (old new : World) → f ≡ fault_of why → CountedTurn before.phase before.state after.state old new (Err why) → MakesTurn old new before after (Err f)
-turned_halted why f before after old new is turned = rw is (turned_by why before after old new turned)
+turned_halted fault.Turns before after old new own turned = absurd own
+turned_halted fault.Ended before after old new own turned = absurd own
+turned_halted _ _ _ _ _ _ turned = turned
 
 pub no_turn_at_limit : (before after : Running) (w : World) → IsWell before → before.state.job.limits.turns ≤ before.state.counts.turns → after.state ≡ before.state → MakesTurn w w before after (Err fault.Turns)
 unfolding MakesTurn

@@ -2,9 +2,9 @@
 use Rattle.std.proofs.Common.{◌≡◌, ℕ, ◌+◌, ◌==◌, Bool, true, false, List, [], ◌∷◌, ◌++◌, drop, refl, ◌∙◌, inl, inr, cond, zero, suc}
 use Rattle.std.specs.Prelude.{Option, None, Some, Ok, Err, nat_lt, ⊤}
 use Rattle.pt_object.specs.Contents.{content_of, is_noted, noted}
-use Rattle.pt_state.proofs.Words.{Content, is_first, Item, Path, advanced, entered, names_to, parent, sought, Cause, Frame, Answer, Job, Line, End, Skipped, Counts, Held, Follows, Make, Place, Scan, Start, Walk, Calls, Halt, Phase}
+use Rattle.pt_state.proofs.Words.{Content, is_first, Item, Path, advanced, entered, names_to, parent, sought, Cause, Frame, Answer, Job, Line, End, Skipped, Counts, Held, Follows, Make, Place, Scan, Start, Walk, Calls, Fault, Phase}
 use Rattle.pt_state.proofs.Words.cause
-use Rattle.pt_state.proofs.Words.halt
+use Rattle.pt_state.proofs.Words.fault
 use Rattle.pt_state.proofs.Words.phase
 use Rattle.pt_plan.specs.TurnMake as make
 use Rattle.pt_plan.specs.TurnPlace as place
@@ -135,14 +135,14 @@ follows_change {held} _ = changes_trail (moves_same held.trail) refl refl
 -- ---- why a turn is refused
 
 -- it isn't for a device, nor for want of memory
-abbrev pub IsRefusal : Halt → Type 0
-IsRefusal halt.Source = ⊥
-IsRefusal halt.Dest = ⊥
-IsRefusal halt.Log = ⊥
-IsRefusal halt.Memory = ⊥
+abbrev pub IsRefusal : Fault → Type 0
+IsRefusal fault.Source = ⊥
+IsRefusal fault.Dest = ⊥
+IsRefusal fault.Log = ⊥
+IsRefusal fault.Memory = ⊥
 IsRefusal _ = ⊤
 
-pub follows_refuse : {job : Job} {counts : Counts} {here : Phase} {prefix read : List ℕ} {held new : Held} {calls : Calls} {why : Halt} → Follows job counts here prefix held read new calls (Err why) → IsRefusal why × (calls.line ≡ None)
+pub follows_refuse : {job : Job} {counts : Counts} {here : Phase} {prefix read : List ℕ} {held new : Held} {calls : Calls} {why : Fault} → Follows job counts here prefix held read new calls (Err why) → IsRefusal why × (calls.line ≡ None)
 follows_refuse (Start (start.IsNoStore _ _ _)) = (tt, refl)
 follows_refuse (Walk walks) = elim walks [ ]
 follows_refuse (Scan scans) = elim scans [ ]

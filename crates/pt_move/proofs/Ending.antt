@@ -8,8 +8,8 @@ use Rattle.pt_state.specs.declared.job.Job.{Job}
 use Rattle.pt_move.specs.Running.{HasBegun, IsBegun, IsNew, Running}
 use Rattle.pt_move.proofs.Answering.{first_begun, is_fresh}
 use Rattle.pt_move.specs.Stepping.{EndsAs}
-use Rattle.pt_move.specs.declared.fault.Fault.{Fault}
-use Rattle.pt_move.specs.declared.fault.Fault.TheVariants as fault
+use Rattle.pt_plan.specs.declared.fault.Fault.{Fault}
+use Rattle.pt_plan.specs.declared.fault.Fault.TheVariants as fault
 
 -- a run that is to begin hasn't ended
 pub new_goes_on : (job : Job) (r : Running) → IsNew job r → r.phase ≢ phase.Ended

@@ -1,8 +1,8 @@
 -- That a run keeps its promises in a step, by what the step answers.
 use Rattle.std.proofs.Common.{◌≡◌, ◌≢◌, ◌<◌, ◌≤◌, ℕ, List, arith}
 use Rattle.std.specs.Prelude.{Option, Some, Ok, Err}
-use Rattle.pt_state.proofs.Words.{Forest, Reading, Tree, Answer, phase_after, Job, Run, turning, World, source_tree, Halt, Phase, job_of, kept_of}
-use Rattle.pt_state.proofs.Words.halt
+use Rattle.pt_state.proofs.Words.{Forest, Reading, Tree, Answer, phase_after, Job, Run, turning, World, source_tree, Fault, Phase, job_of, kept_of}
+use Rattle.pt_state.proofs.Words.fault
 use Rattle.pt_state.proofs.Words.phase
 use Rattle.pt_state.specs.declared.state.State.{State}
 use Rattle.pt_plan.specs.Roots.{root_in}
@@ -17,12 +17,9 @@ use Rattle.pt_begun.specs.WorkLaws.{BegunWithinWork}
 use Rattle.pt_state.specs.Outside.{FedAfter}
 use Rattle.pt_state.specs.declared.job.Job as own
 use Rattle.pt_move.specs.Turning.{CountedTurn}
-use Rattle.pt_move.specs.Fault.{fault_of}
 use Rattle.pt_move.specs.Outcome.{FaultLeaves, HoldsWithinBound, IfEarly, IfLog, LeavesAll, LeavesNoStaging, MadeWithinWork, SaysRightly, StandsStillIn, WantsMemory}
 use Rattle.pt_move.specs.Promises.{IfHalted, Keeps, TurnKeeps, UnlessEnded}
 use Rattle.pt_move.specs.Running.{BeganSomewhere, FedUntilEnd, InProgress, IsBegun, Running, as_told, run_of}
-use Rattle.pt_move.specs.declared.fault.Fault.{Fault}
-use Rattle.pt_move.specs.declared.fault.Fault.TheVariants as fault
 use Rattle.pt_move.specs.declared.mover.Turn.TheVariants as turn
 use Rattle.pt_move.proofs.Answering.{begun_ends, fed_going, fed_to_end, leaves_behind, same_begun, was_fed}
 use Rattle.pt_move.proofs.Going.{is_going}
@@ -62,12 +59,12 @@ keeps_after here s s' old new answer going turned start is =
 -- ---- by the answer
 
 -- it holds of a fault of a turn as it does of any but that of an ended run
-halted : (P : Fault → Type 0) (why : Halt) → P (fault_of why) → IfHalted (Err (fault_of why)) P
-halted P halt.Source p = p
+halted : (P : Fault → Type 0) (why : Fault) → P why → IfHalted (Err why) P
+halted P fault.Source p = p
 halted _ _ p = p
 
-unless_ended : (P : Type 0) (why : Halt) → P → UnlessEnded (Err (fault_of why)) P
-unless_ended P halt.Source p = p
+unless_ended : (P : Type 0) (why : Fault) → P → UnlessEnded (Err why) P
+unless_ended P fault.Source p = p
 unless_ended _ _ p = p
 
 module _ (start : Start) (old new : World) (before : Running) (s' : State) where
@@ -95,9 +92,9 @@ module _ (start : Start) (old new : World) (before : Running) (s' : State) where
   }
 
   -- it halted the run
-  halted_so : (why : Halt) → TurnKeeps start old new before.state s' (Err why) → Keeps start old new before (record { phase = phase.Ended; state = s' }) (Err (fault_of why))
+  pub keeps_halted : (why : Fault) → TurnKeeps start old new before.state s' (Err why) → Keeps start old new before (record { phase = phase.Ended; state = s' }) (Err why)
   unfolding Keeps TurnKeeps
-  halted_so why kept = record {
+  keeps_halted why kept = record {
     begun = kept.begun;
     leaves = kept.leaves;
     stands = kept.stands;
@@ -111,9 +108,6 @@ module _ (start : Start) (old new : World) (before : Running) (s' : State) where
     says = halted (SaysRightly before.state.job (source_tree old.source) start.dest) why kept.says.says;
     good = halted (WantsMemory before.state.job (source_tree old.source) start.dest old.failures new.failures) why kept.says.good;
   }
-
-  pub keeps_halted : (why : Halt) (f : Fault) → f ≡ fault_of why → TurnKeeps start old new before.state s' (Err why) → Keeps start old new before (record { phase = phase.Ended; state = s' }) (Err f)
-  keeps_halted why f is kept = rw is (halted_so why kept)
 
 -- ---- no turn was made
 

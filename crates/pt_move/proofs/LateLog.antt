@@ -2,8 +2,8 @@
 use Rattle.std.proofs.Common.{◌≡◌, ℕ, List, true, refl}
 use Rattle.std.specs.Prelude.{Option, None, Some, Ok, Err, ⊤}
 use Rattle.pt_begun.specs.LogLaws.{may_tell}
-use Rattle.pt_state.proofs.Words.{Answer, Job, Line, Counts, Held, Kept, FailsAtFirst, FailsLater, Follows, GoesOn, IsRefused, LeavesSome, Make, Place, Scan, Start, Stays, Turn, Walk, Calls, World, Halt, Phase}
-use Rattle.pt_state.proofs.Words.halt
+use Rattle.pt_state.proofs.Words.{Answer, Job, Line, Counts, Held, Kept, FailsAtFirst, FailsLater, Follows, GoesOn, IsRefused, LeavesSome, Make, Place, Scan, Start, Stays, Turn, Walk, Calls, World, Fault, Phase}
+use Rattle.pt_state.proofs.Words.fault
 use Rattle.pt_plan.specs.TurnMake as make
 use Rattle.pt_plan.specs.TurnPlace as place
 use Rattle.pt_plan.specs.TurnScan as scan
@@ -15,7 +15,7 @@ use Rattle.pt_move.proofs.Changes.{IsRefusal, follows_refuse}
 -- the answer blames the log only where lines may be told
 abbrev pub BlamesLogLate : Phase → Answer → Type 0
 BlamesLogLate here (Ok next) = ⊤
-BlamesLogLate here (Err halt.Log) = may_tell here ≡ true
+BlamesLogLate here (Err fault.Log) = may_tell here ≡ true
 BlamesLogLate here (Err why) = ⊤
 
 -- a turn that tells a line is made where lines may be told
@@ -33,19 +33,19 @@ told_late (Place (place.RenamesObject _ _)) tells = absurd (cc)
 told_late _ _ = refl
 
 -- a refusal isn't of the log
-refusal_not_log : (why : Halt) → IsRefusal why → IsNotOfLog why
-refusal_not_log halt.Log is = absurd is
+refusal_not_log : (why : Fault) → IsRefusal why → IsNotOfLog why
+refusal_not_log fault.Log is = absurd is
 refusal_not_log _ is = tt
 
-other_late : (here : Phase) (why : Halt) → IsNotOfLog why → BlamesLogLate here (Err why)
-other_late here halt.Log other = absurd other
+other_late : (here : Phase) (why : Fault) → IsNotOfLog why → BlamesLogLate here (Err why)
+other_late here fault.Log other = absurd other
 other_late here _ other = tt
 
-there_late : (here : Phase) (why : Halt) → may_tell here ≡ true → BlamesLogLate here (Err why)
-there_late here halt.Log tells = tells
+there_late : (here : Phase) (why : Fault) → may_tell here ≡ true → BlamesLogLate here (Err why)
+there_late here fault.Log tells = tells
 there_late here _ tells = tt
 
-by_line : (here : Phase) (line : Option Line) (why : Halt) → ((told : Line) → line ≡ Some told → may_tell here ≡ true) → MayBlame line why → BlamesLogLate here (Err why)
+by_line : (here : Phase) (line : Option Line) (why : Fault) → ((told : Line) → line ≡ Some told → may_tell here ≡ true) → MayBlame line why → BlamesLogLate here (Err why)
 by_line here None why tells blames = other_late here why blames
 by_line here (Some line) why tells blames = there_late here why (tells line refl)
 

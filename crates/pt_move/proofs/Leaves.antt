@@ -1,8 +1,8 @@
 -- What a turn of the run's definitions leaves.
 use Rattle.std.proofs.Common.{◌≡◌, ℕ, ◌+◌, List, refl, ap, ◌∙◌, inl, inr, arith}
 use Rattle.std.specs.Prelude.{Option, None, Some, Err}
-use Rattle.pt_state.proofs.Words.{Row, Answer, Job, Line, End, Counts, turning, Did, FailsAtFirst, FailsLater, GoesOn, HasFailed, IsHalted, IsRefused, LeavesSome, Stays, Turn, counted, Failures, Puts, World, Halt, Phase, counts_of, kept_of}
-use Rattle.pt_state.proofs.Words.halt
+use Rattle.pt_state.proofs.Words.{Row, Answer, Job, Line, End, Counts, turning, Did, FailsAtFirst, FailsLater, GoesOn, HasFailed, IsHalted, IsRefused, LeavesSome, Stays, Turn, counted, Failures, Puts, World, Fault, Phase, counts_of, kept_of}
+use Rattle.pt_state.proofs.Words.fault
 use Rattle.pt_state.proofs.Words.phase
 use Rattle.pt_state.specs.declared.job.Report.{Report}
 use Rattle.pt_state.specs.declared.state.State.{State}
@@ -16,18 +16,18 @@ use Rattle.pt_move.specs.Lines.{CountsLine, GotFront, GotLine, SameLines, TellsF
 
 -- ---- failures
 
-refusal_blames : (why : Halt) {old new : Failures} → IsRefusal why → new ≡ old → Blames why old new
-refusal_blames halt.Source is same = absurd is
-refusal_blames halt.Dest is same = absurd is
-refusal_blames halt.Log is same = absurd is
-refusal_blames halt.Memory is same = absurd is
+refusal_blames : (why : Fault) {old new : Failures} → IsRefusal why → new ≡ old → Blames why old new
+refusal_blames fault.Source is same = absurd is
+refusal_blames fault.Dest is same = absurd is
+refusal_blames fault.Log is same = absurd is
+refusal_blames fault.Memory is same = absurd is
 refusal_blames _ _ same = same
 
-failed_blames : (why : Halt) (old new : Failures) → HasFailed why old new → Blames why old new
-failed_blames halt.Source old new failed = failed
-failed_blames halt.Dest old new failed = failed
-failed_blames halt.Log old new failed = failed
-failed_blames halt.Memory old new failed = failed
+failed_blames : (why : Fault) (old new : Failures) → HasFailed why old new → Blames why old new
+failed_blames fault.Source old new failed = failed
+failed_blames fault.Dest old new failed = failed
+failed_blames fault.Log old new failed = failed
+failed_blames fault.Memory old new failed = failed
 failed_blames _ _ _ failed = absurd failed
 
 -- ---- the log
@@ -67,7 +67,7 @@ gains_by xs is gains = rw is gains
 
 -- ---- a halted turn
 
-halted_leaves : {s : State} (s' : State) {fed : List ℕ} (fed' : List ℕ) {rows : List Row} {g : Option (List ℕ)} (g' : Option (List ℕ)) {old new : Failures} {why : Halt} → IsHalted rows (turning (kept_of s fed)) (kept_of s' fed') → Gains s.rows rows → Blames why old new → TellsFront g g' s.counts s'.counts → TurnLeaves s s' g g' old new (Err why)
+halted_leaves : {s : State} (s' : State) {fed : List ℕ} (fed' : List ℕ) {rows : List Row} {g : Option (List ℕ)} (g' : Option (List ℕ)) {old new : Failures} {why : Fault} → IsHalted rows (turning (kept_of s fed)) (kept_of s' fed') → Gains s.rows rows → Blames why old new → TellsFront g g' s.counts s'.counts → TurnLeaves s s' g g' old new (Err why)
 halted_leaves {s} s' fed' {rows} g' halted gains blames told =
     let put = ap lines_put halted.counts in
     record {

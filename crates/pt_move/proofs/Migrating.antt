@@ -12,8 +12,8 @@ use Rattle.pt_move.specs.Outcome.{IfEarly, IfLog, LeavesAll, LeavesNoStaging, Sa
 use Rattle.pt_move.specs.Promises.{IfHalted, Keeps}
 use Rattle.pt_move.specs.Running.{IsBegun, IsNew, IsWell, Running}
 use Rattle.pt_move.specs.Stepping.{Blamed, BlamesRightly, EndsAs, StepLeaves, Steps}
-use Rattle.pt_move.specs.declared.fault.Fault.{Fault}
-use Rattle.pt_move.specs.declared.fault.Fault.TheVariants as fault
+use Rattle.pt_plan.specs.declared.fault.Fault.{Fault}
+use Rattle.pt_plan.specs.declared.fault.Fault.TheVariants as fault
 use Rattle.pt_move.specs.declared.mover.Turn.{Turn}
 use Rattle.pt_move.specs.declared.mover.Turn.TheVariants as turn
 use Rattle.pt_move.proofs.Ending.{new_goes_on, new_is_begun, not_ended}

@@ -1,6 +1,6 @@
 -- What a turn needs, from what always holds of a run.
 use Rattle.std.proofs.Common.{◌≡◌, ◌<◌, ◌≤◌, ◌*◌, ◌^◌, ℕ, List, [], ◌∙◌, arith, rules}
-use Rattle.std.specs.Prelude.{IsTrue}
+use Rattle.std.specs.Prelude.{IfErr, IsTrue, Ok, Err}
 use Rattle.pt_state.proofs.Words.{Answer, Job, Held, turning, Phase, job_of, kept_of, World, Turned}
 use Rattle.pt_state.proofs.Words.part
 use Rattle.pt_state.proofs.Words.phase
@@ -10,7 +10,9 @@ use Rattle.pt_walk.specs.Limits.{Bounds, are_limits}
 use Rattle.pt_move.specs.Bounds.{IsBounded, IsWithin}
 use Rattle.pt_make.specs.Making.{HasContentsOfRows, HasFedInventory}
 use Rattle.pt_move.specs.Stands.{AddsWithin, CanAdd, Stands}
-use Rattle.pt_move.specs.Turning.{CountedTurn}
+use Rattle.pt_move.specs.Turning.{CountedTurn, HasFed}
+use Rattle.pt_plan.specs.RunFaults.{IsOfTurn}
+use Rattle.pt_begun.proofs.refusals.Reasons.{of_turn}
 
 limits_files : (b : Bounds) → IsTrue (are_limits b) → b.files ≤ 1000000
 limits_files b are = search rules
@@ -72,5 +74,12 @@ pub stands_on : (here : Phase) (s : State) (counts : Report) → Stands here s �
 unfolding HasContentsOfRows HasFedInventory
 stands_on (phase.Make object part.Staging) s counts stands = stands
 stands_on _ _ _ stands = stands
+
+-- a turn answers none of the faults that are the run's own
+pub own_fault : (here : Phase) (s s' : State) (old new : World) (answer : Answer) → Stands here s → HasFed here s.job.algorithm s.hasher → CountedTurn here s s' old new answer → IfErr answer IsOfTurn
+unfolding CountedTurn
+own_fault _ _ _ _ _ (Ok next) _ _ _ = tt
+own_fault phase.Ended _ _ _ _ (Err why) stands _ _ = absurd stands
+own_fault here _ _ _ _ (Err why) _ fed turned = of_turn (turned.1 fed.0 fed.1).1.1
 
 pub ruleset standing = (can_add, can_count)

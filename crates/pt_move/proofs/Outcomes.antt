@@ -1,8 +1,8 @@
 -- What a turn of a run leaves and says, from what it is of the definitions.
 use Rattle.std.proofs.Common.{◌≡◌, ℕ, List, false, true, refl, ap, ◌∙◌}
 use Rattle.std.specs.Prelude.{Option, None, Some, Ok, Err}
-use Rattle.pt_state.proofs.Words.{Forest, Reading, Tree, Answer, phase_after, Job, Kept, Run, turning, Turn, World, source_tree, Halt, Phase, job_of, kept_of}
-use Rattle.pt_state.proofs.Words.halt
+use Rattle.pt_state.proofs.Words.{Forest, Reading, Tree, Answer, phase_after, Job, Kept, Run, turning, Turn, World, source_tree, Fault, Phase, job_of, kept_of}
+use Rattle.pt_state.proofs.Words.fault
 use Rattle.pt_state.proofs.Words.phase
 use Rattle.pt_state.specs.declared.state.State.{State}
 use Rattle.pt_begun.specs.Begun.{Begun, Start}
@@ -25,11 +25,9 @@ use Rattle.pt_begun.proofs.bounds.TurnBound.{turn_is_within_bound}
 use Rattle.pt_begun.proofs.turns_left.EndsWithin.{turn_ends_within_work, turn_tree}
 use Rattle.pt_begun.proofs.turns_left.Within.{turn_keeps_within_work, turns_are_within_work, within_work_is_begun}
 use Rattle.pt_begun.specs.WorkLaws.{BegunWithinWork}
-use Rattle.pt_move.specs.Fault.{fault_of}
-use Rattle.pt_move.specs.Outcome.{EndsWhole, FaultLeaves, HoldsWithinBound, IfEarly, IfLog, LeavesAll, LeavesNoStaging, MadeWithinWork, SaysOfBoth, SaysOfDest, SaysOfSource, SaysRightly, StandsStillIn, StatesAreFiles, WantsMemory}
+use Rattle.pt_move.specs.Outcome.{EndsWhole, FaultLeaves, HoldsWithinBound, IfEarly, IfLog, LeavesAll, LeavesNoStaging, MadeWithinWork, SaysOfBoth, SaysOfDest, SaysRightly, StandsStillIn, StatesAreFiles, WantsMemory}
 use Rattle.pt_move.specs.Promises.{AnswerSays, TurnKeeps}
 use Rattle.pt_move.specs.Running.{IsBegun}
-use Rattle.pt_move.specs.declared.fault.Fault.TheVariants as fault
 
 -- ---- what is told
 
@@ -37,28 +35,21 @@ pub reading_of : (r : Option Reading) {f : Forest} → source_tree r ≡ Some f 
 reading_of None is = absurd (cc)
 reading_of (Some s) {f} is = (s, refl, some_same s.tree f is)
 
--- ---- halts as faults
+-- ---- by the fault
 
-of_source : (why : Halt) (source : Forest) → law.SaysOfSource why source → SaysOfSource (fault_of why) source
-of_source halt.Source source says = tt
-of_source halt.Dest source says = tt
-of_source halt.Log source says = tt
-of_source halt.Memory source says = tt
-of_source _ _ says = says
-
-of_dest : {job : Job} (why : Halt) (start : Tree) → (why ≡ halt.StagingLeft → SaysOfDest job fault.StagingLeft start) → (why ≡ halt.Target → SaysOfDest job fault.Target start) → SaysOfDest job (fault_of why) start
-of_dest halt.StagingLeft start left target = left refl
-of_dest halt.Target start left target = target refl
+of_dest : {job : Job} (why : Fault) (start : Tree) → (why ≡ fault.StagingLeft → SaysOfDest job fault.StagingLeft start) → (why ≡ fault.Target → SaysOfDest job fault.Target start) → SaysOfDest job why start
+of_dest fault.StagingLeft start left target = left refl
+of_dest fault.Target start left target = target refl
 of_dest _ _ _ _ = tt
 
-of_both : {job : Job} (why : Halt) (source : Forest) (start : Tree) → (why ≡ halt.Target → SaysOfBoth job fault.Target source start) → SaysOfBoth job (fault_of why) source start
-of_both halt.Target source start target = target refl
+of_both : {job : Job} (why : Fault) (source : Forest) (start : Tree) → (why ≡ fault.Target → SaysOfBoth job fault.Target source start) → SaysOfBoth job why source start
+of_both fault.Target source start target = target refl
 of_both _ _ _ _ = tt
 
-if_early : (why : Halt) (P : Type 0) → (law.is_early why ≡ true → P) → IfEarly (fault_of why) P
-if_early halt.NotPairtree P early = early refl
-if_early halt.Prefix P early = early refl
-if_early halt.StagingLeft P early = early refl
+if_early : (why : Fault) (P : Type 0) → (law.is_early why ≡ true → P) → IfEarly why P
+if_early fault.NotPairtree P early = early refl
+if_early fault.Prefix P early = early refl
+if_early fault.StagingLeft P early = early refl
 if_early _ _ _ = tt
 
 -- ---- a turn
@@ -127,19 +118,19 @@ module _ (s s' : State) (here : Phase) (fed fed' : List ℕ) (old new : World) (
       (ends_with_states job start old new run after reading.0 t now first last begun turn reading.1 start_is dest_is first_is last_is)
 
   -- a turn that halts it
-  leaves_all : {why : Halt} → MadeTurn (Err why) → law.is_early why ≡ true → LeavesAll start new.dest new.log
+  leaves_all : {why : Fault} → MadeTurn (Err why) → law.is_early why ≡ true → LeavesAll start new.dest new.log
   unfolding LeavesAll
   leaves_all {why} turn early = (
     λ t now start_is dest_is. early_leaves_dest job start old new run after why t now begun turn early start_is dest_is,
     λ first last first_is last_is. early_leaves_log job start old new run after why first last begun turn early first_is last_is,
   )
 
-  halt_says : {why : Halt} → MadeTurn (Err why) → SaysRightly s.job (source_tree old.source) start.dest (fault_of why)
+  halt_says : {why : Fault} → MadeTurn (Err why) → SaysRightly s.job (source_tree old.source) start.dest why
   unfolding SaysRightly
   halt_says {why} turn = (
     λ f source_is.
         let reading = reading_of old.source source_is in
-        of_source why f (rw reading.2 at (refuses_rightly job start old new run after why reading.0 begun turn reading.1)),
+        rw reading.2 at (refuses_rightly job start old new run after why reading.0 begun turn reading.1),
     λ t start_is.
         of_dest why t
         (λ same. finds_staging job start old new run after t begun (rw same at turn) start_is)
@@ -151,15 +142,15 @@ module _ (s s' : State) (here : Phase) (fed fed' : List ℕ) (old new : World) (
         (finds_target_of job start old new run after reading.0 t begun (rw same at turn) reading.1 start_is).1),
   )
 
-  halt_good : {why : Halt} → MadeTurn (Err why) → WantsMemory s.job (source_tree old.source) start.dest old.failures new.failures (fault_of why)
+  halt_good : {why : Fault} → MadeTurn (Err why) → WantsMemory s.job (source_tree old.source) start.dest old.failures new.failures why
   unfolding WantsMemory
   halt_good {why} turn = λ f t source_is start_is good free enough none.
       let reading = reading_of old.source source_is in
-      ap fault_of (nothing_is_refused job start old new run after why reading.0 t begun turn reading.1 start_is (rw reading.2 good) free none)
+      nothing_is_refused job start old new run after why reading.0 t begun turn reading.1 start_is (rw reading.2 good) free none
 
-  unstaged_after : (why : Halt) → MadeTurn (Err why) → BlamesLogLate here (Err why) → IfLog (fault_of why) (LeavesNoStaging new.dest)
+  unstaged_after : (why : Fault) → MadeTurn (Err why) → BlamesLogLate here (Err why) → IfLog why (LeavesNoStaging new.dest)
   unfolding LeavesNoStaging
-  unstaged_after halt.Log turn late = λ now dest_is. failed_log_leaves_no_staging job start old new run after now begun turn late dest_is
+  unstaged_after fault.Log turn late = λ now dest_is. failed_log_leaves_no_staging job start old new run after now begun turn late dest_is
   unstaged_after _ _ _ = tt
 
   -- by the answer

@@ -1,15 +1,13 @@
 -- What the steps of a run over the devices as one say of the whole.
 use Rattle.std.proofs.Common.{◌≡◌, ◌≢◌, ◌<◌, ◌-◌, ◌+◌, arith, List, [], ℕ, refl, ap, ◌∙◌, subst, sym}
 use Rattle.std.specs.Prelude.{Ok, Err}
-use Rattle.pt_state.proofs.Words.{HasBeenFed, new_run, Halt, Phase, World, job_of, kept_of, Run, turning, Turn}
+use Rattle.pt_state.proofs.Words.{HasBeenFed, new_run, Fault, Phase, World, job_of, kept_of, Run, turning, Turn}
 use Rattle.pt_state.proofs.Words.phase
 use Rattle.pt_state.specs.declared.job.Report.{Report}
-use Rattle.pt_move.specs.Fault.{fault_of}
 use Rattle.pt_move.specs.Running.{FedUntilEnd, IsNew, Running, run_of}
 use Rattle.pt_move.specs.Runs.{AtLimit, Finished, Halted, IsRun, NoTurn, OneMore, Turns}
 use Rattle.pt_move.specs.Stepping.{BlamesRightly, EndsAs, IsTurn, MakesTurn, StepLeaves}
-use Rattle.pt_move.specs.declared.fault.Fault.{Fault}
-use Rattle.pt_move.specs.declared.fault.Fault.TheVariants as fault
+use Rattle.pt_plan.specs.declared.fault.Fault.TheVariants as fault
 use Rattle.pt_move.specs.declared.mover.Turn.{Turn as Motion}
 use Rattle.pt_move.specs.declared.mover.Turn.TheVariants as motion
 use Rattle.pt_move.proofs.Answering.{fed_going, fed_to_end}
@@ -87,20 +85,18 @@ module _ (job : Job) (first old new : World) (a b : Running) (same : a.state.job
       let ended = ran_one_more (subst (λ (t : Motion). MakesTurn old new a b (Ok t)) is turned) left.turns.0 in
       subst (λ (c : Report). Finished job first new c) (sym counts) (record { kept = kept_of b.state ended.fed; counts = refl; turns = ended.turns })
 
-  halted : {f : Fault} → IsTurn a → ((why : Halt) × (f ≡ fault_of why) × CountedTurn a.phase a.state b.state old new (Err why)) → Halted job first new f
+  halted : {f : Fault} → IsTurn a → CountedTurn a.phase a.state b.state old new (Err f) → Halted job first new f
   unfolding CountedTurn
-  halted turn (why, is, turned) =
+  halted {f} turn turned =
       let made = turned.1 so_far.fed fed_now in
       record {
         count = a.state.counts.turns;
         run = run_of a so_far.fed;
         world = old;
         after = kept_of b.state made.0;
-        why = why;
         turns = so_far.turns;
         within = subst (λ (j : Job). a.state.counts.turns < j.limits.turns) same turn.within;
-        turn = subst (λ j. Turn (job_of j) a.phase (turning (kept_of a.state so_far.fed)) (kept_of b.state made.0) old new (Err why)) same made.1.1;
-        fault_is = is;
+        turn = subst (λ j. Turn (job_of j) a.phase (turning (kept_of a.state so_far.fed)) (kept_of b.state made.0) old new (Err f)) same made.1.1;
       }
 
   at_limit : MakesTurn old new a b (Err fault.Turns) → AtLimit job first new

@@ -1,8 +1,8 @@
 -- Which faults blame which device.
 use Rattle.std.specs.Prelude.{◌≡◌, ℕ, ◌==◌, Bool, true, false, Result, Ok, Err}
 use Rattle.pt_tree.specs.Failures.{HasRisen}
-use Rattle.pt_move.specs.declared.fault.Fault.{Fault}
-use Rattle.pt_move.specs.Fault.{fault_number}
+use Rattle.pt_plan.specs.declared.fault.Fault.{Fault}
+use Rattle.pt_plan.specs.RunFaults.{fault_number}
 
 -- the count rose where the device is blamed, and stayed where it isn't
 abbrev pub Rose : Bool → ℕ → ℕ → Type 0

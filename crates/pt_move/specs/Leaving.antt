@@ -3,8 +3,8 @@ use Rattle.std.specs.Prelude.{◌≡◌, ℕ, ◌+◌, ◌≤◌, List, Option, 
 use Rattle.pt_plan.specs.Answer.{Answer}
 use Rattle.pt_plan.specs.Turn.{HasFailed}
 use Rattle.pt_plan.specs.World.{Failures}
-use Rattle.pt_plan.specs.declared.halt.Halt.{Halt}
-use Rattle.pt_plan.specs.declared.halt.Halt.TheVariants as halt
+use Rattle.pt_plan.specs.declared.fault.Fault.{Fault}
+use Rattle.pt_plan.specs.declared.fault.Fault.TheVariants as fault
 use Rattle.pt_plan.specs.declared.phase.Phase.{Phase}
 use Rattle.pt_plan.specs.declared.phase.Phase.TheVariants as phase
 use Rattle.pt_state.specs.States.{counts_of}
@@ -15,10 +15,10 @@ use Rattle.pt_move.specs.Held.{Gains, Moves}
 use Rattle.pt_move.specs.Lines.{TellsEnd, TellsFront, TellsLine}
 
 -- the device that is blamed has failed and no other, and for what isn't a device's fault none has
-abbrev pub Blames : Halt → Failures → Failures → Type 0
-Blames halt.Source old new = HasFailed halt.Source old new
-Blames halt.Dest old new = HasFailed halt.Dest old new
-Blames halt.Log old new = HasFailed halt.Log old new
+abbrev pub Blames : Fault → Failures → Failures → Type 0
+Blames fault.Source old new = HasFailed fault.Source old new
+Blames fault.Dest old new = HasFailed fault.Dest old new
+Blames fault.Log old new = HasFailed fault.Log old new
 Blames _ old new = new ≡ old
 
 -- by the answer

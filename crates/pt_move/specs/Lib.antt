@@ -1,7 +1,6 @@
 pub mod Bounds
 pub mod Carried
 pub mod Counting
-pub mod Fault
 pub mod Held
 pub mod Leaving
 pub mod Lines

@@ -3,7 +3,7 @@ use Rattle.std.specs.Prelude.{◌≡◌, ◌⊎◌, ℕ, ◌+◌, List, ◌++◌
 use Rattle.std.specs.Io.KnownBytes.{Appends}
 use Rattle.pt_plan.specs.Lines.{Line, Done, Present, Skipped, End, end_line, is_done, is_present, is_skipped, line_text}
 use Rattle.pt_tree.specs.Log.{AppendsFront}
-use Rattle.pt_move.specs.declared.fault.Fault.{Fault}
+use Rattle.pt_plan.specs.declared.fault.Fault.{Fault}
 use Rattle.pt_state.specs.declared.job.Report.{Report}
 use Rattle.pt_move.specs.declared.mover.Turn.{Turn}
 use Rattle.pt_move.specs.declared.mover.Turn.TheVariants as turn

@@ -11,8 +11,8 @@ use Rattle.pt_move.specs.Lines.{HasToldAll, HasToldFront}
 use Rattle.pt_move.specs.Outcome.{EndsWhole, FaultLeaves, IfEarly, IfLog, LeavesAll, LeavesNoStaging, MadeWithinWork, SaysRightly, StandsStillIn, StatesAreFiles, WantsMemory}
 use Rattle.pt_move.specs.Running.{LeavesBehind}
 use Rattle.pt_move.specs.Runs.{IsRun}
-use Rattle.pt_move.specs.declared.fault.Fault.{Fault}
-use Rattle.pt_move.specs.declared.fault.Fault.TheVariants as fault
+use Rattle.pt_plan.specs.declared.fault.Fault.{Fault}
+use Rattle.pt_plan.specs.declared.fault.Fault.TheVariants as fault
 
 pub record Migrates (job : Job) (old new : World) (result : Result Report Fault) : Type 0 where
   -- at its end the root holds all objects that are carried, each whole, nothing else is changed, and the log has all lines

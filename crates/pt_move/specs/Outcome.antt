@@ -10,7 +10,6 @@ use Rattle.pt_plan.specs.Job as plan
 use Rattle.pt_plan.specs.Lines.{all_lines, end_line}
 use Rattle.pt_plan.specs.Roots.{root_in}
 use Rattle.pt_plan.specs.Run.{Counts}
-use Rattle.pt_plan.specs.Store.{has_prefix, is_store}
 use Rattle.pt_plan.specs.TurnPlace.{last_line}
 use Rattle.pt_plan.specs.WholeLaws.{HasItsFiles}
 use Rattle.pt_begun.specs.Begun.{Start}
@@ -20,14 +19,14 @@ use Rattle.pt_begun.specs.BegunSource.{IsWithinBound}
 use Rattle.pt_begun.specs.EndLaws.{IsEnd}
 use Rattle.pt_begun.specs.GoodStart.{NoneRose}
 use Rattle.pt_begun.specs.FaultLeft.{IsLeftByFault}
-use Rattle.pt_begun.specs.RefusalLaws.{IsBadTarget, IsCarriedOf}
+use Rattle.pt_begun.specs.RefusalLaws.{IsBadTarget, IsCarriedOf, SaysOfSource}
 use Rattle.pt_begun.specs.StillLaws.{StandsStill}
 use Rattle.pt_state.specs.States.{counts_of, held_of, job_of}
 use Rattle.pt_state.specs.declared.job.Job.{Job}
 use Rattle.pt_state.specs.declared.job.Report.{Report}
 use Rattle.pt_state.specs.declared.state.State.{State}
-use Rattle.pt_move.specs.declared.fault.Fault.{Fault}
-use Rattle.pt_move.specs.declared.fault.Fault.TheVariants as fault
+use Rattle.pt_plan.specs.declared.fault.Fault.{Fault}
+use Rattle.pt_plan.specs.declared.fault.Fault.TheVariants as fault
 
 -- from this source, and from these at the start: the root with all objects that are carried, nothing else changed, all their lines, and their numbers
 abbrev pub IsWhole : plan.Job → Forest → Tree → Writing → List ℕ → List ℕ → Counts → Type 0
@@ -93,15 +92,6 @@ HoldsWithinBound job source state = (s : Forest) → source ≡ Some s
     → IsWithinBound (job_of job) s (held_of state [])
 
 -- ---- refusals
-
--- a source is refused only for what it is: it is no store; it is one, but its prefix isn't good. A destination is refused only after the source was found to be a store with a good prefix. No file of it changes while it is read
-abbrev pub SaysOfSource : Fault → Forest → Type 0
-SaysOfSource fault.NotPairtree source = is_store source ≡ false
-SaysOfSource fault.Prefix source = (is_store source ≡ true) × (has_prefix source ≡ false)
-SaysOfSource fault.StagingLeft source = (is_store source ≡ true) × (has_prefix source ≡ true)
-SaysOfSource fault.Target source = (is_store source ≡ true) × (has_prefix source ≡ true)
-SaysOfSource fault.Changed source = ⊥
-SaysOfSource _ source = ⊤
 
 -- a destination is refused for what stands at `staging` only where something stood there at the start, and for its root only where nothing stood there and that root can't be gone on with
 abbrev pub SaysOfDest : plan.Job → Fault → Tree → Type 0

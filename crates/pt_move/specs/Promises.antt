@@ -5,11 +5,10 @@ use Rattle.pt_plan.specs.World.{World, source_tree}
 use Rattle.pt_plan.specs.declared.phase.Phase.TheVariants as phase
 use Rattle.pt_begun.specs.Begun.{Start}
 use Rattle.pt_state.specs.declared.state.State.{State}
-use Rattle.pt_move.specs.Fault.{fault_of}
 use Rattle.pt_move.specs.Outcome.{EndsWhole, FaultLeaves, HoldsWithinBound, IfEarly, IfLog, LeavesAll, LeavesNoStaging, MadeWithinWork, SaysRightly, StandsStillIn, StatesAreFiles, WantsMemory}
 use Rattle.pt_move.specs.Running.{IsBegun, LeavesBehind, Running}
-use Rattle.pt_move.specs.declared.fault.Fault.{Fault}
-use Rattle.pt_move.specs.declared.fault.Fault.TheVariants as fault
+use Rattle.pt_plan.specs.declared.fault.Fault.{Fault}
+use Rattle.pt_plan.specs.declared.fault.Fault.TheVariants as fault
 use Rattle.pt_move.specs.declared.mover.Turn.{Turn}
 use Rattle.pt_move.specs.declared.mover.Turn.TheVariants as turn
 
@@ -86,7 +85,7 @@ pub record HaltPromises (start : Start) (old new : World) (s : State) (f : Fault
 
 abbrev pub AnswerSays : World → Start → World → State → State → Answer → Type 0
 AnswerSays old start new s s' (Ok next) = next ≡ phase.Ended → EndPromises start old new s s'
-AnswerSays old start new s s' (Err why) = HaltPromises start old new s (fault_of why)
+AnswerSays old start new s s' (Err why) = HaltPromises start old new s why
 
 pub record TurnPromises (start : Start) (old new : World) (s s' : State) (answer : Answer) : Type 0 where
   pub begun : IsBegun start new (record { phase = phase_after answer; state = s' })

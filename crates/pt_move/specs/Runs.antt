@@ -4,16 +4,14 @@ use Rattle.pt_plan.specs.Job as plan
 use Rattle.pt_plan.specs.Run.{Kept, Run, new_run, turning}
 use Rattle.pt_plan.specs.Turn.{Turn}
 use Rattle.pt_plan.specs.World.{World}
-use Rattle.pt_plan.specs.declared.halt.Halt.{Halt}
+use Rattle.pt_plan.specs.declared.fault.Fault.{Fault}
 use Rattle.pt_plan.specs.declared.phase.Phase.{Phase}
 use Rattle.pt_plan.specs.declared.phase.Phase.TheVariants as phase
 use Rattle.pt_begun.specs.EndLaws.{is_ended}
 use Rattle.pt_state.specs.States.{counts_of, job_of}
 use Rattle.pt_state.specs.declared.job.Job.{Job}
 use Rattle.pt_state.specs.declared.job.Report.{Report}
-use Rattle.pt_move.specs.Fault.{fault_of}
-use Rattle.pt_move.specs.declared.fault.Fault.{Fault}
-use Rattle.pt_move.specs.declared.fault.Fault.TheVariants as fault
+use Rattle.pt_plan.specs.declared.fault.Fault.TheVariants as fault
 
 -- so many turns lead from a run that is to begin, over this world, to this run over that one
 pub data Turns (job : plan.Job) (first : World) : ℕ → Run → World → Type 0 where
@@ -34,11 +32,9 @@ pub record Halted (job : Job) (old new : World) (f : Fault) : Type 0 where
   pub run : Run
   pub world : World
   pub after : Kept
-  pub why : Halt
   pub turns : Turns (job_of job) old count run world
   pub within : count < job.limits.turns
-  pub turn : Turn (job_of job) run.phase (turning run.kept) after world new (Err why)
-  pub fault_is : f ≡ fault_of why
+  pub turn : Turn (job_of job) run.phase (turning run.kept) after world new (Err f)
 
 -- exactly as many turns as the limit were made, and it hadn't ended
 pub record AtLimit (job : Job) (old new : World) : Type 0 where

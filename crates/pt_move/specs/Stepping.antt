@@ -1,8 +1,9 @@
 -- What one step answers, and what it leaves.
-use Rattle.std.specs.Prelude.{◌≡◌, ◌≢◌, ◌+◌, ◌<◌, ◌==◌, ◌≤◌, ℕ, IfOk, Result, Ok, Err, cond, ⊤}
+use Rattle.std.specs.Prelude.{◌≡◌, ◌≢◌, ◌+◌, ◌<◌, ◌==◌, ◌≤◌, ℕ, IfErr, IfOk, Result, Ok, Err, cond, ⊤}
 use Rattle.pt_plan.specs.Answer.{Answer, phase_after}
+use Rattle.pt_plan.specs.RunFaults.{IsOfTurn}
 use Rattle.pt_plan.specs.World.{World, source_tree}
-use Rattle.pt_plan.specs.declared.halt.Halt.{Halt}
+use Rattle.pt_plan.specs.declared.fault.Fault.{Fault}
 use Rattle.pt_plan.specs.declared.phase.Phase.{Phase}
 use Rattle.pt_plan.specs.declared.phase.Phase.TheVariants as phase
 use Rattle.pt_state.specs.States.{counts_of}
@@ -10,13 +11,11 @@ use Rattle.pt_state.specs.declared.state.State.{State}
 use Rattle.pt_move.specs.Bounds.{lines_put}
 use Rattle.pt_move.specs.Turning.{CountedTurn}
 use Rattle.pt_move.specs.Counting.{Counts}
-use Rattle.pt_move.specs.Fault.{fault_of}
 use Rattle.pt_move.specs.Held.{Gains, Moves}
 use Rattle.pt_move.specs.Leaving.{TurnLeaves}
 use Rattle.pt_move.specs.Lines.{FinishTold, Tells}
 use Rattle.pt_move.specs.Running.{BeganSomewhere, IsWell, Running}
-use Rattle.pt_move.specs.declared.fault.Fault.{Fault}
-use Rattle.pt_move.specs.declared.fault.Fault.TheVariants as fault
+use Rattle.pt_plan.specs.declared.fault.Fault.TheVariants as fault
 use Rattle.pt_move.specs.declared.mover.Turn.{Turn}
 use Rattle.pt_move.specs.declared.mover.Turn.TheVariants as turn
 
@@ -72,8 +71,8 @@ MakesTurn old new before after (Ok turn.Finished) =
 MakesTurn old new before after (Err fault.Ended) = (after ≡ before) × (new ≡ old)
 MakesTurn old new before after (Err fault.Turns) = (after.state ≡ before.state) × (new ≡ old)
     × (before.state.counts.turns ≡ before.state.job.limits.turns)
-MakesTurn old new before after (Err f) = (why : Halt) × (f ≡ fault_of why)
-    × CountedTurn before.phase before.state after.state old new (Err why)
+MakesTurn old new before after (Err f) =
+    CountedTurn before.phase before.state after.state old new (Err f)
 
 -- ---- what it leaves
 
@@ -110,6 +109,7 @@ pub record Made {O : Type 0} (world : O → World) (within : O → O → Type 0)
     (old new : O) (answer : Answer) : Type 0 where
   pub tree : source_tree (world new).source ≡ source_tree (world old).source
   pub turn : CountedTurn here s s' (world old) (world new) answer
+  pub own : IfErr answer IsOfTurn
   pub well : IsWell (record { phase = phase_after answer; state = s' })
   pub leaves : TurnLeaves s s' (world old).log (world new).log (world old).failures (world new).failures answer
   pub few : within old new

@@ -1,15 +1,17 @@
 -- One turn of a run, counted.
 use Rattle.std.specs.Bool.{OnFalse}
-use Rattle.std.specs.Prelude.{◌≡◌, ℕ, List}
+use Rattle.std.specs.Prelude.{◌≡◌, IfErr, ℕ, List}
 use Rattle.pt_object.specs.Hasher.{HasBeenFed}
 use Rattle.pt_object.specs.declared.algorithm.Algorithm.{Algorithm}
 use Rattle.pt_object.specs.declared.hasher.Hasher.{Hasher}
 use Rattle.pt_begun.specs.EndLaws.{is_ended}
 use Rattle.pt_plan.specs.Answer.{Answer}
 use Rattle.pt_plan.specs.Run.{turning}
+use Rattle.pt_plan.specs.RunFaults.{IsOfTurn}
 use Rattle.pt_plan.specs.Turn.{Turn}
 use Rattle.pt_plan.specs.World.{World}
 use Rattle.pt_plan.specs.declared.phase.Phase.{Phase}
+use Rattle.pt_scan.specs.Blocks.{ReadsNext}
 use Rattle.pt_state.specs.Outside.{FedAfter}
 use Rattle.pt_state.specs.States.{job_of, kept_of}
 use Rattle.pt_state.specs.declared.state.State.{State}
@@ -23,10 +25,12 @@ CountedTurn here s s' old new answer =
     × (FedAfter answer s.job.algorithm s'.hasher fed'
     × Turn (job_of s.job) here (turning (kept_of s fed)) (kept_of s' fed') old new answer))
 
--- so it is over all devices as one, and the source is called no more often than this
+-- so it is over all devices as one. The faults that are the run's own are no answers; where a file is read, the block that is held is its next one; and the source is called no more often than this
 pub record TakesCounted {O : Type 0} (world : O → World) (within : O → O → Type 0) (here : Phase) (s s' : State)
     (old new : O) (answer : Answer) : Type 0 where
   pub turn : CountedTurn here s s' (world old) (world new) answer
+  pub own : IfErr answer IsOfTurn
+  pub block : ReadsNext here (world old).source s'.block.items answer
   pub few : within old new
 
 -- until a run has ended, its hasher has been fed something

@@ -2,13 +2,12 @@
 #![tactic(auto)]
 
 mod carried;
-mod fault;
 mod migration;
 mod mover;
 pub mod turning;
 
 pub use carried::{Carried, as_told};
-pub use fault::Fault;
+pub use pt_plan::Fault;
 pub use migration::migrate;
 pub use mover::{Mover, Turn};
 pub use pt_state::{Job, Report};

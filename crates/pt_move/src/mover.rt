@@ -11,9 +11,8 @@ ghost use Rattle.pt_move.specs.Promises.{Keeps, TurnKeeps};
 ghost use Rattle.pt_move.specs.Running.{BeganSomewhere, HasBegun, IsBegun, IsNew, IsWell};
 ghost use Rattle.pt_move.specs.Stepping.{Any, IsReady, Made, Stays, Steps, most_calls_at};
 
-use crate::Fault;
 use crate::turning::{new_state, turn};
-use pt_plan::{Halt, Phase};
+use pt_plan::{Fault, Phase};
 use pt_state::{Devices, Job, Outside, Report, State};
 use pt_tree::{Dest, Log, Source};
 use std::alloc::Global;
@@ -175,7 +174,7 @@ impl Mover {
 
 // Makes the turn of a phase, and gives the next one.
 #[tactic(auto, using(crate::proofs::Answering::making_turn, crate::proofs::Keeping::outcomes))]
-fn made_turn<O: Outside>(state: &mut State, here: Phase, out: &mut O) -> Result<Phase, Halt>
+fn made_turn<O: Outside>(state: &mut State, here: Phase, out: &mut O) -> Result<Phase, Fault>
     requires { IsReady (O.world out.old) (record { phase = here; state = state.old }) }
     ensures keeps { (start : Start)
         → IsBegun start (O.world out.old) (record { phase = here; state = state.old })

@@ -13,7 +13,7 @@ ghost use Rattle.pt_move.specs.Turning.{HasFed, TakesCounted};
 
 use pt_make::{copying, making, placing, telling};
 use pt_object::{Contents, Hasher, Rows};
-use pt_plan::{Halt, Phase};
+use pt_plan::{Fault, Phase};
 use pt_scan::{judging, reading, scanning, walking};
 use pt_start::{root, store};
 use pt_state::{Job, Outside, Report, State};
@@ -47,7 +47,7 @@ pub fn new_state(alloc: Global, job: Job) -> State
 /// Makes the turn of a phase, which is counted as it begins, and gives the next phase, or why the run halts: `Source`,
 /// `Dest` and `Log` where that device failed, `Memory` where a growth was refused, the others where the table of turns
 /// says so (docs/MODEL.md). It is a turn of the run's definitions, whatever the devices tell.
-pub fn turn<O: Outside>(state: &mut State, phase: Phase, out: &mut O) -> Result<Phase, Halt>
+pub fn turn<O: Outside>(state: &mut State, phase: Phase, out: &mut O) -> Result<Phase, Fault>
     requires permits { Permits (job_of state.old.job) phase (held_of state.old [])
         (O.world out.old).source (O.world out.old).dest }
     requires stands { Stands phase state.old }
@@ -56,7 +56,6 @@ pub fn turn<O: Outside>(state: &mut State, phase: Phase, out: &mut O) -> Result<
     requires within { state.old.counts.turns < state.old.job.limits.turns }
     ensures turn { TakesCounted O.world (O.within (most_calls phase)) phase state.old state.new
         out.old out.new result }
-    ensures block { ReadsNext phase (O.world out.old).source state.new.block.items result }
 {
     let _most = state.job.limits.turns();
     state.counts.turns += 1;
@@ -64,7 +63,7 @@ pub fn turn<O: Outside>(state: &mut State, phase: Phase, out: &mut O) -> Result<
 }
 
 // Makes the turn of a phase, and gives the next one.
-fn turn_at<O: Outside>(state: &mut State, phase: Phase, out: &mut O) -> Result<Phase, Halt>
+fn turn_at<O: Outside>(state: &mut State, phase: Phase, out: &mut O) -> Result<Phase, Fault>
     requires permits { Permits (job_of state.old.job) phase (held_of state.old [])
         (O.world out.old).source (O.world out.old).dest }
     requires stands { Stands phase state.old }

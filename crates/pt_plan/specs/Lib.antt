@@ -7,7 +7,7 @@ pub mod FileLaws
 pub mod Fixity
 pub mod FixityLaws
 pub mod GrowthLaws
-pub mod Halts
+pub mod RunFaults
 pub mod ItemLaws
 pub mod Items
 pub mod Job

@@ -3,8 +3,8 @@ use Rattle.std.specs.Prelude.{◌≡◌, ◌⊎◌, ℕ, ◌+◌, List, Option, 
 use Rattle.pt_object.specs.declared.rows.Row.{Row}
 use Rattle.pt_tree.specs.Failures.{HasRisen}
 use Rattle.pt_plan.specs.Answer.{Answer}
-use Rattle.pt_plan.specs.declared.halt.Halt.{Halt}
-use Rattle.pt_plan.specs.declared.halt.Halt.TheVariants as halt
+use Rattle.pt_plan.specs.declared.fault.Fault.{Fault}
+use Rattle.pt_plan.specs.declared.fault.Fault.TheVariants as fault
 use Rattle.pt_plan.specs.Job.{Job}
 use Rattle.pt_plan.specs.Lines.{Line, Done, Present, Skipped, End}
 use Rattle.pt_plan.specs.Run.{Counts, Held, Kept}
@@ -68,24 +68,20 @@ abbrev pub NoneFailed : Failures → Failures → Type 0
 NoneFailed old new = new ≡ old
 
 -- the device that is blamed has failed, and no other
-abbrev pub HasFailed : Halt → Failures → Failures → Type 0
-HasFailed halt.Source old new = HasRisen old.source new.source × (new.dest ≡ old.dest) × (new.log ≡ old.log)
-HasFailed halt.Dest old new = (new.source ≡ old.source) × HasRisen old.dest new.dest × (new.log ≡ old.log)
-HasFailed halt.Log old new = (new.source ≡ old.source) × (new.dest ≡ old.dest) × HasRisen old.log new.log
-HasFailed halt.Memory old new = NoneFailed old new
-HasFailed halt.NotPairtree old new = ⊥
-HasFailed halt.Prefix old new = ⊥
-HasFailed halt.StagingLeft old new = ⊥
-HasFailed halt.Target old new = ⊥
-HasFailed halt.Changed old new = ⊥
+abbrev pub HasFailed : Fault → Failures → Failures → Type 0
+HasFailed fault.Source old new = HasRisen old.source new.source × (new.dest ≡ old.dest) × (new.log ≡ old.log)
+HasFailed fault.Dest old new = (new.source ≡ old.source) × HasRisen old.dest new.dest × (new.log ≡ old.log)
+HasFailed fault.Log old new = (new.source ≡ old.source) × (new.dest ≡ old.dest) × HasRisen old.log new.log
+HasFailed fault.Memory old new = NoneFailed old new
+HasFailed _ old new = ⊥
 
 -- it isn't the log that failed
-abbrev pub IsNotOfLog : Halt → Type 0
-IsNotOfLog halt.Log = ⊥
+abbrev pub IsNotOfLog : Fault → Type 0
+IsNotOfLog fault.Log = ⊥
 IsNotOfLog _ = ⊤
 
 -- a run halts for the log only in a turn that tells a line
-abbrev pub MayBlame : Option Line → Halt → Type 0
+abbrev pub MayBlame : Option Line → Fault → Type 0
 MayBlame None why = IsNotOfLog why
 MayBlame (Some line) why = ⊤
 
@@ -96,12 +92,12 @@ unfoldable pub Did : Calls → World → World → Type 0
 Did calls old new = Happens calls old new × NoneFailed old.failures new.failures
 
 -- nothing was changed, no line was begun, and the run halts for this
-unfoldable pub Stays : Halt → World → World → Type 0
+unfoldable pub Stays : Fault → World → World → Type 0
 Stays why old new = (source_tree new.source ≡ source_tree old.source) × (new.dest ≡ old.dest)
     × (new.log ≡ old.log) × HasFailed why old.failures new.failures × MayBlame None why
 
 -- a part of what the calls change is left, and the run halts for this
-unfoldable pub LeavesSome : Calls → Halt → World → World → Type 0
+unfoldable pub LeavesSome : Calls → Fault → World → World → Type 0
 LeavesSome calls why old new = BreaksOff calls old new × HasFailed why old.failures new.failures
     × MayBlame calls.line why
 
@@ -125,16 +121,16 @@ pub data Turn (job : Job) (here : Phase) (before after : Kept) (old new : World)
       (Ok next) → Did calls old new → after.counts ≡ counted calls.line before.counts
       → Turn job here before after old new (Ok next)
   -- all calls succeed, and what they answer halts the run
-  IsRefused : (prefix : List ℕ) (held : Held) (calls : Calls) (why : Halt)
+  IsRefused : (prefix : List ℕ) (held : Held) (calls : Calls) (why : Fault)
       → Follows job before.counts here before.prefix before.held prefix held calls (Err why)
       → Did calls old new → IsHalted before.held.rows before after
       → Turn job here before after old new (Err why)
   -- a call fails, or a growth is refused, before anything is changed
-  FailsAtFirst : (why : Halt) → Stays why old new → IsHalted before.held.rows before after
+  FailsAtFirst : (why : Fault) → Stays why old new → IsHalted before.held.rows before after
       → Turn job here before after old new (Err why)
   -- or later: a part of what the turn was to change is left
   FailsLater : (prefix : List ℕ) (held : Held) (calls : Calls) (answer : Answer) (rows : List Row)
-      (why : Halt)
+      (why : Fault)
       → Follows job before.counts here before.prefix before.held prefix held calls answer
       → LeavesSome calls why old new
       → (rows ≡ before.held.rows) ⊎ HoldsMore rows held calls old new → IsHalted rows before after

@@ -14,7 +14,7 @@ use Rattle.pt_tree.specs.Path.{Path, parent as folder_of, same_path}
 use Rattle.pt_walk.specs.Trail.{names_to, trail_path}
 use Rattle.pt_walk.specs.declared.frame.Frame.{Frame}
 use Rattle.pt_plan.specs.Answer.{Answer}
-use Rattle.pt_plan.specs.declared.halt.Halt.TheVariants as halt
+use Rattle.pt_plan.specs.declared.fault.Fault.TheVariants as fault
 use Rattle.pt_plan.specs.Job.{Job}
 use Rattle.pt_plan.specs.Run.{Held, with_fed}
 use Rattle.pt_plan.specs.TurnWalk.{in_pairtree}
@@ -157,7 +157,7 @@ pub data Makings (job : Job) : Phase → Held → Held → Calls → Answer → 
   ReadsMore : (held : Held) (object : Object) (position : Position) (left byte : ℕ) (block : List ℕ)
       → nat_lt left (length (byte ∷ block)) ≡ true
       → Makings job (phase.Copy object position left) held held (asks (Reads (byte ∷ block)))
-      (Err halt.Changed)
+      (Err fault.Changed)
   -- at the end the file is closed
   EndsCopy : (held : Held) (object : Object) (position : Position) (row : Row) (left : ℕ)
       → slice_get held.rows position.row ≡ Some row → is_as_read job row left held.fed ≡ true
@@ -168,7 +168,7 @@ pub data Makings (job : Job) : Phase → Held → Held → Calls → Answer → 
   -- unless the bytes are fewer, or others
   ReadsOther : (held : Held) (object : Object) (position : Position) (row : Row) (left : ℕ)
       → slice_get held.rows position.row ≡ Some row → is_as_read job row left held.fed ≡ false
-      → Makings job (phase.Copy object position left) held held (asks (Reads [])) (Err halt.Changed)
+      → Makings job (phase.Copy object position left) held held (asks (Reads [])) (Err fault.Changed)
   -- an inventory's text is fed to the hasher as well
   MakesVersionInventory : (held : Held) (object : Object)
       → Makings job (phase.Make object part.VersionInventory) held

@@ -7,7 +7,7 @@ use Rattle.pt_tree.specs.declared.kind.Kind.{Kind}
 use Rattle.pt_tree.specs.declared.kind.Kind.TheVariants as kind
 use Rattle.pt_walk.specs.Trail.{sought}
 use Rattle.pt_plan.specs.Answer.{Answer}
-use Rattle.pt_plan.specs.declared.halt.Halt.TheVariants as halt
+use Rattle.pt_plan.specs.declared.fault.Fault.TheVariants as fault
 use Rattle.pt_plan.specs.Job.{Job}
 use Rattle.pt_plan.specs.Lines.{Line, Done, End}
 use Rattle.pt_plan.specs.Run.{Counts, Held}
@@ -60,7 +60,7 @@ pub data Places (job : Job) (counts : Counts) : Phase → Held → Held → Call
   -- unless its name is taken by something else
   IsInTheWay : (held : Held) (object : Object) (number : ℕ) (here : Kind) → is_dir_kind (Some here) ≡ false
       → Places job counts (phase.Tuples object number) held held
-      (does (Finds (tuple_folder object number) (Some here))) (Err halt.Target)
+      (does (Finds (tuple_folder object number) (Some here))) (Err fault.Target)
   -- `staging` becomes the object at its place
   RenamesObject : (held : Held) (object : Object)
       → Places job counts (phase.Rename object) held held

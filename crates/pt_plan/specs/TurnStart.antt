@@ -11,7 +11,7 @@ use Rattle.pt_tree.specs.Path.{Path}
 use Rattle.pt_tree.specs.declared.kind.Kind.{Kind}
 use Rattle.pt_tree.specs.declared.kind.Kind.TheVariants as kind
 use Rattle.pt_plan.specs.Answer.{Answer}
-use Rattle.pt_plan.specs.declared.halt.Halt.TheVariants as halt
+use Rattle.pt_plan.specs.declared.fault.Fault.TheVariants as fault
 use Rattle.pt_plan.specs.Job.{Job}
 use Rattle.pt_plan.specs.Roots.{storage_root}
 use Rattle.pt_plan.specs.Store.{pairtree_root, prefix_file, version_file}
@@ -56,23 +56,23 @@ pub data Starts (job : Job) : Phase → List ℕ → List ℕ → Calls → Answ
       → Starts job phase.Begin prefix prefix (asks (Lists [] entries))
       (Ok (phase.Prefix (kind_in entries prefix_file)))
   IsNoStore : (prefix : List ℕ) (entries : List Entry) → lists_store entries ≡ false
-      → Starts job phase.Begin prefix prefix (asks (Lists [] entries)) (Err halt.NotPairtree)
+      → Starts job phase.Begin prefix prefix (asks (Lists [] entries)) (Err fault.NotPairtree)
   -- the prefix is read, if there is a file for it
   HasNoPrefix : (prefix : List ℕ)
       → Starts job (phase.Prefix None) prefix prefix no_calls (Ok phase.Staging)
   IsNoPrefixFile : (prefix : List ℕ) (here : Option Kind) → here ≢ None → is_file_kind here ≡ false
-      → Starts job (phase.Prefix here) prefix prefix no_calls (Err halt.Prefix)
+      → Starts job (phase.Prefix here) prefix prefix no_calls (Err fault.Prefix)
   HasPrefix : (prefix block : List ℕ) → prefix_refusal block ≡ None
       → Starts job (phase.Prefix (Some kind.File)) prefix (without_line_ends block)
       (asks (OpensAndReads (prefix_file ∷ []) block)) (Ok phase.Staging)
   IsNoPrefix : (prefix block : List ℕ) (why : PrefixFault) → prefix_refusal block ≡ Some why
       → Starts job (phase.Prefix (Some kind.File)) prefix prefix
-      (asks (OpensAndReads (prefix_file ∷ []) block)) (Err halt.Prefix)
+      (asks (OpensAndReads (prefix_file ∷ []) block)) (Err fault.Prefix)
   -- nothing may stand at `staging`
   HasNoStaging : (prefix : List ℕ)
       → Starts job phase.Staging prefix prefix (does (Finds staging None)) (Ok phase.Root)
   HasStaging : (prefix : List ℕ) (here : Kind)
-      → Starts job phase.Staging prefix prefix (does (Finds staging (Some here))) (Err halt.StagingLeft)
+      → Starts job phase.Staging prefix prefix (does (Finds staging (Some here))) (Err fault.StagingLeft)
   -- the root is made where nothing stands, and compared where a directory does
   HasNoRoot : (prefix : List ℕ)
       → Starts job phase.Root prefix prefix (does (Finds storage_root None)) (Ok (phase.RootMake 0))
@@ -80,7 +80,7 @@ pub data Starts (job : Job) : Phase → List ℕ → List ℕ → Calls → Answ
       → Starts job phase.Root prefix prefix (does (Finds storage_root (Some kind.Dir)))
       (Ok (phase.RootCheck 0))
   IsNoRoot : (prefix : List ℕ) (here : Kind) → is_dir_kind (Some here) ≡ false
-      → Starts job phase.Root prefix prefix (does (Finds storage_root (Some here))) (Err halt.Target)
+      → Starts job phase.Root prefix prefix (does (Finds storage_root (Some here))) (Err fault.Target)
   -- one item of the root's script is made
   MakesRoot : (prefix : List ℕ) (number : ℕ) (item : Item)
       → slice_get (root_script job.tuples) number ≡ Some item
@@ -96,9 +96,9 @@ pub data Starts (job : Job) : Phase → List ℕ → List ℕ → Calls → Answ
   IsNoFile : (prefix : List ℕ) (number : ℕ) (path : Path) (bytes : List ℕ) (here : Option Kind)
       → slice_get (root_files_of job.tuples) number ≡ Some (path, bytes) → is_file_kind here ≡ false
       → Starts job (phase.RootCheck number) prefix prefix (does (Finds (storage_root ++ path) here))
-      (Err halt.Target)
+      (Err fault.Target)
   Differs : (prefix : List ℕ) (number : ℕ) (path : Path) (bytes block : List ℕ)
       → slice_get (root_files_of job.tuples) number ≡ Some (path, bytes)
       → bytes_eq block bytes ≡ false
       → Starts job (phase.RootCheck number) prefix prefix
-      (does (Peeks (storage_root ++ path) block)) (Err halt.Target)
+      (does (Peeks (storage_root ++ path) block)) (Err fault.Target)

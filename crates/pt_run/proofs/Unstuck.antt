@@ -4,7 +4,7 @@ use Rattle.std.specs.Prelude.{◌≤◌, Option, None, Result, Ok, Err}
 use Rattle.std.specs.Option.{ForSome}
 use Rattle.pt_folder.specs.declared.stuck.Stuck.{Stuck}
 use Rattle.pt_move.specs.Counting.{Counts}
-use Rattle.pt_move.specs.declared.fault.Fault.{Fault}
+use Rattle.pt_plan.specs.declared.fault.Fault.{Fault}
 use Rattle.pt_state.specs.declared.job.Report.{Report}
 use Rattle.pt_run.specs.Ends.{run_status}
 use Rattle.pt_run.specs.Made.{IsStuckBy}

@@ -2,7 +2,7 @@
 use Rattle.std.specs.Prelude.{◌≡◌, ◌⊎◌, ◌+◌, ◌==◌, ℕ, if◌then◌else◌, Result, Ok, Err}
 use Rattle.pt_guard.specs.declared.guard.GuardFault.{GuardFault}
 use Rattle.pt_guard.specs.declared.guard.GuardFault.TheVariants as guard
-use Rattle.pt_move.specs.declared.fault.Fault.{Fault}
+use Rattle.pt_plan.specs.declared.fault.Fault.{Fault}
 use Rattle.pt_state.specs.declared.job.Report.{Report}
 
 -- of a run that may not begin: 2 where its folders lie in one another, or it isn't known where, else 3

@@ -16,7 +16,7 @@ use Rattle.pt_guard.specs.declared.guard.GuardFault.{GuardFault}
 use Rattle.pt_guard.specs.declared.places.Folder.{Folder}
 use Rattle.pt_guard.specs.declared.places.Hold.{Hold}
 use Rattle.pt_move.specs.Migrates.{Migrates}
-use Rattle.pt_move.specs.declared.fault.Fault.{Fault}
+use Rattle.pt_plan.specs.declared.fault.Fault.{Fault}
 use Rattle.pt_plan.specs.World.{Failures, World}
 use Rattle.pt_state.specs.declared.job.Job.{Job}
 use Rattle.pt_state.specs.declared.job.Report.{Report}

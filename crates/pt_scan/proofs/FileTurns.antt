@@ -3,9 +3,9 @@ use Rattle.std.proofs.Common.{◌≡◌, ◌<◌, ◌≤◌, ℕ, ◌+◌, List,
 use Rattle.std.specs.Prelude.{Ok, Err, IsErrAnd}
 use Rattle.std.specs.String.{string_bytes}
 use Rattle.std.proofs.lemmas.Bool.{lt-ltb, le-ltb}
-use Rattle.pt_state.proofs.Words.{digest_of, HasBeenFed, Algorithm, Path, advanced, trail_path, Answer, Skipped, Held, Kept, Did, FailsLater, GoesOn, LeavesSome, Scan, logical_path, to_site, Answers, Changes, Puts, Reads, Untouched, World, asks, dest_tree, tells, Halt, Object, Turned, KeepsAll, counts_of, held_of, job_of, kept_of}
+use Rattle.pt_state.proofs.Words.{digest_of, HasBeenFed, Algorithm, Path, advanced, trail_path, Answer, Skipped, Held, Kept, Did, FailsLater, GoesOn, LeavesSome, Scan, logical_path, to_site, Answers, Changes, Puts, Reads, Untouched, World, asks, dest_tree, tells, Fault, Object, Turned, KeepsAll, counts_of, held_of, job_of, kept_of}
 use Rattle.pt_state.proofs.Words.cause
-use Rattle.pt_state.proofs.Words.halt
+use Rattle.pt_state.proofs.Words.fault
 use Rattle.pt_state.proofs.Words.phase
 use Rattle.pt_state.specs.declared.state.State.{State}
 use Rattle.pt_object.specs.Contents.{noted}
@@ -43,7 +43,7 @@ read_gave_up object bytes (byte ∷ block) s s' a b c did some long told back =
     (λ fed. Scan (IsTooLong _ object bytes byte block (lt-ltb s.job.limits.file_bytes (bytes + length (byte ∷ block)) long)))
     (read_told _ _ a b c did told) back.trail back.rows back.contents (ap counts_of back.counts) back.prefix back.hasher back.job
 
-pub read_gave_front : (object : Object) (bytes : ℕ) (block : List ℕ) (s s' : State) (a b c : World) (f : Halt) (result : Answer) → IsErrAnd result (λ h. h ≡ f) → Did (asks (Reads block)) a b → 0 < length block → s.job.limits.file_bytes < bytes + length block
+pub read_gave_front : (object : Object) (bytes : ℕ) (block : List ℕ) (s s' : State) (a b c : World) (f : Fault) (result : Answer) → IsErrAnd result (λ h. h ≡ f) → Did (asks (Reads block)) a b → 0 < length block → s.job.limits.file_bytes < bytes + length block
     → LeavesSome (tells (Skipped (trail_path (to_site object s.trail)) cause.Limit)) f b c → KeepsAll s s' → Turned (phase.Read object bytes) s s' a c result
 read_gave_front object bytes [] s s' a b c f result is did some long front keeps = absurd (omega (arith, some))
 read_gave_front object bytes (byte ∷ block) s s' a b c f result is did some long front keeps =
@@ -53,11 +53,16 @@ read_gave_front object bytes (byte ∷ block) s s' a b c f result is did some lo
 
 -- ---- a file that was read to its end
 
-pub noted_file : (s s' : State) (a b : World) (object : Object) (bytes : ℕ) (block : List ℕ) (path : Path) (digest : List ℕ) → Did (asks (Reads block)) a b → length block ≡ 0 → path ≡ logical_path object s.trail
+-- the block that ended it is the empty one
+pub ends_empty : (s s' : State) (a b : World) (object : Object) (bytes : ℕ) (block : List ℕ) (result : Answer) → length block ≡ 0 → ((before after : World) → Did (asks (Reads [])) before after → Turned (phase.Read object bytes) s s' before after result)
+    → Did (asks (Reads block)) a b → Turned (phase.Read object bytes) s s' a b result
+ends_empty s s' a b object bytes block result none turn did = turn a b (rw (empty block none) at did)
+
+pub noted_file : (s s' : State) (a b : World) (object : Object) (bytes : ℕ) (path : Path) (digest : List ℕ) → Did (asks (Reads [])) a b → path ≡ logical_path object s.trail
     → ((algorithm : Algorithm) (fed : List ℕ) → HasBeenFed algorithm s.hasher fed → digest ≡ digest_of algorithm fed) → s'.trail ≡ advanced s.trail → s'.rows ≡ s.rows ++ row_of path digest bytes ∷ [] → s'.contents ≡ noted s.contents digest path → HasBeenFed s.job.algorithm s'.hasher []
     → s'.counts ≡ s.counts → string_bytes s'.prefix ≡ string_bytes s.prefix → s'.job ≡ s.job → Turned (phase.Read object bytes) s s' a b (Ok (phase.Scan object))
 unfolding Turned
-noted_file s s' a b object bytes block path digest did none there digests trail rows contents fresh counts prefix same = (
+noted_file s s' a b object bytes path digest did there digests trail rows contents fresh counts prefix same = (
   same,
   λ fed was.
       let held = held_of s fed in
@@ -72,13 +77,13 @@ noted_file s s' a b object bytes block path digest did none there digests trail 
         (
           fresh,
           rw kept_is
-              (GoesOn (asks (Reads [])) (phase.Scan object) (Scan (EndsFile held object bytes)) (rw (empty block none) at did) refl),
+              (GoesOn (asks (Reads [])) (phase.Scan object) (Scan (EndsFile held object bytes)) did refl),
         ),
       ),
 )
 
 -- a reading that was answered leaves no part of a change
-none_read : (a b : World) → Did (asks (Reads [])) a b → LeavesSome (asks (Reads [])) halt.Memory a b × Answers (Reads []) a.source b.source
+none_read : (a b : World) → Did (asks (Reads [])) a b → LeavesSome (asks (Reads [])) fault.Memory a b × Answers (Reads []) a.source b.source
 unfolding Did LeavesSome Answers Changes Puts
 none_read a b did = (
   (record { read = did.0.source.0; found = tt; source = asked_tree (Reads []) a.source b.source did.0.source; dest = Untouched ChangesNothing (ap dest_tree did.0.dest); log = did.0.log }, did.1, tt),
@@ -86,12 +91,12 @@ none_read a b did = (
 )
 
 -- its row is held, and memory was short for its content
-pub noted_part : (s s' : State) (a b : World) (object : Object) (bytes : ℕ) (block : List ℕ) (path : Path) (digest : List ℕ) (result : Answer) → IsErrAnd result (λ h. h ≡ halt.Memory) → Did (asks (Reads block)) a b → length block ≡ 0 → path ≡ logical_path object s.trail
+pub noted_part : (s s' : State) (a b : World) (object : Object) (bytes : ℕ) (path : Path) (digest : List ℕ) (result : Answer) → IsErrAnd result (λ h. h ≡ fault.Memory) → Did (asks (Reads [])) a b → path ≡ logical_path object s.trail
     → ((algorithm : Algorithm) (fed : List ℕ) → HasBeenFed algorithm s.hasher fed → digest ≡ digest_of algorithm fed) → s'.trail ≡ s.trail → s'.rows ≡ s.rows ++ row_of path digest bytes ∷ [] → s'.contents ≡ s.contents
     → s'.counts ≡ s.counts → string_bytes s'.prefix ≡ string_bytes s.prefix → s'.job ≡ s.job → Turned (phase.Read object bytes) s s' a b result
 unfolding Turned
-noted_part s s' a b object bytes block path digest (Ok next) is did none there digests trail rows contents counts prefix same = absurd is
-noted_part s s' a b object bytes block path digest (Err f) is did none there digests trail rows contents counts prefix same = (
+noted_part s s' a b object bytes path digest (Ok next) is did there digests trail rows contents counts prefix same = absurd is
+noted_part s s' a b object bytes path digest (Err f) is did there digests trail rows contents counts prefix same = (
   same,
   λ fed was.
       let held = held_of s fed in
@@ -99,16 +104,16 @@ noted_part s s' a b object bytes block path digest (Err f) is did none there dig
       let new : Held = with_file job object held bytes in
       let right = digests s.job.algorithm fed was in
       let rows_are : s'.rows ≡ new.rows = rows ∙ (λ i. s.rows ++ row_of (there i) (right i) bytes ∷ []) in
-      let read = none_read a b (rw (empty block none) at did) in (
+      let read = none_read a b did in (
         fed,
         (
           tt,
           rw is
-              (FailsLater (string_bytes s.prefix) new (asks (Reads [])) (Ok (phase.Scan object)) new.rows halt.Memory (Scan (EndsFile held object bytes))
+              (FailsLater (string_bytes s.prefix) new (asks (Reads [])) (Ok (phase.Scan object)) new.rows fault.Memory (Scan (EndsFile held object bytes))
               read.0 (inr (refl, read.1))
               (record { prefix = prefix; trail = trail; rows_are = rows_are; contents = contents; counts = ap counts_of counts })),
         ),
       ),
 )
 
-pub ruleset reading = (short_asked, read_on, read_gave_up, read_gave_front, noted_file, noted_part)
+pub ruleset reading = (short_asked, read_on, read_gave_up, read_gave_front, ends_empty, noted_file, noted_part)

@@ -2,7 +2,7 @@
 use Rattle.std.proofs.Common.{◌≡◌, ℕ, List, refl, ap, ◌∙◌}
 use Rattle.std.specs.Prelude.{Option, Some, Ok}
 use Rattle.std.specs.String.{string_bytes}
-use Rattle.pt_state.proofs.Words.{Writing, Path, Kind, Frame, Line, with_trail, Did, LeavesSome, counted, Answers, Calls, Change, Changes, Finds, Puts, Reads, Untouched, World, asks, dest_tree, does, source_tree, tells, Halt, Phase, Turned, counts_of, held_of}
+use Rattle.pt_state.proofs.Words.{Writing, Path, Kind, Frame, Line, with_trail, Did, LeavesSome, counted, Answers, Calls, Change, Changes, Finds, Puts, Reads, Untouched, World, asks, dest_tree, does, source_tree, tells, Fault, Phase, Turned, counts_of, held_of}
 use Rattle.pt_state.specs.declared.job.Report.{Report}
 use Rattle.pt_state.specs.declared.state.State.{State}
 use Rattle.pt_plan.specs.World.{AsksNothing, ChangesNothing, LeavesPart}
@@ -26,7 +26,7 @@ read_told block line a b c first next = (
   next.1 ∙ first.1,
 )
 
-pub read_left : (block : List ℕ) (line : Line) (f : Halt) (a b c : World) → Did (asks (Reads block)) a b → LeavesSome (tells line) f b c → LeavesSome (reads_and_tells block line) f a c
+pub read_left : (block : List ℕ) (line : Line) (f : Fault) (a b c : World) → Did (asks (Reads block)) a b → LeavesSome (tells line) f b c → LeavesSome (reads_and_tells block line) f a c
 unfolding Did LeavesSome Answers Changes Puts
 read_left block line f a b c first next = (
   record {
@@ -58,7 +58,7 @@ untouched : {o o' : Option Writing} {change : Change} → change ≡ ChangesNoth
 untouched is (Untouched it same) = same
 untouched is _ = absurd (cc)
 
-pub looked_left : (path : Path) (here : Option Kind) (line : Line) (f : Halt) (a b c : World) → Did (does (Finds path here)) a b → LeavesSome (tells line) f b c → LeavesSome (finds_and_tells path here line) f a c
+pub looked_left : (path : Path) (here : Option Kind) (line : Line) (f : Fault) (a b c : World) → Did (does (Finds path here)) a b → LeavesSome (tells line) f b c → LeavesSome (finds_and_tells path here line) f a c
 unfolding Did LeavesSome Answers Changes Puts
 looked_left path here line f a b c first next = (
   record {

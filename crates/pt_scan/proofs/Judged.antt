@@ -12,9 +12,9 @@ use Rattle.std.proofs.lemmas.Str.{IsUtf8-from_is_utf8, IsUtf8-string_bytes, is_u
 use Rattle.pt_name.specs.Place.{place_of}
 use Rattle.pt_name.specs.Tuples.{Tuples}
 use Rattle.pt_name.specs.Reading.{GivesReading, before, hex_value, read_character, reading_of}
-use Rattle.pt_state.proofs.Words.{is_first, Item, Path, same_path, Kind, is_dir_entry, names_to, trail_path, Cause, Frame, Answer, Job, Present, Skipped, with_trail, Did, LeavesSome, Walk, Finds, World, does, tells, Halt, Phase, with_skipped, Turned, KeepsAll, held_of, job_of}
+use Rattle.pt_state.proofs.Words.{is_first, Item, Path, same_path, Kind, is_dir_entry, names_to, trail_path, Cause, Frame, Answer, Job, Present, Skipped, with_trail, Did, LeavesSome, Walk, Finds, World, does, tells, Fault, Phase, with_skipped, Turned, KeepsAll, held_of, job_of}
 use Rattle.pt_state.proofs.Words.cause
-use Rattle.pt_state.proofs.Words.halt
+use Rattle.pt_state.proofs.Words.fault
 use Rattle.pt_state.proofs.Words.phase
 use Rattle.pt_state.specs.declared.state.State.{State}
 use Rattle.pt_name.specs.Share.{holds}
@@ -82,7 +82,7 @@ pub passed_site : (s s' : State) (a b : World) (path : Path) (why : Cause) → P
 passed_site s s' a b path why line first told is to =
     moves a b (λ fed. Walk (IsSkipped _ why (skipped_first s why line first))) (rw is at told) to refl
 
-pub passed_site_front : (s s' : State) (a b : World) (path : Path) (why : Cause) (f : Halt) (result : Answer) → IsErrAnd result (λ h. h ≡ f) → PassesSite s why → true ≡ is_first s.job.share → LeavesSome (tells (Skipped path why)) f a b → path ≡ trail_path s.trail → KeepsAll s s' → Turned phase.Judge s s' a b result
+pub passed_site_front : (s s' : State) (a b : World) (path : Path) (why : Cause) (f : Fault) (result : Answer) → IsErrAnd result (λ h. h ≡ f) → PassesSite s why → true ≡ is_first s.job.share → LeavesSome (tells (Skipped path why)) f a b → path ≡ trail_path s.trail → KeepsAll s s' → Turned phase.Judge s s' a b result
 passed_site_front s s' a b path why f result is line first front there keeps =
     left_some a b f result is (λ fed. Walk (IsSkipped _ why (skipped_first s why line first))) (rw there at front) keeps
 
@@ -248,8 +248,8 @@ passed_object s s' w index candidate found (named, place) other to =
 -- ---- an object whose place was asked for
 
 -- memory was short after it was asked for
-pub looked_short : (s s' : State) (a b : World) (path : Path) (here : Option Kind) (result : Answer) → IsErrAnd result (λ h. h ≡ halt.Memory) → Did (does (Finds path here)) a b → KeepsAll s s' → Turned phase.Judge s s' a b result
-looked_short s s' a b path here result is did keeps = stayed phase.Judge s s' a b halt.Memory result is (looked_stays path here a b did) keeps
+pub looked_short : (s s' : State) (a b : World) (path : Path) (here : Option Kind) (result : Answer) → IsErrAnd result (λ h. h ≡ fault.Memory) → Did (does (Finds path here)) a b → KeepsAll s s' → Turned phase.Judge s s' a b result
+looked_short s s' a b path here result is did keeps = stayed phase.Judge s s' a b fault.Memory result is (looked_stays path here a b did) keeps
 
 length-object : (index : Option ℕ) (trail : List Frame) → length (at_object index trail) ≡ length trail
 length-object None trail = refl
@@ -270,7 +270,7 @@ module _ (s : State) (index : Option ℕ) (candidate : Candidate) (found : Finds
       → Turned phase.Judge s s' a c (Ok phase.Walk)
   told_present s' a b c path at here it did is there told place to = moves a c (present_follows it) (looked_told _ _ _ a b c (rw (is, there) at did) (rw place at told)) to refl
 
-  pub told_present_front : (s' : State) (a b c : World) (path at : Path) (here : Option Kind) (it : Kind) (f : Halt) (result : Answer) → IsErrAnd result (λ h. h ≡ f) → Did (does (Finds path here)) a b → here ≡ Some it → path ≡ in_root candidate.place → LeavesSome (tells (Present at candidate.id candidate.place)) f b c → at ≡ path_of_object index s.trail → KeepsAll s s'
+  pub told_present_front : (s' : State) (a b c : World) (path at : Path) (here : Option Kind) (it : Kind) (f : Fault) (result : Answer) → IsErrAnd result (λ h. h ≡ f) → Did (does (Finds path here)) a b → here ≡ Some it → path ≡ in_root candidate.place → LeavesSome (tells (Present at candidate.id candidate.place)) f b c → at ≡ path_of_object index s.trail → KeepsAll s s'
       → Turned phase.Judge s s' a c result
   told_present_front s' a b c path at here it f result error did is there front place keeps = left_some a c f result error (present_follows it) (looked_left _ _ _ f a b c (rw (is, there) at did) (rw place at front)) keeps
 

@@ -4,9 +4,9 @@ use Rattle.std.specs.Prelude.{Option, None, Some, Ok, IsErrAnd, IsSome, nat_le, 
 use Rattle.std.specs.String.{string_bytes}
 use Rattle.std.proofs.lemmas.Bool.{le-leb, le-ltb, lt-leb, lt-ltb, or_from, or_left, or_right}
 use Rattle.std.proofs.Math.Dec.{eqb-suc-zero}
-use Rattle.pt_state.proofs.Words.{HasBeenFed, Item, Path, joined, Kind, advanced, current_entry, entered, is_dir_entry, names_to, parent, sought, trail_path, Cause, Frame, Answer, Skipped, logical_path, to_site, in_pairtree, Halt, Object, Phase, with_skipped, KeepsAll, counts_of, Did, LeavesSome, Scan, Stays, Lists, Opens, World, asks, tells, Turned, Reading, CanOpen}
+use Rattle.pt_state.proofs.Words.{HasBeenFed, Item, Path, joined, Kind, advanced, current_entry, entered, is_dir_entry, names_to, parent, sought, trail_path, Cause, Frame, Answer, Skipped, logical_path, to_site, in_pairtree, Fault, Object, Phase, with_skipped, KeepsAll, counts_of, Did, LeavesSome, Scan, Stays, Lists, Opens, World, asks, tells, Turned, Reading, CanOpen}
 use Rattle.pt_state.proofs.Words.cause
-use Rattle.pt_state.proofs.Words.halt
+use Rattle.pt_state.proofs.Words.fault
 use Rattle.pt_state.proofs.Words.kind
 use Rattle.pt_state.proofs.Words.part
 use Rattle.pt_state.proofs.Words.phase
@@ -31,11 +31,11 @@ pub has_entered : (s s' : State) (a b : World) (path : Path) (items : List Item)
 has_entered s s' a b path items is_empty did is empty to = record { items = items; listed = rw is at did; empty = empty; moved = to }
 
 -- memory was short before the source was called, or after it was listed
-pub unasked : (w : World) (f : Halt) → f ≡ halt.Memory → Stays f w w
+pub unasked : (w : World) (f : Fault) → f ≡ fault.Memory → Stays f w w
 unfolding Stays
 unasked w f is = rw is (refl, refl, refl, refl, tt)
 
-pub listed_unentered : (a b : World) (path : Path) (items : List Item) (f : Halt) → f ≡ halt.Memory → Did (asks (Lists path items)) a b → Stays f a b
+pub listed_unentered : (a b : World) (path : Path) (items : List Item) (f : Fault) → f ≡ fault.Memory → Did (asks (Lists path items)) a b → Stays f a b
 listed_unentered a b path items f is did = rw is (asked_stays (Lists path items) a b did)
 
 pub may_list_entry : (told : Option Reading) (trail : List Frame) (path : Path) → MayEnter told trail → is_dir_entry (current_entry trail) ≡ true → path ≡ in_pairtree (names_to trail) → CanList told path
@@ -55,7 +55,7 @@ gave_up here object why s s' a b line got back =
     turned_on s s' a b (λ fed. Scan (line fed)) got back.trail back.rows back.contents (ap counts_of back.counts) back.prefix back.hasher back.job
 
 -- a part of the line was put
-pub gave_front : (here : Phase) (object : Object) (why : Cause) (s s' : State) (a b : World) (f : Halt) (result : Answer) → IsErrAnd result (λ h. h ≡ f) → GivesUp here object why s → LeavesSome (tells (Skipped (trail_path (to_site object s.trail)) why)) f a b → KeepsAll s s' → Turned here s s' a b result
+pub gave_front : (here : Phase) (object : Object) (why : Cause) (s s' : State) (a b : World) (f : Fault) (result : Answer) → IsErrAnd result (λ h. h ≡ f) → GivesUp here object why s → LeavesSome (tells (Skipped (trail_path (to_site object s.trail)) why)) f a b → KeepsAll s s' → Turned here s s' a b result
 unfolding GivesUp
 gave_front here object why s s' a b f result is line front keeps = left_some a b f result is (λ fed. Scan (line fed)) front keeps
 

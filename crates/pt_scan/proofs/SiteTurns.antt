@@ -2,7 +2,7 @@
 use Rattle.std.proofs.Common.{◌≡◌, ◌<◌, ◌≤◌, ℕ, Bool, true, false, List, [], ◌∷◌, refl, sym, ap, ◌∙◌, length, cond, ◌==◌}
 use Rattle.std.specs.Prelude.{Option, None, Some, Ok, IsErrAnd, IsSome}
 use Rattle.std.proofs.lemmas.Bool.{lt-ltb, le-ltb}
-use Rattle.pt_state.proofs.Words.{is_first, Item, Path, Reading, Kind, advanced, current_entry, entered, is_dir_entry, names_to, parent, trail_path, Cause, Frame, Answer, Line, Skipped, Did, LeavesSome, Walk, in_pairtree, Lists, World, asks, no_calls, tells, Halt, with_skipped, Turned, KeepsAll, held_of, with_trail}
+use Rattle.pt_state.proofs.Words.{is_first, Item, Path, Reading, Kind, advanced, current_entry, entered, is_dir_entry, names_to, parent, trail_path, Cause, Frame, Answer, Line, Skipped, Did, LeavesSome, Walk, in_pairtree, Lists, World, asks, no_calls, tells, Fault, with_skipped, Turned, KeepsAll, held_of, with_trail}
 use Rattle.pt_state.proofs.Words.cause
 use Rattle.pt_state.proofs.Words.kind
 use Rattle.pt_state.proofs.Words.phase
@@ -99,7 +99,7 @@ told_first s why passes first fed = Walk (rw (← (is_told (is_first s.job.share
 pub passed_shorty : (s s' : State) (a b : World) (path : Path) (why : Cause) → PassesShorty s why → true ≡ is_first s.job.share → Did (tells (Skipped path why)) a b → path ≡ names_to s.trail → Moved (advanced s.trail) (with_skipped s.counts) s s' → Turned phase.Walk s s' a b (Ok phase.Walk)
 passed_shorty s s' a b path why passes first got is to = moves a b (told_first s why passes first) (rw is at got) to refl
 
-pub passed_front : (s s' : State) (a b : World) (path : Path) (why : Cause) (f : Halt) (result : Answer) → IsErrAnd result (λ h. h ≡ f) → PassesShorty s why → true ≡ is_first s.job.share → LeavesSome (tells (Skipped path why)) f a b → path ≡ names_to s.trail → KeepsAll s s' → Turned phase.Walk s s' a b result
+pub passed_front : (s s' : State) (a b : World) (path : Path) (why : Cause) (f : Fault) (result : Answer) → IsErrAnd result (λ h. h ≡ f) → PassesShorty s why → true ≡ is_first s.job.share → LeavesSome (tells (Skipped path why)) f a b → path ≡ names_to s.trail → KeepsAll s s' → Turned phase.Walk s s' a b result
 passed_front s s' a b path why f result is passes first front there keeps = left_some a b f result is (told_first s why passes first) (rw there at front) keeps
 
 -- in another share nothing is

@@ -15,7 +15,7 @@ use Rattle.pt_plan.specs.Turn.{Did, LeavesSome, Stays}
 use Rattle.pt_plan.specs.TurnScan.{Scans, back_at_site, is_passed, own_listings, skipped, to_site, with_directory}
 use Rattle.pt_plan.specs.TurnWalk.{in_pairtree}
 use Rattle.pt_plan.specs.World.{Lists, World, asks, tells}
-use Rattle.pt_plan.specs.declared.halt.Halt.{Halt}
+use Rattle.pt_plan.specs.declared.fault.Fault.{Fault}
 use Rattle.pt_plan.specs.declared.object.Object.{Object}
 use Rattle.pt_plan.specs.declared.phase.Phase.{Phase}
 use Rattle.pt_plan.specs.declared.phase.Phase.TheVariants as phase
@@ -120,7 +120,7 @@ pub record Enters (s s' : State) (old new : World) (is_empty : Bool) : Type 0 wh
 
 -- that it was entered, or failed to be listed, and all that is held is as it was
 pub record Entered {O : Type 0} (world : O → World) (within : O → O → Type 0) (s s' : State) (old new : O)
-    (result : Result Bool Halt) : Type 0 where
+    (result : Result Bool Fault) : Type 0 where
   pub did : IfOk result (Enters s s' (world old) (world new))
   pub failed : IfErr result (λ why. Stays why (world old) (world new))
   pub same : OnErr result (KeepsAll s s')
@@ -128,7 +128,7 @@ pub record Entered {O : Type 0} (world : O → World) (within : O → O → Type
 
 -- that the object was passed over for this cause, or a front of its line was put, and all that is held is as it was
 pub record GaveUp {O T : Type 0} (world : O → World) (within : O → O → Type 0) (object : Object) (why : Cause)
-    (s s' : State) (old new : O) (result : Result T Halt) : Type 0 where
+    (s s' : State) (old new : O) (result : Result T Fault) : Type 0 where
   pub did : OnOk result (Did (tells (Skipped (trail_path (to_site object s.trail)) why)) (world old) (world new))
   pub back : OnOk result (IsBackAtSite object s s')
   pub left : IfErr result (λ f. LeavesSome (tells (Skipped (trail_path (to_site object s.trail)) why)) f

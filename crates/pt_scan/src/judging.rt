@@ -14,7 +14,7 @@ ghost use Rattle.pt_scan.specs.Judging.{CanPass, IsJudging, IsNamed, IsOurs, IsP
 
 use crate::walking::at;
 use pt_name::{Layout, UncleanFault, concatenated, unclean};
-use pt_plan::{Halt, Identifier, Object, Phase};
+use pt_plan::{Fault, Identifier, Object, Phase};
 use pt_state::lines::{put_present, put_skip};
 use pt_state::paths::in_storage_root;
 use pt_state::{Outside, State};
@@ -29,7 +29,7 @@ use std::alloc::Global;
 ///
 /// Halts for `Dest` where the place can't be asked for, for `Log` where a line can't be put, and for `Memory` where a
 /// growth is refused; what is held stays then.
-pub fn judge<O: Outside>(state: &mut State, out: &mut O) -> Result<Phase, Halt>
+pub fn judge<O: Outside>(state: &mut State, out: &mut O) -> Result<Phase, Fault>
     requires { CanPass state.old }
     ensures turn { TakesTurn O.world (O.within 0) phase.Judge state.old state.new
         out.old out.new result }
@@ -67,7 +67,7 @@ fn pass_over<O: Outside>(
     site: &NamePath,
     cause: Cause,
     out: &mut O,
-) -> Result<Phase, Halt>
+) -> Result<Phase, Fault>
     requires line { IsPassedAt state.old site.now cause }
     requires few { state.old.counts.skipped < 2 ^ 40 }
     ensures turn { TakesTurn O.world (O.within 0) phase.Judge state.old state.new
@@ -87,7 +87,7 @@ fn judge_object<O: Outside>(
     site: &NamePath,
     index: Option<usize>,
     out: &mut O,
-) -> Result<Phase, Halt>
+) -> Result<Phase, Fault>
     requires judges { IsJudging state.old site.now index }
     requires passes { CanPass state.old }
     ensures turn { TakesTurn O.world (O.within 0) phase.Judge state.old state.new
@@ -125,7 +125,7 @@ fn find_place<O: Outside>(
     index: Option<usize>,
     candidate: Candidate,
     out: &mut O,
-) -> Result<Phase, Halt>
+) -> Result<Phase, Fault>
     requires judges { IsJudging state.old site.now index }
     requires ours { IsOurs state.old candidate }
     requires present { state.old.counts.present < 2 ^ 40 }

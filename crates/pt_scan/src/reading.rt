@@ -1,6 +1,6 @@
 #![tactic(auto, using(crate::proofs::FileTurns::reading, crate::proofs::ObjectPaths::paths, pt_state::proofs::Turns::turns))]
 //! The turns that read a file of an object, for its digest and its length.
-ghost use Rattle.std.specs.Prelude.{◌≡◌, ◌<◌, ◌+◌, IfOk, length};
+ghost use Rattle.std.specs.Prelude.{◌≡◌, ◌<◌, ◌+◌, IfOk, [], length};
 ghost use Rattle.pt_plan.specs.Turn.{Did};
 ghost use Rattle.pt_plan.specs.World.{World, Reads, asks};
 ghost use Rattle.pt_plan.specs.declared.phase.Phase.TheVariants as phase;
@@ -11,7 +11,7 @@ ghost use Rattle.pt_scan.specs.Scanning.{CanPassOver, CanReadOn};
 
 use crate::scanning::{give_up, logical_names};
 use pt_object::Hasher;
-use pt_plan::{Halt, Object, Phase};
+use pt_plan::{Fault, Object, Phase};
 use pt_state::paths::{entry_path, extended};
 use pt_state::{Outside, State};
 use pt_tree::NamePath;
@@ -30,7 +30,7 @@ pub fn read<O: Outside>(
     object: Object,
     bytes: u64,
     out: &mut O,
-) -> Result<Phase, Halt>
+) -> Result<Phase, Fault>
     requires may { CanRead (O.world out.old).source }
     requires reads { CanReadOn object bytes state.old }
     ensures turn { TakesTurn O.world (O.within 1) (phase.Read object bytes) state.old state.new
@@ -47,7 +47,7 @@ fn take_block<O: Outside>(
     object: Object,
     bytes: u64,
     out: &mut O,
-) -> Result<Phase, Halt>
+) -> Result<Phase, Fault>
     requires { CanReadOn object bytes state.old }
     ensures turn { EndsTurn O.world (O.within 0) (asks (Reads state.old.block.items))
         (phase.Read object bytes) state.old state.new out.old out.new result }
@@ -65,10 +65,9 @@ fn take_block<O: Outside>(
 }
 
 // Notes the row of a file that was read to its end.
-fn end_file(state: &mut State, object: Object, bytes: u64) -> Result<Phase, Halt>
-    requires ended { length state.old.block.items ≡ 0 }
-    requires reads { CanReadOn object bytes state.old }
-    ensures turn { (before after : World) → Did (asks (Reads state.old.block.items)) before after
+fn end_file(state: &mut State, object: Object, bytes: u64) -> Result<Phase, Fault>
+    requires { CanReadOn object bytes state.old }
+    ensures turn { (before after : World) → Did (asks (Reads [])) before after
         → Turned (phase.Read object bytes) state.old state.new before after result }
     ensures scans { IfOk result (λ next. next ≡ phase.Scan object) }
 {
@@ -89,7 +88,7 @@ fn pass_object<O: Outside>(
     object: Object,
     bytes: u64,
     out: &mut O,
-) -> Result<Phase, Halt>
+) -> Result<Phase, Fault>
     requires long { (0 < length state.old.block.items)
         × (state.old.job.limits.file_bytes < bytes + length state.old.block.items) }
     requires passes { CanPassOver object state.old }

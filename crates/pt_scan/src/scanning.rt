@@ -14,7 +14,7 @@ ghost use Rattle.pt_scan.specs.Scanning.{CanEnter, CanPassOver, CanScan, Entered
 
 use crate::walking::listed_path;
 use pt_object::Hasher;
-use pt_plan::{Halt, Object, Part, Phase};
+use pt_plan::{Fault, Object, Part, Phase};
 use pt_state::lines::put_skip;
 use pt_state::paths::{entry_path, extended, in_pairtree};
 use pt_state::site::back_to_site;
@@ -33,7 +33,7 @@ pub fn open_object<O: Outside>(
     state: &mut State,
     object: Object,
     out: &mut O,
-) -> Result<Phase, Halt>
+) -> Result<Phase, Fault>
     requires may { object.gathered ≡ false → MayEnter (O.world out.old).source state.old.trail }
     requires directory { object.gathered ≡ false
         → IsTrue (is_dir_entry (current_entry state.old.trail)) }
@@ -55,7 +55,7 @@ pub fn open_object<O: Outside>(
 ///
 /// Halts for `Source` where a directory can't be listed or a file not be opened, for `Log` where the line can't be put,
 /// and for `Memory` where a growth is refused; what is held stays then.
-pub fn scan<O: Outside>(state: &mut State, object: Object, out: &mut O) -> Result<Phase, Halt>
+pub fn scan<O: Outside>(state: &mut State, object: Object, out: &mut O) -> Result<Phase, Fault>
     requires enter { MayEnter (O.world out.old).source state.old.trail }
     requires open { MayOpen (O.world out.old).source state.old.trail }
     requires scans { CanScan object state.old }
@@ -100,7 +100,7 @@ fn pass_object<O: Outside>(
     object: Object,
     cause: Cause,
     out: &mut O,
-) -> Result<Phase, Halt>
+) -> Result<Phase, Fault>
     requires { CanPassOver object state.old }
     ensures turn { TakesTurnAt O.world (O.within 0) (λ here. GivesUp here object cause state.old)
         state.old state.new out.old out.new result }
@@ -114,7 +114,7 @@ fn enter_directory<O: Outside>(
     state: &mut State,
     object: Object,
     out: &mut O,
-) -> Result<Phase, Halt>
+) -> Result<Phase, Fault>
     requires enter { CanEnter (O.world out.old).source state.old.trail }
     requires passes { CanPassOver object state.old }
     requires empty { object.empty < 2 ^ 40 }
@@ -129,7 +129,7 @@ fn enter_directory<O: Outside>(
 }
 
 // Lists the directory at the trail's place and enters it; gives whether it has no entries.
-fn enter<O: Outside>(state: &mut State, out: &mut O) -> Result<bool, Halt>
+fn enter<O: Outside>(state: &mut State, out: &mut O) -> Result<bool, Fault>
     requires enter { CanEnter (O.world out.old).source state.old.trail }
     ensures { Entered O.world (O.within 1) state.old state.new out.old out.new result }
 {
@@ -152,7 +152,7 @@ fn with_directory(mut object: Object, is_empty: bool) -> Object
 }
 
 // Opens the file at the trail's place, unless it is one too many, or its logical path is too long.
-fn meet_file<O: Outside>(state: &mut State, object: Object, out: &mut O) -> Result<Phase, Halt>
+fn meet_file<O: Outside>(state: &mut State, object: Object, out: &mut O) -> Result<Phase, Fault>
     requires file { IsAtFile state.old.trail }
     requires may { MayOpen (O.world out.old).source state.old.trail }
     requires scans { CanScan object state.old }
@@ -241,7 +241,7 @@ pub(crate) fn give_up<O: Outside>(
     object: &Object,
     cause: Cause,
     out: &mut O,
-) -> Result<(), Halt>
+) -> Result<(), Fault>
     requires { CanPassOver object.now state.old }
     ensures { GaveUp O.world (O.within 0) object.now cause state.old state.new
         out.old out.new result }

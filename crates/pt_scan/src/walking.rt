@@ -11,7 +11,7 @@ ghost use Rattle.pt_walk.specs.declared.site.At.TheVariants as at;
 ghost use Rattle.pt_state.specs.Outside.{TakesTurn};
 ghost use Rattle.pt_scan.specs.Walking.{CanPassShorty, EntersSite, IsAtShorty, PassesShorty};
 
-use pt_plan::{Halt, Phase};
+use pt_plan::{Fault, Phase};
 use pt_state::lines::put_skip;
 use pt_state::paths::{entry_path, in_pairtree, path_of};
 use pt_state::{Outside, State};
@@ -21,7 +21,7 @@ use pt_walk::{At, Cause, is_shorty};
 /// Lists `pairtree_root` and enters it; nothing is entered yet. Gives the phase that judges it.
 ///
 /// Halts for `Source` where it can't be listed, and for `Memory` where a growth is refused; what is held stays then.
-pub fn open_root<O: Outside>(state: &mut State, out: &mut O) -> Result<Phase, Halt>
+pub fn open_root<O: Outside>(state: &mut State, out: &mut O) -> Result<Phase, Fault>
     requires may { CanList (O.world out.old).source (in_pairtree_of []) }
     requires trail { state.old.trail ≡ [] }
     ensures turn { TakesTurn O.world (O.within 1) phase.OpenRoot state.old state.new
@@ -39,7 +39,7 @@ pub fn open_root<O: Outside>(state: &mut State, out: &mut O) -> Result<Phase, Ha
 ///
 /// Halts for `Source` where a shorty can't be listed, for `Log` where its line can't be put, and for `Memory` where a
 /// growth is refused; what is held stays then.
-pub fn walk<O: Outside>(state: &mut State, out: &mut O) -> Result<Phase, Halt>
+pub fn walk<O: Outside>(state: &mut State, out: &mut O) -> Result<Phase, Fault>
     requires may { MayEnter (O.world out.old).source state.old.trail }
     requires few { state.old.counts.skipped < 2 ^ 40 }
     ensures turn { TakesTurn O.world (O.within 1) phase.Walk state.old state.new
@@ -65,7 +65,7 @@ pub fn walk<O: Outside>(state: &mut State, out: &mut O) -> Result<Phase, Halt>
 }
 
 // Enters the shorty at the trail's place, or tells why not.
-fn meet_shorty<O: Outside>(state: &mut State, out: &mut O) -> Result<Phase, Halt>
+fn meet_shorty<O: Outside>(state: &mut State, out: &mut O) -> Result<Phase, Fault>
     requires may { MayEnter (O.world out.old).source state.old.trail }
     requires passes { CanPassShorty state.old }
     ensures turn { TakesTurn O.world (O.within 1) phase.Walk state.old state.new
@@ -82,7 +82,7 @@ fn meet_shorty<O: Outside>(state: &mut State, out: &mut O) -> Result<Phase, Halt
 }
 
 // Passes over the shorty at the trail's place, and tells so in the first share.
-fn pass_shorty<O: Outside>(state: &mut State, cause: Cause, out: &mut O) -> Result<Phase, Halt>
+fn pass_shorty<O: Outside>(state: &mut State, cause: Cause, out: &mut O) -> Result<Phase, Fault>
     requires line { PassesShorty state.old cause }
     requires passes { CanPassShorty state.old }
     ensures turn { TakesTurn O.world (O.within 0) phase.Walk state.old state.new
@@ -99,7 +99,7 @@ fn pass_shorty<O: Outside>(state: &mut State, cause: Cause, out: &mut O) -> Resu
 }
 
 // Lists the shorty at the trail's place and enters it.
-fn enter_site<O: Outside>(state: &mut State, out: &mut O) -> Result<Phase, Halt>
+fn enter_site<O: Outside>(state: &mut State, out: &mut O) -> Result<Phase, Fault>
     requires line { EntersSite state.old }
     requires may { MayEnter (O.world out.old).source state.old.trail }
     requires shorty { IsAtShorty state.old.trail }

@@ -7,9 +7,9 @@ use Rattle.std.specs.String.{string_bytes}
 use Rattle.pt_name.specs.Prefix.{prefix_refusal, without_line_ends}
 use Rattle.pt_name.specs.Tuples.{Tuples}
 use Rattle.pt_object.proofs.Ways.{same_name}
-use Rattle.pt_state.proofs.Words.{MakeFile, MakeFolder, staging, Answer, Did, Follows, GoesOn, LeavesSome, Start, Calls, Changes, Finds, Lists, Makes, Renames, World, asks, does, Halt, Phase, Turned, KeepsAll, counts_of, held_of, job_of, Writing, IsKindAt, MayMake, Path, Reading, CanOpen, Bytes, kind_of_entry, Kind}
+use Rattle.pt_state.proofs.Words.{MakeFile, MakeFolder, staging, Answer, Did, Follows, GoesOn, LeavesSome, Start, Calls, Changes, Finds, Lists, Makes, Renames, World, asks, does, Fault, Phase, Turned, KeepsAll, counts_of, held_of, job_of, Writing, IsKindAt, MayMake, Path, Reading, CanOpen, Bytes, kind_of_entry, Kind}
 use Rattle.pt_state.specs.declared.state.State.{State}
-use Rattle.pt_state.proofs.Words.halt
+use Rattle.pt_state.proofs.Words.fault
 use Rattle.pt_state.proofs.Words.kind
 use Rattle.pt_state.proofs.Words.phase
 use Rattle.pt_object.specs.RootFiles.{root_files_of}
@@ -37,7 +37,7 @@ module _ {here : Phase} {s s' : State} (w w' : World) {calls : Calls} where
   goes : {next : Phase} → StartsAt here s calls (Ok next) → Did calls w w' → calls.line ≡ None → KeepsAll s s' → s'.hasher ≡ s.hasher → Turned here s s' w w' (Ok next)
   goes starts did quiet keeps same = went w w' (λ fed. fed) (λ fed _. Start starts) did quiet (λ fed was. rw same was) keeps
 
-  halts : {why : Halt} → StartsAt here s calls (Err why) → Did calls w w' → KeepsAll s s' → Turned here s s' w w' (Err why)
+  halts : {why : Fault} → StartsAt here s calls (Err why) → Did calls w w' → KeepsAll s s' → Turned here s s' w w' (Err why)
   halts starts did keeps = refused w w' (λ fed _. Start starts) did keeps
 
 -- ---- the top
@@ -85,7 +85,7 @@ is_store s w w' top entries here at did is same =
     rw same
     (goes w w' (IsStore _ entries (sym is)) (rw (at) at did) refl keeps_same refl)
 
-pub is_no_store : (s : State) (w w' : World) (top : Path) (entries : List Entry) → top ≡ [] → Did (asks (Lists top entries)) w w' → false ≡ lists_store entries → Turned phase.Begin s s w w' (Err halt.NotPairtree)
+pub is_no_store : (s : State) (w w' : World) (top : Path) (entries : List Entry) → top ≡ [] → Did (asks (Lists top entries)) w w' → false ≡ lists_store entries → Turned phase.Begin s s w w' (Err fault.NotPairtree)
 is_no_store s w w' top entries at did is =
     halts w w' (IsNoStore _ entries (sym is)) (rw (at) at did) keeps_same
 
@@ -94,10 +94,10 @@ is_no_store s w w' top entries at did is =
 pub no_prefix : (s : State) (w : World) → Turned (phase.Prefix None) s s w w (Ok phase.Staging)
 no_prefix s w = goes w w (HasNoPrefix _) (did_nothing w) refl keeps_same refl
 
-pub no_prefix_dir : (s : State) (w : World) → Turned (phase.Prefix (Some kind.Dir)) s s w w (Err halt.Prefix)
+pub no_prefix_dir : (s : State) (w : World) → Turned (phase.Prefix (Some kind.Dir)) s s w w (Err fault.Prefix)
 no_prefix_dir s w = halts w w (IsNoPrefixFile _ (Some kind.Dir) (λ e. cc) refl) (did_nothing w) keeps_same
 
-pub no_prefix_other : (s : State) (w : World) → Turned (phase.Prefix (Some kind.Other)) s s w w (Err halt.Prefix)
+pub no_prefix_other : (s : State) (w : World) → Turned (phase.Prefix (Some kind.Other)) s s w w (Err fault.Prefix)
 no_prefix_other s w = halts w w (IsNoPrefixFile _ (Some kind.Other) (λ e. cc) refl) (did_nothing w) keeps_same
 
 pub has_prefix : (s s' : State) (w w' : World) (path : Path) (block : List ℕ) → path ≡ prefix_file ∷ [] → Did (asks (OpensAndReads path block)) w w' → prefix_refusal block ≡ None → string_bytes s'.prefix ≡ without_line_ends block
@@ -120,16 +120,16 @@ has_prefix s s' w w' path block at did good prefix job trail rows contents count
     follows : (fed : List ℕ) → Follows (job_of s.job) (counts_of s.counts) (phase.Prefix (Some kind.File)) (string_bytes s.prefix) (held_of s fed) (string_bytes s'.prefix) (held_of s' fed) (asks (OpensAndReads (prefix_file ∷ []) block)) (Ok phase.Staging)
     follows fed = rw (same fed, prefix) (Start (HasPrefix (string_bytes s.prefix) block good))
 
-pub bad_prefix : (s s' : State) (w w' : World) (path : Path) (block : List ℕ) (f : Halt) (result : Answer) → IsErrAnd result (λ g. g ≡ f) → path ≡ prefix_file ∷ [] → Did (asks (OpensAndReads path block)) w w' → PrefixFails block f → KeepsAll s s' → Turned (phase.Prefix (Some kind.File)) s s' w w' result
+pub bad_prefix : (s s' : State) (w w' : World) (path : Path) (block : List ℕ) (f : Fault) (result : Answer) → IsErrAnd result (λ g. g ≡ f) → path ≡ prefix_file ∷ [] → Did (asks (OpensAndReads path block)) w w' → PrefixFails block f → KeepsAll s s' → Turned (phase.Prefix (Some kind.File)) s s' w w' result
 bad_prefix s s' w w' path block f (Ok next) is at did fails keeps = absurd is
 bad_prefix s s' w w' path block f (Err g) is at did fails keeps = rw is (by f fails)
   where
     there : Did (asks (OpensAndReads (prefix_file ∷ []) block)) w w'
     there = rw (at) at did
 
-    by : (f : Halt) → PrefixFails block f → Turned (phase.Prefix (Some kind.File)) s s' w w' (Err f)
-    by halt.Prefix fails = halts w w' (IsNoPrefix _ block fails.0 fails.1) there keeps
-    by halt.Memory fails = short_asked _ s s' w w' (OpensAndReads (prefix_file ∷ []) block) _ refl there keeps
+    by : (f : Fault) → PrefixFails block f → Turned (phase.Prefix (Some kind.File)) s s' w w' (Err f)
+    by fault.Prefix fails = halts w w' (IsNoPrefix _ block fails.0 fails.1) there keeps
+    by fault.Memory fails = short_asked _ s s' w w' (OpensAndReads (prefix_file ∷ []) block) _ refl there keeps
     by _ fails = absurd fails
 
 pub may_open_prefix : (told : Option Reading) (here : Option Kind) (path : Path) → MayOpenPrefix told here → here ≡ Some kind.File → path ≡ prefix_file ∷ [] → CanOpen told path
@@ -142,7 +142,7 @@ module _ (s : State) (w w' : World) (path : Path) where
   pub no_staging : path ≡ staging → Did (does (Finds path None)) w w' → Turned phase.Staging s s w w' (Ok phase.Root)
   no_staging is did = goes w w' (HasNoStaging _) (rw is at did) refl keeps_same refl
 
-  pub staging_left : (here : Kind) → path ≡ staging → Did (does (Finds path (Some here))) w w' → Turned phase.Staging s s w w' (Err halt.StagingLeft)
+  pub staging_left : (here : Kind) → path ≡ staging → Did (does (Finds path (Some here))) w w' → Turned phase.Staging s s w w' (Err fault.StagingLeft)
   staging_left here is did = halts w w' (HasStaging _ here) (rw is at did) keeps_same
 
   pub no_root : path ≡ storage_root → Did (does (Finds path None)) w w' → Turned phase.Root s s w w' (Ok (phase.RootMake 0))
@@ -151,7 +151,7 @@ module _ (s : State) (w w' : World) (path : Path) where
   pub has_root : path ≡ storage_root → Did (does (Finds path (Some kind.Dir))) w w' → Turned phase.Root s s w w' (Ok (phase.RootCheck 0))
   has_root is did = goes w w' (HasRoot _) (rw is at did) refl keeps_same refl
 
-  pub is_no_root : (here : Kind) → path ≡ storage_root → is_dir_kind (Some here) ≡ false → Did (does (Finds path (Some here))) w w' → Turned phase.Root s s w w' (Err halt.Target)
+  pub is_no_root : (here : Kind) → path ≡ storage_root → is_dir_kind (Some here) ≡ false → Did (does (Finds path (Some here))) w w' → Turned phase.Root s s w w' (Err fault.Target)
   is_no_root here is other did = halts w w' (IsNoRoot _ here other) (rw is at did) keeps_same
 
 -- ---- a new root
@@ -215,7 +215,7 @@ pub made_item : (s : State) (w w' : World) (number : ℕ) (item : Item) (next : 
 made_item s w w' number item next did is then =
     rw then (goes w w' (makes_item s number item is) did refl keeps_same refl)
 
-pub left_item : (s : State) (w w' : World) (number : ℕ) (item : Item) (f : Halt) (result : Answer) → IsErrAnd result (λ g. g ≡ f) → LeavesSome (does (Makes item)) f w w' → IsRootItem s.job.layout number item → Turned (phase.RootMake number) s s w w' result
+pub left_item : (s : State) (w w' : World) (number : ℕ) (item : Item) (f : Fault) (result : Answer) → IsErrAnd result (λ g. g ≡ f) → LeavesSome (does (Makes item)) f w w' → IsRootItem s.job.layout number item → Turned (phase.RootMake number) s s w w' result
 left_item s w w' number item f result is part it = left_some w w' f result is (λ fed. Start (makes_item s number item it)) part keeps_same
 
 pub renamed_root : (s : State) (w w' : World) (from to : Path) → Did (does (Renames from to)) w w' → from ≡ staging → to ≡ storage_root → Turned phase.RootRename s s w w' (Ok phase.OpenRoot)
@@ -244,7 +244,7 @@ can_peek_file w w' path here did is = λ s e. by (s.tree path) (did.0.dest.0 s (
     by (Some (Bytes bytes)) at = refl
     by _ at = absurd (cc)
 
-pub no_file : (s : State) (w w' : World) (number : ℕ) (whole : Path) (bytes : List ℕ) (here : Option Kind) → Did (does (Finds whole here)) w w' → IsRootFile s.job.layout number whole bytes → false ≡ is_file_kind here → Turned (phase.RootCheck number) s s w w' (Err halt.Target)
+pub no_file : (s : State) (w w' : World) (number : ℕ) (whole : Path) (bytes : List ℕ) (here : Option Kind) → Did (does (Finds whole here)) w w' → IsRootFile s.job.layout number whole bytes → false ≡ is_file_kind here → Turned (phase.RootCheck number) s s w w' (Err fault.Target)
 unfolding IsRootFile
 no_file s w w' number whole bytes here did file is =
     halts w w' (IsNoFile _ number file.0 bytes here file.1.1 (sym is)) (rw file.1.0 at did) keeps_same
@@ -261,7 +261,7 @@ same_file s s' a b c number whole bytes block here next found read file eq then 
     (goes a c (IsSame _ number file.0 bytes file.1.1)
     (rw (same_name block bytes eq) at (peeked a b c whole (storage_root ++ file.0) here block file.1.0 found read)) refl keeps same)
 
-pub other_file : (s s' : State) (a b c : World) (number : ℕ) (whole : Path) (bytes block : List ℕ) (here : Option Kind) → Did (does (Finds whole here)) a b → Did (does (Peeks whole block)) b c → IsRootFile s.job.layout number whole bytes → bytes_eq block bytes ≡ false → KeepsAll s s' → Turned (phase.RootCheck number) s s' a c (Err halt.Target)
+pub other_file : (s s' : State) (a b c : World) (number : ℕ) (whole : Path) (bytes block : List ℕ) (here : Option Kind) → Did (does (Finds whole here)) a b → Did (does (Peeks whole block)) b c → IsRootFile s.job.layout number whole bytes → bytes_eq block bytes ≡ false → KeepsAll s s' → Turned (phase.RootCheck number) s s' a c (Err fault.Target)
 unfolding IsRootFile
 other_file s s' a b c number whole bytes block here found read file ne keeps =
     halts a c (Differs _ number file.0 bytes block file.1.1 ne) (peeked a b c whole (storage_root ++ file.0) here block file.1.0 found read) keeps

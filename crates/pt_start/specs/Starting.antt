@@ -11,8 +11,8 @@ use Rattle.pt_object.specs.Script.{Item}
 use Rattle.pt_object.specs.Scripts.{root_script}
 use Rattle.pt_tree.specs.Listing.{Item as Entry}
 use Rattle.pt_tree.specs.declared.kind.Kind.{Kind}
-use Rattle.pt_plan.specs.declared.halt.Halt.{Halt}
-use Rattle.pt_plan.specs.declared.halt.Halt.TheVariants as halt
+use Rattle.pt_plan.specs.declared.fault.Fault.{Fault}
+use Rattle.pt_plan.specs.declared.fault.Fault.TheVariants as fault
 
 -- the root's script has this item there
 unfoldable pub IsRootItem : Tuples → ℕ → Item → Type 0
@@ -35,9 +35,9 @@ pub record IsFileAt (tuples : Tuples) (number : ℕ) (whole : Path) (bytes : Lis
   pub is : IsRootFile tuples number whole bytes
 
 -- why reading the prefix failed
-abbrev pub PrefixFails : List ℕ → Halt → Type 0
-PrefixFails block halt.Prefix = (why : PrefixFault) × (prefix_refusal block ≡ Some why)
-PrefixFails block halt.Memory = ⊤
+abbrev pub PrefixFails : List ℕ → Fault → Type 0
+PrefixFails block fault.Prefix = (why : PrefixFault) × (prefix_refusal block ≡ Some why)
+PrefixFails block fault.Memory = ⊤
 PrefixFails block _ = ⊥
 
 -- the kind of this entry, if it has the name

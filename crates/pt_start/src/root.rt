@@ -14,7 +14,7 @@ ghost use Rattle.pt_start.specs.Starting.{IsFileAt, IsItemAt, IsRootItem};
 
 use crate::store::is_file;
 use pt_object::root_files;
-use pt_plan::{Halt, Phase};
+use pt_plan::{Fault, Phase};
 use pt_state::files::put_file;
 use pt_state::paths::{in_staging, in_storage_root, path_of};
 use pt_state::{Outside, State};
@@ -24,19 +24,19 @@ use std::alloc::Global;
 // The layout of the storage root (extension 0003).
 /// Asks whether `staging` is there.
 #[tactic(auto, using(crate::proofs::Starting::staging_rows))]
-pub fn staging<O: Outside>(state: &State, out: &mut O) -> Result<Phase, Halt>
+pub fn staging<O: Outside>(state: &State, out: &mut O) -> Result<Phase, Fault>
     ensures turn { TakesTurn O.world (O.within 0) phase.Staging state.now state.now
         out.old out.new result }
 {
     let path = path_of(state.alloc, &[Known::Staging])?;
     match out.kind(&path)? {
         None => Ok(Phase::Root),
-        Some(_) => Err(Halt::StagingLeft),
+        Some(_) => Err(Fault::StagingLeft),
     }
 }
 
 /// Asks whether the storage root is there.
-pub fn root<O: Outside>(state: &State, out: &mut O) -> Result<Phase, Halt>
+pub fn root<O: Outside>(state: &State, out: &mut O) -> Result<Phase, Fault>
     ensures turn { TakesTurn O.world (O.within 0) phase.Root state.now state.now
         out.old out.new result }
 {
@@ -44,13 +44,13 @@ pub fn root<O: Outside>(state: &State, out: &mut O) -> Result<Phase, Halt>
     match out.kind(&path)? {
         None => Ok(Phase::RootMake(0)),
         Some(Kind::Dir) => Ok(Phase::RootCheck(0)),
-        Some(_) => Err(Halt::Target),
+        Some(_) => Err(Fault::Target),
     }
 }
 
 /// Makes one item of a storage root in `staging`: first the directories of the layout's configuration, then the three
 /// files, of which the declaration comes last.
-pub fn make_root<O: Outside>(state: &State, item: u8, out: &mut O) -> Result<Phase, Halt>
+pub fn make_root<O: Outside>(state: &State, item: u8, out: &mut O) -> Result<Phase, Fault>
     requires may { MayMakeRootItem (O.world out.old).dest state.now.job.layout item }
     requires item { item < 6 }
     ensures turn { TakesTurn O.world (O.within 0) (phase.RootMake item) state.now state.now
@@ -73,7 +73,7 @@ fn make_folder<O: Outside>(
     item: u8,
     path: &NamePath,
     out: &mut O,
-) -> Result<Phase, Halt>
+) -> Result<Phase, Fault>
     requires may { MayMake (O.world out.old).dest path.now }
     requires here { IsItemAt state.now.job.layout item (MakeFolder path.now) }
     ensures turn { TakesTurn O.world (O.within 0) (phase.RootMake item) state.now state.now
@@ -89,7 +89,7 @@ fn make_file<O: Outside>(
     path: &NamePath,
     bytes: &[u8],
     out: &mut O,
-) -> Result<Phase, Halt>
+) -> Result<Phase, Fault>
     requires may { MayMake (O.world out.old).dest path.now }
     requires here { IsItemAt state.now.job.layout item (MakeFile path.now bytes.now) }
     ensures turn { TakesTurn O.world (O.within 0) (phase.RootMake item) state.now state.now
@@ -129,7 +129,7 @@ fn after_item(item: u8) -> Phase
 }
 
 /// Renames `staging` to the storage root.
-pub fn rename_root<O: Outside>(state: &State, out: &mut O) -> Result<Phase, Halt>
+pub fn rename_root<O: Outside>(state: &State, out: &mut O) -> Result<Phase, Fault>
     requires { MayMove (O.world out.old).dest staging_path storage_root }
     ensures turn { TakesTurn O.world (O.within 0) phase.RootRename state.now state.now
         out.old out.new result }
@@ -144,7 +144,7 @@ fn move_root<O: Outside>(
     from: &NamePath,
     to: &NamePath,
     out: &mut O,
-) -> Result<Phase, Halt>
+) -> Result<Phase, Fault>
     requires may { MayMove (O.world out.old).dest from.now to.now }
     requires paths { (from.now ≡ staging_path) × (to.now ≡ storage_root) }
     ensures turn { TakesTurn O.world (O.within 0) phase.RootRename state.now state.now
@@ -155,7 +155,7 @@ fn move_root<O: Outside>(
 }
 
 /// Compares one of the three files of the storage root that stands with what this program writes.
-pub fn check_root<O: Outside>(state: &mut State, file: usize, out: &mut O) -> Result<Phase, Halt>
+pub fn check_root<O: Outside>(state: &mut State, file: usize, out: &mut O) -> Result<Phase, Fault>
     requires { file < 3 }
     ensures turn { TakesTurn O.world (O.within 0) (phase.RootCheck file) state.old state.new
         out.old out.new result }
@@ -174,18 +174,18 @@ fn compare<O: Outside>(
     path: &NamePath,
     bytes: &[u8],
     out: &mut O,
-) -> Result<Phase, Halt>
+) -> Result<Phase, Fault>
     requires here { IsFileAt state.old.job.layout file path.now bytes.now }
     ensures turn { TakesTurn O.world (O.within 0) (phase.RootCheck file) state.old state.new
         out.old out.new result }
 {
     let here = out.kind(path)?;
     if !is_file(here) {
-        return Err(Halt::Target);
+        return Err(Fault::Target);
     }
     out.peek(path, &mut state.block)?;
     if state.block.as_slice() != bytes {
-        return Err(Halt::Target);
+        return Err(Fault::Target);
     }
     Ok(after_file(file))
 }

@@ -11,7 +11,7 @@ ghost use Rattle.pt_state.specs.Outside.{TakesTurn};
 ghost use Rattle.pt_start.specs.Starting.{PrefixFails, kind_if_named};
 
 use pt_name::{PrefixFault, read_prefix};
-use pt_plan::{Halt, Phase};
+use pt_plan::{Fault, Phase};
 use pt_state::files::read_first;
 use pt_state::paths::path_of;
 use pt_state::{Outside, State};
@@ -19,7 +19,7 @@ use pt_tree::{Block, Kind, Known, Listing, NamePath};
 use std::alloc::Global;
 
 /// Lists the top.
-pub fn begin<O: Outside>(state: &State, out: &mut O) -> Result<Phase, Halt>
+pub fn begin<O: Outside>(state: &State, out: &mut O) -> Result<Phase, Fault>
     requires { CanList (O.world out.old).source [] }
     ensures turn { TakesTurn O.world (O.within 1) phase.Begin state.now state.now
         out.old out.new result }
@@ -27,7 +27,7 @@ pub fn begin<O: Outside>(state: &State, out: &mut O) -> Result<Phase, Halt>
     let top = NamePath::new(state.alloc);
     let listing = out.list(&top)?;
     if !is_store(&listing) {
-        return Err(Halt::NotPairtree);
+        return Err(Fault::NotPairtree);
     }
     Ok(Phase::Prefix(kind_in(&listing, Known::PrefixFile.text())))
 }
@@ -82,7 +82,7 @@ fn kind_at(listing: &Listing, i: usize, name: &str) -> Option<Kind>
 }
 
 /// Reads the prefix file, if it is there.
-pub fn prefix<O: Outside>(state: &mut State, here: Option<Kind>, out: &mut O) -> Result<Phase, Halt>
+pub fn prefix<O: Outside>(state: &mut State, here: Option<Kind>, out: &mut O) -> Result<Phase, Fault>
     requires { MayOpenPrefix (O.world out.old).source here }
     ensures turn { TakesTurn O.world (O.within 2) (phase.Prefix here) state.old state.new
         out.old out.new result }
@@ -90,7 +90,7 @@ pub fn prefix<O: Outside>(state: &mut State, here: Option<Kind>, out: &mut O) ->
     match here {
         None => return Ok(Phase::Staging),
         Some(Kind::File) => {}
-        Some(_) => return Err(Halt::Prefix),
+        Some(_) => return Err(Fault::Prefix),
     }
     let path = path_of(state.alloc, &[Known::PrefixFile])?;
     read_first(out, &path, &mut state.block)?;
@@ -99,14 +99,14 @@ pub fn prefix<O: Outside>(state: &mut State, here: Option<Kind>, out: &mut O) ->
 }
 
 // The prefix in the prefix file's first block.
-fn prefix_of(alloc: Global, block: &Block) -> Result<String, Halt>
+fn prefix_of(alloc: Global, block: &Block) -> Result<String, Fault>
     ensures ok { IfOk result (λ prefix. (prefix_refusal block.now.items ≡ None)
         × (string_bytes prefix ≡ without_line_ends block.now.items)) }
     ensures err { IfErr result (PrefixFails block.now.items) }
 {
     match read_prefix(alloc, block.as_slice()) {
         Ok(prefix) => Ok(prefix),
-        Err(PrefixFault::Memory) => Err(Halt::Memory),
-        Err(_) => Err(Halt::Prefix),
+        Err(PrefixFault::Memory) => Err(Fault::Memory),
+        Err(_) => Err(Fault::Prefix),
     }
 }

@@ -3,8 +3,8 @@ use Rattle.std.proofs.Common.{◌≡◌, ℕ, List, refl, sym, subst, ap, arith}
 use Rattle.std.specs.Prelude.{Option, Some, Err, IsTrue, IsSome}
 use Rattle.std.specs.Io.KnownBytes.{Appends}
 use Rattle.std.specs.Option.{option_map}
-use Rattle.pt_state.proofs.Words.{MakeFolder, Line, line_text, Did, HasFailed, LeavesSome, Stays, Adds, Answers, Asked, Change, Changes, Creates, Failures, Finds, Finishes, Lists, Makes, OfPiece, Opens, Puts, Reads, Renames, Untouched, asks, does, source_tree, tells, Halt, Writing, IsKindAt, after_create, AppendsFront, Path, Reading, after_open, Bytes, kind_of_entry, Kind}
-use Rattle.pt_plan.specs.Halts.{dest_halt, log_halt, source_halt}
+use Rattle.pt_state.proofs.Words.{MakeFolder, Line, line_text, Did, HasFailed, LeavesSome, Stays, Adds, Answers, Asked, Change, Changes, Creates, Failures, Finds, Finishes, Lists, Makes, OfPiece, Opens, Puts, Reads, Renames, Untouched, asks, does, source_tree, tells, Fault, Writing, IsKindAt, after_create, AppendsFront, Path, Reading, after_open, Bytes, kind_of_entry, Kind}
+use Rattle.pt_plan.specs.RunFaults.{dest_fault, log_fault, source_fault}
 use Rattle.pt_plan.specs.Turn.{IsNotOfLog}
 use Rattle.pt_plan.specs.World.{Peeks}
 use Rattle.pt_tree.specs.Dest.{CanPeek, IsPeeked, LeavesPart, after_append, after_finish, after_mkdir, after_rename}
@@ -48,15 +48,15 @@ module _ (r r' : Option Reading) (w : Option Writing) (g : Option (List ℕ)) (n
   unfolding Answers
   did_next block read is count = answers (Reads block) (read, is) count
 
-  source_counted : (f : TreeFault) → IsCounted {T = Unit {0}} n n' (Err f) → HasFailed (source_halt f) (failures n d l) (failures n' d l)
+  source_counted : (f : TreeFault) → IsCounted {T = Unit {0}} n n' (Err f) → HasFailed (source_fault f) (failures n d l) (failures n' d l)
   source_counted tree.Device is = (is, refl, refl)
   source_counted tree.Memory is = ap (λ (k : ℕ). failures k d l) is
 
-  source_not_log : (f : TreeFault) → IsNotOfLog (source_halt f)
+  source_not_log : (f : TreeFault) → IsNotOfLog (source_fault f)
   source_not_log tree.Device = tt
   source_not_log tree.Memory = tt
 
-  pub stays_source : (f : TreeFault) (h : Halt) → h ≡ source_halt f → r' ≡ r → IsCounted {T = Unit {0}} n n' (Err f) → Stays h (world r w g n d l) (world r' w g n' d l)
+  pub stays_source : (f : TreeFault) (h : Fault) → h ≡ source_fault f → r' ≡ r → IsCounted {T = Unit {0}} n n' (Err f) → Stays h (world r w g n d l) (world r' w g n' d l)
   unfolding Stays
   stays_source f h is same count = (ap source_tree same, refl, refl, rw is (source_counted f count), subst IsNotOfLog (sym is) (source_not_log f))
 
@@ -104,19 +104,19 @@ module _ (r : Option Reading) (w w' : Option Writing) (g : Option (List ℕ)) (n
   unfolding Changes
   did_rename p q = changes (Renames p q)
 
-  dest_counted : (f : TreeFault) → IsCounted {T = Unit {0}} d d' (Err f) → HasFailed (dest_halt f) (failures n d l) (failures n d' l)
+  dest_counted : (f : TreeFault) → IsCounted {T = Unit {0}} d d' (Err f) → HasFailed (dest_fault f) (failures n d l) (failures n d' l)
   dest_counted tree.Device is = (refl, is, refl)
   dest_counted tree.Memory is = ap (λ (k : ℕ). failures n k l) is
 
-  dest_not_log : (f : TreeFault) → IsNotOfLog (dest_halt f)
+  dest_not_log : (f : TreeFault) → IsNotOfLog (dest_fault f)
   dest_not_log tree.Device = tt
   dest_not_log tree.Memory = tt
 
-  pub stays_dest : (f : TreeFault) (h : Halt) → h ≡ dest_halt f → w' ≡ w → IsCounted {T = Unit {0}} d d' (Err f) → Stays h (world r w g n d l) (world r w' g n d' l)
+  pub stays_dest : (f : TreeFault) (h : Fault) → h ≡ dest_fault f → w' ≡ w → IsCounted {T = Unit {0}} d d' (Err f) → Stays h (world r w g n d l) (world r w' g n d' l)
   unfolding Stays
   stays_dest f h is same count = (refl, same, refl, rw is (dest_counted f count), subst IsNotOfLog (sym is) (dest_not_log f))
 
-  pub leaves_piece : (piece : List ℕ) (f : TreeFault) (h : Halt) → h ≡ dest_halt f → LeavesPart w w' piece → IsCounted {T = Unit {0}} d d' (Err f) → LeavesSome (does (Adds piece)) h (world r w g n d l) (world r w' g n d' l)
+  pub leaves_piece : (piece : List ℕ) (f : TreeFault) (h : Fault) → h ≡ dest_fault f → LeavesPart w w' piece → IsCounted {T = Unit {0}} d d' (Err f) → LeavesSome (does (Adds piece)) h (world r w g n d l) (world r w' g n d' l)
   unfolding LeavesSome
   leaves_piece piece f h is left count =
       (record { read = tt; found = tt; source = refl; dest = OfPiece piece left.count left.left; log = refl }, rw is (dest_counted f count), subst IsNotOfLog (sym is) (dest_not_log f))
@@ -128,11 +128,11 @@ module _ (r : Option Reading) (w : Option Writing) (g g' : Option (List ℕ)) (n
   unfolding Did Answers Changes Puts
   did_put line text is put count = (record { source = refl; dest = refl; log = rw is at put }, ap (λ (k : ℕ). failures n d k) count)
 
-  log_counted : (f : TreeFault) → IsCounted {T = Unit {0}} l l' (Err f) → HasFailed (log_halt f) (failures n d l) (failures n d l')
+  log_counted : (f : TreeFault) → IsCounted {T = Unit {0}} l l' (Err f) → HasFailed (log_fault f) (failures n d l) (failures n d l')
   log_counted tree.Device is = (refl, refl, is)
   log_counted tree.Memory is = ap (λ (k : ℕ). failures n d k) is
 
-  pub leaves_front : (line : Line) (text : List ℕ) (f : TreeFault) (h : Halt) → text ≡ line_text line → h ≡ log_halt f → AppendsFront g g' text → IsCounted {T = Unit {0}} l l' (Err f) → LeavesSome (tells line) h (world r w g n d l) (world r w g' n d l')
+  pub leaves_front : (line : Line) (text : List ℕ) (f : TreeFault) (h : Fault) → text ≡ line_text line → h ≡ log_fault f → AppendsFront g g' text → IsCounted {T = Unit {0}} l l' (Err f) → LeavesSome (tells line) h (world r w g n d l) (world r w g' n d l')
   unfolding LeavesSome
   leaves_front line text f h is why front count =
       (record { read = tt; found = tt; source = refl; dest = Untouched _ refl; log = rw is at front }, rw why (log_counted f count), tt)

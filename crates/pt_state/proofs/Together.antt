@@ -3,11 +3,11 @@ use Rattle.std.proofs.Common.{◌≡◌, ℕ, List, [], ◌++◌, Bool, true, fa
 use Rattle.std.proofs.lemmas.List.{take_all}
 use Rattle.std.specs.Prelude.{Option, None, Some}
 use Rattle.std.specs.Option.{option_map}
-use Rattle.pt_state.proofs.Words.{MakeFile, Did, LeavesSome, Stays, Adds, Answers, Asked, Calls, Change, Changes, Creates, Finds, Finishes, Lists, Makes, OfPiece, Opens, Puts, Reads, Untouched, World, asks, dest_tree, does, no_calls, source_tree, Halt, Writing, after_create, Path, same_path, Reading, CanOpen, after_open, Bytes, Tree, Kind}
+use Rattle.pt_state.proofs.Words.{MakeFile, Did, LeavesSome, Stays, Adds, Answers, Asked, Calls, Change, Changes, Creates, Finds, Finishes, Lists, Makes, OfPiece, Opens, Puts, Reads, Untouched, World, asks, dest_tree, does, no_calls, source_tree, Fault, Writing, after_create, Path, same_path, Reading, CanOpen, after_open, Bytes, Tree, Kind}
 use Rattle.pt_object.specs.Script.{done}
 use Rattle.pt_object.proofs.Ways.{path_itself}
 use Rattle.pt_plan.specs.World.{AsksNothing, LeavesPart, OfFile, OpensAndReads, WasRead, after_make}
-use Rattle.pt_state.proofs.Words.halt
+use Rattle.pt_state.proofs.Words.fault
 use Rattle.pt_tree.specs.Dest.{CanWrite, added_to, after_append, after_finish}
 use Rattle.pt_tree.specs.Source.{CanRead, after_next}
 use Rattle.pt_tree.specs.Tree.{edited_by, put}
@@ -32,23 +32,23 @@ asked_tree (Reads block) r r' is = ap source_tree is.1 ∙ read_on r
 asked_tree (OpensAndReads path block) r r' is = ap source_tree is.1 ∙ read_on (option_map (after_open path) r) ∙ opened path r
 
 -- then memory was short
-pub asked_stays : (asked : Asked) (a b : World) → Did (asks asked) a b → Stays halt.Memory a b
+pub asked_stays : (asked : Asked) (a b : World) → Did (asks asked) a b → Stays fault.Memory a b
 unfolding Did Stays Changes Puts
 asked_stays asked a b did = (asked_tree asked _ _ did.0.source, did.0.dest, did.0.log, did.1, tt)
 
-pub looked_stays : (p : Path) (here : Option Kind) (a b : World) → Did (does (Finds p here)) a b → Stays halt.Memory a b
+pub looked_stays : (p : Path) (here : Option Kind) (a b : World) → Did (does (Finds p here)) a b → Stays fault.Memory a b
 unfolding Did Stays Answers Changes Puts
 looked_stays p here a b did = (ap source_tree did.0.source, did.0.dest.1, did.0.log, did.1, tt)
 
 -- then a further call failed, and nothing was changed
-stays_then : (f : Halt) (a b c : World) → Stays halt.Memory a b → Stays f b c → Stays f a c
+stays_then : (f : Fault) (a b c : World) → Stays fault.Memory a b → Stays f b c → Stays f a c
 unfolding Stays
 stays_then f a b c first next = (next.0 ∙ first.0, next.1 ∙ first.1, next.2 ∙ first.2, rw first.3 at next.3, next.4)
 
-pub asked_then : (asked : Asked) (f : Halt) (a b c : World) → Did (asks asked) a b → Stays f b c → Stays f a c
+pub asked_then : (asked : Asked) (f : Fault) (a b c : World) → Did (asks asked) a b → Stays f b c → Stays f a c
 asked_then asked f a b c first next = stays_then f a b c (asked_stays asked a b first) next
 
-pub looked_then : (p : Path) (here : Option Kind) (f : Halt) (a b c : World) → Did (does (Finds p here)) a b → Stays f b c → Stays f a c
+pub looked_then : (p : Path) (here : Option Kind) (f : Fault) (a b c : World) → Did (does (Finds p here)) a b → Stays f b c → Stays f a c
 looked_then p here f a b c first next = stays_then f a b c (looked_stays p here a b first) next
 
 -- a look leaves the very world
@@ -86,7 +86,7 @@ was_read (Opens path) r r' is = tt
 was_read (Reads block) r r' is = is.0
 was_read (OpensAndReads path block) r r' is = tt
 
-pub then_leaves : (asked : Asked) (change : Change) (f : Halt) (a b c : World) → Did (asks asked) a b → LeavesSome (does change) f b c → LeavesSome (asks_and asked change) f a c
+pub then_leaves : (asked : Asked) (change : Change) (f : Fault) (a b c : World) → Did (asks asked) a b → LeavesSome (does change) f b c → LeavesSome (asks_and asked change) f a c
 unfolding Did LeavesSome Changes Puts
 then_leaves asked change f a b c first next = (
   record {
@@ -101,12 +101,12 @@ then_leaves asked change f a b c first next = (
 )
 
 -- a call that changes nothing failed: nothing is left of the change
-pub leaves_none : (change : Change) (f : Halt) (a b : World) → Stays f a b → LeavesSome (does change) f a b
+pub leaves_none : (change : Change) (f : Fault) (a b : World) → Stays f a b → LeavesSome (does change) f a b
 unfolding Stays LeavesSome
 leaves_none change f a b stays = (record { read = tt; found = tt; source = stays.0; dest = Untouched change (ap dest_tree stays.1); log = stays.2 }, stays.3, stays.4)
 
 -- memory was short before anything was called
-pub leaves_short : (change : Change) (why : Halt) (w : World) → why ≡ halt.Memory → LeavesSome (does change) why w w
+pub leaves_short : (change : Change) (why : Fault) (w : World) → why ≡ fault.Memory → LeavesSome (does change) why w w
 unfolding Stays
 leaves_short change why w is = leaves_none change why w w (rw is (refl, refl, refl, refl, tt))
 
@@ -186,7 +186,7 @@ keeps_file a b c p bytes part is first (OfPiece piece count same) =
     OfFile p bytes count (ap dest_tree (same ∙ ap (option_map (after_append (take count piece))) first) ∙ part_file a p (take count piece) ∙ ap (λ (l : List ℕ). option_map (done (MakeFile p (take count l))) (dest_tree a)) it)
 keeps_file _ _ _ _ _ _ is _ _ = absurd (cc)
 
-pub leaves_of_append : (a b c : World) (p : Path) (bytes : List ℕ) (f : Halt) → Did (does (Creates p)) a b → LeavesSome (does (Adds bytes)) f b c → LeavesSome (does (Makes (MakeFile p bytes))) f a c
+pub leaves_of_append : (a b c : World) (p : Path) (bytes : List ℕ) (f : Fault) → Did (does (Creates p)) a b → LeavesSome (does (Adds bytes)) f b c → LeavesSome (does (Makes (MakeFile p bytes))) f a c
 unfolding Did LeavesSome Answers Changes Puts
 leaves_of_append a b c p bytes f first next = (
   record {
@@ -200,7 +200,7 @@ leaves_of_append a b c p bytes f first next = (
   next.2,
 )
 
-pub leaves_unfinished : (a b c d : World) (p : Path) (bytes : List ℕ) (f : Halt) → Did (does (Creates p)) a b → Did (does (Adds bytes)) b c → Stays f c d → LeavesSome (does (Makes (MakeFile p bytes))) f a d
+pub leaves_unfinished : (a b c d : World) (p : Path) (bytes : List ℕ) (f : Fault) → Did (does (Creates p)) a b → Did (does (Adds bytes)) b c → Stays f c d → LeavesSome (does (Makes (MakeFile p bytes))) f a d
 unfolding Did Stays LeavesSome Answers Changes Puts
 leaves_unfinished a b c d p bytes f first next last =
     let whole : take (length bytes) bytes ≡ bytes = take_all (length bytes) bytes (omega arith) in (

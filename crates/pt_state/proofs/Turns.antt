@@ -2,9 +2,9 @@
 use Rattle.std.proofs.Common.{◌≡◌, ℕ, List, refl, sym, ap, inl}
 use Rattle.std.specs.Prelude.{Option, None, Ok, Err, IsErrAnd}
 use Rattle.std.specs.String.{string_bytes}
-use Rattle.pt_state.proofs.Words.{HasBeenFed, Content, Row, Answer, Line, Held, Kept, Did, FailsAtFirst, FailsLater, Follows, GoesOn, IsHalted, IsRefused, LeavesSome, Stays, counted, Asked, Calls, World, asks, Halt, Phase, Frame, Turned, KeepsAll, counts_of, held_of, job_of, kept_of}
+use Rattle.pt_state.proofs.Words.{HasBeenFed, Content, Row, Answer, Line, Held, Kept, Did, FailsAtFirst, FailsLater, Follows, GoesOn, IsHalted, IsRefused, LeavesSome, Stays, counted, Asked, Calls, World, asks, Fault, Phase, Frame, Turned, KeepsAll, counts_of, held_of, job_of, kept_of}
 use Rattle.pt_state.specs.declared.state.State.{State}
-use Rattle.pt_state.proofs.Words.halt
+use Rattle.pt_state.proofs.Words.fault
 use Rattle.pt_state.proofs.Together.{asked_stays}
 use Rattle.pt_state.specs.Outside.{TakesTurn, TakesTurnAt}
 
@@ -49,31 +49,31 @@ module _ {here : Phase} {s s' : State} (w w' : World) {calls : Calls} where
   )
 
   -- its calls succeed, and what they answer halts the run
-  pub refused : {why : Halt} → ((fed : List ℕ) → HasBeenFed s.job.algorithm s.hasher fed → Leads here s fed (held_of s fed) calls (Err why)) → Did calls w w' → KeepsAll s s' → Turned here s s' w w' (Err why)
+  pub refused : {why : Fault} → ((fed : List ℕ) → HasBeenFed s.job.algorithm s.hasher fed → Leads here s fed (held_of s fed) calls (Err why)) → Did calls w w' → KeepsAll s s' → Turned here s s' w w' (Err why)
   unfolding Turned
   refused {why} follows did keeps = (keeps.job, λ fed was. (fed, (tt, IsRefused (string_bytes s.prefix) (held_of s fed) calls why (follows fed was) did (halted_as fed keeps))))
 
   -- a call fails, and a part is left of what the turn was to change
-  pub left_some : {answer : Answer} {held : List ℕ → Held} (f : Halt) (result : Answer) → IsErrAnd result (λ h. h ≡ f) → ((fed : List ℕ) → Leads here s fed (held fed) calls answer) → LeavesSome calls f w w' → KeepsAll s s' → Turned here s s' w w' result
+  pub left_some : {answer : Answer} {held : List ℕ → Held} (f : Fault) (result : Answer) → IsErrAnd result (λ h. h ≡ f) → ((fed : List ℕ) → Leads here s fed (held fed) calls answer) → LeavesSome calls f w w' → KeepsAll s s' → Turned here s s' w w' result
   unfolding Turned
   left_some f (Ok next) is follows some keeps = absurd is
   left_some {answer} {held} f (Err h) is follows some keeps =
       (keeps.job, λ fed was. (fed, (tt, rw is (FailsLater (string_bytes s.prefix) (held fed) calls answer s.rows f (follows fed) some (inl refl) (halted_as fed keeps)))))
 
 -- a call fails, or memory is short, and nothing is changed
-pub stayed : (here : Phase) (s s' : State) (w w' : World) (f : Halt) (result : Answer) → IsErrAnd result (λ h. h ≡ f) → Stays f w w' → KeepsAll s s' → Turned here s s' w w' result
+pub stayed : (here : Phase) (s s' : State) (w w' : World) (f : Fault) (result : Answer) → IsErrAnd result (λ h. h ≡ f) → Stays f w w' → KeepsAll s s' → Turned here s s' w w' result
 unfolding Turned
 stayed here s s' w w' f (Ok next) is stays keeps = absurd is
 stayed here s s' w w' f (Err h) is stays keeps = (keeps.job, λ fed was. (fed, (tt, rw is (FailsAtFirst f stays (halted_as fed keeps)))))
 
 -- memory was short before anything was called
-pub short : (here : Phase) (s s' : State) (w : World) (result : Answer) → IsErrAnd result (λ h. h ≡ halt.Memory) → KeepsAll s s' → Turned here s s' w w result
+pub short : (here : Phase) (s s' : State) (w : World) (result : Answer) → IsErrAnd result (λ h. h ≡ fault.Memory) → KeepsAll s s' → Turned here s s' w w result
 unfolding Stays
-short here s s' w result is keeps = stayed here s s' w w halt.Memory result is (refl, refl, refl, refl, tt) keeps
+short here s s' w result is keeps = stayed here s s' w w fault.Memory result is (refl, refl, refl, refl, tt) keeps
 
 -- or after the source was asked
-pub short_asked : (here : Phase) (s s' : State) (w w' : World) (asked : Asked) (result : Answer) → IsErrAnd result (λ h. h ≡ halt.Memory) → Did (asks asked) w w' → KeepsAll s s' → Turned here s s' w w' result
-short_asked here s s' w w' asked result is did keeps = stayed here s s' w w' halt.Memory result is (asked_stays asked w w' did) keeps
+pub short_asked : (here : Phase) (s s' : State) (w w' : World) (asked : Asked) (result : Answer) → IsErrAnd result (λ h. h ≡ fault.Memory) → Did (asks asked) w w' → KeepsAll s s' → Turned here s s' w w' result
+short_asked here s s' w w' asked result is did keeps = stayed here s s' w w' fault.Memory result is (asked_stays asked w w' did) keeps
 
 -- its calls succeed, the hasher is as it was, and what else is held is this
 pub turned_on : {here next : Phase} (s s' : State) (w w' : World) {calls : Calls} {trail : List Frame} {rows : List Row} {contents : List Content}

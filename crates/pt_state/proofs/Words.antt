@@ -21,8 +21,8 @@ pub use Rattle.pt_plan.specs.TurnScan.{logical_path, to_site}
 pub use Rattle.pt_plan.specs.TurnWalk.{in_pairtree}
 pub use Rattle.pt_plan.specs.World.{Adds, Asked, Calls, Change, Creates, Failures, Finds, Finishes, Lists, Makes, NewFile, OfPiece, Opens, Reads, Renames, Untouched, World, asks, dest_tree, does, no_calls, source_tree, tells}
 unfoldable pub use Rattle.pt_plan.specs.World.{Answers, Changes, Puts}
-pub use Rattle.pt_plan.specs.declared.halt.Halt.{Halt}
-pub use Rattle.pt_plan.specs.declared.halt.Halt.TheVariants as halt
+pub use Rattle.pt_plan.specs.declared.fault.Fault.{Fault}
+pub use Rattle.pt_plan.specs.declared.fault.Fault.TheVariants as fault
 pub use Rattle.pt_plan.specs.declared.object.Object.{Object}
 pub use Rattle.pt_plan.specs.declared.phase.Part.{Part}
 pub use Rattle.pt_plan.specs.declared.phase.Part.TheVariants as part

@@ -12,7 +12,7 @@ use Rattle.pt_plan.specs.Answer.{Answer}
 use Rattle.pt_plan.specs.Lines.{Line}
 use Rattle.pt_plan.specs.Turn.{Did, LeavesSome, Stays, Turn}
 use Rattle.pt_plan.specs.World.{Calls, Finds, Lists, World, asks, does, tells}
-use Rattle.pt_plan.specs.declared.halt.Halt.{Halt}
+use Rattle.pt_plan.specs.declared.fault.Fault.{Fault}
 use Rattle.pt_plan.specs.declared.phase.Phase.{Phase}
 use Rattle.pt_state.specs.Lines.{with_line}
 use Rattle.pt_state.specs.States.{job_of, kept_of}
@@ -42,35 +42,35 @@ Turned here s s' old new answer =
 
 -- a call: it did this, or failed and changed nothing; the source was called no more often than that
 pub record Called {O T : Type 0} (world : O → World) (within : O → O → Type 0) (calls : Calls) (old new : O)
-    (result : Result T Halt) : Type 0 where
+    (result : Result T Fault) : Type 0 where
   pub did : OnOk result (Did calls (world old) (world new))
   pub failed : IfErr result (λ why. Stays why (world old) (world new))
   pub few : within old new
 
 -- a listing: so it is with these entries
 pub record Listed {O : Type 0} (world : O → World) (within : O → O → Type 0) (path : Path) (old new : O)
-    (result : Result (List Entry) Halt) : Type 0 where
+    (result : Result (List Entry) Fault) : Type 0 where
   pub did : IfOk result (λ entries. Did (asks (Lists path entries)) (world old) (world new))
   pub failed : IfErr result (λ why. Stays why (world old) (world new))
   pub few : within old new
 
 -- a look at a path: so it is with what stands there
 pub record Found {O : Type 0} (world : O → World) (within : O → O → Type 0) (path : Path) (old new : O)
-    (result : Result (Option Kind) Halt) : Type 0 where
+    (result : Result (Option Kind) Fault) : Type 0 where
   pub did : IfOk result (λ here. Did (does (Finds path here)) (world old) (world new))
   pub failed : IfErr result (λ why. Stays why (world old) (world new))
   pub few : within old new
 
 -- a change: it did this, or failed and left a part
 pub record Wrote {O T : Type 0} (world : O → World) (within : O → O → Type 0) (calls : Calls) (old new : O)
-    (result : Result T Halt) : Type 0 where
+    (result : Result T Fault) : Type 0 where
   pub did : OnOk result (Did calls (world old) (world new))
   pub left : IfErr result (λ why. LeavesSome calls why (world old) (world new))
   pub few : within old new
 
 -- a line: it was put and counted, or a front of it was put, and it isn't counted
 pub record Told {O T : Type 0} (world : O → World) (within : O → O → Type 0) (line : Line) (c c' : Report)
-    (old new : O) (result : Result T Halt) : Type 0 where
+    (old new : O) (result : Result T Fault) : Type 0 where
   pub did : OnOk result (Did (tells line) (world old) (world new))
   pub counted : OnOk result (c' ≡ with_line line c)
   pub left : IfErr result (λ why. LeavesSome (tells line) why (world old) (world new))

@@ -12,7 +12,7 @@ ghost use Rattle.pt_state.specs.Outside.{Told, Wrote};
 use crate::paths::text_of;
 use crate::{Outside, Report};
 use pt_object::members::{put_number, put_text};
-use pt_plan::{Halt, Identifier};
+use pt_plan::{Fault, Identifier};
 use pt_tree::{MemoryFault, NamePath};
 use pt_walk::Cause;
 use serde_json::{Map, Value};
@@ -41,7 +41,7 @@ pub fn put_done<O: Outside>(
     out: &mut O,
     object: &Done<'_>,
     counts: &mut Report,
-) -> Result<(), Halt>
+) -> Result<(), Fault>
     requires { counts.old.done < 2 ^ 40 }
     ensures { Told O.world (O.within 0) (DoneLine object.now.at.now object.now.bytes
         object.now.empty object.now.files object.now.id.now object.now.to.now)
@@ -78,7 +78,7 @@ pub fn put_present<O: Outside>(
     id: &Identifier,
     to: &NamePath,
     counts: &mut Report,
-) -> Result<(), Halt>
+) -> Result<(), Fault>
     requires { counts.old.present < 2 ^ 40 }
     ensures { Told O.world (O.within 0) (PresentLine at.now id.now to.now)
         counts.old counts.new out.old out.new result }
@@ -114,7 +114,7 @@ pub fn put_skip<O: Outside>(
     at: &NamePath,
     cause: Cause,
     counts: &mut Report,
-) -> Result<(), Halt>
+) -> Result<(), Fault>
     requires { counts.old.skipped < 2 ^ 40 }
     ensures { Told O.world (O.within 0) (SkippedLine at.now cause)
         counts.old counts.new out.old out.new result }
@@ -137,7 +137,7 @@ fn skip_line(alloc: Global, at: &NamePath, cause: Cause) -> Result<Value, Memory
 }
 
 /// Tells that the run is done.
-pub fn put_end<O: Outside>(alloc: Global, out: &mut O, counts: &Report) -> Result<(), Halt>
+pub fn put_end<O: Outside>(alloc: Global, out: &mut O, counts: &Report) -> Result<(), Fault>
     ensures { Wrote O.world (O.within 0) (tells (EndLine counts.now.done counts.now.present
         counts.now.skipped)) out.old out.new result }
 {
@@ -158,7 +158,7 @@ fn end_line(alloc: Global, counts: &Report) -> Result<Value, AllocError>
 }
 
 // Puts the line that this is the JSON of.
-fn put<O: Outside>(alloc: Global, out: &mut O, value: &Value) -> Result<(), Halt>
+fn put<O: Outside>(alloc: Global, out: &mut O, value: &Value) -> Result<(), Fault>
     requires { (line : Line) × IsTreeOf line (view value.now) }
     ensures line { (line : Line) → IsTreeOf line (view value.now)
         → OnOk result (Did (tells line) (O.world out.old) (O.world out.new)) }

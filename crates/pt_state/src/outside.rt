@@ -13,7 +13,7 @@ ghost use Rattle.pt_tree.specs.Tree.{IsTree};
 ghost use Rattle.pt_state.specs.Counting.{AtMostCalls, calls_after, calls_more, calls_most, calls_none, calls_still};
 ghost use Rattle.pt_state.specs.Outside.{Called, Found, Listed, Wrote, world as world_of};
 
-use pt_plan::Halt;
+use pt_plan::Fault;
 use pt_tree::{Block, Dest, Kind, Listing, Log, NamePath, Source};
 
 /// What stands outside a run: a source, a destination and a log.
@@ -28,59 +28,59 @@ pub trait Outside {
     ghost within: { ℕ → Self → Self → Type 0 };
 
     /// Lists a directory of the source.
-    fn list(&mut self, path: &NamePath) -> Result<Listing, Halt>
+    fn list(&mut self, path: &NamePath) -> Result<Listing, Fault>
         requires { CanList (world self.old).source path.now }
         ensures { Listed world (within 1) path.now self.old self.new result };
 
     /// Opens a file of the source.
-    fn open(&mut self, path: &NamePath) -> Result<(), Halt>
+    fn open(&mut self, path: &NamePath) -> Result<(), Fault>
         requires { CanOpen (world self.old).source path.now }
         ensures { Called world (within 1) (asks (Opens path.now)) self.old self.new result };
 
     /// Reads the next block of the open file of the source.
-    fn next(&mut self, block: &mut Block) -> Result<(), Halt>
+    fn next(&mut self, block: &mut Block) -> Result<(), Fault>
         requires { CanRead (world self.old).source }
         ensures { Called world (within 1) (asks (Reads block.new.items)) self.old self.new result };
 
     /// Asks what stands at a path of the destination.
-    fn kind(&mut self, path: &NamePath) -> Result<Option<Kind>, Halt>
+    fn kind(&mut self, path: &NamePath) -> Result<Option<Kind>, Fault>
         ensures { Found world (within 0) path.now self.old self.new result };
 
     /// Reads the first block of a file of the destination.
-    fn peek(&mut self, path: &NamePath, block: &mut Block) -> Result<(), Halt>
+    fn peek(&mut self, path: &NamePath, block: &mut Block) -> Result<(), Fault>
         requires { CanPeek (world self.old).dest path.now }
         ensures { Called world (within 0) (does (Peeks path.now block.new.items))
             self.old self.new result };
 
     /// Makes a directory in the destination.
-    fn mkdir(&mut self, path: &NamePath) -> Result<(), Halt>
+    fn mkdir(&mut self, path: &NamePath) -> Result<(), Fault>
         requires { MayMake (world self.old).dest path.now }
         ensures { Called world (within 0) (does (Makes (MakeFolder path.now)))
             self.old self.new result };
 
     /// Makes an empty file in the destination, which is then the open one.
-    fn create(&mut self, path: &NamePath) -> Result<(), Halt>
+    fn create(&mut self, path: &NamePath) -> Result<(), Fault>
         requires { MayMake (world self.old).dest path.now }
         ensures { Called world (within 0) (does (Creates path.now)) self.old self.new result };
 
     /// Adds a piece to the destination's open file.
-    fn append(&mut self, piece: &[u8]) -> Result<(), Halt>
+    fn append(&mut self, piece: &[u8]) -> Result<(), Fault>
         requires { CanWrite (world self.old).dest }
         ensures { Wrote world (within 0) (does (Adds piece.now)) self.old self.new result };
 
     /// Closes the destination's open file.
-    fn finish(&mut self) -> Result<(), Halt>
+    fn finish(&mut self) -> Result<(), Fault>
         requires { CanWrite (world self.old).dest }
         ensures { Called world (within 0) (does Finishes) self.old self.new result };
 
     /// Moves what stands at a path of the destination to another.
-    fn rename(&mut self, from: &NamePath, to: &NamePath) -> Result<(), Halt>
+    fn rename(&mut self, from: &NamePath, to: &NamePath) -> Result<(), Fault>
         requires { MayMove (world self.old).dest from.now to.now }
         ensures { Called world (within 0) (does (Renames from.now to.now))
             self.old self.new result };
 
     /// Puts the text of a line at the end of the log.
-    fn put(&mut self, text: &[u8]) -> Result<(), Halt>
+    fn put(&mut self, text: &[u8]) -> Result<(), Fault>
         ensures ok { (line : Line) → text.now ≡ line_text line → OnOk result (Did (tells line)
             (world self.old) (world self.new)) }
         ensures err { (line : Line) → text.now ≡ line_text line
@@ -195,53 +195,53 @@ impl<'s, 'd, 'l, S: Source, D: Dest, L: Log> Outside for Devices<'s, 'd, 'l, S, 
 
     ghost is_tree = { λ o told is. D.is_tree o.dest.now told is };
 
-    fn list(&mut self, path: &NamePath) -> Result<Listing, Halt> {
+    fn list(&mut self, path: &NamePath) -> Result<Listing, Fault> {
         match self.source.list(path) {
             Ok(listing) => {
                 let _entries = listing.len();
                 Ok(listing)
             }
-            Err(fault) => Err(Halt::of_source(fault)),
+            Err(fault) => Err(Fault::of_source(fault)),
         }
     }
 
-    fn open(&mut self, path: &NamePath) -> Result<(), Halt> {
-        self.source.open(path).map_err(Halt::of_source)
+    fn open(&mut self, path: &NamePath) -> Result<(), Fault> {
+        self.source.open(path).map_err(Fault::of_source)
     }
 
-    fn next(&mut self, block: &mut Block) -> Result<(), Halt> {
-        self.source.next(block).map_err(Halt::of_source)
+    fn next(&mut self, block: &mut Block) -> Result<(), Fault> {
+        self.source.next(block).map_err(Fault::of_source)
     }
 
-    fn kind(&mut self, path: &NamePath) -> Result<Option<Kind>, Halt> {
-        self.dest.kind(path).map_err(Halt::of_dest)
+    fn kind(&mut self, path: &NamePath) -> Result<Option<Kind>, Fault> {
+        self.dest.kind(path).map_err(Fault::of_dest)
     }
 
-    fn peek(&mut self, path: &NamePath, block: &mut Block) -> Result<(), Halt> {
-        self.dest.peek(path, block).map_err(Halt::of_dest)
+    fn peek(&mut self, path: &NamePath, block: &mut Block) -> Result<(), Fault> {
+        self.dest.peek(path, block).map_err(Fault::of_dest)
     }
 
-    fn mkdir(&mut self, path: &NamePath) -> Result<(), Halt> {
-        self.dest.mkdir(path).map_err(Halt::of_dest)
+    fn mkdir(&mut self, path: &NamePath) -> Result<(), Fault> {
+        self.dest.mkdir(path).map_err(Fault::of_dest)
     }
 
-    fn create(&mut self, path: &NamePath) -> Result<(), Halt> {
-        self.dest.create(path).map_err(Halt::of_dest)
+    fn create(&mut self, path: &NamePath) -> Result<(), Fault> {
+        self.dest.create(path).map_err(Fault::of_dest)
     }
 
-    fn append(&mut self, piece: &[u8]) -> Result<(), Halt> {
-        self.dest.append(piece).map_err(Halt::of_dest)
+    fn append(&mut self, piece: &[u8]) -> Result<(), Fault> {
+        self.dest.append(piece).map_err(Fault::of_dest)
     }
 
-    fn finish(&mut self) -> Result<(), Halt> {
-        self.dest.finish().map_err(Halt::of_dest)
+    fn finish(&mut self) -> Result<(), Fault> {
+        self.dest.finish().map_err(Fault::of_dest)
     }
 
-    fn rename(&mut self, from: &NamePath, to: &NamePath) -> Result<(), Halt> {
-        self.dest.rename(from, to).map_err(Halt::of_dest)
+    fn rename(&mut self, from: &NamePath, to: &NamePath) -> Result<(), Fault> {
+        self.dest.rename(from, to).map_err(Fault::of_dest)
     }
 
-    fn put(&mut self, text: &[u8]) -> Result<(), Halt> {
-        self.log.put(text).map_err(Halt::of_log)
+    fn put(&mut self, text: &[u8]) -> Result<(), Fault> {
+        self.log.put(text).map_err(Fault::of_log)
     }
 }

@@ -18,8 +18,8 @@ use Rattle.pt_plan.specs.TurnMake as make
 use Rattle.pt_plan.specs.TurnPlace as place
 use Rattle.pt_plan.specs.TurnStart as start
 use Rattle.pt_plan.specs.World.{Answers, Calls, Failures, LeavesFront, Puts, World, source_tree}
-use Rattle.pt_plan.specs.declared.halt.Halt.{Halt}
-use Rattle.pt_plan.specs.declared.halt.Halt.TheVariants as halt
+use Rattle.pt_plan.specs.declared.fault.Fault.{Fault}
+use Rattle.pt_plan.specs.declared.fault.Fault.TheVariants as fault
 use Rattle.pt_plan.specs.declared.object.Object.{Object}
 use Rattle.pt_plan.specs.declared.phase.Part.TheVariants as part
 use Rattle.pt_plan.specs.declared.phase.Phase.{Phase}
@@ -37,8 +37,8 @@ use Rattle.pt_move.specs.Running.{BeganSomewhere, IsBegun, IsNew, IsWell, Runnin
 use Rattle.pt_move.specs.Stands.{Stands}
 use Rattle.pt_move.specs.Turning.{CountedTurn, HasFed}
 use Rattle.pt_move.specs.Counting.{Rose}
-use Rattle.pt_move.specs.Fault.{fault_number, fault_of}
-use Rattle.pt_move.specs.declared.fault.Fault.TheVariants as fault
+use Rattle.pt_plan.specs.RunFaults.{IsOfTurn, fault_number}
+use Rattle.pt_begun.proofs.refusals.Reasons.{of_turn}
 use Rattle.pt_move.specs.Leaving.{TurnLeaves}
 use Rattle.pt_move.specs.Outcome.{HoldsWithinBound, SaysRightly}
 use Rattle.pt_move.specs.Promises.{TurnKeeps}
@@ -300,10 +300,10 @@ log_of_turn here s s' told told' w v l l' a b c a' b' c' answer (count, it) coun
 risen_none : HasRisen 0 0 → ⊥
 risen_none risen = absurd (omega (arith, risen))
 
-pub blames_halted : {T : Type 0} {s s' : State} {a c a' c' : ℕ} (why : Halt) → TurnLeaves s s' None None (record { source = a; dest = 0; log = c }) (record { source = a'; dest = 0; log = c' }) (Err why) → BlamesRightly {T = T} a a' c c' (Err (fault_of why))
-blames_halted halt.Source left = record { source_is = left.failures.0; log_is = left.failures.2; no_dest = λ is. absurd (cc) }
-blames_halted halt.Dest left = absurd (risen_none left.failures.1)
-blames_halted halt.Log left = record { source_is = left.failures.0; log_is = left.failures.2; no_dest = λ is. absurd (cc) }
+pub blames_halted : {T : Type 0} {s s' : State} {a c a' c' : ℕ} (why : Fault) → TurnLeaves s s' None None (record { source = a; dest = 0; log = c }) (record { source = a'; dest = 0; log = c' }) (Err why) → BlamesRightly {T = T} a a' c c' (Err why)
+blames_halted fault.Source left = record { source_is = left.failures.0; log_is = left.failures.2; no_dest = λ is. absurd (cc) }
+blames_halted fault.Dest left = absurd (risen_none left.failures.1)
+blames_halted fault.Log left = record { source_is = left.failures.0; log_is = left.failures.2; no_dest = λ is. absurd (cc) }
 blames_halted _ left = record { source_is = ap (λ (f : Failures). f.source) left.failures; log_is = ap (λ (f : Failures). f.log) left.failures; no_dest = λ is. absurd (cc) }
 
 pub blames_none : {T : Type 0} {x : T} {s s' : State} {a c a' c' : ℕ} (next : Phase) → TurnLeaves s s' None None (record { source = a; dest = 0; log = c }) (record { source = a'; dest = 0; log = c' }) (Ok next) → BlamesRightly {T = T} a a' c c' (Ok x)
@@ -311,13 +311,13 @@ blames_none next left = record { source_is = ap (λ (f : Failures). f.source) le
 
 -- where it halts it says so rightly
 -- no turn of a survey refuses a destination
-start_refuses : {job : Job} {here : Phase} {prefix read : List ℕ} {calls : Calls} {why : Halt} → start.Starts job here prefix read calls (Err why) → is_of_survey here ≡ true → is_of_dest (fault_of why) ≡ false
+start_refuses : {job : Job} {here : Phase} {prefix read : List ℕ} {calls : Calls} {why : Fault} → start.Starts job here prefix read calls (Err why) → is_of_survey here ≡ true → is_of_dest why ≡ false
 start_refuses (start.IsNoStore _ _ _) is = refl
 start_refuses (start.IsNoPrefixFile _ _ _ _) is = refl
 start_refuses (start.IsNoPrefix _ _ _ _) is = refl
 start_refuses _ is = absurd (true≢false (sym is))
 
-refuses : {job : Job} {counts : Counts} {here : Phase} {prefix read : List ℕ} {held after : Held} {calls : Calls} {why : Halt} → Follows job counts here prefix held read after calls (Err why) → is_of_survey here ≡ true → is_of_dest (fault_of why) ≡ false
+refuses : {job : Job} {counts : Counts} {here : Phase} {prefix read : List ℕ} {held after : Held} {calls : Calls} {why : Fault} → Follows job counts here prefix held read after calls (Err why) → is_of_survey here ≡ true → is_of_dest why ≡ false
 refuses (Start turn) is = start_refuses turn is
 refuses (Walk turn) is = elim turn [ ]
 refuses (Scan turn) is = elim turn [ ]
@@ -325,27 +325,26 @@ refuses (Make (make.ReadsMore _ _ _ _ _ _ _)) is = refl
 refuses (Make (make.ReadsOther _ _ _ _ _ _ _)) is = refl
 refuses (Place (place.IsInTheWay _ _ _ _ _)) is = absurd (true≢false (sym is))
 
-fails_rightly : (why : Halt) (a c a' c' : ℕ) → HasFailed why (record { source = a; dest = 0; log = c }) (record { source = a'; dest = 0; log = c' }) → is_of_dest (fault_of why) ≡ false
-fails_rightly halt.Source _ _ _ _ failed = refl
-fails_rightly halt.Dest _ _ _ _ failed = absurd (risen_none failed.1)
-fails_rightly halt.Log _ _ _ _ failed = refl
-fails_rightly halt.Memory _ _ _ _ failed = refl
+fails_rightly : (why : Fault) (a c a' c' : ℕ) → HasFailed why (record { source = a; dest = 0; log = c }) (record { source = a'; dest = 0; log = c' }) → is_of_dest why ≡ false
+fails_rightly fault.Source _ _ _ _ failed = refl
+fails_rightly fault.Dest _ _ _ _ failed = absurd (risen_none failed.1)
+fails_rightly fault.Log _ _ _ _ failed = refl
+fails_rightly fault.Memory _ _ _ _ failed = refl
 fails_rightly _ _ _ _ _ failed = absurd failed
 
-no_turns : (why : Halt) → fault_of why ≡ fault.Turns → ⊥
-no_turns halt.Source is = absurd (cc)
-no_turns _ is = absurd (cc)
+no_turns : (why : Fault) → IsOfTurn why → why ≡ fault.Turns → ⊥
+no_turns why own is = subst IsOfTurn is own
 
-pub says_of_turn : (here : Phase) (s s' : State) (told told' : Option Reading) (w v : Option Writing) (l l' : Option (List ℕ)) (a c a' c' : ℕ) (why : Halt) → Surveys told (record { phase = here; state = s }) → CountedTurn here s s' (world told w l a 0 c) (world told' v l' a' 0 c') (Err why)
-    → SurveySays s.job (source_tree told) (fault_of why)
+pub says_of_turn : (here : Phase) (s s' : State) (told told' : Option Reading) (w v : Option Writing) (l l' : Option (List ℕ)) (a c a' c' : ℕ) (why : Fault) → Surveys told (record { phase = here; state = s }) → CountedTurn here s s' (world told w l a 0 c) (world told' v l' a' 0 c') (Err why)
+    → SurveySays s.job (source_tree told) why
 unfolding Surveys TurnKeeps CountedTurn Did Stays LeavesSome
 says_of_turn here s s' told told' w v l l' a c a' c' why (count, it) counted = record {
   rightly = (keeps_after here s s' (world told None None a 0 c) (world told' None None a' 0 c') (Err why) (going here it.stands) (counted_alone here s s' told told' w v l l' a 0 c a' 0 c' (Err why) counted) no_start (is_begun a 0 c it)).says.says;
   no_dest = by (counted.1 it.fed (fed_going s.job.algorithm s.hasher it.fed (going here it.stands) it.was)).1.1;
-  turns = λ is. absurd (no_turns why is);
+  turns = λ is. no_turns why (of_turn (counted.1 it.fed (fed_going s.job.algorithm s.hasher it.fed (going here it.stands) it.was)).1.1) is;
 }
   where
-    by : {before after : Kept} {why : Halt} → Turn (job_of s.job) here before after (world told w l a 0 c) (world told' v l' a' 0 c') (Err why) → is_of_dest (fault_of why) ≡ false
+    by : {before after : Kept} {why : Fault} → Turn (job_of s.job) here before after (world told w l a 0 c) (world told' v l' a' 0 c') (Err why) → is_of_dest why ≡ false
     by (IsRefused _ _ _ _ follows _ _) = refuses follows it.stands
     by (FailsAtFirst why stays _) = fails_rightly why _ _ _ _ stays.3
     by (FailsLater _ _ _ _ _ why _ left _ _) = fails_rightly why _ _ _ _ left.1
@@ -390,7 +389,7 @@ leaves_ok here next s s' told told' v l l' a c a' c' it counted = record {
   says = tt;
 }
 
-pub leaves_err : (here : Phase) (why : Halt) (s s' : State) (told told' : Option Reading) (v : Option Writing) (l l' : Option (List ℕ)) (a c a' c' : ℕ) → Surveys told (record { phase = here; state = s }) → CountedTurn here s s' (world told (Some bare) l a 0 c) (world told' v l' a' 0 c') (Err why)
+pub leaves_err : (here : Phase) (why : Fault) (s s' : State) (told told' : Option Reading) (v : Option Writing) (l l' : Option (List ℕ)) (a c a' c' : ℕ) → Surveys told (record { phase = here; state = s }) → CountedTurn here s s' (world told (Some bare) l a 0 c) (world told' v l' a' 0 c') (Err why)
     → Leaves told told' l l' a a' c c' s.job (Err why)
 leaves_err here why s s' told told' v l l' a c a' c' it counted = record {
   tree = tree_of_turn here s s' told told' (Some bare) v l l' a 0 c a' 0 c' (Err why) it counted;
@@ -400,14 +399,14 @@ leaves_err here why s s' told told' v l l' a c a' c' it counted = record {
 }
 
 -- of a turn that tells nothing, over a log that isn't touched
-pub leaves_log : {told told' : Option Reading} (l : Option (List ℕ)) {a a' : ℕ} (c : ℕ) {job : own.Job} {result : Result Phase Halt} → Leaves told told' None None a a' 0 0 job result → Leaves told told' l l a a' c c job result
+pub leaves_log : {told told' : Option Reading} (l : Option (List ℕ)) {a a' : ℕ} (c : ℕ) {job : own.Job} {result : Result Phase Fault} → Leaves told told' None None a a' 0 0 job result → Leaves told told' l l a a' c c job result
 leaves_log l c {result = Ok next} it = record { tree = it.tree; grows = grows_none l; blames = record { source_is = it.blames.source_is; log_is = refl; no_dest = tt }; says = tt }
 leaves_log l c {result = Err why} it = record { tree = it.tree; grows = grows_none l; blames = record { source_is = it.blames.source_is; log_is = never why it.blames.log_is; no_dest = it.blames.no_dest }; says = it.says }
   where
-    never : (why : Halt) → Rose (fault_number (fault_of why) == 3) 0 0 → Rose (fault_number (fault_of why) == 3) c c
-    never halt.Source is = refl
-    never halt.Dest is = refl
-    never halt.Log is = absurd (risen_none is)
+    never : (why : Fault) → Rose (fault_number why == 3) 0 0 → Rose (fault_number why == 3) c c
+    never fault.Source is = refl
+    never fault.Dest is = refl
+    never fault.Log is = absurd (risen_none is)
     never _ is = refl
 
 -- so it is where the object at hand was passed
@@ -415,7 +414,7 @@ pub leaves_passed : (here next : Phase) (s s' : State) (told told' : Option Read
     → Leaves told told' l l a a' c c s.job (Ok (passed next))
 leaves_passed here next s s' told told' v l c a a' it counted = leaves_log l c (leaves_ok here next s s' told told' v None None a 0 a' 0 it counted)
 
-pub leaves_halted : (here : Phase) (why : Halt) (s s' : State) (told told' : Option Reading) (v : Option Writing) (l : Option (List ℕ)) (c a a' : ℕ) → Surveys told (record { phase = here; state = s }) → CountedTurn here s s' (world told (Some bare) None a 0 0) (world told' v None a' 0 0) (Err why)
+pub leaves_halted : (here : Phase) (why : Fault) (s s' : State) (told told' : Option Reading) (v : Option Writing) (l : Option (List ℕ)) (c a a' : ℕ) → Surveys told (record { phase = here; state = s }) → CountedTurn here s s' (world told (Some bare) None a 0 0) (world told' v None a' 0 0) (Err why)
     → Leaves told told' l l a a' c c s.job (Err why)
 leaves_halted here why s s' told told' v l c a a' it counted = leaves_log l c (leaves_err here why s s' told told' v None None a 0 a' 0 it counted)
 
@@ -423,7 +422,7 @@ pub well_ok : (here next : Phase) (s s' : State) (told told' : Option Reading) (
     → CountedTurn here s s' (world told (Some bare) l a b c) (world told' v l' a' b' c') (Ok next) → IsWell (record { phase = passed next; state = s' })
 well_ok here next s s' told told' v l l' a b c a' b' c' it well more counted = passed_well next (well_of_turn here s s' told told' (Some bare) v l l' a b c a' b' c' (Ok next) it well more counted)
 
-pub well_err : (here : Phase) (why : Halt) (s s' : State) (told told' : Option Reading) (v : Option Writing) (l l' : Option (List ℕ)) (a b c a' b' c' : ℕ) → Surveys told (record { phase = here; state = s }) → IsWell (record { phase = here; state = s }) → s.counts.turns < s.job.limits.turns
+pub well_err : (here : Phase) (why : Fault) (s s' : State) (told told' : Option Reading) (v : Option Writing) (l l' : Option (List ℕ)) (a b c a' b' c' : ℕ) → Surveys told (record { phase = here; state = s }) → IsWell (record { phase = here; state = s }) → s.counts.turns < s.job.limits.turns
     → CountedTurn here s s' (world told (Some bare) l a b c) (world told' v l' a' b' c') (Err why) → IsWell (record { phase = phase.Ended; state = s' })
 well_err here why s s' told told' v l l' a b c a' b' c' it well more counted = well_of_turn here s s' told told' (Some bare) v l l' a b c a' b' c' (Err why) it well more counted
 
@@ -483,7 +482,7 @@ module _ (here next : Phase) (s s' : State) (told told' : Option Reading) (v : O
   pub step_leaves_log : at ≡ passed next → IsReady told here s → CountedTurn here s s' (world told (Some bare) None a 0 0) (world told' v None a' 0 0) (Ok next) → Leaves told told' l l a a' c c s.job (Ok at)
   step_leaves_log is ready counted = subst (λ (p : Phase). Leaves told told' l l a a' c c s.job (Ok p)) (sym is) (leaves_passed here next s s' told told' v l c a a' ready.under_way counted)
 
-module _ (here : Phase) (why : Halt) (s s' : State) (told told' : Option Reading) (v : Option Writing) (l l' : Option (List ℕ)) (a c a' c' : ℕ) (answer : Answer) where
+module _ (here : Phase) (why : Fault) (s s' : State) (told told' : Option Reading) (v : Option Writing) (l l' : Option (List ℕ)) (a c a' c' : ℕ) (answer : Answer) where
   pub halt_well : answer ≡ Err why → IsReady told here s → CountedTurn here s s' (world told (Some bare) l a 0 c) (world told' v l' a' 0 c') (Err why) → IsWell (record { phase = phase_after answer; state = s' })
   halt_well is ready counted = subst (λ (r : Answer). IsWell (record { phase = phase_after r; state = s' })) (sym is) (well_err here why s s' told told' v l l' a 0 c a' 0 c' ready.under_way ready.well ready.within counted)
 

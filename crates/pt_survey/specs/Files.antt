@@ -3,14 +3,14 @@ use Rattle.std.specs.Prelude.{◌≡◌, ℕ, zero, ◌-◌, Bool, true, false, 
 use Rattle.std.specs.Bool.{MatchBool, OnTrue}
 use Rattle.pt_move.specs.Running.{Running}
 use Rattle.pt_plan.specs.TurnScan.{Scans}
-use Rattle.pt_plan.specs.World.{Answers, Calls}
+use Rattle.pt_plan.specs.World.{Answers, Calls, source_tree}
 use Rattle.pt_plan.specs.declared.object.Object.{Object}
 use Rattle.pt_plan.specs.declared.phase.Phase.{Phase}
 use Rattle.pt_plan.specs.declared.phase.Phase.TheVariants as phase
 use Rattle.pt_scan.specs.Blocks.{IsNextBlock, is_reading}
 use Rattle.pt_state.specs.States.{held_of, job_of}
 use Rattle.pt_state.specs.declared.state.State.{State}
-use Rattle.pt_survey.specs.Surveying.{passed}
+use Rattle.pt_survey.specs.Surveying.{Steps, passed}
 use Rattle.pt_survey.specs.declared.survey.Opened.{Opened}
 use Rattle.pt_tree.specs.Source.{Reading}
 use Rattle.pt_walk.specs.Trail.{names_to}
@@ -46,6 +46,11 @@ abbrev pub ScansOn : Option Reading → Option Reading → Running → Running �
 ScansOn told told' before after =
     MatchBool (is_scanning before.phase) (Scanned told told' before after)
     (is_of_object after.phase ≡ false)
+
+-- what a step does: it keeps to the measures of a survey, and in an object it makes a turn of a scan
+pub record MakesStep (told told' : Option Reading) (before after : Running) : Type 0 where
+  pub steps : Steps (source_tree told) before after
+  pub scans : ScansOn told told' before after
 
 -- how many names lead to an object, of the path of a file of it
 abbrev pub names_before : Object → ℕ

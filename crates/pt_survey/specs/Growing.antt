@@ -3,11 +3,9 @@ use Rattle.std.proofs.Common.{◌≡◌, ◌≢◌, ◌∙◌, ap, append-nil, a
 use Rattle.std.specs.Prelude.{ℕ, List, [], ◌++◌, Option, None, Some, IfErr, Result, Ok, Err}
 use Rattle.std.specs.Io.KnownBytes.{Appends}
 use Rattle.pt_move.specs.Counting.{Counts}
-use Rattle.pt_move.specs.Fault.{fault_of}
-use Rattle.pt_move.specs.declared.fault.Fault.{Fault}
-use Rattle.pt_move.specs.declared.fault.Fault.TheVariants as fault
+use Rattle.pt_plan.specs.declared.fault.Fault.{Fault}
+use Rattle.pt_plan.specs.declared.fault.Fault.TheVariants as fault
 use Rattle.pt_plan.specs.World.{source_tree}
-use Rattle.pt_plan.specs.declared.halt.Halt.{Halt}
 use Rattle.pt_plan.specs.declared.phase.Phase.{Phase}
 use Rattle.pt_state.specs.declared.job.Job.{Job}
 use Rattle.pt_survey.specs.Surveying.{SurveySays}
@@ -40,11 +38,6 @@ KeepsLog told keeps old new = keeps old new × Grows (told old) (told new)
 abbrev pub KeepsTree : {S : Type 0} → (S → Option Reading) → (S → S → Type 0) → S → S → Type 0
 KeepsTree told keeps old new = keeps old new × (source_tree (told new) ≡ source_tree (told old))
 
--- a halt as a fault
-abbrev pub fault_in : {T : Type 0} → Result T Halt → Result T Fault
-fault_in (Ok x) = Ok x
-fault_in (Err why) = Err (fault_of why)
-
 -- source and log are blamed only where their counts of failures rose, and else these stayed; and there is no destination to blame
 pub record BlamesRightly {T : Type 0} (source source' log log' : ℕ) (result : Result T Fault) : Type 0 where
   pub source_is : Counts 1 source source' result
@@ -53,8 +46,8 @@ pub record BlamesRightly {T : Type 0} (source source' log log' : ℕ) (result : 
 
 -- what a turn leaves outside, whatever it answers: the source's tree is as it was, the log has grown, devices are blamed rightly, and a refusal is true
 pub record Leaves (told told' : Option Reading) (old new : Option (List ℕ)) (source source' log log' : ℕ)
-    (job : Job) (result : Result Phase Halt) : Type 0 where
+    (job : Job) (result : Result Phase Fault) : Type 0 where
   pub tree : source_tree told' ≡ source_tree told
   pub grows : Grows old new
-  pub blames : BlamesRightly source source' log log' (fault_in result)
-  pub says : IfErr result (λ why. SurveySays job (source_tree told) (fault_of why))
+  pub blames : BlamesRightly source source' log log' result
+  pub says : IfErr result (λ why. SurveySays job (source_tree told) why)

@@ -29,8 +29,8 @@ use Rattle.pt_state.specs.States.{held_of, job_of}
 use Rattle.pt_state.specs.declared.job.Job as own
 use Rattle.pt_state.specs.declared.state.State.{State}
 use Rattle.pt_move.specs.Carried.{IsCarried}
-use Rattle.pt_move.specs.declared.fault.Fault.{Fault}
-use Rattle.pt_move.specs.declared.fault.Fault.TheVariants as fault
+use Rattle.pt_plan.specs.declared.fault.Fault.{Fault}
+use Rattle.pt_plan.specs.declared.fault.Fault.TheVariants as fault
 use Rattle.pt_survey.specs.declared.survey.AtHand.{AtHand}
 use Rattle.pt_survey.specs.declared.survey.Sight.{Sight}
 use Rattle.pt_survey.specs.declared.survey.Sight.TheVariants as sight

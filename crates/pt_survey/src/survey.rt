@@ -2,8 +2,7 @@
 // A survey under way, made step by step.
 ghost use Rattle.std.specs.Option.{ForSome};
 ghost use Rattle.std.specs.Prelude.{◌≡◌, ◌≢◌, ℕ, true, length, Option, Some, None, IfErr, OnOk, IfOk};
-ghost use Rattle.pt_move.specs.Running.{IsNew};
-ghost use Rattle.pt_move.specs.Running.{IsWell};
+ghost use Rattle.pt_move.specs.Running.{IsNew, IsWell};
 ghost use Rattle.pt_plan.specs.Answer.{phase_after};
 ghost use Rattle.pt_survey.specs.Growing.{BlamesRightly, KeepsLog, KeepsTree, Leaves};
 ghost use Rattle.pt_plan.specs.World.{source_tree};
@@ -12,16 +11,16 @@ ghost use Rattle.pt_survey.specs.Bare.{bare};
 ghost use Rattle.pt_move.specs.Turning.{CountedTurn};
 ghost use Rattle.pt_plan.specs.declared.phase.Phase.TheVariants as phase;
 ghost use Rattle.pt_scan.specs.Blocks.{ReadsNext};
-ghost use Rattle.pt_survey.specs.Files.{IsOpened, ScansOn, names_before as names_before_file};
-ghost use Rattle.pt_survey.specs.Surveying.{GoesOn, IsHand, IsReady, IsSurvey, Steps, SurveySays, Surveys, is_at_hand as is_at_hand_there, is_looking, passed as passed_phase, sight_at};
+ghost use Rattle.pt_survey.specs.Files.{IsOpened, MakesStep, names_before as names_before_file};
+ghost use Rattle.pt_survey.specs.Surveying.{GoesOn, IsHand, IsReady, IsSurvey, SurveySays, Surveys, is_at_hand as is_at_hand_there, is_looking, passed as passed_phase, sight_at};
 ghost use Rattle.pt_tree.specs.Forest.{is_proper};
 ghost use Rattle.pt_tree.specs.Source.{Reading};
 
 use crate::bare::{Bare, Unread};
 use pt_move::turning::{new_state, turn};
-use pt_move::{Carried, Fault, Job, Report, as_told};
+use pt_move::{Carried, Job, Report, as_told};
 use pt_object::{Contents, Rows};
-use pt_plan::{Halt, Object, Part, Phase};
+use pt_plan::{Fault, Object, Part, Phase};
 use pt_state::paths::entry_path;
 use pt_state::{Devices, State};
 use pt_tree::{Block, Log, MemoryFault, NamePath, Source};
@@ -116,8 +115,7 @@ impl Survey {
             → OnOk result (GoesOn (S.told source.old) (S.told source.new)
             (L.told log.old) (L.told log.new) count self.old self.new) }
         ensures sight { IfOk result (λ sight. sight ≡ sight_at self.new.phase) }
-        ensures steps { OnOk result (Steps (source_tree (S.told source.old)) self.old self.new) }
-        ensures scans { OnOk result (ScansOn (S.told source.old) (S.told source.new)
+        ensures made { OnOk result (MakesStep (S.told source.old) (S.told source.new)
             self.old self.new) }
         ensures source { KeepsTree S.told S.keeps source.old source.new }
         ensures log { KeepsLog L.told L.keeps log.old log.new }
@@ -200,7 +198,7 @@ fn stepped<S: Source, L: Log>(
     here: Phase,
     source: &mut S,
     log: &mut L,
-) -> Result<Phase, Halt>
+) -> Result<Phase, Fault>
     requires ready { IsReady (S.told source.old) here state.old }
     requires more { here ≢ phase.End }
     ensures on { (count : ℕ)
@@ -213,10 +211,7 @@ fn stepped<S: Source, L: Log>(
         (L.told log.old) (L.told log.new)
         (S.failed source.old) (S.failed source.new) (L.failed log.old) (L.failed log.new)
         state.old.job result }
-    ensures steps { IfOk result (λ next. Steps (source_tree (S.told source.old))
-        (record { phase = here; state = state.old })
-        (record { phase = next; state = state.new })) }
-    ensures scans { IfOk result (λ next. ScansOn (S.told source.old) (S.told source.new)
+    ensures made { IfOk result (λ next. MakesStep (S.told source.old) (S.told source.new)
         (record { phase = here; state = state.old })
         (record { phase = next; state = state.new })) }
     ensures source_stays { S.keeps source.old source.new }
@@ -242,7 +237,7 @@ fn look<S: Source, L: Log>(
     here: Phase,
     source: &mut S,
     log: &mut L,
-) -> Result<Phase, Halt>
+) -> Result<Phase, Fault>
     requires ready { IsReady (S.told source.old) here state.old }
     requires looks { is_looking here ≡ true }
     ensures turn { CountedTurn here state.old state.new
@@ -266,7 +261,7 @@ fn look<S: Source, L: Log>(
 }
 
 // Passes the object at hand, of which nothing is told.
-fn pass<S: Source>(state: &mut State, here: Phase, source: &mut S) -> Result<Phase, Halt>
+fn pass<S: Source>(state: &mut State, here: Phase, source: &mut S) -> Result<Phase, Fault>
     requires ready { IsReady (S.told source.old) here state.old }
     requires at_hand { is_at_hand_there here ≡ true }
     ensures turn { CountedTurn here state.old state.new

@@ -15,7 +15,7 @@ use Rattle.pt_plan.specs.TurnMake.{ReadsMore, ReadsOther}
 use Rattle.pt_plan.specs.TurnPlace.{IsInTheWay}
 use Rattle.pt_plan.specs.TurnStart.{HasStaging, IsNoRoot, IsNoFile, Differs}
 use Rattle.pt_plan.specs.World.{Answers, Asked, AsksNothing, Calls, Change, Changes, LeavesFront, LeavesPart, Lists, NewFile, OfFile, OfPiece, Opens, OpensAndReads, Puts, Reads, Untouched, World, source_tree}
-use Rattle.pt_plan.specs.declared.halt.Halt.{Halt}
+use Rattle.pt_plan.specs.declared.fault.Fault.{Fault}
 use Rattle.pt_plan.specs.declared.phase.Phase.{Phase}
 use Rattle.pt_plan.specs.declared.phase.Phase.TheVariants as phase
 use Rattle.pt_begun.specs.Begun.{Begun, HasTold, IsPast as a_past, IsQuiet, ItemsPart, LeftAt, Start, TellsAsBefore, TellsStill}
@@ -34,7 +34,7 @@ use Rattle.pt_begun.proofs.ends.TurnKeeps.{told_log}
 
 -- ---- what the answers that halt a run change
 
-pub refused_same : {job : Job} {counts : Counts} {here : Phase} {prefix : List ℕ} {held : Held} {read : List ℕ} {after : Held} {calls : Calls} {why : Halt} {old new : Option Writing} → Follows job counts here prefix held read after calls (Err why) → Changes calls.change old new → new ≡ old
+pub refused_same : {job : Job} {counts : Counts} {here : Phase} {prefix : List ℕ} {held : Held} {read : List ℕ} {after : Held} {calls : Calls} {why : Fault} {old new : Option Writing} → Follows job counts here prefix held read after calls (Err why) → Changes calls.change old new → new ≡ old
 unfolding Changes
 refused_same (a_start (HasStaging _ _)) change = change.1
 refused_same (a_start (IsNoRoot _ _ _)) change = change.1
@@ -175,7 +175,7 @@ module _ (job : Job) (past : Past) (start : Start) (old new : World) (run : Run)
       by false runs = same_leaves job past start old run s t first (tells_all job past start old run s t first is (ap is_ended at ∙ runs) source_is start_is first_is) dest_is last_is
       by true over = at_end here over (rw (at) at (is.left s source_is t start_is now (sym dest_is) first first_is last (sym last_is)))
 
-  pub halted_left : {after : Kept} {why : Halt} → a_past job start old run past → Turn job run.phase (turning run.kept) after old new (Err why) → old.source ≡ Some s → start.dest ≡ Some t → new.dest ≡ Some now → start.log ≡ Some first → new.log ≡ Some last → IsLeftByFault job s.tree t now.tree first last
+  pub halted_left : {after : Kept} {why : Fault} → a_past job start old run past → Turn job run.phase (turning run.kept) after old new (Err why) → old.source ≡ Some s → start.dest ≡ Some t → new.dest ≡ Some now → start.log ≡ Some first → new.log ≡ Some last → IsLeftByFault job s.tree t now.tree first last
   unfolding Did Stays LeavesSome
   halted_left is (IsRefused _ _ calls _ turn did _) source_is start_is dest_is first_is last_is =
       left_same is source_is start_is (sym dest_is ∙ refused_same turn did.0.dest) first_is

@@ -9,7 +9,7 @@ use Rattle.pt_plan.specs.TurnMake.{ReadsMore, ReadsOther}
 use Rattle.pt_plan.specs.TurnPlace.{IsInTheWay}
 use Rattle.pt_plan.specs.TurnStart.{IsNoStore}
 use Rattle.pt_plan.specs.World.{Calls}
-use Rattle.pt_plan.specs.declared.halt.Halt.{Halt}
+use Rattle.pt_plan.specs.declared.fault.Fault.{Fault}
 use Rattle.pt_plan.specs.declared.phase.Phase.{Phase}
 use Rattle.pt_plan.specs.declared.phase.Phase.TheVariants as phase
 use Rattle.pt_begun.specs.EndLaws.{is_ended}
@@ -33,7 +33,7 @@ follows_runs {job} {counts} {here} {prefix} {held} {read} {after} {calls} {answe
 
 -- ---- what it tells
 
-pub refused_quiet : {job : Job} {counts : Counts} {here : Phase} {prefix : List ℕ} {held : Held} {read : List ℕ} {after : Held} {calls : Calls} {why : Halt} → Follows job counts here prefix held read after calls (Err why) → calls.line ≡ None
+pub refused_quiet : {job : Job} {counts : Counts} {here : Phase} {prefix : List ℕ} {held : Held} {read : List ℕ} {after : Held} {calls : Calls} {why : Fault} → Follows job counts here prefix held read after calls (Err why) → calls.line ≡ None
 refused_quiet (a_start (IsNoStore _ _ _)) = refl
 refused_quiet (a_start _) = refl
 refused_quiet (Walk turn) = elim turn [ ]

@@ -11,8 +11,8 @@ use Rattle.pt_plan.specs.TurnMake.{ReadsMore, ReadsOther}
 use Rattle.pt_plan.specs.TurnPlace.{IsInTheWay}
 use Rattle.pt_plan.specs.TurnStart.{IsNoRoot, IsNoFile, Differs}
 use Rattle.pt_plan.specs.World.{Calls, Failures}
-use Rattle.pt_plan.specs.declared.halt.Halt.{Halt}
-use Rattle.pt_plan.specs.declared.halt.Halt.TheVariants as halt
+use Rattle.pt_plan.specs.declared.fault.Fault.{Fault}
+use Rattle.pt_plan.specs.declared.fault.Fault.TheVariants as fault
 use Rattle.pt_plan.specs.declared.phase.Phase.{Phase}
 use Rattle.pt_plan.specs.declared.phase.Phase.TheVariants as phase
 use Rattle.pt_begun.specs.Begun.{Begun, IsQuiet}
@@ -34,7 +34,7 @@ is_first (phase.Prefix here) = true
 is_first phase.Staging = true
 is_first _ = false
 
-follows_first : {job : Job} {counts : Counts} {here : Phase} {prefix : List ℕ} {held : Held} {read : List ℕ} {after : Held} {calls : Calls} {why : Halt} → Follows job counts here prefix held read after calls (Err why) → is_early why ≡ true → is_first here ≡ true
+follows_first : {job : Job} {counts : Counts} {here : Phase} {prefix : List ℕ} {held : Held} {read : List ℕ} {after : Held} {calls : Calls} {why : Fault} → Follows job counts here prefix held read after calls (Err why) → is_early why ≡ true → is_first here ≡ true
 follows_first (a_start (IsNoRoot _ _ _)) early = absurd (cc)
 follows_first (a_start (IsNoFile _ _ _ _ _ _ _)) early = absurd (cc)
 follows_first (a_start (Differs _ _ _ _ _ _ _)) early = absurd (cc)
@@ -45,17 +45,13 @@ follows_first (Make (ReadsMore _ _ _ _ _ _ _)) early = absurd (cc)
 follows_first (Make (ReadsOther _ _ _ _ _ _ _)) early = absurd (cc)
 follows_first (Place (IsInTheWay _ _ _ _ _)) early = absurd (cc)
 
--- a fault is no such halt
-failed_late : (why : Halt) (old new : Failures) → HasFailed why old new → is_early why ≡ false
-failed_late halt.Source _ _ _ = refl
-failed_late halt.Dest _ _ _ = refl
-failed_late halt.Log _ _ _ = refl
-failed_late halt.Memory _ _ _ = refl
-failed_late halt.NotPairtree _ _ it = absurd (it)
-failed_late halt.Prefix _ _ it = absurd (it)
-failed_late halt.StagingLeft _ _ it = absurd (it)
-failed_late halt.Target _ _ _ = refl
-failed_late halt.Changed _ _ _ = refl
+-- a device that failed is none
+failed_late : (why : Fault) (old new : Failures) → HasFailed why old new → is_early why ≡ false
+failed_late fault.Source _ _ _ = refl
+failed_late fault.Dest _ _ _ = refl
+failed_late fault.Log _ _ _ = refl
+failed_late fault.Memory _ _ _ = refl
+failed_late _ _ _ it = absurd (it)
 
 -- ---- what holds there
 

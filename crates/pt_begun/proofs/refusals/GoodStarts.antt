@@ -13,53 +13,21 @@ use Rattle.pt_tree.specs.Tree.{Bytes, Folder, IsTree, Tree}
 use Rattle.pt_plan.specs.Carried.{Carried, IsUsable, Marked, all_carried, carried_by, is_folder_or_free, is_way_free, marked, place_of_carried}
 use Rattle.pt_plan.specs.Job.{Job}
 use Rattle.pt_plan.specs.Roots.{root_in}
-use Rattle.pt_plan.specs.Run.{Counts, Held, Kept, Run}
-use Rattle.pt_plan.specs.Turn.{FailsAtFirst, FailsLater, Follows, HasFailed, IsRefused, LeavesSome, Make, Place, Scan, Start as a_start, Stays, Turn, Walk}
-use Rattle.pt_plan.specs.TurnMake.{ReadsMore, ReadsOther}
-use Rattle.pt_plan.specs.TurnPlace.{IsInTheWay}
-use Rattle.pt_plan.specs.TurnStart.{IsNoStore}
-use Rattle.pt_plan.specs.World.{Calls, World}
-use Rattle.pt_plan.specs.declared.halt.Halt.{Halt}
-use Rattle.pt_plan.specs.declared.halt.Halt.TheVariants as halt
-use Rattle.pt_plan.specs.declared.phase.Phase.{Phase}
+use Rattle.pt_plan.specs.Run.{Run}
+use Rattle.pt_plan.specs.World.{World}
+use Rattle.pt_plan.specs.declared.fault.Fault.TheVariants as fault
 use Rattle.pt_begun.specs.Begun.{Begun, Start}
 use Rattle.pt_begun.specs.BegunDest.{DestPart}
 use Rattle.pt_begun.specs.GoodStart.{NothingIsRefused}
 use Rattle.pt_begun.specs.RefusalLaws.{HasOtherFile, IsBadTarget, IsBarred, IsCarriedOf, IsNoFolder}
 use Rattle.pt_begun.proofs.items.PlacesTell.{all_at}
+use Rattle.pt_begun.proofs.refusals.Reasons.{halts_for, of_turn}
 use Rattle.pt_begun.proofs.refusals.Refusing.{refuses_rightly}
 use Rattle.pt_begun.proofs.refusals.StagingFound.{finds_staging}
 use Rattle.pt_begun.proofs.dest.StartsDest.{root_stands}
 use Rattle.pt_begun.proofs.refusals.TargetFound.{finds_target_of}
 use Rattle.pt_begun.proofs.Tests.{all_true}
 use Rattle.pt_begun.proofs.items.Telling.{both_tell}
-
--- ---- what a turn halts for
-
--- what a device answered
-abbrev is_refusal : Halt → Bool
-is_refusal halt.NotPairtree = true
-is_refusal halt.Prefix = true
-is_refusal halt.StagingLeft = true
-is_refusal halt.Target = true
-is_refusal halt.Changed = true
-is_refusal _ = false
-
-follows_for : {job : Job} {counts : Counts} {here : Phase} {prefix : List ℕ} {held : Held} {read : List ℕ} {new : Held} {calls : Calls} {why : Halt} → Follows job counts here prefix held read new calls (Err why) → is_refusal why ≡ true
-follows_for (a_start (IsNoStore _ _ _)) = refl
-follows_for (a_start _) = refl
-follows_for (Walk turn) = elim turn [ ]
-follows_for (Scan turn) = elim turn [ ]
-follows_for (Make (ReadsMore _ _ _ _ _ _ _)) = refl
-follows_for (Make (ReadsOther _ _ _ _ _ _ _)) = refl
-follows_for (Place (IsInTheWay _ _ _ _ _)) = refl
-
--- or a device that failed
-halts_for : {job : Job} {here : Phase} {before after : Kept} {old new : World} {why : Halt} → Turn job here before after old new (Err why) → (is_refusal why ≡ true) ⊎ HasFailed why old.failures new.failures
-unfolding Stays LeavesSome
-halts_for (IsRefused _ _ _ _ turn _ _) = inl (follows_for turn)
-halts_for (FailsAtFirst _ stays _) = inr stays.3
-halts_for (FailsLater _ _ _ _ _ _ _ leaves _ _) = inr leaves.1
 
 -- ---- a root that can be gone on with
 
@@ -102,27 +70,28 @@ unfolding Begun
 tree_of job start world run (past, is) some = (both_tell (DestPart job past run.phase run.kept.held) start.dest world.dest some is.dest).2.started
 
 pub nothing_is_refused : NothingIsRefused
-nothing_is_refused _ _ _ _ _ _ halt.Memory _ _ _ _ _ _ _ _ _ = refl
-nothing_is_refused _ _ _ _ _ _ halt.Source _ _ _ turn _ _ _ _ rose = elim (halts_for turn) [
+nothing_is_refused _ _ _ _ _ _ fault.Memory _ _ _ _ _ _ _ _ _ = refl
+nothing_is_refused _ _ _ _ _ _ fault.Source _ _ _ turn _ _ _ _ rose = elim (halts_for turn) [
   | inl refused ↦ absurd (false≢true refused)
   | inr failed ↦ absurd (rose.source failed.0)
 ]
-nothing_is_refused _ _ _ _ _ _ halt.Dest _ _ _ turn _ _ _ _ rose = elim (halts_for turn) [
+nothing_is_refused _ _ _ _ _ _ fault.Dest _ _ _ turn _ _ _ _ rose = elim (halts_for turn) [
   | inl refused ↦ absurd (false≢true refused)
   | inr failed ↦ absurd (rose.dest failed.1)
 ]
-nothing_is_refused _ _ _ _ _ _ halt.Log _ _ _ turn _ _ _ _ rose = elim (halts_for turn) [
+nothing_is_refused _ _ _ _ _ _ fault.Log _ _ _ turn _ _ _ _ rose = elim (halts_for turn) [
   | inl refused ↦ absurd (false≢true refused)
   | inr failed ↦ absurd (rose.log failed.2)
 ]
-nothing_is_refused job start old new run after halt.NotPairtree s _ begun turn told _ good _ _ =
-    absurd (true≢false (sym good.store ∙ refuses_rightly job start old new run after halt.NotPairtree s begun turn told))
-nothing_is_refused job start old new run after halt.Prefix s _ begun turn told _ good _ _ =
-    absurd (true≢false (sym good.prefix ∙ (refuses_rightly job start old new run after halt.Prefix s begun turn told).1))
-nothing_is_refused job start old new run after halt.StagingLeft _ t begun turn _ some _ free _ =
+nothing_is_refused job start old new run after fault.NotPairtree s _ begun turn told _ good _ _ =
+    absurd (true≢false (sym good.store ∙ refuses_rightly job start old new run after fault.NotPairtree s begun turn told))
+nothing_is_refused job start old new run after fault.Prefix s _ begun turn told _ good _ _ =
+    absurd (true≢false (sym good.prefix ∙ (refuses_rightly job start old new run after fault.Prefix s begun turn told).1))
+nothing_is_refused job start old new run after fault.StagingLeft _ t begun turn _ some _ free _ =
     absurd (true≢false (sym (finds_staging job start old new run after t begun turn some) ∙ ap is_some (free [])))
-nothing_is_refused job start old new run after halt.Target s t begun turn told some good _ _ =
+nothing_is_refused job start old new run after fault.Target s t begun turn told some good _ _ =
     absurd
     (never_bad job s.tree (root_in t) (top_of (tree_of job start old run begun some) good.target) good.target
     (finds_target_of job start old new run after s t begun turn told some).1)
-nothing_is_refused job start old new run after halt.Changed s _ begun turn told _ _ _ _ = absurd (refuses_rightly job start old new run after halt.Changed s begun turn told)
+nothing_is_refused job start old new run after fault.Changed s _ begun turn told _ _ _ _ = absurd (refuses_rightly job start old new run after fault.Changed s begun turn told)
+nothing_is_refused _ _ _ _ _ _ _ _ _ _ turn _ _ _ _ _ = absurd (of_turn turn)

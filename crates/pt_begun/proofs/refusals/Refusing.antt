@@ -8,7 +8,7 @@ use Rattle.std.proofs.lemmas.List.{take_all}
 use Rattle.std.specs.Str.{bytes_eq, is_utf8}
 use Rattle.pt_name.specs.Prefix.{prefix_refusal, without_line_ends}
 use Rattle.pt_name.specs.declared.prefix.PrefixFault.{PrefixFault}
-use Rattle.pt_name.specs.declared.prefix.PrefixFault.TheVariants as fault
+use Rattle.pt_name.specs.declared.prefix.PrefixFault.TheVariants as bad
 use Rattle.pt_object.proofs.Ways.{name_itself}
 use Rattle.pt_object.specs.Algorithm.{digest_of}
 use Rattle.pt_object.specs.declared.rows.Row.{Row}
@@ -25,8 +25,8 @@ use Rattle.pt_plan.specs.TurnMake.{ReadsMore, ReadsOther, is_as_read, path_of_so
 use Rattle.pt_plan.specs.TurnPlace.{IsInTheWay}
 use Rattle.pt_plan.specs.TurnStart.{IsNoStore, IsNoPrefixFile, IsNoPrefix, is_file_kind, lists_store}
 use Rattle.pt_plan.specs.World.{Answers, Calls, Failures, World}
-use Rattle.pt_plan.specs.declared.halt.Halt.{Halt}
-use Rattle.pt_plan.specs.declared.halt.Halt.TheVariants as halt
+use Rattle.pt_plan.specs.declared.fault.Fault.{Fault}
+use Rattle.pt_plan.specs.declared.fault.Fault.TheVariants as fault
 use Rattle.pt_plan.specs.declared.object.Object.{Object}
 use Rattle.pt_plan.specs.declared.phase.Phase.{Phase}
 use Rattle.pt_plan.specs.declared.phase.Phase.TheVariants as phase
@@ -50,7 +50,7 @@ no_file (Some (Dir inside)) _ _ _ = refl
 no_file (Some Other) _ _ _ = refl
 
 long_refused : (bytes : List ℕ) → 1024 < length bytes → is_none (prefix_refusal bytes) ≡ false
-long_refused bytes long = ap (λ b. is_none (cond b (Some fault.TooLong) (cond (is_utf8 (without_line_ends bytes)) None (Some fault.NotUtf8)))) (lt-ltb 1024 (length bytes) long)
+long_refused bytes long = ap (λ b. is_none (cond b (Some bad.TooLong) (cond (is_utf8 (without_line_ends bytes)) None (Some bad.NotUtf8)))) (lt-ltb 1024 (length bytes) long)
 
 block_refused : (bytes : List ℕ) {block : List ℕ} {why : PrefixFault} → take 8192 bytes ≡ block → prefix_refusal block ≡ Some why → is_none (prefix_refusal bytes) ≡ false
 block_refused bytes read bad = elim (cases_lt 1024 (length bytes)) [
@@ -102,7 +102,7 @@ module _ (job : Job) (s : Reading) (prefix : List ℕ) (count : ℕ) (object : O
 
 -- ---- the turns
 
-follows_refuse : {job : Job} (s : Reading) (new : Option Reading) {counts : Counts} (count : ℕ) {here : Phase} {prefix : List ℕ} {held : Held} {read : List ℕ} {after : Held} {calls : Calls} {why : Halt}
+follows_refuse : {job : Job} (s : Reading) (new : Option Reading) {counts : Counts} (count : ℕ) {here : Phase} {prefix : List ℕ} {held : Held} {read : List ℕ} {after : Held} {calls : Calls} {why : Fault}
     → is_proper s.tree ≡ true → Follows job counts here prefix held read after calls (Err why) → SourceAt job s prefix count here held → Answers calls.asked (Some s) new → SaysOfSource why s.tree
 unfolding Answers IsListed IsRead
 follows_refuse s _ _ _ (a_start (IsNoStore _ entries is)) _ answers =
@@ -121,19 +121,15 @@ follows_refuse {job} s _ count {prefix} proper (Make (ReadsOther was object posi
     true≢false (sym (ap (λ (r : Row). is_as_read job r left was.fed) same ∙ as_read job s prefix count object was position left proper at (answers.0 s refl)) ∙ other))
 follows_refuse _ _ _ _ (Place (IsInTheWay _ _ _ _ _)) at _ = (at.0.store, at.0.good)
 
--- a fault says nothing of the source
-failed : (why : Halt) (old new : Failures) (source : Forest) → HasFailed why old new → SaysOfSource why source
-failed halt.Source _ _ _ _ = tt
-failed halt.Dest _ _ _ _ = tt
-failed halt.Log _ _ _ _ = tt
-failed halt.Memory _ _ _ _ = tt
-failed halt.NotPairtree _ _ _ it = absurd (it)
-failed halt.Prefix _ _ _ it = absurd (it)
-failed halt.StagingLeft _ _ _ it = absurd (it)
-failed halt.Target _ _ _ it = absurd (it)
-failed halt.Changed _ _ _ it = absurd (it)
+-- a device that failed says nothing of the source
+failed : (why : Fault) (old new : Failures) (source : Forest) → HasFailed why old new → SaysOfSource why source
+failed fault.Source _ _ _ _ = tt
+failed fault.Dest _ _ _ _ = tt
+failed fault.Log _ _ _ _ = tt
+failed fault.Memory _ _ _ _ = tt
+failed _ _ _ _ it = absurd (it)
 
-refused : {job : Job} {past : Past} {start : Start} {old new : World} {run : Run} {after : Kept} {why : Halt} {s : Reading} → IsPast job start old run past → Turn job run.phase (turning run.kept) after old new (Err why) → old.source ≡ Some s → SaysOfSource why s.tree
+refused : {job : Job} {past : Past} {start : Start} {old new : World} {run : Run} {after : Kept} {why : Fault} {s : Reading} → IsPast job start old run past → Turn job run.phase (turning run.kept) after old new (Err why) → old.source ≡ Some s → SaysOfSource why s.tree
 unfolding Did Stays LeavesSome
 refused {past} {new} {s} is (IsRefused _ _ calls _ turn did _) told =
     let part = is.source s told in

@@ -11,7 +11,7 @@ use Rattle.pt_plan.specs.Run.{Counts, Held, Kept, Run, turning}
 use Rattle.pt_plan.specs.Turn.{Did, Follows, Turn, IsRefused, FailsAtFirst, FailsLater, LeavesSome, Stays, Start as a_start, Walk, Scan, Make, Place}
 use Rattle.pt_plan.specs.TurnStart.{HasStaging}
 use Rattle.pt_plan.specs.World.{Calls, Changes, World}
-use Rattle.pt_plan.specs.declared.halt.Halt.TheVariants as halt
+use Rattle.pt_plan.specs.declared.fault.Fault.TheVariants as fault
 use Rattle.pt_plan.specs.declared.phase.Phase.{Phase}
 use Rattle.pt_begun.specs.Begun.{Begun, IsPast, Start}
 use Rattle.pt_begun.specs.BegunDest.{DestPart}
@@ -24,7 +24,7 @@ some_kind None is = absurd (cc)
 some_kind (Some _) _ = refl
 
 follows_find : {job : Job} {past : Past} {t : Tree} {w : Writing} (new : Option Writing) {counts : Counts} {here : Phase} {prefix : List ℕ} {held : Held} {read : List ℕ} {after : Held} {calls : Calls}
-    → Follows job counts here prefix held read after calls (Err halt.StagingLeft) → DestPart job past here held t w → Changes calls.change (Some w) new → is_some (t staging) ≡ true
+    → Follows job counts here prefix held read after calls (Err fault.StagingLeft) → DestPart job past here held t w → Changes calls.change (Some w) new → is_some (t staging) ≡ true
 unfolding Changes IsKindAt
 follows_find {w} _ (a_start (HasStaging _ _)) dest change =
     ap (λ (tree : Tree). is_some (tree staging)) (sym dest.at.tree) ∙ some_kind (w.tree staging) (change.0 w refl)
@@ -33,7 +33,7 @@ follows_find _ (Scan turn) _ _ = elim turn [ ]
 follows_find _ (Make turn) _ _ = elim turn [ ]
 follows_find _ (Place turn) _ _ = elim turn [ ]
 
-found : {job : Job} {past : Past} {start : Start} {old new : World} {run : Run} {after : Kept} {t : Tree} → IsPast job start old run past → Turn job run.phase (turning run.kept) after old new (Err halt.StagingLeft) → start.dest ≡ Some t → is_some (t staging) ≡ true
+found : {job : Job} {past : Past} {start : Start} {old new : World} {run : Run} {after : Kept} {t : Tree} → IsPast job start old run past → Turn job run.phase (turning run.kept) after old new (Err fault.StagingLeft) → start.dest ≡ Some t → is_some (t staging) ≡ true
 unfolding Did Stays LeavesSome
 found {job} {past} {start} {old} {new} {run} is (IsRefused _ _ calls _ turn did _) told =
     let had = both_tell (DestPart job past run.phase run.kept.held) start.dest old.dest told is.dest in

@@ -26,7 +26,7 @@ use Rattle.pt_plan.specs.Turn.{Did, FailsAtFirst, FailsLater, Follows, IsRefused
 use Rattle.pt_plan.specs.TurnPlace.{IsInTheWay, tuple_folder}
 use Rattle.pt_plan.specs.TurnStart.{Differs, IsNoFile, IsNoRoot, is_dir_kind, is_file_kind}
 use Rattle.pt_plan.specs.World.{Calls, Changes, World}
-use Rattle.pt_plan.specs.declared.halt.Halt.TheVariants as halt
+use Rattle.pt_plan.specs.declared.fault.Fault.TheVariants as fault
 use Rattle.pt_plan.specs.declared.object.Object.{Object}
 use Rattle.pt_plan.specs.declared.phase.Phase.{Phase}
 use Rattle.pt_plan.specs.declared.phase.Phase.TheVariants as phase
@@ -110,7 +110,7 @@ module _ (job : Job) (past : Past) (t : Tree) (old : Writing) (new : Option Writ
   abbrev IsFound : Type 0
   IsFound = IsFree t staging × IsBadTarget job (root_in t) objects
 
-  follows_find : {counts : Counts} {here : Phase} {prefix read : List ℕ} {after : Held} {calls : Calls} → IsLayout job.tuples → Follows job counts here prefix held read after calls (Err halt.Target) → HeldAt job past here held → DestPart job past here held t old → Changes calls.change (Some old) new
+  follows_find : {counts : Counts} {here : Phase} {prefix read : List ℕ} {after : Held} {calls : Calls} → IsLayout job.tuples → Follows job counts here prefix held read after calls (Err fault.Target) → HeldAt job past here held → DestPart job past here held t old → Changes calls.change (Some old) new
       → ((object : Object) (number : ℕ) → here ≡ phase.Tuples object number → objects (object_held object held.rows past.bytes)) → IsFound
   unfolding Changes IsKindAt IsPeeked
   follows_find _ (a_start (IsNoRoot _ _ other)) _ dest change _ =
@@ -133,7 +133,7 @@ module _ (job : Job) (past : Past) (t : Tree) (old : Writing) (new : Option Writ
 
 -- ---- the laws
 
-found : (job : Job) (past : Past) (start : Start) (old new : World) (run : Run) (after : Kept) (t : Tree) (objects : Carried → Type 0) → IsPast job start old run past → Turn job run.phase (turning run.kept) after old new (Err halt.Target) → start.dest ≡ Some t
+found : (job : Job) (past : Past) (start : Start) (old new : World) (run : Run) (after : Kept) (t : Tree) (objects : Carried → Type 0) → IsPast job start old run past → Turn job run.phase (turning run.kept) after old new (Err fault.Target) → start.dest ≡ Some t
     → ((object : Object) (number : ℕ) → run.phase ≡ phase.Tuples object number → objects (object_held object run.kept.held.rows past.bytes)) → IsFree t staging × IsBadTarget job (root_in t) objects
 unfolding Did Stays LeavesSome
 found job past start old new run _ t objects is (IsRefused _ _ calls _ turn did _) told some =

@@ -10,7 +10,7 @@ use Rattle.pt_plan.specs.Run.{Kept, Run, turning}
 use Rattle.pt_plan.specs.Turn.{Did, FailsAtFirst, FailsLater, GoesOn, IsRefused, LeavesSome, Stays, Turn}
 use Rattle.pt_plan.specs.Work.{work}
 use Rattle.pt_plan.specs.World.{World, source_tree}
-use Rattle.pt_plan.specs.declared.halt.Halt.TheVariants as halt
+use Rattle.pt_plan.specs.declared.fault.Fault.TheVariants as fault
 use Rattle.pt_plan.specs.declared.phase.Phase.{Phase}
 use Rattle.pt_plan.specs.declared.phase.Phase.TheVariants as phase
 use Rattle.pt_begun.specs.Begun.{Begun, Start}
@@ -47,12 +47,12 @@ without_turn : (job : Job) (start : Start) (world : World) (kept : Kept) → Beg
 unfolding Begun
 without_turn _ _ _ _ (past, is) = (past, record { layout = is.layout; held = is.held; source = is.source; dest = is.dest; items = λ s e old f. record { places = (is.items s e old f).places; lines_are = record { done = (is.items s e old f).lines_are.done; present = (is.items s e old f).lines_are.present; skipped = (is.items s e old f).lines_are.skipped } }; log = is.log; quiet = is.quiet; left = is.left })
 
-no_turn : (job : Job) (here : Phase) (kept : Kept) (world : World) → Turn job here (turning kept) (turning kept) world world (Err halt.Memory)
+no_turn : (job : Job) (here : Phase) (kept : Kept) (world : World) → Turn job here (turning kept) (turning kept) world world (Err fault.Memory)
 unfolding Stays
-no_turn _ _ _ _ = FailsAtFirst halt.Memory (refl, refl, refl, refl, tt) (record { prefix = refl; trail = refl; rows_are = refl; contents = refl; counts = refl })
+no_turn _ _ _ _ = FailsAtFirst fault.Memory (refl, refl, refl, refl, tt) (record { prefix = refl; trail = refl; rows_are = refl; contents = refl; counts = refl })
 
 stops_begun : (job : Job) (start : Start) (world : World) (run : Run) → Begun job start world run → Begun job start world (record { phase = phase.Ended; kept = run.kept })
-stops_begun job start world run begun = without_turn job start world run.kept (turn_ends_begun job start world world run (turning run.kept) halt.Memory begun (no_turn job run.phase run.kept world))
+stops_begun job start world run begun = without_turn job start world run.kept (turn_ends_begun job start world world run (turning run.kept) fault.Memory begun (no_turn job run.phase run.kept world))
 
 pub stops_within_work : StopsWithinWork
 unfolding BegunWithinWork Begun

@@ -1,5 +1,4 @@
 use Rattle.std.proofs.Common.{rules}
-use Rattle.pt_move.specs.Fault.{fault_of}
 use Rattle.pt_audit.proofs.Pacing.{behind}
 use Rattle.pt_audit.proofs.Saying.{says_fault, says_read}
 use Rattle.pt_audit.proofs.Telling.{surveys_on}
@@ -7,16 +6,16 @@ use Rattle.pt_audit.proofs.auditing.see.Goals as goal
 
 pub returns-in_err-follow-clause-says : goal.returns-in_err-follow-clause-says
 returns-in_err-follow-clause-says g c =
-    says_fault c.from_residual-in_err-follow.result (fault_of c.in_err-follow.field-0.0) _ _ _ (search rules) (says_read _ _ _ c.in_err-follow.field-0.0 _ _ c.in_err-follow.ensures.failures)
+    says_fault c.from_residual-in_err-follow.result c.in_err-follow.field-0.0 _ _ _ (search rules) (says_read _ _ _ c.in_err-follow.field-0.0 _ _ c.in_err-follow.ensures.failures)
 
 pub returns-clause-saw : goal.returns-clause-saw
 returns-clause-saw g c =
     let now = surveys_on _ _ _ _ _ _ c.requires.under_way c.in_ok-sight.ensures.on in (
-      c.in_ok-sight.ensures.steps,
+      c.in_ok-sight.ensures.made.steps,
       record {
         follows = record {
           under_way = now;
-          paced = c.in_ok-follow.ensures.paced _ (behind _ _ _ _ _ _ c.requires.under_way now c.in_ok-sight.ensures.scans c.in_ok-sight.ensures.source.1 c.requires.paced);
+          paced = c.in_ok-follow.ensures.paced _ (behind _ _ _ _ _ _ c.requires.under_way now c.in_ok-sight.ensures.made.scans c.in_ok-sight.ensures.source.1 c.requires.paced);
           can = c.in_ok-follow.ensures.still;
         };
         saw = c.in_ok-sight.ensures.sight;

@@ -38,3 +38,9 @@ returns-in-Err-Differs-clause-found g c =
     (c.in_ok-add.ensures.marks ∙ ap (λ (e : Noted). with_mark c.new.result c.in-Some.kind (marks_of e)) c.new-entries.ensures)
     c.in-Err-Differs.difference (marks_of c.meet_object.new.entries)
     (subst (λ (e : Stop). ForSome (tree_in (g.S.Source.told c.args.source.now)) (λ s. ForSome (tree_in (g.R.Source.told c.at_place.new.root)) (λ f. MeetsObject (sought_of c.args.object.now s) (inside f c.args.object.now.to.now) (marks_of c.add-2.new.self) (marks_of c.meet_object.new.entries) (Err e)))) c.in-Err-Differs.field-0-is c.in-Err-Differs.ensures.met)
+
+pub at_place-requires : goal.at_place-requires
+at_place-requires g c = c.requires.known.stands
+
+pub meet_object-requires-clause-alike : goal.meet_object-requires-clause-alike
+meet_object-requires-clause-alike g c = rw c.at_place.ensures.same c.requires.known.alike

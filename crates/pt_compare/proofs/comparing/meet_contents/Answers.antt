@@ -6,7 +6,7 @@ use Rattle.pt_compare.specs.Parts.{fronts, in_content, way_items}
 use Rattle.pt_compare.specs.Root.{tree_in}
 use Rattle.pt_object.specs.declared.contents.Content.{Content}
 use Rattle.pt_plan.specs.World.{Failures}
-use Rattle.pt_plan.specs.declared.halt.Halt.TheVariants as halt
+use Rattle.pt_plan.specs.declared.fault.Fault.TheVariants as fault
 use Rattle.pt_tree.specs.Path.{Path}
 use Rattle.pt_tree.specs.Source.{CanOpen}
 use Rattle.std.proofs.lemmas.Bool.{ltb-true}
@@ -39,10 +39,10 @@ returns-in_err-meet_way-clause-met g c =
     (tree_in (g.R.Source.told c.loop-i.root)) (marks_of c.meet_way.new.entries) (marks_of c.meet_way.new.entries) c.in_err-meet_way.field-0.0 c.from_residual.result c.loop-i.invariant.root_tree c.from_residual.ensures.1 c.in_err-meet_way.ensures.met
 
 pub returns-in_err-path-clause-met : goal.returns-in_err-path-clause-met
-returns-in_err-path-clause-met g c = halts_from _ _ _ _ _ _ c.from_residual-in_err-path.result halt.Memory c.from_residual-in_err-path.ensures.1
+returns-in_err-path-clause-met g c = halts_from _ _ _ _ _ _ c.from_residual-in_err-path.result fault.Memory c.from_residual-in_err-path.ensures.1
 
 pub returns-in_err-from-clause-met : goal.returns-in_err-from-clause-met
-returns-in_err-from-clause-met g c = halts_from _ _ _ _ _ _ c.from_residual-in_err-from.result halt.Memory c.from_residual-in_err-from.ensures.1
+returns-in_err-from-clause-met g c = halts_from _ _ _ _ _ _ c.from_residual-in_err-from.result fault.Memory c.from_residual-in_err-from.ensures.1
 
 pub meet_stored-requires-clause-noted : goal.meet_stored-requires-clause-noted
 meet_stored-requires-clause-noted g c =

@@ -6,7 +6,7 @@ use Rattle.pt_compare.specs.Root.{tree_in}
 use Rattle.pt_object.specs.Files.{sidecar_text}
 use Rattle.pt_object.specs.Object.{inventory_name, sidecar_name, version_folder}
 use Rattle.pt_object.specs.Script.{MakeFile}
-use Rattle.pt_plan.specs.declared.halt.Halt.TheVariants as halt
+use Rattle.pt_plan.specs.declared.fault.Fault.TheVariants as fault
 use Rattle.pt_compare.proofs.Going.{goes_from, halts_in}
 use Rattle.pt_compare.proofs.Steps.{goes_items, last_items_met, noted_items, stop_items}
 use Rattle.pt_compare.proofs.comparing.meet_copies.Goals as goal
@@ -36,13 +36,13 @@ returns-clause-met g c =
     (goes_from (tree_in (g.R.Source.told c.args.root.now)) c.args.object.now.to.now (last_items c.args.object.now.algorithm c.args.text.now) (marks_of c.args.entries.now)) c.in_ok-meet_bytes.ensures.met) c.in_ok-meet_bytes-2.ensures.met) c.meet_bytes-3.ensures.met
 
 pub returns-in_err-line-clause-met : goal.returns-in_err-line-clause-met
-returns-in_err-line-clause-met g c = halts_in _ _ _ _ _ c.from_residual.result halt.Memory c.from_residual.ensures.1
+returns-in_err-line-clause-met g c = halts_in _ _ _ _ _ c.from_residual.result fault.Memory c.from_residual.ensures.1
 
 pub returns-in_err-path-clause-met : goal.returns-in_err-path-clause-met
-returns-in_err-path-clause-met g c = halts_in _ _ _ _ _ c.from_residual-in_err-path.result halt.Memory c.from_residual-in_err-path.ensures.1
+returns-in_err-path-clause-met g c = halts_in _ _ _ _ _ c.from_residual-in_err-path.result fault.Memory c.from_residual-in_err-path.ensures.1
 
 pub returns-in_err-path-2-clause-met : goal.returns-in_err-path-2-clause-met
-returns-in_err-path-2-clause-met g c = halts_in _ _ _ _ _ c.from_residual-in_err-path-2.result halt.Memory c.from_residual-in_err-path-2.ensures.1
+returns-in_err-path-2-clause-met g c = halts_in _ _ _ _ _ c.from_residual-in_err-path-2.result fault.Memory c.from_residual-in_err-path-2.ensures.1
 
 pub returns-in_err-path-3-clause-met : goal.returns-in_err-path-3-clause-met
-returns-in_err-path-3-clause-met g c = halts_in _ _ _ _ _ c.from_residual-in_err-path-3.result halt.Memory c.from_residual-in_err-path-3.ensures.1
+returns-in_err-path-3-clause-met g c = halts_in _ _ _ _ _ c.from_residual-in_err-path-3.result fault.Memory c.from_residual-in_err-path-3.ensures.1

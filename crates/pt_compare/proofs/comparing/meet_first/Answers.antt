@@ -5,7 +5,7 @@ use Rattle.pt_compare.specs.Root.{tree_in}
 use Rattle.pt_object.specs.Files.{object_declaration_bytes}
 use Rattle.pt_object.specs.Object.{object_declaration_name, version_folder}
 use Rattle.pt_object.specs.Script.{MakeFile, MakeFolder}
-use Rattle.pt_plan.specs.declared.halt.Halt.TheVariants as halt
+use Rattle.pt_plan.specs.declared.fault.Fault.TheVariants as fault
 use Rattle.pt_compare.proofs.Going.{goes_from, halts_in}
 use Rattle.pt_compare.proofs.Steps.{goes_items, last_items_met, noted_items, stop_items}
 use Rattle.pt_compare.proofs.comparing.meet_first.Goals as goal
@@ -35,7 +35,7 @@ returns-clause-met g c =
     (goes_from (tree_in (g.R.Source.told c.args.root.now)) c.args.place.now first_items (marks_of c.args.entries.now)) c.in_ok-meet_folder.ensures.met) c.in_ok-meet_bytes.ensures.met) c.meet_folder-2.ensures.met
 
 pub returns-in_err-declaration-clause-met : goal.returns-in_err-declaration-clause-met
-returns-in_err-declaration-clause-met g c = halts_in _ _ _ _ _ c.from_residual-in_err-declaration.result halt.Memory c.from_residual-in_err-declaration.ensures.1
+returns-in_err-declaration-clause-met g c = halts_in _ _ _ _ _ c.from_residual-in_err-declaration.result fault.Memory c.from_residual-in_err-declaration.ensures.1
 
 pub returns-in_err-version-clause-met : goal.returns-in_err-version-clause-met
-returns-in_err-version-clause-met g c = halts_in _ _ _ _ _ c.from_residual-in_err-version.result halt.Memory c.from_residual-in_err-version.ensures.1
+returns-in_err-version-clause-met g c = halts_in _ _ _ _ _ c.from_residual-in_err-version.result fault.Memory c.from_residual-in_err-version.ensures.1

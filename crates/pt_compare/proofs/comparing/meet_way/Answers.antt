@@ -4,7 +4,7 @@ use Rattle.pt_compare.specs.Marks.{marks_of}
 use Rattle.pt_compare.specs.Parts.{fronts, leads_to_last, way_items}
 use Rattle.pt_compare.specs.Root.{tree_in}
 use Rattle.pt_object.specs.Script.{MakeFolder}
-use Rattle.pt_plan.specs.declared.halt.Halt.TheVariants as halt
+use Rattle.pt_plan.specs.declared.fault.Fault.TheVariants as fault
 use Rattle.pt_compare.proofs.Going.{goes_from, halts_in}
 use Rattle.pt_compare.proofs.OnWay.{way_ended, way_met, way_passed, way_stops}
 use Rattle.pt_compare.proofs.Steps.{noted_items}
@@ -25,10 +25,10 @@ loop-names-init g c = record {
 }
 
 pub returns-in_err-folder-clause-met : goal.returns-in_err-folder-clause-met
-returns-in_err-folder-clause-met g c = halts_in _ _ _ _ _ c.from_residual-in_err-folder.result halt.Memory c.from_residual-in_err-folder.ensures.1
+returns-in_err-folder-clause-met g c = halts_in _ _ _ _ _ c.from_residual-in_err-folder.result fault.Memory c.from_residual-in_err-folder.ensures.1
 
 pub returns-in_err-whole-clause-met : goal.returns-in_err-whole-clause-met
-returns-in_err-whole-clause-met g c = halts_in _ _ _ _ _ c.from_residual.result halt.Memory c.from_residual.ensures.1
+returns-in_err-whole-clause-met g c = halts_in _ _ _ _ _ c.from_residual.result fault.Memory c.from_residual.ensures.1
 
 pub loop-names-preserved-then-is_met : goal.loop-names-preserved-then-is_met
 loop-names-preserved-then-is_met g c = record {

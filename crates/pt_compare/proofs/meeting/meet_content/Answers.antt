@@ -1,7 +1,7 @@
 use Rattle.std.proofs.Common.{arith, rules, refl, sym, ◌≡◌}
 use Rattle.std.specs.Option.{option_map}
 use Rattle.pt_compare.specs.Marks.{marks_of}
-use Rattle.pt_plan.specs.declared.halt.Halt.TheVariants as halt
+use Rattle.pt_plan.specs.declared.fault.Fault.TheVariants as fault
 use Rattle.pt_tree.specs.Source.{after_open}
 use Rattle.pt_compare.proofs.Going.{halt_is, halted_from, halts_from}
 use Rattle.pt_compare.proofs.Single.{alike_met, alike_other, source_reads, unopened_from}
@@ -22,7 +22,7 @@ pub returns-in_err-are_alike-clause-met : goal.returns-in_err-are_alike-clause-m
 returns-in_err-are_alike-clause-met g c = halted_from _ _ _ _ _ _ c.from_residual-in_err-are_alike.result c.in_err-are_alike.field-0.0 c.from_residual-in_err-are_alike.ensures.1 c.in_err-are_alike.ensures.halts
 
 pub returns-in_err-copy-clause-met : goal.returns-in_err-copy-clause-met
-returns-in_err-copy-clause-met g c = halts_from _ _ _ _ _ _ c.from_residual-in_err-copy.result halt.Memory c.from_residual-in_err-copy.ensures.1
+returns-in_err-copy-clause-met g c = halts_from _ _ _ _ _ _ c.from_residual-in_err-copy.result fault.Memory c.from_residual-in_err-copy.ensures.1
 
 pub returns-then-branch-clause-met : goal.returns-then-branch-clause-met
 returns-then-branch-clause-met g c =

@@ -1,7 +1,7 @@
 use Rattle.std.proofs.Common.{arith, rules, refl, sym, subst, ◌++◌, ◌∙◌}
 use Rattle.pt_compare.specs.Marks.{marks_of}
 use Rattle.pt_compare.specs.Root.{Lists, tree_in}
-use Rattle.pt_plan.specs.declared.halt.Halt.TheVariants as halt
+use Rattle.pt_plan.specs.declared.fault.Fault.TheVariants as fault
 use Rattle.pt_tree.specs.Path.{Path}
 use Rattle.pt_tree.specs.Source.{CanList}
 use Rattle.pt_tree.specs.declared.kind.Kind.TheVariants as kind
@@ -12,10 +12,10 @@ use Rattle.pt_compare.proofs.Single.{entered, kind_is, wrong_one}
 use Rattle.pt_compare.proofs.meeting.meet_folder.Goals as goal
 
 pub returns-in_err-here-clause-met : goal.returns-in_err-here-clause-met
-returns-in_err-here-clause-met g c = halts_in _ _ _ _ _ c.from_residual.result halt.Memory c.from_residual.ensures.1
+returns-in_err-here-clause-met g c = halts_in _ _ _ _ _ c.from_residual.result fault.Memory c.from_residual.ensures.1
 
 pub returns-in_err-whole-clause-met : goal.returns-in_err-whole-clause-met
-returns-in_err-whole-clause-met g c = halts_in _ _ _ _ _ c.from_residual-in_err-whole.result halt.Memory c.from_residual-in_err-whole.ensures.1
+returns-in_err-whole-clause-met g c = halts_in _ _ _ _ _ c.from_residual-in_err-whole.result fault.Memory c.from_residual-in_err-whole.ensures.1
 
 pub returns-in_err-listing-clause-met : goal.returns-in_err-listing-clause-met
 returns-in_err-listing-clause-met g c =
@@ -23,7 +23,7 @@ returns-in_err-listing-clause-met g c =
     (first_of (search rules, search (rules, halt_is), grind (arith, halt_is)))
 
 pub returns-in_err-note-clause-met : goal.returns-in_err-note-clause-met
-returns-in_err-note-clause-met g c = halts_in _ _ _ _ _ c.from_residual-in_err-note.result halt.Memory c.from_residual-in_err-note.ensures.1
+returns-in_err-note-clause-met g c = halts_in _ _ _ _ _ c.from_residual-in_err-note.result fault.Memory c.from_residual-in_err-note.ensures.1
 
 pub list-requires : goal.list-requires
 list-requires g c =

@@ -4,7 +4,7 @@ use Rattle.pt_compare.specs.Bytes.{IsAllLeft}
 use Rattle.pt_compare.specs.Found.{texts_of_object}
 use Rattle.pt_compare.specs.Marks.{marks_of}
 use Rattle.pt_compare.specs.declared.stop.Stop.TheVariants as stop
-use Rattle.pt_plan.specs.declared.halt.Halt.TheVariants as halt
+use Rattle.pt_plan.specs.declared.fault.Fault.TheVariants as fault
 use Rattle.pt_compare.proofs.Described.{on_none, on_some}
 use Rattle.pt_compare.proofs.Going.{halt_is}
 use Rattle.pt_compare.proofs.Single.{halted_text, text_met, text_other, unopened_text, was_ok}
@@ -17,7 +17,7 @@ pub returns-in_err-stands-clause-met : goal.returns-in_err-stands-clause-met
 returns-in_err-stands-clause-met g c = halted_text _ _ _ _ _ _ c.from_residual-in_err-stands.result c.in_err-stands.field-0.0 c.from_residual-in_err-stands.ensures.1 (first_of (search rules, search (rules, halt_is), grind (arith, halt_is)))
 
 pub returns-in_err-text-clause-met : goal.returns-in_err-text-clause-met
-returns-in_err-text-clause-met g c = halted_text _ _ _ _ _ _ c.from_residual-in_err-text.result (stop.Halt halt.Memory) c.from_residual-in_err-text.ensures.1 tt
+returns-in_err-text-clause-met g c = halted_text _ _ _ _ _ _ c.from_residual-in_err-text.result (stop.Fault fault.Memory) c.from_residual-in_err-text.ensures.1 tt
 
 pub returns-in-Some-clause-met : goal.returns-in-Some-clause-met
 returns-in-Some-clause-met g c =

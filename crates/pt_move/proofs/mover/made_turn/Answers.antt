@@ -7,6 +7,7 @@ pub returns-clause-made : goal.returns-clause-made
 returns-clause-made g c = record {
   tree = search (rules, making_turn, outcomes);
   turn = c.turn.ensures.turn.turn;
+  own = c.turn.ensures.turn.own;
   well = search (rules, making_turn, outcomes);
   leaves = search (rules, making_turn, outcomes);
   few = g.met.O.Outside.most _ _ _ _ c.turn.ensures.turn.few (search (rules, making_turn));

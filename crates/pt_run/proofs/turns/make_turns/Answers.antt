@@ -4,8 +4,8 @@ use Rattle.pt_move.proofs.Answering.{has_begun}
 use Rattle.pt_move.proofs.Migrating.{migrates_halted, migrates_whole, new_so_far, so_far_on}
 use Rattle.pt_move.proofs.Ran.{smaller}
 use Rattle.pt_move.specs.Stepping.{Stays}
-use Rattle.pt_move.specs.declared.fault.Fault.{Fault}
-use Rattle.pt_move.specs.declared.fault.Fault.TheVariants as fault
+use Rattle.pt_plan.specs.declared.fault.Fault.{Fault}
+use Rattle.pt_plan.specs.declared.fault.Fault.TheVariants as fault
 use Rattle.pt_move.specs.declared.mover.Turn.{Turn}
 use Rattle.pt_run.proofs.turns.make_turns.Goals as goal
 

@@ -33,10 +33,6 @@ pub returns-in_ok-pass-clause-leaves : goal.returns-in_ok-pass-clause-leaves
 returns-in_ok-pass-clause-leaves g c =
     step_leaves_log c.args.here c.in_ok-pass.field-0 _ _ _ _ _ _ None _ _ _ 0 _ (search rules) c.requires.ready c.in_ok-pass.ensures.turn
 
-pub returns-in_ok-pass-clause-steps : goal.returns-in_ok-pass-clause-steps
-returns-in_ok-pass-clause-steps g c =
-    step_steps c.args.here c.in_ok-pass.field-0 _ _ _ _ _ _ None None _ _ _ _ _ _ _ (search rules) c.requires.ready c.in_ok-pass.ensures.turn
-
 pub returns-in_ok-look-clause-on : goal.returns-in_ok-look-clause-on
 returns-in_ok-look-clause-on g c = λ count it.
     step_looks c.args.here c.in_ok-look.field-0 _ _ _ _ _ _ _ _ _ _ _ _ count (search rules)
@@ -50,15 +46,15 @@ pub returns-in_ok-look-clause-leaves : goal.returns-in_ok-look-clause-leaves
 returns-in_ok-look-clause-leaves g c =
     step_leaves c.args.here c.in_ok-look.field-0 _ _ _ _ _ _ _ _ _ _ _ _ (search rules) c.requires.ready c.in_ok-look.ensures.turn
 
-pub returns-in_ok-look-clause-steps : goal.returns-in_ok-look-clause-steps
-returns-in_ok-look-clause-steps g c =
-    step_steps c.args.here c.in_ok-look.field-0 _ _ _ _ _ _ _ _ _ _ _ _ _ _ _ (search rules) c.requires.ready c.in_ok-look.ensures.turn
+pub returns-in_ok-pass-clause-made : goal.returns-in_ok-pass-clause-made
+returns-in_ok-pass-clause-made g c = record {
+  steps = step_steps c.args.here c.in_ok-pass.field-0 _ _ _ _ _ _ None None _ _ _ _ _ _ _ (search rules) c.requires.ready c.in_ok-pass.ensures.turn;
+  scans = step_scans_none c.args.here c.in_ok-pass.field-0 _ _ _ _ _ _ _ _ _ _ _ _ _ _ _ (search rules) (search rules) c.requires.ready.under_way c.in_ok-pass.ensures.turn;
+}
 
-pub returns-in_ok-pass-clause-scans : goal.returns-in_ok-pass-clause-scans
-returns-in_ok-pass-clause-scans g c =
-    step_scans_none c.args.here c.in_ok-pass.field-0 _ _ _ _ _ _ _ _ _ _ _ _ _ _ _ (search rules) (search rules) c.requires.ready.under_way c.in_ok-pass.ensures.turn
-
-pub returns-in_ok-look-clause-scans : goal.returns-in_ok-look-clause-scans
-returns-in_ok-look-clause-scans g c =
-    step_scans c.args.here c.in_ok-look.field-0 _ _ _ _ _ _ _ _ _ _ _ _ _ _ _ (search rules)
-    (looking_is _ c.args.here _ c.requires.ready.under_way (search rules) c.requires.more) c.requires.ready.under_way c.in_ok-look.ensures.turn c.in_ok-look.ensures.block
+pub returns-in_ok-look-clause-made : goal.returns-in_ok-look-clause-made
+returns-in_ok-look-clause-made g c = record {
+  steps = step_steps c.args.here c.in_ok-look.field-0 _ _ _ _ _ _ _ _ _ _ _ _ _ _ _ (search rules) c.requires.ready c.in_ok-look.ensures.turn;
+  scans = step_scans c.args.here c.in_ok-look.field-0 _ _ _ _ _ _ _ _ _ _ _ _ _ _ _ (search rules)
+    (looking_is _ c.args.here _ c.requires.ready.under_way (search rules) c.requires.more) c.requires.ready.under_way c.in_ok-look.ensures.turn c.in_ok-look.ensures.block;
+}

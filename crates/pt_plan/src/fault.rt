@@ -1,11 +1,14 @@
 // Why a run ends before its end.
 ghost use Rattle.std.specs.Prelude.{◌≡◌};
-ghost use Rattle.pt_move.specs.Fault.{fault_number, fault_of};
+ghost use Rattle.pt_plan.specs.RunFaults.{dest_fault, fault_number, log_fault, source_fault};
+ghost use Rattle.pt_plan.specs.declared.fault.Fault.TheVariants as fault;
 
-use pt_plan::Halt;
+use pt_tree::{MemoryFault, TreeFault};
+use std::alloc::{AllocError, AllocFailed};
 use thiserror::Error;
 
-/// Why a run ended before its end. Each ends it: every later step answers `Ended`.
+/// Why a run ended before its end. Each ends it: every later step answers `Ended`. A turn never answers `Turns` or
+/// `Ended`: these two are the run's own.
 #[derive(Clone, Copy, Debug, PartialEq, Eq, Error)]
 pub enum Fault {
     /// A call of the source failed.
@@ -64,22 +67,58 @@ impl Fault {
             Fault::Ended => 11,
         }
     }
+
+    /// What a fault of the source is for the run.
+    pub fn of_source(fault: TreeFault) -> Fault
+        ensures { result ≡ source_fault fault }
+    {
+        match fault {
+            TreeFault::Device => Fault::Source,
+            TreeFault::Memory => Fault::Memory,
+        }
+    }
+
+    /// What a fault of the destination is for the run.
+    pub fn of_dest(fault: TreeFault) -> Fault
+        ensures { result ≡ dest_fault fault }
+    {
+        match fault {
+            TreeFault::Device => Fault::Dest,
+            TreeFault::Memory => Fault::Memory,
+        }
+    }
+
+    /// What a fault of the log is for the run.
+    pub fn of_log(fault: TreeFault) -> Fault
+        ensures { result ≡ log_fault fault }
+    {
+        match fault {
+            TreeFault::Device => Fault::Log,
+            TreeFault::Memory => Fault::Memory,
+        }
+    }
 }
 
-impl From<Halt> for Fault {
-    ghost from_gives = { λ why e. e ≡ fault_of why };
+impl From<MemoryFault> for Fault {
+    ghost from_gives = { λ _ e. e ≡ fault.Memory };
 
-    fn from(why: Halt) -> Self {
-        match why {
-            Halt::Source => Fault::Source,
-            Halt::Dest => Fault::Dest,
-            Halt::Log => Fault::Log,
-            Halt::Memory => Fault::Memory,
-            Halt::NotPairtree => Fault::NotPairtree,
-            Halt::Prefix => Fault::Prefix,
-            Halt::StagingLeft => Fault::StagingLeft,
-            Halt::Target => Fault::Target,
-            Halt::Changed => Fault::Changed,
-        }
+    fn from(_: MemoryFault) -> Self {
+        Fault::Memory
+    }
+}
+
+impl From<AllocError> for Fault {
+    ghost from_gives = { λ _ e. e ≡ fault.Memory };
+
+    fn from(_: AllocError) -> Self {
+        Fault::Memory
+    }
+}
+
+impl<T: Drop> From<AllocFailed<T>> for Fault {
+    ghost from_gives = { λ _ e. e ≡ fault.Memory };
+
+    fn from(_: AllocFailed<T>) -> Self {
+        Fault::Memory
     }
 }
