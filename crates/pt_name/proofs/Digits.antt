@@ -46,7 +46,7 @@ byte_at-small zero n = omega arith
 byte_at-small (suc k) n = omega arith
 
 -- the bytes of a word
-All-word : (k n : ℕ) → All (λ b. b < 256) (bytes_high_first k n)
+pub All-word : (k n : ℕ) → All (λ b. b < 256) (bytes_high_first k n)
 All-word zero n = All-nil (λ b. b < 256)
 All-word (suc k) n = All-cons (λ b. b < 256) (byte_at k n) (bytes_high_first k n) (byte_at-small k n) (All-word k n)
 
