@@ -1,10 +1,8 @@
 -- What was moved, and is moved back.
-use Rattle.std.proofs.Common.{◌≡◌, ◌∙◌, Bool, true, false, [], ◌∷◌, ◌++◌, refl, sym, ap, append_assoc, append-nil, cond}
-use Rattle.std.specs.Prelude.{Option, None, Some, is_some}
-use Rattle.std.specs.Str.{bytes_eq}
-use Rattle.pt_tree.proofs.Names.{name_itself, same_name}
+use Rattle.std.proofs.Common.{◌≡◌, ◌∙◌, ◌++◌, refl, sym, ap}
+use Rattle.std.specs.Prelude.{Option, None, Some}
 use Rattle.pt_tree.specs.Path.{Path, rest_below}
-use Rattle.pt_tree.specs.Tree.{CanMove, Entry, Folder, IsTree, Tree, moved, moved_at}
+use Rattle.pt_tree.specs.Tree.{CanMove, IsTree, Tree, moved, moved_at}
 use Rattle.pt_tree.proofs.Below.{gap_below, rest_of, whole_of}
 
 module _ (t : Tree) (from to : Path) (tree : IsTree t) (can : CanMove t from to) where

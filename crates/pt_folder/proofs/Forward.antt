@@ -6,7 +6,6 @@ use Rattle.std.proofs.lemmas.List.{drop-drop, drop_all, take_all}
 use Rattle.std.proofs.lemmas.Bool.{cases_Bool}
 use Rattle.pt_folder.specs.declared.reading.Reading.{Reading}
 use Rattle.pt_folder.specs.Bytes.{TakesBlock}
-use Rattle.pt_folder.specs.Laws.{GoesRight}
 use Rattle.pt_folder.specs.Reading.{IsNext, Stands, unread_of}
 
 full_or_all : (ys : List ℕ) → (8192 ≤ length ys) ⊎ (length ys < 8192)
@@ -74,30 +73,6 @@ module _ {F : Type 0} (bytes left : F → Option (List ℕ)) (r : Reading F) (fi
       by : (o : Option (List ℕ)) → bytes r.file ≡ o → option_map (drop (r.place + length block)) o ≡ option_map (drop 8192) (option_map (drop r.place) o)
       by None is = refl
       by (Some xs) is = ap Some (place_at xs is)
-
--- at the end nothing is read, and nothing is left
-pub ended_next : {F : Type 0} (bytes left : F → Option (List ℕ)) (r : Reading F) → Stands bytes left r → r.ended ≡ true → (block : List ℕ) → block ≡ [] → IsNext (unread_of bytes r) block
-ended_next bytes left r stands ended block none = by (bytes r.file) refl
-  where
-    by : (o : Option (List ℕ)) → bytes r.file ≡ o → ForSome (option_map (drop r.place) o) (λ xs. block ≡ take 8192 xs)
-    by None is = λ ys at. absurd (cc)
-    by (Some xs) is = λ ys at. let here : drop r.place xs ≡ ys = cc in none ∙ ap (take 8192) (sym (stands.at_end ended xs is) ∙ here)
-
-pub ended_moved : {F : Type 0} (bytes left : F → Option (List ℕ)) (r : Reading F) → Stands bytes left r → r.ended ≡ true → unread_of bytes r ≡ option_map (drop 8192) (unread_of bytes r)
-ended_moved bytes left r stands ended = by (bytes r.file) refl
-  where
-    by : (o : Option (List ℕ)) → bytes r.file ≡ o → option_map (drop r.place) o ≡ option_map (drop 8192) (option_map (drop r.place) o)
-    by None is = refl
-    by (Some xs) is = let none = stands.at_end ended xs is in ap Some (none ∙ ap (drop 8192) (sym none))
-
--- whatever became of a file whose place isn't known
-pub lost_stands : {F : Type 0} (bytes left : F → Option (List ℕ)) (r : Reading F) (file : F) → Stands bytes left r → bytes file ≡ bytes r.file → Stands bytes left (record { file = file; place = r.place; ended = r.ended; lost = true })
-lost_stands bytes left r file stands same = record { at_place = λ h. absurd (cc); at_end = λ ends xs is. stands.at_end ends xs (sym same ∙ is) }
-
--- it went to its place
-pub gone_stands : {F : Type 0} (bytes left : F → Option (List ℕ)) (r : Reading F) (file : F) → Stands bytes left r → bytes file ≡ bytes r.file → GoesRight (bytes file) (left file) r.place
-    → Stands bytes left (record { file = file; place = r.place; ended = r.ended; lost = false })
-gone_stands bytes left r file stands same gone = record { at_place = λ h xs is. gone ∙ ap (option_map (drop r.place)) is; at_end = λ ends xs is. stands.at_end ends xs (sym same ∙ is) }
 
 -- what isn't read, by the place and the bytes
 pub unread_same : {F : Type 0} (bytes : F → Option (List ℕ)) (old new : Reading F) → new.place ≡ old.place → bytes new.file ≡ bytes old.file → unread_of bytes new ≡ unread_of bytes old

@@ -15,10 +15,6 @@ use Rattle.pt_tree.specs.declared.faults.TreeFault.TheVariants.{Device, Memory}
 use Rattle.pt_folder.specs.Calls.{IsDueTo}
 use Rattle.pt_folder.specs.Names.{is_entry, LacksNul, ended, GivesNames, AddsNames, IsRefusedName, RefusesBytes}
 
--- no bytes give no names
-pub gives_none : GivesNames [] []
-gives_none = record { given = []; cut = refl; whole = λ k d within. absurd (omega arith); kept = refl }
-
 -- one piece behind another
 pub gives_both : (a b : List ℕ) (xs ys : List (List ℕ)) → GivesNames a xs → GivesNames b ys → GivesNames (a ++ b) (xs ++ ys)
 gives_both a b xs ys f g = record {

@@ -11,12 +11,12 @@ use Rattle.pt_tree.specs.Forest.{Forest, Dir, dir_at, kind_of, node_at}
 use Rattle.pt_tree.specs.Listing.{Item}
 use Rattle.pt_tree.specs.Name.{is_name}
 use Rattle.pt_tree.specs.Path.{Path, joined, parent}
+use Rattle.pt_tree.proofs.Joining.{joined-push}
 use Rattle.pt_folder.specs.Folder.{entry_text}
 use Rattle.pt_folder.specs.Laws.{IsPath}
 use Rattle.pt_folder.specs.Listing.{LeadsToOwnKind, dir_front}
 use Rattle.pt_folder.specs.Seeing.{IsItem, SeesAt}
 use Rattle.pt_folder.specs.SourceLaws.{LookLaw, Looked}
-use Rattle.pt_folder.proofs.Texts.{joined-push}
 
 -- the directory that an entry is in
 parent_above : (p : Path) (n : List ℕ) → parent (p ++ n ∷ []) ≡ p
@@ -28,7 +28,7 @@ parent_above (x ∷ y ∷ p) n = ap (λ (q : Path). x ∷ q) (parent_above (y �
 front_name : (folder : List ℕ) (p : Path) (n : List ℕ) → dir_front folder p ++ n ≡ entry_text folder (p ++ n ∷ [])
 front_name folder [] n = append_assoc folder (47 ∷ []) n
 front_name folder (x ∷ p) n =
-    two folder ((joined (x ∷ p))) n ∙ ap (λ (l : List ℕ). folder ++ 47 ∷ l) (sym (joined-push x p n))
+    two folder (joined (x ∷ p)) n ∙ ap (λ (l : List ℕ). folder ++ 47 ∷ l) (sym (joined-push x p n))
   where
     two : (folder text n : List ℕ) → ((folder ++ 47 ∷ text) ++ 47 ∷ []) ++ n ≡ folder ++ 47 ∷ (text ++ 47 ∷ n)
     two folder text n = simp append_assoc
@@ -69,10 +69,6 @@ module _ {S : Type 0} (kept : S → List ℕ → Option Forest) (looks : S → L
     same = (looked_at name text reply named is asked folder p path begins (λ f known. can f (sym before.same ∙ known))).same ∙ before.same;
     seen = λ f known. λ k d within. absurd (omega arith);
   }
-
--- the same with fewer entries
-pub sees_none : {S : Type 0} (kept : S → List ℕ → Option Forest) (front : List ℕ) (old new : S) (listing : List Item) → SeesAt kept front old new listing → SeesAt kept front old new []
-sees_none kept front old new listing seen = λ folder p path begins can. record { same = (seen folder p path begins can).same; seen = λ f known. λ k d within. absurd (omega arith) }
 
 pub on_err : {T E : Type 0} (r : Result T E) (P : Type 0) → P → OnErr r P
 on_err (Ok x) P h = tt

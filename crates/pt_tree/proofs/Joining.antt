@@ -10,7 +10,7 @@ use Rattle.pt_tree.specs.Name.{AreNames, is_forbidden_name, is_name}
 use Rattle.pt_tree.specs.declared.name.NameFault.TheVariants as fault
 use Rattle.pt_tree.specs.Path.{Path, joined}
 
-joined-push : (x : List ℕ) (names : Path) (n : List ℕ) → joined ((x ∷ names) ++ n ∷ []) ≡ joined (x ∷ names) ++ 47 ∷ n
+pub joined-push : (x : List ℕ) (names : Path) (n : List ℕ) → joined ((x ∷ names) ++ n ∷ []) ≡ joined (x ∷ names) ++ 47 ∷ n
 joined-push x [] n = refl
 joined-push x (y ∷ names) n = ap (λ (l : List ℕ). x ++ 47 ∷ l) (joined-push y names n) ∙ sym (append_assoc x (47 ∷ joined (y ∷ names)) (47 ∷ n))
 

@@ -1,5 +1,5 @@
 pub mod Joining
-mod Texts
+pub mod Texts
 pub mod AtPaths
 pub mod Below
 pub mod Canonical
