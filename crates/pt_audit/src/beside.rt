@@ -14,7 +14,6 @@ ghost use Rattle.pt_tree.specs.Source.{Reading};
 
 use pt_compare::{Root, come_next, has_ended, open_standing};
 use pt_plan::Fault;
-use pt_state::paths::{extended, path_of};
 use pt_survey::{Sight, Survey};
 use pt_tree::{Block, Known, MemoryFault, Name, NamePath};
 use std::alloc::Global;
@@ -115,7 +114,7 @@ impl Beside {
     {
         if self.from.names() != from || self.place != *place {
             self.alike = 0;
-            self.from = extended(NamePath::new(self.alloc), from)?;
+            self.from = NamePath::new(self.alloc).followed_by(from)?;
             self.place = place.copy()?;
         }
         Ok(())
@@ -184,8 +183,8 @@ impl Beside {
 fn stored_at(alloc: Global, place: &NamePath, path: &[Name]) -> Result<NamePath, MemoryFault>
     ensures { IfOk result (λ whole. whole ≡ in_root place.now ++ in_content path.now) }
 {
-    let root = path_of(alloc, &[Known::StorageRoot])?;
-    let place = extended(root, place.names())?;
-    let content = path_of(alloc, &[Known::Version, Known::Content])?;
-    extended(extended(place, content.names())?, path)
+    let root = NamePath::of_known(alloc, &[Known::StorageRoot])?;
+    let place = root.followed_by(place.names())?;
+    let content = NamePath::of_known(alloc, &[Known::Version, Known::Content])?;
+    place.followed_by(content.names())?.followed_by(path)
 }

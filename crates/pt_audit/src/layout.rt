@@ -14,7 +14,7 @@ use pt_compare::{Root, standing};
 use pt_move::Job;
 use pt_object::root_files;
 use pt_plan::Fault;
-use pt_state::paths::{in_storage_root, path_of};
+use pt_state::paths::in_storage_root;
 use pt_tree::{Block, Kind, Known, NamePath, TreeFault};
 use std::alloc::Global;
 
@@ -40,7 +40,7 @@ fn is_of_layout<R: Root>(alloc: Global, root: &mut R, job: &Job) -> Result<bool,
     ensures failures { IsCounted (R.failed root.old) (R.failed root.new) result }
 {
     let _entries = root.list(&NamePath::new(alloc))?;
-    let top = path_of(alloc, &[Known::StorageRoot])?;
+    let top = NamePath::of_known(alloc, &[Known::StorageRoot])?;
     let here = standing(alloc, root, &top)?;
     if here.is_none() {
         return Ok(true);

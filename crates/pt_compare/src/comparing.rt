@@ -17,7 +17,7 @@ ghost use Rattle.pt_tree.specs.Source.{CanOpen};
 use crate::entries::Entries;
 use crate::meeting::{meet_bytes, meet_folder, meet_inventory, meet_stored};
 use crate::names::alike_names;
-use crate::paths::{content_path, joined, path_of, sidecar_name};
+use crate::paths::{content_path, joined};
 use crate::stop::Stop;
 use crate::{Difference, Finding, Root, Scanned, Why, standing};
 use pt_object::{object_declaration, sidecar};
@@ -141,9 +141,9 @@ fn meet_first<R: Root>(
         (marks_of entries.old) (marks_of entries.new) result }
 {
     meet_folder(root, place, entries, NamePath::new(alloc))?;
-    let declaration = path_of(alloc, &[Known::Declaration])?;
+    let declaration = NamePath::of_known(alloc, &[Known::Declaration])?;
     meet_bytes(root, place, entries, declaration, object_declaration())?;
-    let version = path_of(alloc, &[Known::Version])?;
+    let version = NamePath::of_known(alloc, &[Known::Version])?;
     meet_folder(root, place, entries, version)
 }
 
@@ -244,7 +244,7 @@ fn meet_inventories<R: Root>(
         (λ r. MeetsInventories object.now.algorithm (texts_of_object object.now)
         (inside r object.now.to.now) (marks_of entries.old) (marks_of entries.new) result) }
 {
-    let path = path_of(alloc, &[Known::Version, Known::Inventory])?;
+    let path = NamePath::of_known(alloc, &[Known::Version, Known::Inventory])?;
     let stands = meet_inventory(alloc, root, object, entries, path)?;
     meet_copies(alloc, root, object, entries, stands.as_str())
 }
@@ -266,11 +266,11 @@ fn meet_copies<R: Root>(
         (marks_of entries.old) (marks_of entries.new) result }
 {
     let line = sidecar(alloc, text, object.algorithm)?;
-    let name = sidecar_name(object.algorithm);
-    let path = path_of(alloc, &[Known::Version, name])?;
+    let name = object.algorithm.sidecar_name();
+    let path = NamePath::of_known(alloc, &[Known::Version, name])?;
     meet_bytes(root, object.to, entries, path, line.as_bytes())?;
-    let path = path_of(alloc, &[Known::Inventory])?;
+    let path = NamePath::of_known(alloc, &[Known::Inventory])?;
     meet_bytes(root, object.to, entries, path, text.as_bytes())?;
-    let path = path_of(alloc, &[name])?;
+    let path = NamePath::of_known(alloc, &[name])?;
     meet_bytes(root, object.to, entries, path, line.as_bytes())
 }

@@ -7,7 +7,6 @@ ghost use Rattle.pt_tree.specs.Failures.{IsCounted};
 ghost use Rattle.pt_compare.specs.Root.{CanLook, IsSeen, Stands, is_dir as is_dir_kind, tree_in};
 
 use crate::names::alike_names;
-use crate::paths::extended;
 use pt_tree::{Kind, Name, NamePath, Source, TreeFault};
 use std::alloc::Global;
 
@@ -107,7 +106,7 @@ fn stand_above<R: Root>(
     if rest.is_empty() {
         return Ok(true);
     }
-    let mut way = extended(NamePath::new(alloc), first)?;
+    let mut way = NamePath::new(alloc).followed_by(first)?;
     for name in rest {
         way.push(name.copy()?)?;
         if !is_dir(root.kind(&way)?) {

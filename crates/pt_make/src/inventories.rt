@@ -18,7 +18,6 @@ ghost use Rattle.pt_make.specs.Making.{HasContentsOfRows, HasFedInventory, IsFed
 use pt_object::{Algorithm, Digest, Hasher, inventory, sidecar_of};
 use pt_plan::{Fault, Object, Part, Phase};
 use pt_state::files::put_file;
-use pt_state::paths::path_of;
 use pt_state::{Outside, State};
 use pt_tree::{Known, MemoryFault, NamePath};
 use std::alloc::Global;
@@ -155,11 +154,7 @@ fn sidecar_path(
 ) -> Result<NamePath, MemoryFault>
     ensures { IfOk result (λ path. path ≡ in_folder folder (sidecar_name_of algorithm ∷ [])) }
 {
-    let name = match algorithm {
-        Algorithm::Sha512 => Known::Sha512Sidecar,
-        Algorithm::Sha256 => Known::Sha256Sidecar,
-    };
-    path_in(alloc, folder, name)
+    path_in(alloc, folder, algorithm.sidecar_name())
 }
 
 // The path of what has this name in a folder.
@@ -167,7 +162,7 @@ fn path_in(alloc: Global, folder: Folder, name: Known) -> Result<NamePath, Memor
     ensures { IfOk result (λ path. path ≡ in_folder folder (known_text name ∷ [])) }
 {
     match folder {
-        Folder::Version => path_of(alloc, &[Known::Staging, Known::Version, name]),
-        Folder::Top => path_of(alloc, &[Known::Staging, name]),
+        Folder::Version => NamePath::of_known(alloc, &[Known::Staging, Known::Version, name]),
+        Folder::Top => NamePath::of_known(alloc, &[Known::Staging, name]),
     }
 }

@@ -17,9 +17,8 @@ use crate::inventories::{Folder, make_inventory, make_sidecar};
 use pt_object::object_declaration;
 use pt_plan::{Fault, Object, Part, Phase, Position};
 use pt_state::files::put_file;
-use pt_state::paths::path_of;
 use pt_state::{Outside, State};
-use pt_tree::Known;
+use pt_tree::{Known, NamePath};
 
 /// Makes a part of an object: its folder in `staging`, the declaration, the version's folder, the contents one after
 /// another, and the inventory with its sidecar, first in the version's folder and then at the top (OCFL 1.1, "Object
@@ -54,7 +53,7 @@ fn make_staging<O: Outside>(state: &State, object: Object, out: &mut O) -> Resul
     ensures turn { TakesTurn O.world (O.within 0) (phase.Make object part.Staging)
         state.now state.now out.old out.new result }
 {
-    let path = path_of(state.alloc, &[Known::Staging])?;
+    let path = NamePath::of_known(state.alloc, &[Known::Staging])?;
     out.mkdir(&path)?;
     Ok(Phase::Make(object, Part::Declaration))
 }
@@ -65,7 +64,7 @@ fn make_declaration<O: Outside>(state: &State, object: Object, out: &mut O) -> R
     ensures turn { TakesTurn O.world (O.within 0) (phase.Make object part.Declaration)
         state.now state.now out.old out.new result }
 {
-    let path = path_of(state.alloc, &[Known::Staging, Known::Declaration])?;
+    let path = NamePath::of_known(state.alloc, &[Known::Staging, Known::Declaration])?;
     put_file(out, &path, object_declaration())?;
     Ok(Phase::Make(object, Part::Version))
 }
@@ -76,7 +75,7 @@ fn make_version<O: Outside>(state: &State, object: Object, out: &mut O) -> Resul
     ensures turn { TakesTurn O.world (O.within 0) (phase.Make object part.Version)
         state.now state.now out.old out.new result }
 {
-    let path = path_of(state.alloc, &[Known::Staging, Known::Version])?;
+    let path = NamePath::of_known(state.alloc, &[Known::Staging, Known::Version])?;
     out.mkdir(&path)?;
     let first = Position {
         row: 0,

@@ -11,7 +11,7 @@ ghost use Rattle.pt_state.specs.Outside.{TakesTurn};
 ghost use Rattle.pt_tree.specs.Dest.{MayMove};
 
 use pt_plan::{Fault, Object, Phase};
-use pt_state::paths::{front_in_storage_root, in_storage_root, path_of};
+use pt_state::paths::{front_in_storage_root, in_storage_root};
 use pt_state::{Outside, State};
 use pt_tree::{Kind, Known, NamePath};
 
@@ -75,7 +75,7 @@ pub fn rename<O: Outside>(state: &State, object: Object, out: &mut O) -> Result<
     ensures turn { TakesTurn O.world (O.within 0) (phase.Rename object) state.now state.now
         out.old out.new result }
 {
-    let from = path_of(state.alloc, &[Known::Staging])?;
+    let from = NamePath::of_known(state.alloc, &[Known::Staging])?;
     let to = in_storage_root(state.alloc, &object.place)?;
     move_object(state, object, &from, &to, out)
 }

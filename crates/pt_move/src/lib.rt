@@ -7,7 +7,7 @@ mod mover;
 pub mod turning;
 
 pub use carried::{Carried, as_told};
-pub use pt_plan::Fault;
 pub use migration::migrate;
 pub use mover::{Mover, Turn};
+pub use pt_plan::Fault;
 pub use pt_state::{Job, Report};

@@ -1,5 +1,9 @@
 ghost use Rattle.std.specs.Prelude.{◌≡◌};
 ghost use Rattle.pt_object.specs.Algorithm.{algorithm_word};
+ghost use Rattle.pt_object.specs.Object.{sidecar_name};
+ghost use Rattle.pt_tree.specs.Known.{known_text};
+
+use pt_tree::Known;
 
 /// The digest algorithms that an inventory may name (OCFL 1.1, "Digests").
 #[derive(Clone, Copy, Debug, PartialEq, Eq)]
@@ -16,6 +20,16 @@ impl Algorithm {
         match self {
             Algorithm::Sha512 => "sha512",
             Algorithm::Sha256 => "sha256",
+        }
+    }
+
+    /// The name of an inventory's sidecar (OCFL 1.1, "Inventory Digest").
+    pub fn sidecar_name(self) -> Known
+        ensures { known_text result ≡ sidecar_name self }
+    {
+        match self {
+            Algorithm::Sha512 => Known::Sha512Sidecar,
+            Algorithm::Sha256 => Known::Sha256Sidecar,
         }
     }
 }

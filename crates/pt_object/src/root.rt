@@ -6,12 +6,10 @@ ghost use Rattle.pt_object.specs.RootFiles.{config_text, config_tree, files_lent
 use crate::files::ROOT_DECLARATION;
 use crate::members::put_text;
 use pt_name::Layout;
-use pt_tree::{MemoryFault, Name, NamePath};
+use pt_tree::{Known, MemoryFault, NamePath};
 use serde_json::{Map, Value, json};
 use std::alloc::{AllocError, Global};
 use std::marker::Model;
-
-const EXTENSION: &str = "0003-hash-and-id-n-tuple-storage-layout";
 
 const DESCRIPTION: &str = "SHA-256 of the identifier in tuples, then the encoded identifier";
 
@@ -48,19 +46,21 @@ pub fn root_files(alloc: Global, layout: Layout) -> Result<RootFiles, MemoryFaul
 {
     let mut files = Vec::with_capacity(alloc, 3)?;
     let declaration = String::from_str(alloc, ROOT_DECLARATION)?;
-    files.push((path_of(alloc, &["0=ocfl_1.1"])?, declaration))?;
-    files.push((path_of(alloc, &["ocfl_layout.json"])?, layout_file(alloc)?))?;
-    files.push((
-        path_of(alloc, &["extensions", EXTENSION, "config.json"])?,
-        config_file(alloc, layout.size(), layout.count())?,
-    ))?;
+    let path = NamePath::of_known(alloc, &[Known::RootDeclaration])?;
+    files.push((path, declaration))?;
+    let path = NamePath::of_known(alloc, &[Known::LayoutFile])?;
+    files.push((path, layout_file(alloc)?))?;
+    let configuration = [Known::Extensions, Known::Extension, Known::Configuration];
+    let path = NamePath::of_known(alloc, &configuration)?;
+    files.push((path, config_file(alloc, layout.size(), layout.count())?))?;
     Ok(RootFiles { files })
 }
 
 fn layout_file(alloc: Global) -> Result<String, MemoryFault>
     ensures { IfOk result (λ text. string_bytes text ≡ layout_text) }
 {
-    let value = json!(in alloc; {"description": DESCRIPTION, "extension": EXTENSION})?;
+    let extension = Known::Extension.text();
+    let value = json!(in alloc; {"description": DESCRIPTION, "extension": extension})?;
     Ok(value.to_string(alloc)?)
 }
 
@@ -77,21 +77,13 @@ fn config(alloc: Global, size: u32, count: u32) -> Result<Value, AllocError>
 {
     let mut members = Map::new(alloc);
     put_text(&mut members, alloc, "digestAlgorithm", "sha256")?;
-    put_text(&mut members, alloc, "extensionName", EXTENSION)?;
+    put_text(
+        &mut members,
+        alloc,
+        "extensionName",
+        Known::Extension.text(),
+    )?;
     serde_json::put(&mut members, alloc, "numberOfTuples", Value::from(count))?;
     serde_json::put(&mut members, alloc, "tupleSize", Value::from(size))?;
     Ok(Value::from(members))
-}
-
-fn path_of(alloc: Global, names: &[&str]) -> Result<NamePath, MemoryFault>
-    ensures { IfOk result (λ path. path ≡ map (λ name. name.now) names.now) }
-{
-    let mut path = NamePath::new(alloc);
-    for name in names {
-        match Name::of(alloc, name.as_bytes()) {
-            Ok(name) => path.push(name)?,
-            Err(_) => return Err(MemoryFault::Memory),
-        }
-    }
-    Ok(path)
 }

@@ -12,7 +12,7 @@ ghost use Rattle.pt_scan.specs.Scanning.{CanPassOver, CanReadOn};
 use crate::scanning::{give_up, logical_names};
 use pt_object::Hasher;
 use pt_plan::{Fault, Object, Phase};
-use pt_state::paths::{entry_path, extended};
+use pt_state::paths::entry_path;
 use pt_state::{Outside, State};
 use pt_tree::NamePath;
 use pt_walk::Cause;
@@ -73,7 +73,7 @@ fn end_file(state: &mut State, object: Object, bytes: u64) -> Result<Phase, Faul
 {
     let entry = entry_path(&state.trail)?;
     let names = logical_names(&object, &state.trail, &entry);
-    let path = extended(NamePath::new(state.alloc), names)?;
+    let path = NamePath::new(state.alloc).followed_by(names)?;
     let hasher = mem::replace(&mut state.hasher, Hasher::start(state.job.algorithm));
     let digest = hasher.end();
     state.rows.push(&path, &digest, bytes)?;

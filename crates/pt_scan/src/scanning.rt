@@ -16,7 +16,7 @@ use crate::walking::listed_path;
 use pt_object::Hasher;
 use pt_plan::{Fault, Object, Part, Phase};
 use pt_state::lines::put_skip;
-use pt_state::paths::{entry_path, extended, in_pairtree};
+use pt_state::paths::{entry_path, in_pairtree};
 use pt_state::site::back_to_site;
 use pt_state::{Outside, State};
 use pt_tree::{Kind, MemoryFault, Name, NamePath};
@@ -260,7 +260,7 @@ fn site_path(alloc: Global, object: &Object, trail: &Trail) -> Result<NamePath, 
 {
     let _listings = trail.len();
     let innermost = trail.path()?;
-    let path = extended(NamePath::new(alloc), &innermost.names()[..object.site - 1])?;
+    let path = NamePath::new(alloc).followed_by(&innermost.names()[..object.site - 1])?;
     Ok(path)
 }
 

@@ -13,7 +13,7 @@ ghost use Rattle.pt_scan.specs.Walking.{CanPassShorty, EntersSite, IsAtShorty, P
 
 use pt_plan::{Fault, Phase};
 use pt_state::lines::put_skip;
-use pt_state::paths::{entry_path, in_pairtree, path_of};
+use pt_state::paths::{entry_path, in_pairtree};
 use pt_state::{Outside, State};
 use pt_tree::{Known, MemoryFault, Name, NamePath};
 use pt_walk::{At, Cause, is_shorty};
@@ -27,7 +27,7 @@ pub fn open_root<O: Outside>(state: &mut State, out: &mut O) -> Result<Phase, Fa
     ensures turn { TakesTurn O.world (O.within 1) phase.OpenRoot state.old state.new
         out.old out.new result }
 {
-    let path = path_of(state.alloc, &[Known::PairtreeRoot])?;
+    let path = NamePath::of_known(state.alloc, &[Known::PairtreeRoot])?;
     let listing = out.list(&path)?;
     state.trail.enter(listing)?;
     Ok(Phase::Judge)

@@ -16,7 +16,7 @@ use crate::store::is_file;
 use pt_object::root_files;
 use pt_plan::{Fault, Phase};
 use pt_state::files::put_file;
-use pt_state::paths::{in_staging, in_storage_root, path_of};
+use pt_state::paths::{in_staging, in_storage_root};
 use pt_state::{Outside, State};
 use pt_tree::{Kind, Known, MemoryFault, NamePath};
 use std::alloc::Global;
@@ -28,7 +28,7 @@ pub fn staging<O: Outside>(state: &State, out: &mut O) -> Result<Phase, Fault>
     ensures turn { TakesTurn O.world (O.within 0) phase.Staging state.now state.now
         out.old out.new result }
 {
-    let path = path_of(state.alloc, &[Known::Staging])?;
+    let path = NamePath::of_known(state.alloc, &[Known::Staging])?;
     match out.kind(&path)? {
         None => Ok(Phase::Root),
         Some(_) => Err(Fault::StagingLeft),
@@ -40,7 +40,7 @@ pub fn root<O: Outside>(state: &State, out: &mut O) -> Result<Phase, Fault>
     ensures turn { TakesTurn O.world (O.within 0) phase.Root state.now state.now
         out.old out.new result }
 {
-    let path = path_of(state.alloc, &[Known::StorageRoot])?;
+    let path = NamePath::of_known(state.alloc, &[Known::StorageRoot])?;
     match out.kind(&path)? {
         None => Ok(Phase::RootMake(0)),
         Some(Kind::Dir) => Ok(Phase::RootCheck(0)),
@@ -105,11 +105,11 @@ fn root_folder(alloc: Global, item: u8) -> Result<NamePath, MemoryFault>
     ensures { (tuples : Tuples) → IfOk result (λ path. IsRootItem tuples item (MakeFolder path)) }
 {
     if item == 0 {
-        path_of(alloc, &[Known::Staging])
+        NamePath::of_known(alloc, &[Known::Staging])
     } else if item == 1 {
-        path_of(alloc, &[Known::Staging, Known::Extensions])
+        NamePath::of_known(alloc, &[Known::Staging, Known::Extensions])
     } else {
-        path_of(
+        NamePath::of_known(
             alloc,
             &[Known::Staging, Known::Extensions, Known::Extension],
         )
@@ -134,8 +134,8 @@ pub fn rename_root<O: Outside>(state: &State, out: &mut O) -> Result<Phase, Faul
     ensures turn { TakesTurn O.world (O.within 0) phase.RootRename state.now state.now
         out.old out.new result }
 {
-    let from = path_of(state.alloc, &[Known::Staging])?;
-    let to = path_of(state.alloc, &[Known::StorageRoot])?;
+    let from = NamePath::of_known(state.alloc, &[Known::Staging])?;
+    let to = NamePath::of_known(state.alloc, &[Known::StorageRoot])?;
     move_root(state, &from, &to, out)
 }
 

@@ -13,7 +13,6 @@ ghost use Rattle.pt_start.specs.Starting.{PrefixFails, kind_if_named};
 use pt_name::{PrefixFault, read_prefix};
 use pt_plan::{Fault, Phase};
 use pt_state::files::read_first;
-use pt_state::paths::path_of;
 use pt_state::{Outside, State};
 use pt_tree::{Block, Kind, Known, Listing, NamePath};
 use std::alloc::Global;
@@ -82,7 +81,11 @@ fn kind_at(listing: &Listing, i: usize, name: &str) -> Option<Kind>
 }
 
 /// Reads the prefix file, if it is there.
-pub fn prefix<O: Outside>(state: &mut State, here: Option<Kind>, out: &mut O) -> Result<Phase, Fault>
+pub fn prefix<O: Outside>(
+    state: &mut State,
+    here: Option<Kind>,
+    out: &mut O,
+) -> Result<Phase, Fault>
     requires { MayOpenPrefix (O.world out.old).source here }
     ensures turn { TakesTurn O.world (O.within 2) (phase.Prefix here) state.old state.new
         out.old out.new result }
@@ -92,7 +95,7 @@ pub fn prefix<O: Outside>(state: &mut State, here: Option<Kind>, out: &mut O) ->
         Some(Kind::File) => {}
         Some(_) => return Err(Fault::Prefix),
     }
-    let path = path_of(state.alloc, &[Known::PrefixFile])?;
+    let path = NamePath::of_known(state.alloc, &[Known::PrefixFile])?;
     read_first(out, &path, &mut state.block)?;
     state.prefix = prefix_of(state.alloc, &state.block)?;
     Ok(Phase::Staging)

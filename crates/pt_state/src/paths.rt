@@ -13,36 +13,6 @@ use pt_tree::{Known, MemoryFault, Name, NamePath};
 use pt_walk::Trail;
 use std::alloc::Global;
 
-/// The path of these names.
-pub fn path_of(alloc: Global, names: &[Known]) -> Result<NamePath, MemoryFault>
-    ensures { IfOk result (λ path. path ≡ map known_text names.now) }
-{
-    known_path(alloc, names, 0)
-}
-
-// The path of these names, with room for so many more.
-fn known_path(alloc: Global, names: &[Known], room: usize) -> Result<NamePath, MemoryFault>
-    ensures { IfOk result (λ path. path ≡ map known_text names.now) }
-{
-    let mut path = NamePath::new(alloc);
-    path.reserve(names.len().saturating_add(room))?;
-    for name in names {
-        path.push(Name::from(*name))?;
-    }
-    Ok(path)
-}
-
-/// A path with these names at its end.
-pub fn extended(mut path: NamePath, names: &[Name]) -> Result<NamePath, MemoryFault>
-    ensures { IfOk result (λ longer. longer ≡ path ++ names.now) }
-{
-    path.reserve(names.len())?;
-    for name in names {
-        path.push(name.copy()?)?;
-    }
-    Ok(path)
-}
-
 /// The path in the source of what stands at a path below its `pairtree_root`.
 pub fn in_pairtree(mut path: NamePath) -> Result<NamePath, MemoryFault>
     ensures { IfOk result (λ whole. whole ≡ in_pairtree_of path) }
@@ -55,8 +25,7 @@ pub fn in_pairtree(mut path: NamePath) -> Result<NamePath, MemoryFault>
 pub fn in_storage_root(alloc: Global, path: &NamePath) -> Result<NamePath, MemoryFault>
     ensures { IfOk result (λ whole. whole ≡ in_root path.now) }
 {
-    extended(
-        known_path(alloc, &[Known::StorageRoot], path.len())?,
+    NamePath::of_known_with_room(alloc, &[Known::StorageRoot], path.len())?.followed_by(
         path.names(),
     )
 }
@@ -70,8 +39,7 @@ pub fn front_in_storage_root(
     ensures { IfOk result (λ whole. whole ≡ in_root (take names path.now)) }
 {
     let most = names.min(path.len());
-    extended(
-        known_path(alloc, &[Known::StorageRoot], most)?,
+    NamePath::of_known_with_room(alloc, &[Known::StorageRoot], most)?.followed_by(
         &path.names()[..most],
     )
 }
@@ -80,10 +48,7 @@ pub fn front_in_storage_root(
 pub fn in_staging(alloc: Global, path: &NamePath) -> Result<NamePath, MemoryFault>
     ensures { IfOk result (λ whole. whole ≡ staging ++ path.now) }
 {
-    extended(
-        known_path(alloc, &[Known::Staging], path.len())?,
-        path.names(),
-    )
+    NamePath::of_known_with_room(alloc, &[Known::Staging], path.len())?.followed_by(path.names())
 }
 
 /// The path of the entry at a trail's place, from below `pairtree_root` on; the innermost listing's at its end.
@@ -114,7 +79,7 @@ pub fn source_path(object: &Object, trail: &Trail, path: &NamePath) -> Result<Na
         ≡ in_pairtree_of (path_of_source object.now trail.now ++ path.now)) }
 {
     let directory = object_path(object, trail)?;
-    extended(in_pairtree(directory)?, path.names())
+    in_pairtree(directory)?.followed_by(path.names())
 }
 
 /// The content path in `staging` that has so many names of a logical path.
@@ -123,7 +88,7 @@ pub fn content_path(alloc: Global, path: &NamePath, names: usize) -> Result<Name
     ensures { IfOk result (λ whole. whole ≡ in_content (take names path.now)) }
 {
     let above = [Known::Staging, Known::Version, Known::Content];
-    extended(known_path(alloc, &above, names)?, &path.names()[..names])
+    NamePath::of_known_with_room(alloc, &above, names)?.followed_by(&path.names()[..names])
 }
 
 /// The names with `/` between, as a text.

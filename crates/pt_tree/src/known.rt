@@ -18,6 +18,12 @@ pub enum Known {
     Extensions,
     /// The folder of the layout's configuration in it (extension 0003).
     Extension,
+    /// The layout's configuration in that folder.
+    Configuration,
+    /// A storage root's declaration (OCFL 1.1, "Root Conformance Declaration").
+    RootDeclaration,
+    /// What describes a storage root's layout (OCFL 1.1, "Root Structure").
+    LayoutFile,
     /// An object's declaration (OCFL 1.1, "Object Conformance Declaration").
     Declaration,
     /// The folder of an object's version (OCFL 1.1, "Version Directories").
@@ -45,6 +51,9 @@ impl Known {
             Known::Staging => "staging",
             Known::Extensions => "extensions",
             Known::Extension => "0003-hash-and-id-n-tuple-storage-layout",
+            Known::Configuration => "config.json",
+            Known::RootDeclaration => "0=ocfl_1.1",
+            Known::LayoutFile => "ocfl_layout.json",
             Known::Declaration => "0=ocfl_object_1.1",
             Known::Version => "v1",
             Known::Content => "content",

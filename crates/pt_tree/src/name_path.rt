@@ -1,13 +1,14 @@
-ghost use Rattle.std.specs.Prelude.{◌≡◌, ◌==◌, ◌++◌, [], ◌∷◌, IfOk, IsTrue, is_some, OnOk, OnErr, length, slice_get};
+ghost use Rattle.std.specs.Prelude.{◌≡◌, ◌==◌, ◌++◌, [], ◌∷◌, IfOk, IsTrue, is_some, OnOk, OnErr, length, map, slice_get};
 ghost use Rattle.std.specs.Str.{is_utf8};
 ghost use Rattle.std.specs.Cmp.{partial_equiv_from_equiv};
 ghost use Rattle.std.specs.Cmp.Lexicographic.{nat_list_eq_equiv, lists_equiv};
 ghost use Rattle.std.specs.Option.{option_copied};
 ghost use Rattle.std.specs.Option.{option_map};
+ghost use Rattle.pt_tree.specs.Known.{known_text};
 ghost use Rattle.pt_tree.specs.Name.{AreNames};
 ghost use Rattle.pt_tree.specs.Path.{joined, rest_below, same_path, split_path, split_lent};
 
-use crate::{MemoryFault, Name};
+use crate::{Known, MemoryFault, Name};
 use std::alloc::Global;
 use std::marker::Model;
 
@@ -33,6 +34,40 @@ impl NamePath {
         NamePath {
             names: Vec::new(alloc),
         }
+    }
+
+    /// The path of these names. `Memory` where a growth was refused.
+    pub fn of_known(alloc: Global, names: &[Known]) -> Result<NamePath, MemoryFault>
+        ensures { IfOk result (λ path. path ≡ map known_text names.now) }
+    {
+        NamePath::of_known_with_room(alloc, names, 0)
+    }
+
+    /// The path of these names, with room for so many more. `Memory` where a growth was refused.
+    pub fn of_known_with_room(
+        alloc: Global,
+        names: &[Known],
+        room: usize,
+    ) -> Result<NamePath, MemoryFault>
+        ensures { IfOk result (λ path. path ≡ map known_text names.now) }
+    {
+        let mut path = NamePath::new(alloc);
+        path.reserve(names.len().saturating_add(room))?;
+        for name in names {
+            path.push(Name::from(*name))?;
+        }
+        Ok(path)
+    }
+
+    /// The path with these names behind it. `Memory` where a growth was refused.
+    pub fn followed_by(mut self, names: &[Name]) -> Result<NamePath, MemoryFault>
+        ensures { IfOk result (λ longer. longer ≡ self ++ names.now) }
+    {
+        self.reserve(names.len())?;
+        for name in names {
+            self.push(name.copy()?)?;
+        }
+        Ok(self)
     }
 
     /// Adds a name at the end. After `Memory` the path is as before.

@@ -9,10 +9,10 @@ pub returns : goal.returns
 returns g c =
     let turned = counted_turn c.args.phase c.args.state.now _ _ _ _ _ c.turn_at.ensures.turn.turn refl refl (λ fed. refl) in
     record {
-  turn = record {
-    turn = turned;
-    own = own_fault _ _ _ _ _ _ c.requires.stands c.requires.fed turned;
-    block = c.turn_at.ensures.block;
-    few = c.turn_at.ensures.turn.few;
-  };
-}
+      turn = record {
+        turn = turned;
+        own = own_fault _ _ _ _ _ _ c.requires.stands c.requires.fed turned;
+        block = c.turn_at.ensures.block;
+        few = c.turn_at.ensures.turn.few;
+      };
+    }

@@ -3,14 +3,14 @@ use Rattle.pt_start.proofs.Starting.{folder_item}
 use Rattle.pt_start.proofs.root.root_folder.Goals as goal
 
 pub returns-then-item-eq0 : goal.returns-then-item-eq0
-returns-then-item-eq0 c = let at = c.if-item-eq0.true in λ tuples. folder_item tuples _ 0 _ _ (omega (arith, at)) refl c.path_of.ensures
+returns-then-item-eq0 c = let at = c.if-item-eq0.true in λ tuples. folder_item tuples _ 0 _ _ (omega (arith, at)) refl c.of_known.ensures
 
 pub returns-then-item-eq1 : goal.returns-then-item-eq1
-returns-then-item-eq1 c = let at = c.if-item-eq1.true in λ tuples. folder_item tuples _ 1 _ _ (omega (arith, at)) refl c.path_of-then-item-eq1.ensures
+returns-then-item-eq1 c = let at = c.if-item-eq1.true in λ tuples. folder_item tuples _ 1 _ _ (omega (arith, at)) refl c.of_known-then-item-eq1.ensures
 
 pub returns-else-item-eq1 : goal.returns-else-item-eq1
 returns-else-item-eq1 c =
     let few = c.requires in
     let some = c.if-item-eq0.false in
     let more = c.if-item-eq1.false in
-    λ tuples. folder_item tuples _ 2 _ _ (omega (arith, few, some, more)) refl c.path_of-else-item-eq1.ensures
+    λ tuples. folder_item tuples _ 2 _ _ (omega (arith, few, some, more)) refl c.of_known-else-item-eq1.ensures

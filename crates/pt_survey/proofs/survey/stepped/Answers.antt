@@ -56,5 +56,5 @@ pub returns-in_ok-look-clause-made : goal.returns-in_ok-look-clause-made
 returns-in_ok-look-clause-made g c = record {
   steps = step_steps c.args.here c.in_ok-look.field-0 _ _ _ _ _ _ _ _ _ _ _ _ _ _ _ (search rules) c.requires.ready c.in_ok-look.ensures.turn;
   scans = step_scans c.args.here c.in_ok-look.field-0 _ _ _ _ _ _ _ _ _ _ _ _ _ _ _ (search rules)
-    (looking_is _ c.args.here _ c.requires.ready.under_way (search rules) c.requires.more) c.requires.ready.under_way c.in_ok-look.ensures.turn c.in_ok-look.ensures.block;
+      (looking_is _ c.args.here _ c.requires.ready.under_way (search rules) c.requires.more) c.requires.ready.under_way c.in_ok-look.ensures.turn c.in_ok-look.ensures.block;
 }

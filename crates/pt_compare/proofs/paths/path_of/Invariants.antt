@@ -1,6 +1,0 @@
-use Rattle.std.proofs.Common.{◌≡◌, map, take}
-use Rattle.pt_tree.specs.Known.{known_text}
-use Rattle.pt_compare.proofs.paths.path_of.Given as goal
-
-abbrev pub invariant-loop-name : goal.invariant-loop-name
-invariant-loop-name l = l.path ≡ map known_text (take l.name-index l.names)

@@ -1,6 +1,0 @@
-use Rattle.std.proofs.Common.{◌≡◌, map, take, List, ℕ}
-use denote.Ref.{Bor}
-use Rattle.pt_object.proofs.root.path_of.Given as goal
-
-abbrev pub invariant-loop-name : goal.invariant-loop-name
-invariant-loop-name l = l.path ≡ map (λ (name : Bor (List ℕ)). name.now) (take l.name-index l.names)
