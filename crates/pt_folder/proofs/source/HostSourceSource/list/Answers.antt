@@ -10,9 +10,9 @@ if_ok (Err e) P Q f h = tt
 pub list-listing-requires : goal.list-listing-requires
 list-listing-requires g c =
     let self = c.args.self.now in
-    can_list (unread_open g.S.File.Input.bytes self.reading) (g.S.System.forest self.system self.folder.path.now) c.args.path.now c.requires
+    can_list (unread_open g.S.File.Input.bytes self.reading) (g.S.System.forest self.desk.system self.folder.path.now) c.args.path.now c.requires
 
 pub returns-clause-listing : goal.returns-clause-listing
 returns-clause-listing g c =
     let self = c.args.self.now in
-    rw c.counted.ensures.same (if_ok c.list-listing.result _ _ (λ items h. is_listed (unread_open g.S.File.Input.bytes self.reading) (g.S.System.forest self.system self.folder.path.now) c.args.path.now items h) c.list-listing.ensures.told)
+    rw c.counted.ensures.same (if_ok c.list-listing.result _ _ (λ items h. is_listed (unread_open g.S.File.Input.bytes self.reading) (g.S.System.forest self.desk.system self.folder.path.now) c.args.path.now items h) c.list-listing.ensures.told)
