@@ -90,7 +90,7 @@ impl<'a, S: System> Dest for Rehearsal<'a, S> {
       q.2 ∙ p.2,
       q.3 ∙ p.3,
       subst (λ f. S.kept c.dest.desk.system f.path.now ≡ S.kept b.dest.desk.system f.path.now)
-      p.0 q.4 ∙ p.4,
+          p.0 q.4 ∙ p.4,
     ) };
 
     ghost is_tree = { λ d state is.
