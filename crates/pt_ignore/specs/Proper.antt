@@ -1,17 +1,13 @@
 -- In each directory of a tree without the entries of some names the names rise, as they do in the tree.
-use Rattle.std.specs.Prelude.{◌≡◌, ℕ, Bool, true, false, cond, List, Option, None, Some, refl}
+use Rattle.std.specs.Prelude.{◌≡◌, ℕ, true, List, Option, None, Some, refl}
 use Rattle.std.proofs.Common.{subst}
 use Rattle.std.proofs.lemmas.Bool.{and_from}
 use Rattle.pt_tree.specs.Forest.{Forest, none, file, other, dir, comes_before, is_proper}
 use Rattle.pt_tree.specs.Listing.{is_among}
 use Rattle.pt_tree.specs.Source.{Reading}
 use Rattle.pt_tree.proofs.Finding.{comes_before-trans, proper_file, proper_other, proper_dir}
+use Rattle.pt_tree.proofs.Proper.{cond_before, cond_proper}
 use Rattle.pt_ignore.specs.Ignoring.{reading_without, told_without, without}
-
-either_before : (n : List ℕ) (a : Bool) (g here : Forest) → comes_before n g ≡ true
-    → comes_before n here ≡ true → comes_before n (cond a g here) ≡ true
-either_before n true g here rest now = rest
-either_before n false g here rest now = now
 
 -- what comes before all entries comes before those that are left
 before-without : (names : List (List ℕ)) (n : List ℕ) (f : Forest) → is_proper f ≡ true
@@ -19,21 +15,16 @@ before-without : (names : List (List ℕ)) (n : List ℕ) (f : Forest) → is_pr
 before-without names n none proper before = refl
 before-without names n (file k b f) proper before =
     let p = proper_file k b f proper in
-    either_before n (is_among names k) _ _
+    cond_before n (is_among names k) _ _
     (before-without names n f p.2 (comes_before-trans n k f before p.1)) before
 before-without names n (other k f) proper before =
     let p = proper_other k f proper in
-    either_before n (is_among names k) _ _
+    cond_before n (is_among names k) _ _
     (before-without names n f p.2 (comes_before-trans n k f before p.1)) before
 before-without names n (dir k d f) proper before =
     let p = proper_dir k d f proper in
-    either_before n (is_among names k) _ _
+    cond_before n (is_among names k) _ _
     (before-without names n f p.2 (comes_before-trans n k f before p.1)) before
-
-either_proper : (a : Bool) (g here : Forest) → is_proper g ≡ true → is_proper here ≡ true
-    → is_proper (cond a g here) ≡ true
-either_proper true g here rest now = rest
-either_proper false g here rest now = now
 
 -- in what is left of a proper tree the names rise
 pub proper-without : (names : List (List ℕ)) (f : Forest) → is_proper f ≡ true
@@ -42,18 +33,18 @@ proper-without names none proper = refl
 proper-without names (file k b f) proper =
     let p = proper_file k b f proper in
     let rest = proper-without names f p.2 in
-    either_proper (is_among names k) _ _ rest
+    cond_proper (is_among names k) _ _ rest
     (and_from _ _ p.0 (and_from _ _ (before-without names k f p.2 p.1) rest))
 proper-without names (other k f) proper =
     let p = proper_other k f proper in
     let rest = proper-without names f p.2 in
-    either_proper (is_among names k) _ _ rest
+    cond_proper (is_among names k) _ _ rest
     (and_from _ _ p.0 (and_from _ _ (before-without names k f p.2 p.1) rest))
 proper-without names (dir k d f) proper =
     let p = proper_dir k d f proper in
     let rest = proper-without names f p.2 in
     let inside = proper-without names d p.3 in
-    either_proper (is_among names k) _ _ rest
+    cond_proper (is_among names k) _ _ rest
     (and_from _ _ p.0 (and_from _ _ (before-without names k f p.2 p.1) (and_from _ _ inside rest)))
 
 -- in what is told of a proper source the names rise

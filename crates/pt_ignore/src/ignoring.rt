@@ -1,6 +1,5 @@
 ghost use Rattle.std.proofs.Common.{◌∙◌, refl};
 ghost use Rattle.std.specs.Prelude.{◌≡◌};
-ghost use Rattle.pt_tree.specs.Listing.{left_in};
 ghost use Rattle.pt_ignore.specs.Ignoring.{told_without};
 ghost use Rattle.pt_ignore.specs.Proper.{proper_left};
 

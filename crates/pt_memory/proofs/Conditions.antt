@@ -11,7 +11,7 @@ use Rattle.pt_tree.specs.Source.{Reading, CanList, CanOpen}
 use Rattle.pt_tree.specs.Tree.{CanMake, CanMove, Entry, bytes_of, kind_of_entry}
 use Rattle.pt_memory.specs.Planting.{plant_refusal}
 use Rattle.pt_tree.specs.Dest.{Writing, MayMake, MayMove, CanPeek}
-use Rattle.pt_memory.proofs.Planted.{can_plant, not_refused}
+use Rattle.pt_memory.proofs.Planted.{can_plant, none_there, not_refused}
 
 lent_is_some : (r : Option (Bor (List ℕ))) (o : Option (List ℕ)) → option_copied r ≡ o → is_some r ≡ is_some o
 lent_is_some None o is = ap is_some is
@@ -39,10 +39,6 @@ can_peek s p r answer says is =
       λ so. λ x e. let here : s ≡ x = cc in subst (λ (x : Writing). IsSome (bytes_of (x.tree p))) here (sym same ∙ so),
       λ can. same ∙ can s refl,
     )
-
-pub none_there : {A : Type 0} (r : Option A) → is_some r ≡ false → r ≡ None
-none_there None is = refl
-none_there (Some x) is = absurd (cc)
 
 not_true : (a b : Bool) → a ≡ not b → b ≡ true → a ≡ false
 not_true a b is so = is ∙ ap not so

@@ -17,9 +17,9 @@ folder_is (Some (Bytes b)) h = absurd (cc)
 folder_is (Some Folder) h = refl
 folder_is (Some Special) h = absurd (cc)
 
-none_is : (o : Option Entry) → is_some o ≡ false → o ≡ None
-none_is None h = refl
-none_is (Some e) h = absurd (cc)
+pub none_there : {A : Type 0} (o : Option A) → is_some o ≡ false → o ≡ None
+none_there None h = refl
+none_there (Some x) h = absurd (cc)
 
 -- where nothing refuses it, it may be made
 pub can_plant : (t : Tree) (p : Path) → plant_refusal t p ≡ None → CanMake t p
@@ -27,7 +27,7 @@ can_plant t [] h = absurd (cc)
 can_plant t (n ∷ p) h = by (is_folder (t (parent (n ∷ p)))) (is_some (t (n ∷ p))) refl refl h
   where
     by : (folder taken : Bool) → is_folder (t (parent (n ∷ p))) ≡ folder → is_some (t (n ∷ p)) ≡ taken → cond folder (cond taken (Some fault.Taken) None) (Some fault.NoParent) ≡ None → CanMake t (n ∷ p)
-    by true false folder free h = record { absent = none_is _ free; in_folder = folder_is _ folder }
+    by true false folder free h = record { absent = none_there _ free; in_folder = folder_is _ folder }
     by true true folder taken h = absurd (cc)
     by false b other taken h = absurd (cc)
 

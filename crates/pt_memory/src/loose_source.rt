@@ -1,5 +1,4 @@
 ghost use Rattle.std.specs.Prelude.{◌≡◌, ◌<◌, [], None, IfOk, OnOk, OnErr, length, ⊤};
-ghost use Rattle.std.specs.Option.{option_map};
 ghost use Rattle.pt_memory.specs.declared.loose_source.SwapFault.TheVariants as fault;
 
 use crate::MemSource;
@@ -130,7 +129,7 @@ impl LooseSource {
 
 impl Source for LooseSource {
     ghost use Rattle.std.specs.Prelude.{Option};
-    ghost use Rattle.pt_tree.specs.Source.{Reading, CanList, IsListed, CanOpen, CanRead, IsRead, after_open, after_next};
+    ghost use Rattle.pt_tree.specs.Source.{IsListed, IsRead};
     ghost use Rattle.pt_tree.specs.Failures.{IsCounted, IsOneMoreCall};
     ghost use Rattle.pt_memory.specs.MemSource.{ListGives, OpenGives, NextGives};
     ghost use Rattle.pt_memory.specs.LooseSource.{Then, loose_called, loose_state, untold};

@@ -29,7 +29,7 @@ impl MemSource {
     ghost use Rattle.pt_tree.specs.Forest.{Dir, file_at, kind_of, listing_at, node_at};
     ghost use Rattle.pt_tree.specs.Refusal.{Answers};
     ghost use Rattle.pt_memory.specs.Planting.{plant_refusal};
-    ghost use Rattle.pt_tree.specs.Tree.{tree_of, put, Bytes, Folder, Special};
+    ghost use Rattle.pt_tree.specs.Tree.{tree_of, Bytes, Folder, Special};
 
     /// An empty tree, without a fuse.
     pub fn new(alloc: Global) -> MemSource
@@ -186,10 +186,10 @@ impl MemSource {
 }
 
 impl Source for MemSource {
-    ghost use Rattle.std.specs.Prelude.{Some, ◌%◌, ◌^◌};
+    ghost use Rattle.std.specs.Prelude.{Some};
     ghost use Rattle.pt_tree.specs.Source.{CanList, IsListed, CanOpen, CanRead, IsRead, after_open, after_next};
     ghost use Rattle.pt_tree.specs.Failures.{IsCounted, IsOneMoreCall};
-    ghost use Rattle.pt_memory.specs.MemSource.{source_state, reading_of, source_called, ListGives, OpenGives, NextGives};
+    ghost use Rattle.pt_memory.specs.MemSource.{source_state, source_called, ListGives, OpenGives, NextGives};
     ghost use Rattle.pt_memory.specs.MemSourceTells.{source_told, proper_told};
 
     ghost told = { source_told };

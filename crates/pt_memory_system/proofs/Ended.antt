@@ -16,7 +16,7 @@ use Rattle.pt_folder.specs.SourceLaws.{GivesAll, names_of}
 use Rattle.pt_tree.proofs.AtPaths.{proper_dir_at}
 use Rattle.pt_tree.proofs.Finding.{proper_dir, proper_file, proper_other}
 use Rattle.pt_tree.specs.Forest.{Forest, dir, dir_at, file, is_proper, listing_at, listing_of, none, other}
-use Rattle.pt_tree.specs.Name.{is_name}
+use Rattle.pt_tree.specs.Name.{AreNames, is_name}
 use Rattle.pt_tree.specs.Path.{Path}
 
 -- the first name, and what is behind its NUL
@@ -70,9 +70,6 @@ an_entry x h = by (is_entry x) refl
     by : (t : Bool) → is_entry x ≡ t → t ≡ true
     by true is = refl
     by false is = absurd (grind (arith, is, h))
-
-abbrev AreNames : List (List ℕ) → Type 0
-AreNames names = All (λ n. is_name n ≡ true) names
 
 all_lack : (names : List (List ℕ)) → AreNames names → All LacksNul names
 all_lack names all = λ k d within. lacks (get_or names k d) (no_nul (get_or names k d) (all k d within))

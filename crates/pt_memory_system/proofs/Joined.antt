@@ -1,6 +1,6 @@
 -- The pieces of joined names are the names.
 use Rattle.std.proofs.Common.{◌≡◌, ℕ, Bool, true, false, List, [], ◌∷◌, ◌++◌, ◌==◌, refl, sym, ap, ◌∙◌, cond, append_assoc, take, drop, get_or, arith, ◌<◌, ◌≤◌, ◌+◌, zero, suc, add-one, subst}
-use Rattle.std.specs.Prelude.{Result, Ok, Err, OnOk, IfErr, IfOk, ◌||◌, nat_lt, length, None, Some}
+use Rattle.std.specs.Prelude.{◌||◌, nat_lt, length, None, Some}
 use Rattle.std.specs.List.{list_any}
 use Rattle.std.proofs.lemmas.List.Elements.{All-head, All-tail}
 use Rattle.std.proofs.lemmas.Bool.{cond-true, cond-false}
@@ -10,17 +10,10 @@ use Rattle.std.proofs.lemmas.List.Quantifiers.{position-Some}
 use Rattle.pt_tree.specs.Name.{is_name}
 use Rattle.pt_tree.specs.Path.{Path, joined}
 use Rattle.std.proofs.Math.Seq.{drop-append_seam, take-append_seam}
-use Rattle.std.proofs.Common.{length-append}
+use Rattle.pt_tree.proofs.Joining.{no_slash}
 use Rattle.pt_folder.specs.Folder.{entry_text}
 use Rattle.pt_folder.specs.Laws.{IsPath}
 use Rattle.pt_memory_system.specs.Pieces.{onto, pieces}
-
-has_slash : List ℕ → Bool
-has_slash xs = list_any (λ b. b == 47) xs
-
-pub onto-onto : (xs ys : List ℕ) (p : Path) → onto xs (onto ys p) ≡ onto (xs ++ ys) p
-onto-onto xs ys [] = refl
-onto-onto xs ys (x ∷ p) = ap (λ (z : List ℕ). z ∷ p) (sym (append_assoc xs ys x))
 
 -- a name without a slash is one piece, and ends before a slash
 pub one_piece : (x : List ℕ) → list_any (λ b. b == 47) x ≡ false → pieces x ≡ x ∷ []
@@ -38,13 +31,6 @@ first_piece (b ∷ x) ys h = by (λ h. first_piece x ys h) (b == 47) refl h
     by : (list_any (λ b. b == 47) x ≡ false → pieces (x ++ 47 ∷ ys) ≡ x ∷ pieces ys) → (t : Bool) → (b == 47) ≡ t → (t || list_any (λ b. b == 47) x) ≡ false → cond t ([] ∷ pieces (x ++ 47 ∷ ys)) (onto (b ∷ []) (pieces (x ++ 47 ∷ ys))) ≡ (b ∷ x) ∷ pieces ys
     by later true is h = absurd (cc)
     by later false is h = ap (onto (b ∷ [])) (later h)
-
-pub no_slash : (x : List ℕ) → is_name x ≡ true → list_any (λ b. b == 47) x ≡ false
-no_slash x h = by (list_any (λ b. b == 47) x) refl
-  where
-    by : (t : Bool) → list_any (λ b. b == 47) x ≡ t → t ≡ false
-    by false is = refl
-    by true is = absurd (grind (arith, is, h))
 
 pub pieces-joined : (x : List ℕ) (p : Path) → IsPath (x ∷ p) → pieces (joined (x ∷ p)) ≡ x ∷ p
 pieces-joined x [] h = one_piece x (no_slash x (All-head (λ n. is_name n ≡ true) x [] h))
@@ -100,25 +86,9 @@ pub none_read : (t : List ℕ) (p : Path) → (length t == 0) ≡ false → ¬ (
 none_read t [] some bad named at = let none : t ≡ [] = at in absurd (grind (arith, none, some))
 none_read t (x ∷ p) some bad named at = bad (subst IsPath (sym (ap pieces at ∙ pieces-joined x p named)) named)
 
--- a fact about an answer gives another
-pub on_ok : {A B : Type 0} (r : Result A B) (P Q : Type 0) → (P → Q) → OnOk r P → OnOk r Q
-on_ok (Ok x) P Q h is = h is
-on_ok (Err e) P Q h is = tt
-
-pub on_err : {A B : Type 0} (r : Result A B) (P Q : B → Type 0) → ((e : B) → P e → Q e) → IfErr r P → IfErr r Q
-on_err (Ok x) P Q h is = tt
-on_err (Err e) P Q h is = h e is
-
-pub if_ok : {A B : Type 0} (r : Result A B) (P Q : A → Type 0) → ((x : A) → P x → Q x) → IfOk r P → IfOk r Q
-if_ok (Ok x) P Q h is = h x is
-if_ok (Err e) P Q h is = tt
-
 -- the text behind the root and its slash
 pub behind : (root text : List ℕ) (p : Path) → text ≡ entry_text root p → drop (length root) text ≡ 47 ∷ joined p
 behind root text p is = ap (drop (length root)) is ∙ drop-append_seam root (47 ∷ joined p)
-
-pub no_room : (root text : List ℕ) (p : Path) → length text ≤ length root → ¬ (text ≡ entry_text root p)
-no_room root text p short is = omega (arith, short, ap length is, length-append root (47 ∷ joined p))
 
 pub other_front : (root text front : List ℕ) (p : Path) → front ≡ take (length root) text → text ≡ entry_text root p → front ≡ root
 other_front root text front p is at = is ∙ ap (take (length root)) at ∙ take-append_seam root (47 ∷ joined p)

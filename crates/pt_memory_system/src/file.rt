@@ -1,7 +1,6 @@
 //! Open files in memory, and the names in a directory.
 ghost use Rattle.std.specs.Prelude.{◌≡◌, Some, None, drop, ⊤};
 ghost use Rattle.std.specs.Option.{option_map};
-ghost use Rattle.pt_folder.specs.Laws.{Gives, GoesRight};
 
 use crate::faults::{Faults, failed};
 use pt_folder::{Handle, Input};

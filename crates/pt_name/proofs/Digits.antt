@@ -1,10 +1,9 @@
 -- The digits of a SHA-256, and of a byte.
-use Rattle.std.proofs.Common.{◌≡◌, ℕ, zero, suc, ◌*◌, ◌/◌, ◌%◌, ◌<◌, ◌||◌, ◌==◌, Bool, true, List, [], ◌∷◌, Some, length, slice_index, refl, sym, ap, ◌∙◌, arith}
+use Rattle.std.proofs.Common.{◌≡◌, ℕ, zero, suc, ◌*◌, ◌/◌, ◌%◌, ◌<◌, ◌||◌, ◌==◌, List, [], ◌∷◌, Some, length, slice_index, refl, sym, ap, ◌∙◌, arith}
 use Rattle.std.specs.Prelude.{All}
-use Rattle.std.specs.List.{list_all}
 use Rattle.std.specs.Int.{byte_at, bytes_high_first, byte_len, w32}
 use Rattle.std.proofs.lemmas.List.Elements.{All-append, All-cons, All-get_or, All-head, All-nil, All-tail}
-use Rattle.std.proofs.lemmas.Bool.{and_parts}
+use Rattle.std.proofs.lemmas.List.Sums.{AllPass-from_list_all}
 use Rattle.sha2.specs.Sha256.{digest_bytes, sha256}
 use Rattle.sha2.proofs.Facts256.{length-sha256}
 use Rattle.hex.specs.Hex.{encode_lower, encode_with, hex_digit_value, lower_digits}
@@ -12,16 +11,9 @@ use Rattle.hex.proofs.HexLemmas.{IsDigits-lower_digits, length-encode_with}
 use Rattle.pt_name.specs.Hex.{hex_pair}
 use Rattle.pt_name.specs.Place.{IsPlaceByte, digest_text, is_safe}
 
--- what a test of each element says
-all_pass : (p : ℕ → Bool) (xs : List ℕ) → list_all p xs ≡ true → All (λ x. p x ≡ true) xs
-all_pass p [] h = All-nil (λ x. p x ≡ true)
-all_pass p (x ∷ xs) h =
-    let parts = and_parts (p x) (list_all p xs) h in
-    All-cons (λ y. p y ≡ true) x xs parts.0 (all_pass p xs parts.1)
-
 -- a digit is a byte of places
 digit_place : (d : ℕ) → d < 16 → IsPlaceByte (slice_index lower_digits d)
-digit_place d h = All-get_or IsPlaceByte lower_digits d 0 h (all_pass (λ b. is_safe b || b == 37) lower_digits refl)
+digit_place d h = All-get_or IsPlaceByte lower_digits d 0 h (AllPass-from_list_all (λ b. is_safe b || b == 37) lower_digits refl)
 
 -- so are the two digits of a byte
 pub All-hex_pair : (byte : ℕ) → byte < 256 → All IsPlaceByte (hex_pair byte)
@@ -46,7 +38,7 @@ byte_at-small zero n = omega arith
 byte_at-small (suc k) n = omega arith
 
 -- the bytes of a word
-All-word : (k n : ℕ) → All (λ b. b < 256) (bytes_high_first k n)
+pub All-word : (k n : ℕ) → All (λ b. b < 256) (bytes_high_first k n)
 All-word zero n = All-nil (λ b. b < 256)
 All-word (suc k) n = All-cons (λ b. b < 256) (byte_at k n) (bytes_high_first k n) (byte_at-small k n) (All-word k n)
 

@@ -5,7 +5,6 @@ use Rattle.std.specs.List.{list_any}
 use Rattle.std.specs.Str.{bytes_eq, is_utf8}
 use Rattle.std.proofs.lemmas.Str.{IsUtf8-from_ascii, is_utf8-from_IsUtf8}
 use Rattle.std.proofs.lemmas.Str.Ascii.{IsAscii-from_all}
-use Rattle.std.proofs.lemmas.List.{length-take-le}
 use Rattle.std.proofs.lemmas.List.Elements.{All-append, All-cons, All-head, All-nil, All-tail, All-take, All-weaker}
 use Rattle.std.proofs.lemmas.Bool.{or_left, leb-true}
 use Rattle.pt_tree.specs.Name.{is_forbidden_name, name_refusal}
@@ -53,12 +52,6 @@ pub place_name : (bytes : List ℕ) → IsPlaceName bytes → name_refusal bytes
 place_name bytes h =
     let ascii = IsAscii-from_all bytes (All-weaker IsPlaceByte (λ b. b < 128) place_ascii bytes h.safe) in
     all_tests bytes h.some h.bound (is_utf8-from_IsUtf8 bytes (IsUtf8-from_ascii bytes ascii)) (none_forbidden bytes h.some h.safe)
-
--- a tuple is one
-pub IsPlaceName-tuple : (size : ℕ) (digits : List ℕ) → 0 < size → size ≤ 32 → size ≤ length digits → All IsPlaceByte digits → IsPlaceName (take size digits)
-IsPlaceName-tuple size digits some bound enough h =
-    let n : length (take size digits) ≡ size = length-take-le size digits enough in
-    record { some = omega arith; bound = omega arith; safe = All-take IsPlaceByte size digits h }
 
 -- a spelled byte has bytes of places
 All-spelling : (byte : ℕ) → byte < 256 → All IsPlaceByte (encoded_spelling byte)

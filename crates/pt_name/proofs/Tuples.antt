@@ -24,10 +24,3 @@ digits_left size count i left rest h enough e =
     let n : count - i ≡ (count - (i + 1)) + 1 = omega arith in
     let k : size * (count - i) ≡ size * (count - (i + 1)) + size = ap (λ m. size * m) n ∙ omega arith in
     omega arith
-
--- digits enough for the next
-pub digits_next : (size count i rest : ℕ) → i < count → size * (count - i) ≤ rest → size ≤ rest
-digits_next size count i rest h enough =
-    let n : count - i ≡ (count - (i + 1)) + 1 = omega arith in
-    let k : size * (count - i) ≡ size * (count - (i + 1)) + size = ap (λ m. size * m) n ∙ omega arith in
-    omega arith

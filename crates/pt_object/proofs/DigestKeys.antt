@@ -1,26 +1,18 @@
 -- Digests are bytes, so different ones have different texts in hex.
 use Rattle.std.proofs.Common.{◌≡◌, ℕ, zero, suc, ◌<◌, List, [], ◌∷◌, Bool, true, false, refl, sym, ◌∙◌, ap, arith}
 use Rattle.std.specs.Prelude.{All, slice_index, Ok}
-use Rattle.std.specs.Int.{byte_at, bytes_high_first, byte_len, w64}
+use Rattle.std.specs.Int.{byte_len, w64}
 use Rattle.std.specs.Str.{bytes_eq}
 use Rattle.std.proofs.lemmas.Bool.{true≢false, false_from_ne_true}
-use Rattle.std.proofs.lemmas.List.Elements.{All-append, All-cons, All-head, All-nil, All-tail}
+use Rattle.std.proofs.lemmas.List.Elements.{All-append, All-head, All-nil, All-tail}
 use Rattle.sha2.specs.Sha512.{digest_bytes, sha512}
 use Rattle.hex.specs.Hex.{IsBytes, decode_of, encode_lower}
 use Rattle.hex.proofs.HexLemmas.{decode_of-encode_lower}
-use Rattle.pt_name.proofs.Digits.{All-sha256}
+use Rattle.pt_name.proofs.Digits.{All-sha256, All-word}
 use Rattle.pt_object.specs.Algorithm.{digest_of}
 use Rattle.pt_object.specs.declared.algorithm.Algorithm.{Algorithm}
 use Rattle.pt_object.specs.declared.algorithm.Algorithm.TheVariants.{Sha512, Sha256}
 use Rattle.pt_object.proofs.Ways.{same_name, name_itself}
-
-byte_at-small : (k n : ℕ) → byte_at k n < 256
-byte_at-small zero n = omega arith
-byte_at-small (suc k) n = omega arith
-
-All-word : (k n : ℕ) → All (λ b. b < 256) (bytes_high_first k n)
-All-word zero n = All-nil (λ b. b < 256)
-All-word (suc k) n = All-cons (λ b. b < 256) (byte_at k n) (bytes_high_first k n) (byte_at-small k n) (All-word k n)
 
 All-digest_bytes : (h : List ℕ) (n : ℕ) → All (λ b. b < 256) (digest_bytes h n)
 unfolding digest_bytes

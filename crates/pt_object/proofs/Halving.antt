@@ -6,7 +6,6 @@ use Rattle.std.specs.Ordering.{ordering_reverse}
 use Rattle.std.proofs.lemmas.Cmp.{nat_list_cmp_total}
 use Rattle.std.proofs.lemmas.Bool.{cases_lt}
 use Rattle.std.proofs.Math.Nat.{pow-suc}
-use native.Mathlib.Numerals.{unary_clauses}
 use Rattle.pt_object.specs.Digest.{digest_cmp}
 use Rattle.pt_object.specs.Index.{digest_in, IsIndex, IsPlaceOf}
 use Rattle.pt_object.specs.declared.contents.Content.{Content}
@@ -19,16 +18,6 @@ pub record IsHalved (items : List Content) (index digest : List ℕ) (low high c
   pub after : (k : ℕ) → high ≤ k → k < length index → digest_cmp (digest_in items index k) digest ≡ Greater
   pub few : (m : ℕ) → length index < 2 ^ m → (count ≤ m) × (high - low < 2 ^ (m - count))
   pub some : count ≡ 0 → (low ≡ 0) × (high ≡ length index)
-
-pub halved_start : (items : List Content) (index digest : List ℕ) → IsHalved items index digest 0 (length index) 0
-halved_start items index digest = record {
-  in_order = omega arith;
-  within = omega arith;
-  before = λ k h. absurd (omega arith);
-  after = λ k h within. absurd (omega arith);
-  few = λ m h. (omega arith, simp unary_clauses h);
-  some = λ _. (refl, refl);
-}
 
 -- a part that is at most half as long has one binary digit less
 fewer : (k size half : ℕ) → size < 2 ^ k → 0 < size → 2 * half ≤ size → (0 < k) × (half < 2 ^ (k - 1))

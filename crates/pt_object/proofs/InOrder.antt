@@ -4,24 +4,19 @@ use Rattle.std.specs.Prelude.{cond, ◌||◌, filter}
 use Rattle.std.specs.List.{list_all}
 use Rattle.std.specs.Str.{bytes_eq}
 use Rattle.std.specs.declared.cmp.Ordering.{Ordering}
-use Rattle.std.specs.declared.cmp.Ordering.TheVariants.{Less, Equal, Greater}
+use Rattle.std.specs.declared.cmp.Ordering.TheVariants.{Less, Equal}
 use Rattle.std.specs.Ordering.{is_lt, nat_cmp, ordering_then, ordering_reverse}
 use Rattle.std.specs.Cmp.Lexicographic.{slice_cmp, nat_list_cmp_total, lists_total}
 use Rattle.std.proofs.lemmas.Bool.{true≢false, false≢true, and_parts, and_from}
 use Rattle.std.proofs.lemmas.Cmp.{tied_itself}
 use Rattle.pt_tree.specs.Listing.{is_before}
 use Rattle.pt_tree.specs.Path.{Path}
+use Rattle.pt_tree.proofs.Names.{before_Less, same_name}
 use Rattle.pt_object.specs.FilePaths.{File, part_in_order, parts_before, paths_of}
 use Rattle.pt_object.specs.VersionState.{in_order, inserted, path_before}
-use Rattle.pt_object.proofs.Ways.{same_name}
 
 abbrev path_cmp : Path → Path → Ordering
 path_cmp = slice_cmp (slice_cmp nat_cmp)
-
-pub is_less : (o : Ordering) → is_lt o ≡ true → o ≡ Less
-is_less Less h = refl
-is_less Equal h = absurd (false≢true h)
-is_less Greater h = absurd (false≢true h)
 
 -- paths that part in order are in order
 parts_less : (p q : Path) → parts_before p q ≡ true → path_cmp p q ≡ Less
@@ -34,7 +29,7 @@ parts_less (a ∷ p) (b ∷ q) h = by (λ g. parts_less p q g) (bytes_eq a b) re
       where
         equal : slice_cmp nat_cmp a b ≡ Equal
         equal = ap (slice_cmp nat_cmp a) (sym (same_name a b same)) ∙ tied_itself nat_list_cmp_total a
-    by later false other h = ap (λ o. ordering_then o (path_cmp p q)) (is_less (slice_cmp nat_cmp a b) h)
+    by later false other h = ap (λ o. ordering_then o (path_cmp p q)) (before_Less a b h)
 
 pub parts_come : (p q : Path) → parts_before p q ≡ true → path_before p q ≡ true
 parts_come p q h = ap is_lt (parts_less p q h)

@@ -15,7 +15,7 @@ use Rattle.pt_object.specs.MetaParts.{MetaParts}
 use Rattle.pt_object.specs.declared.algorithm.Algorithm.{Algorithm}
 use Rattle.pt_object.specs.declared.contents.Content.{Content}
 use Rattle.pt_object.specs.declared.rows.Row.{Row}
-use Rattle.pt_object.proofs.Texts.{IsBelow, Rises, IsSound, AreSoundItems, AreSoundMembers, read_compact}
+use Rattle.pt_object.proofs.Texts.{IsBelow, Rises, below_all, IsSound, AreSoundItems, AreSoundMembers, read_compact}
 use Rattle.pt_object.proofs.Trees.{depth-inventory}
 
 -- the keys rise, and each value is sound
@@ -31,10 +31,6 @@ below_put j k d (member l e ms) less below = by (slice_cmp nat_cmp k l) (below_p
     by Less more = (less, below)
     by Equal more = below
     by Greater more = (below.0, more)
-
-below_all : (k l : List ℕ) (ms : Members) → slice_cmp nat_cmp k l ≡ Less → IsBelow l ms → IsBelow k ms
-below_all k l no_members less below = tt
-below_all k l (member j e ms) less below = (nat_list_cmp_total.trans k l j less below.0, below_all k l ms less below.1)
 
 sound_put : (k : List ℕ) (d : Data) (ms : Members) → IsSound d → AreSound ms → AreSound (put k d ms)
 sound_put k d no_members is sound = record { rise = (tt, tt); sound = (is, tt) }

@@ -3,6 +3,7 @@ use Rattle.std.proofs.Common.{◌≡◌, ℕ, List, [], ◌∷◌, ◌++◌, Boo
 use Rattle.std.specs.Prelude.{cond, ◌||◌, not, filter, map, None}
 use Rattle.std.specs.Option.{option_or}
 use Rattle.std.proofs.lemmas.Bool.{true≢false, or_right}
+use Rattle.std.proofs.lemmas.List.{map-append}
 use Rattle.pt_tree.specs.Path.{Path, same_path, parent, last_name}
 use Rattle.pt_tree.specs.Tree.{Tree}
 use Rattle.pt_object.specs.FilePaths.{File, are_apart, paths_of}
@@ -68,10 +69,6 @@ folders_carry E (next ∷ path) b name test agrees clear =
     (one_folder E b name (test (name ∷ [])) _ _ (clear (b ++ name ∷ []) above) (agrees name [])
     (subst (λ (p : Path). Carries (missing (b ++ name ∷ []) (below name test) (next ∷ path)) (on_way E (b ++ name ∷ [])) (on_way E p)) (append_assoc b (name ∷ []) (parent (next ∷ path))) later))
 
-pub map-both : {A B : Type 0} (f : A → B) (xs ys : List A) → map f (xs ++ ys) ≡ map f xs ++ map f ys
-map-both f [] ys = refl
-map-both f (x ∷ xs) ys = ap (λ l. f x ∷ l) (map-both f xs ys)
-
 -- one file below b, with the folders that are missing above it
 pub file_carries : (E G : List File) (b path : Path) (name bytes : List ℕ) → Agrees (leads_to G) E b → IsClear E (b ++ name ∷ path)
     → Carries (map (item_in b) (file_items G (name ∷ path, bytes))) (on_way E b) (on_way (E ++ (b ++ name ∷ path, bytes) ∷ []) [])
@@ -84,7 +81,7 @@ file_carries E G b path name bytes agrees clear =
     carries_item _ [] (on_way E p) _ _ (can_make E p n (is_clear.way (p ++ n ∷ []) (leads-itself (p ++ n ∷ []))) is_clear.free) (after_file E p n bytes is_clear) (carries_none _) in
     let placed : Carries (MakeFile (b ++ name ∷ path) bytes ∷ []) (on_way E p) (on_way (E ++ (b ++ name ∷ path, bytes) ∷ []) []) =
     subst (λ (q : Path). Carries (MakeFile q bytes ∷ []) (on_way E p) (on_way (E ++ (q, bytes) ∷ []) [])) at last in
-    subst (λ (l : List Item). Carries l (on_way E b) (on_way (E ++ (b ++ name ∷ path, bytes) ∷ []) [])) (sym (map-both (item_in b) (map MakeFolder (filter (λ folder. not (leads_to G folder)) (folders_above (name ∷ path)))) (MakeFile (name ∷ path) bytes ∷ [])))
+    subst (λ (l : List Item). Carries l (on_way E b) (on_way (E ++ (b ++ name ∷ path, bytes) ∷ []) [])) (sym (map-append (item_in b) (map MakeFolder (filter (λ folder. not (leads_to G folder)) (folders_above (name ∷ path)))) (MakeFile (name ∷ path) bytes ∷ [])))
     (carries_both _ _ (on_way E b) (on_way E p) _ (folders_carry E path b name (leads_to G) agrees clear.way) placed)
 
 -- with a file below b, the folders down to b stand
@@ -124,6 +121,6 @@ files_carry b E G ((name ∷ path, bytes) ∷ files) below agrees apart =
     (λ n q.
     leads_to-push G (name ∷ path, bytes) (n ∷ q) ∙ (λ i. agrees n q i || sym (leads-below b (n ∷ q) (name ∷ path)) i) ∙ sym (leads_to-push E f (b ++ n ∷ q)))
     (ap (λ (l : List File). are_apart (paths_of l)) again ∙ apart) in
-    subst (λ (l : List Item). Carries l (on_way E b) (on_way (E ++ f ∷ map (file_in b) files) b)) (sym (map-both (item_in b) (file_items G (name ∷ path, bytes)) (files_items (G ++ (name ∷ path, bytes) ∷ []) files)))
+    subst (λ (l : List Item). Carries l (on_way E b) (on_way (E ++ f ∷ map (file_in b) files) b)) (sym (map-append (item_in b) (file_items G (name ∷ path, bytes)) (files_items (G ++ (name ∷ path, bytes) ∷ []) files)))
     (carries_both _ _ (on_way E b) (on_way (E ++ f ∷ []) b) _ first
     (subst (λ (l : List File). Carries (map (item_in b) (files_items (G ++ (name ∷ path, bytes) ∷ []) files)) (on_way (E ++ f ∷ []) b) (on_way l b)) again later))

@@ -5,6 +5,7 @@ use Rattle.std.specs.List.{list_any}
 use Rattle.std.specs.Str.{bytes_eq}
 use Rattle.std.proofs.lemmas.Bool.{true≢false, false≢true, or_left, or_right, or_from}
 use Rattle.std.proofs.lemmas.List.Folds.{list_any-append}
+use Rattle.std.proofs.Math.Bool.{or-false}
 use Rattle.hex.specs.Hex.{encode_lower}
 use Rattle.serde_json.specs.Data.{array, Members}
 use Rattle.serde_json.specs.Find.{get_member}
@@ -25,12 +26,8 @@ use Rattle.pt_object.proofs.Ways.{path_itself, same_name, name_itself}
 abbrev pub has : List ℕ → List Row → Bool
 has digest rows = list_any (row_has_digest digest) rows
 
-or_none : (b : Bool) → (b || false) ≡ b
-or_none true = refl
-or_none false = refl
-
 pub has-push : (digest : List ℕ) (earlier : List Row) (row : Row) → has digest (earlier ++ row ∷ []) ≡ (has digest earlier || bytes_eq row.digest digest)
-has-push digest earlier row = list_any-append (row_has_digest digest) earlier (row ∷ []) ∙ ap (λ b. has digest earlier || b) (or_none (bytes_eq row.digest digest))
+has-push digest earlier row = list_any-append (row_has_digest digest) earlier (row ∷ []) ∙ ap (λ b. has digest earlier || b) (or-false (bytes_eq row.digest digest))
 
 pub has_still : (digest : List ℕ) (earlier : List Row) (row : Row) → has digest earlier ≡ true → has digest (earlier ++ row ∷ []) ≡ true
 has_still digest earlier row h = has-push digest earlier row ∙ or_left _ _ h

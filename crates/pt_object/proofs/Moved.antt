@@ -3,19 +3,18 @@ use Rattle.std.proofs.Common.{◌≡◌, ℕ, List, [], ◌∷◌, ◌++◌, Boo
 use Rattle.std.specs.Prelude.{cond, ◌||◌, Option, None, Some, is_some}
 use Rattle.std.specs.List.{list_all}
 use Rattle.std.specs.Str.{bytes_eq}
-use Rattle.std.specs.declared.cmp.Ordering.TheVariants.{Less}
-use Rattle.std.specs.Ordering.{is_lt, nat_cmp, ordering_reverse}
-use Rattle.std.specs.Cmp.Lexicographic.{nat_list_cmp_total, slice_cmp}
+use Rattle.std.specs.Ordering.{is_lt, ordering_reverse}
+use Rattle.std.specs.Cmp.Lexicographic.{nat_list_cmp_total}
 use Rattle.std.proofs.lemmas.Bool.{true≢false, false≢true, and_parts}
 use Rattle.pt_tree.specs.Listing.{is_before}
 use Rattle.pt_tree.specs.Path.{Path, rest_below, same_path}
 use Rattle.pt_tree.specs.Tree.{Bytes, Tree, added, edited_by, moved, moved_at}
 use Rattle.pt_tree.proofs.Below.{rest_of, whole_of}
+use Rattle.pt_tree.proofs.Names.{before_Less}
 use Rattle.pt_object.specs.FilePaths.{File, part_in_order, parts_before, paths_of}
 use Rattle.pt_object.specs.Holding.{IsFree, leads_to, placed, placed_at}
 use Rattle.pt_object.specs.ObjectLaws.{LastFileTellsFolders, MovedStandsThere, PieceMakesMore}
 use Rattle.pt_object.specs.Script.{MakeFile, done}
-use Rattle.pt_object.proofs.InOrder.{is_less}
 use Rattle.pt_object.proofs.Ways.{leads, leads_to-push, name_itself, path_itself, same_name}
 
 moved_there_at : (t inside : Tree) (from to : Path) → IsFree t from → (q : Path) → moved (placed t from inside) from to q ≡ placed t to inside q
@@ -32,8 +31,7 @@ moved_stands_there t inside from to free i q = moved_there_at t inside from to f
 -- names that come before one another don't
 not_both : (x y : List ℕ) → is_before x y ≡ true → is_before y x ≡ true → ⊥
 not_both x y a b =
-    let less : slice_cmp nat_cmp x y ≡ Less = is_less (slice_cmp nat_cmp x y) a in
-    true≢false (sym b ∙ ap is_lt (nat_list_cmp_total.antisymm y x ∙ ap ordering_reverse less))
+    true≢false (sym b ∙ ap is_lt (nat_list_cmp_total.antisymm y x ∙ ap ordering_reverse (before_Less x y a)))
 
 -- a folder above two files is above each file that comes between
 between : (folder p q r : Path) → parts_before p q ≡ true → parts_before q r ≡ true → leads folder p ≡ true → leads folder r ≡ true → leads folder q ≡ true

@@ -6,6 +6,7 @@ use Rattle.std.specs.Option.{option_map, option_or}
 use Rattle.std.specs.Str.{bytes_eq}
 use Rattle.std.specs.Cmp.Lexicographic.{bytes_decides}
 use Rattle.std.proofs.lemmas.Bool.{cases_Bool}
+use Rattle.std.proofs.Math.Bool.{or-false, or-true}
 use Rattle.std.proofs.lemmas.List.{take_more, take_all}
 use Rattle.std.proofs.lemmas.List.Sums.{fold_push}
 use Rattle.std.proofs.lemmas.List.Folds.{list_any-append}
@@ -19,14 +20,6 @@ use Rattle.pt_object.specs.declared.rows.Row.{Row}
 abbrev Agree : List Row → List Content → Type 0
 Agree earlier items = (d : List ℕ) → is_noted items d ≡ list_any (row_has_digest d) earlier
 
-or_true : (b : Bool) → (b || true) ≡ true
-or_true true = refl
-or_true false = refl
-
-or_false : (b : Bool) → (b || false) ≡ b
-or_false true = refl
-or_false false = refl
-
 -- one more row of a digest that is there
 agree_known : (earlier : List Row) (items : List Content) (row : Row) → Agree earlier items → is_noted items row.digest ≡ true → Agree (earlier ++ row ∷ []) items
 agree_known earlier items row agree known d =
@@ -35,9 +28,9 @@ agree_known earlier items row agree known d =
     by_cases : (bytes_eq row.digest d ≡ true) ⊎ (bytes_eq row.digest d ≡ false) → (list_any (row_has_digest d) earlier || (bytes_eq row.digest d || false)) ≡ is_noted items d
     by_cases (inl same) =
         let at : row.digest ≡ d = (bytes_decides row.digest d).0 same in
-        ap (λ (b : Bool). list_any (row_has_digest d) earlier || (b || false)) same ∙ or_true _ ∙ sym (ap (is_noted items) (sym at) ∙ known)
+        ap (λ (b : Bool). list_any (row_has_digest d) earlier || (b || false)) same ∙ or-true _ ∙ sym (ap (is_noted items) (sym at) ∙ known)
     by_cases (inr other) =
-        ap (λ (b : Bool). list_any (row_has_digest d) earlier || (b || false)) other ∙ or_false _ ∙ sym (agree d)
+        ap (λ (b : Bool). list_any (row_has_digest d) earlier || (b || false)) other ∙ or-false _ ∙ sym (agree d)
 
 -- one more row of a new digest
 agree_new : (earlier : List Row) (items : List Content) (row : Row) → Agree earlier items → Agree (earlier ++ row ∷ []) (items ++ content_of_row row ∷ [])

@@ -5,6 +5,7 @@ use Rattle.std.specs.List.{list_all}
 use Rattle.std.specs.Option.{option_map, unwrap_or}
 use Rattle.std.specs.Str.{bytes_eq}
 use Rattle.std.proofs.lemmas.Bool.{true≢false, false≢true, and_parts}
+use Rattle.std.proofs.lemmas.List.{map-append}
 use Rattle.std.proofs.lemmas.List.Elements.{All-head, All-tail}
 use Rattle.serde_json.specs.Data.{array, no_members, object, put}
 use Rattle.hex.specs.Hex.{encode_lower}
@@ -25,7 +26,6 @@ use Rattle.pt_object.specs.declared.algorithm.Algorithm.{Algorithm}
 use Rattle.pt_object.specs.declared.contents.Content.{Content}
 use Rattle.pt_object.specs.declared.rows.Row.{Row}
 use Rattle.pt_object.proofs.Manifests.{has}
-use Rattle.pt_object.proofs.MakingFiles.{map-both}
 use Rattle.pt_object.proofs.Stored.{not_apart}
 use Rattle.pt_object.proofs.Ways.{is_same, name_itself, path_itself}
 
@@ -40,7 +40,7 @@ has-bare digest (row ∷ rows) = ap (λ b. bytes_eq row.digest digest || b) (has
 contents-bare : (earlier rows : List Row) → map content_of_row (distinct_after (map bare earlier) (map bare rows)) ≡ map content_of_row (distinct_after earlier rows)
 contents-bare earlier [] = refl
 contents-bare earlier (row ∷ rows) =
-    ap (λ (l : List Row). map content_of_row (cond (has row.digest (map bare earlier)) (distinct_after l (map bare rows)) (bare row ∷ distinct_after l (map bare rows)))) (sym (map-both bare earlier (row ∷ [])))
+    ap (λ (l : List Row). map content_of_row (cond (has row.digest (map bare earlier)) (distinct_after l (map bare rows)) (bare row ∷ distinct_after l (map bare rows)))) (sym (map-append bare earlier (row ∷ [])))
     ∙ by (has row.digest earlier) (has row.digest (map bare earlier)) (has-bare row.digest earlier) (contents-bare (earlier ++ row ∷ []) rows)
   where
     by : (t s : Bool) → s ≡ t → map content_of_row (distinct_after (map bare (earlier ++ row ∷ [])) (map bare rows)) ≡ map content_of_row (distinct_after (earlier ++ row ∷ []) rows)

@@ -21,7 +21,7 @@ use Rattle.pt_object.specs.declared.rows.Row.{Row}
 use Rattle.pt_object.specs.declared.contents.Content.{Content}
 use Rattle.pt_object.proofs.Indexed.{DigestsDiffer-index, digest_at-item, same_from_equal}
 use Rattle.pt_object.proofs.HexOrder.{hex_less, hex_same}
-use Rattle.pt_object.proofs.Texts.{IsBelow, Rises}
+use Rattle.pt_object.proofs.Texts.{IsBelow, Rises, below_all}
 
 abbrev pub no_content : Content
 no_content = content_of [] []
@@ -60,10 +60,6 @@ none_below k (member l e ms) below = ap (λ o. match_ordering o (get_member k ms
 
 here : (k : List ℕ) (d : Data) (ms : Members) → get_member k (member k d ms) ≡ Some d
 here k d ms = ap (λ o. match_ordering o (get_member k ms) (Some d) (get_member k ms)) (itself k)
-
-below_all : (k l : List ℕ) (ms : Members) → slice_cmp nat_cmp k l ≡ Less → IsBelow l ms → IsBelow k ms
-below_all k l no_members less below = tt
-below_all k l (member j e ms) less below = (nat_list_cmp_total.trans k l j less below.0, below_all k l ms less below.1)
 
 rest_same : (k : List ℕ) (d e : Data) (ms ns : Members) → IsBelow k ms → IsBelow k ns
     → ((j : List ℕ) → get_member j (member k d ms) ≡ get_member j (member k e ns)) → (j : List ℕ) → get_member j ms ≡ get_member j ns

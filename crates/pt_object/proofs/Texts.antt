@@ -20,6 +20,11 @@ abbrev pub IsBelow : List ℕ → Members → Type 0
 IsBelow k no_members = ⊤
 IsBelow k (member l e ms) = (slice_cmp nat_cmp k l ≡ Less) × IsBelow k ms
 
+-- and so does what comes before it
+pub below_all : (k l : List ℕ) (ms : Members) → slice_cmp nat_cmp k l ≡ Less → IsBelow l ms → IsBelow k ms
+below_all k l no_members less below = tt
+below_all k l (member j e ms) less below = (nat_list_cmp_total.trans k l j less below.0, below_all k l ms less below.1)
+
 -- the keys rise
 abbrev pub Rises : Members → Type 0
 Rises no_members = ⊤

@@ -4,32 +4,19 @@ use Rattle.std.specs.Prelude.{cond, ◌&&◌, ◌||◌, Option, None, Some, is_s
 use Rattle.std.specs.List.{list_all}
 use Rattle.std.specs.Option.{option_or}
 use Rattle.std.specs.Str.{bytes_eq}
-use Rattle.std.specs.Cmp.Lexicographic.{bytes_decides, pointwise_decides}
-use Rattle.std.proofs.lemmas.Bool.{true≢false, false≢true, and_parts, false_from_ne_true}
+use Rattle.std.proofs.lemmas.Bool.{true≢false, false≢true, and_parts}
 use Rattle.std.proofs.lemmas.List.Folds.{list_any-append}
-use Rattle.pt_tree.specs.Path.{Path, same_path, rest_below, parent, last_name}
+use Rattle.std.proofs.Math.Bool.{or-false}
+use Rattle.pt_tree.specs.Path.{Path, same_path, rest_below}
+pub use Rattle.pt_tree.proofs.AtPaths.{parent-last as push-parent, path_itself, same_from as is_same}
+pub use Rattle.pt_tree.proofs.Names.{bytes_eq-sym, name_itself, same_name}
+pub use Rattle.pt_tree.proofs.Paths.{parent-push}
 use Rattle.pt_object.specs.FilePaths.{File, are_apart, is_apart, paths_of}
 use Rattle.pt_object.specs.Holding.{held_at, leads_to}
 
 -- q is p or below it
 abbrev pub leads : Path → Path → Bool
 leads p q = is_some (rest_below p q)
-
-pub same_name : (x y : List ℕ) → bytes_eq x y ≡ true → x ≡ y
-same_name x y = (bytes_decides x y).0
-
-pub name_itself : (x : List ℕ) → bytes_eq x x ≡ true
-name_itself x = (bytes_decides x x).1 refl
-
-pub bytes_eq-sym : (x y : List ℕ) (b : Bool) → bytes_eq x y ≡ b → bytes_eq y x ≡ b
-bytes_eq-sym x y true h = (bytes_decides y x).1 (sym (same_name x y h))
-bytes_eq-sym x y false h = false_from_ne_true (bytes_eq y x) (λ t. true≢false (sym ((bytes_decides x y).1 (sym (same_name y x t))) ∙ h))
-
-pub is_same : (p q : Path) → same_path p q ≡ true → p ≡ q
-is_same p q = (pointwise_decides bytes_decides p q).0
-
-pub path_itself : (p : Path) → same_path p p ≡ true
-path_itself p = (pointwise_decides bytes_decides p p).1 refl
 
 pub leads-itself : (p : Path) → leads p p ≡ true
 leads-itself [] = refl
@@ -70,15 +57,6 @@ leads-push (y ∷ q) (z ∷ b) x = by (bytes_eq y z) (leads-push q b x)
     by true later = later
     by false later = refl
 
-pub parent-push : (b : Path) (x : List ℕ) → parent (b ++ x ∷ []) ≡ b
-parent-push [] x = refl
-parent-push (y ∷ []) x = refl
-parent-push (y ∷ z ∷ b) x = ap (λ (p : Path). y ∷ p) (parent-push (z ∷ b) x)
-
-pub push-parent : (n : List ℕ) (p : Path) → parent (n ∷ p) ++ last_name (n ∷ p) ∷ [] ≡ n ∷ p
-push-parent n [] = refl
-push-parent n (m ∷ p) = ap (λ (q : Path). n ∷ q) (push-parent m p)
-
 -- the top is no other path
 pub top_differs : (b : Path) (x : List ℕ) → same_path [] (b ++ x ∷ []) ≡ false
 top_differs [] x = refl
@@ -97,12 +75,8 @@ held_at-push (e ∷ E) f q = by (same_path q e.0) (held_at-push E f q)
     by true later = refl
     by false later = later
 
-or_false : (b : Bool) → (b || false) ≡ b
-or_false true = refl
-or_false false = refl
-
 pub leads_to-push : (E : List File) (f : File) (q : Path) → leads_to (E ++ f ∷ []) q ≡ (leads_to E q || leads q f.0)
-leads_to-push E f q = list_any-append (λ (e : File). leads q e.0) E (f ∷ []) ∙ ap (λ b. leads_to E q || b) (or_false (leads q f.0))
+leads_to-push E f q = list_any-append (λ (e : File). leads q e.0) E (f ∷ []) ∙ ap (λ b. leads_to E q || b) (or-false (leads q f.0))
 
 -- ---- files that are apart
 

@@ -139,7 +139,8 @@ impl Contents {
 
     // The position of the item with the digest, which may well be this one: it is looked at first.
     pub(crate) fn position_near(&self, next: usize, digest: &Digest) -> Option<usize>
-        ensures { MatchOption result (is_noted self.now digest.now ≡ false) (IsAt self.now digest.now) }
+        ensures { MatchOption result
+            (is_noted self.now digest.now ≡ false) (IsAt self.now digest.now) }
     {
         if let Some(content) = self.get(next)
             && content.digest == *digest
@@ -151,7 +152,8 @@ impl Contents {
 
     // The position of the item with the digest.
     pub(crate) fn position(&self, digest: &Digest) -> Option<usize>
-        ensures { MatchOption result (is_noted self.now digest.now ≡ false) (IsAt self.now digest.now) }
+        ensures { MatchOption result
+            (is_noted self.now digest.now ≡ false) (IsAt self.now digest.now) }
     {
         search(&self.items, &self.index, digest).found.ok()
     }

@@ -37,7 +37,8 @@ impl Hasher {
     /// Feeds the bytes of a block, of any number, to it.
     pub fn feed(&mut self, block: &Block)
         ensures { (algorithm : Algorithm) (fed : List ℕ) →
-            HasBeenFed algorithm self.old fed → HasBeenFed algorithm self.new (fed ++ block.now.items) }
+            HasBeenFed algorithm self.old fed
+            → HasBeenFed algorithm self.new (fed ++ block.now.items) }
     {
         self.feed_bytes(block.as_slice());
     }
@@ -45,7 +46,8 @@ impl Hasher {
     /// Feeds bytes, of any number, to it.
     pub fn feed_bytes(&mut self, bytes: &[u8])
         ensures { (algorithm : Algorithm) (fed : List ℕ) →
-            HasBeenFed algorithm self.old fed → HasBeenFed algorithm self.new (fed ++ bytes.now) }
+            HasBeenFed algorithm self.old fed
+            → HasBeenFed algorithm self.new (fed ++ bytes.now) }
     {
         match &mut self.core {
             Core::Sha512(core) => core.update(bytes),
@@ -56,7 +58,8 @@ impl Hasher {
     /// Another hasher that has been fed the same.
     pub fn copy(&self) -> Result<Hasher, MemoryFault>
         ensures { (algorithm : Algorithm) (fed : List ℕ) →
-            HasBeenFed algorithm self.now fed → IfOk result (λ copy. HasBeenFed algorithm copy fed) }
+            HasBeenFed algorithm self.now fed
+            → IfOk result (λ copy. HasBeenFed algorithm copy fed) }
     {
         let core = match &self.core {
             Core::Sha512(core) => Core::Sha512(core.clone()?),

@@ -85,7 +85,8 @@ fn put_version(
 
 // Who made the version.
 fn put_user(out: &mut Output, meta: &Meta) -> Result<(), AllocError>
-    ensures { OnOk result (out.new ≡ out.old ++ tokens_of (user_tree meta.now.address meta.now.name)) }
+    ensures { OnOk result (out.new ≡
+        out.old ++ tokens_of (user_tree meta.now.address meta.now.name)) }
 {
     out.begin_object()?;
     if let Some(address) = meta.address() {

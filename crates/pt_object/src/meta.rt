@@ -1,4 +1,4 @@
-ghost use Rattle.std.specs.Prelude.{◌≡◌, IsTrue};
+ghost use Rattle.std.specs.Prelude.{◌≡◌};
 ghost use Rattle.std.specs.Option.{option_map};
 ghost use Rattle.pt_tree.specs.Refusal.{Answers};
 ghost use Rattle.pt_object.specs.Meta.{given_address, meta_number, meta_refusal, parts_of};

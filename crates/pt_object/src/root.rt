@@ -65,7 +65,8 @@ fn layout_file(alloc: Global) -> Result<String, MemoryFault>
 }
 
 fn config_file(alloc: Global, size: u32, count: u32) -> Result<String, MemoryFault>
-    ensures { IfOk result (λ text. string_bytes text ≡ config_text (record { size = size; count = count })) }
+    ensures { IfOk result (λ text. string_bytes text ≡
+        config_text (record { size = size; count = count })) }
 {
     let value = config(alloc, size, count)?;
     Ok(value.to_string(alloc)?)

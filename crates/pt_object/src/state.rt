@@ -60,7 +60,8 @@ pub(crate) fn put_state(
 // Puts one content: the path of its first file and the later ones.
 fn put_paths(out: &mut Output, content: &Content, later: &[&NamePath]) -> Result<(), MemoryFault>
     ensures tokens { OnOk result (out.new ≡ out.old ++ key (encode_lower content.now.digest)
-        ∷ tokens_of (array (texts (joined content.now.path ∷ map (λ path. joined path.now) later.now)))) }
+        ∷ tokens_of (array (texts (joined content.now.path
+        ∷ map (λ path. joined path.now) later.now)))) }
     ensures bytes { IsBytes content.now.digest }
 {
     out.digest(&content.digest)?;

@@ -7,9 +7,10 @@ use Rattle.std.proofs.lemmas.Bool.{and_from, and_parts}
 use Rattle.pt_name.specs.Reading.{reading_of}
 use Rattle.pt_object.specs.FilePaths.{File}
 use Rattle.pt_tree.specs.Forest.{Forest, none, file, other, dir, dir_at, is_proper, listing_of}
+use Rattle.pt_tree.proofs.Finding.{proper_file, proper_other}
 use Rattle.pt_tree.specs.Path.{Path}
 use Rattle.pt_tree.specs.Tree.{Tree}
-use Rattle.pt_walk.proofs.FilePaths.{file_parts, gathered_proper}
+use Rattle.pt_walk.proofs.FilePaths.{gathered_proper}
 use Rattle.pt_walk.proofs.Paths.{reads_below}
 use Rattle.pt_walk.specs.Left.{entries_from}
 use Rattle.pt_walk.specs.Object.{entries, files}
@@ -50,8 +51,8 @@ good_by_reading job prefix object (Some read) proper =
 proper_from : (i : ℕ) (f : Forest) → is_proper f ≡ true → is_proper (entries_from i f) ≡ true
 proper_from zero f proper = proper
 proper_from (suc i) none proper = refl
-proper_from (suc i) (file name bytes after) proper = proper_from i after (file_parts name bytes after proper).2
-proper_from (suc i) (other name after) proper = proper_from i after (file_parts name [] after proper).2
+proper_from (suc i) (file name bytes after) proper = proper_from i after (proper_file name bytes after proper).2
+proper_from (suc i) (other name after) proper = proper_from i after (proper_other name after proper).2
 proper_from (suc i) (dir name inside after) proper = proper_from i after (dir_parts name inside after proper).1
 
 good_candidate : (job : Job) (prefix : List ℕ) (site : Path) (f : Forest) → is_proper f ≡ true → good (verdict_on_candidate job prefix site (encapsulated site f)) ≡ true
@@ -109,8 +110,8 @@ all_either false _ _ = refl
 
 good_sites : (depth : ℕ) (path : Path) (f : Forest) → is_proper f ≡ true → list_all good_site (sites_in depth path f) ≡ true
 good_sites depth path none proper = refl
-good_sites depth path (file name bytes after) proper = good_sites depth path after (file_parts name bytes after proper).2
-good_sites depth path (other name after) proper = good_sites depth path after (file_parts name [] after proper).2
+good_sites depth path (file name bytes after) proper = good_sites depth path after (proper_file name bytes after proper).2
+good_sites depth path (other name after) proper = good_sites depth path after (proper_other name after proper).2
 good_sites depth path (dir name inside after) proper =
     let parts = dir_parts name inside after proper in
     let here = visit_either (is_last (at_of path)) Past (cond (nat_lt depth (length path + 1)) Deep (Listed inside)) refl

@@ -1,14 +1,14 @@
 -- Taking away, editing and renaming at whole paths.
-use Rattle.std.proofs.Common.{◌≡◌, ℕ, List, [], ◌∷◌, ◌++◌, true, false, refl, sym, ◌∙◌, ap, subst}
+use Rattle.std.proofs.Common.{◌≡◌, ℕ, List, [], ◌∷◌, ◌++◌, true, false, refl, sym, ◌∙◌, ap, append-nil, subst}
 use Rattle.std.specs.Prelude.{Bool, cond, Option, None, Some, IsSome, is_some}
 use Rattle.std.specs.Option.{option_map, option_and_then, option_copied}
-use Rattle.std.proofs.lemmas.Bool.{false≢true, and_parts}
+use Rattle.std.specs.Cmp.Lexicographic.{pointwise_decides}
+use Rattle.std.proofs.lemmas.Slice.Eq.{bytes_eq-Decides}
 use denote.Ref.{Bor}
 use Rattle.pt_tree.specs.Path.{Path, IsBelowTop, same_path, parent, last_name, split_path}
 use Rattle.pt_tree.proofs.Paths.{split_parts}
 use Rattle.pt_tree.specs.Forest.{Forest, Node, File, Dir, Other, node_at, as_dir, as_file, dir_at, file_at, is_proper, removed, rewritten, changed}
 use Rattle.pt_tree.specs.Tree.{Entry, Bytes, Folder, Special, Tree, entry_of, tree_of, bytes_of, edited_by, added, without}
-use Rattle.pt_tree.proofs.Names.{same_name}
 use Rattle.pt_tree.specs.TreeLaws.{in_folder}
 use Rattle.pt_tree.proofs.Placing.{HasDir, dir-folder, tree-removed_at, tree-edited_at}
 use Rattle.pt_tree.proofs.Proper.{proper-changed, proper-removed, proper-rewritten, proper_at}
@@ -56,10 +56,10 @@ bytes_at f p = by (node_at (Dir f) p)
     by (Some Other) = refl
 
 pub same_from : (q p : Path) → same_path q p ≡ true → q ≡ p
-same_from [] [] h = refl
-same_from [] (x ∷ p) h = absurd (false≢true h)
-same_from (y ∷ q) [] h = absurd (false≢true h)
-same_from (y ∷ q) (x ∷ p) h = let parts = and_parts _ _ h in λ i. same_name y x parts.0 i ∷ same_from q p parts.1 i
+same_from q p = (pointwise_decides bytes_eq-Decides q p).0
+
+pub path_itself : (p : Path) → same_path p p ≡ true
+path_itself p = (pointwise_decides bytes_eq-Decides p p).1 refl
 
 -- where no file is, nothing is added
 pub added_nowhere : (t : Tree) (p : Path) (piece : List ℕ) → bytes_of (t p) ≡ None → t ≡ added t p piece
@@ -73,6 +73,20 @@ added_nowhere t p piece h = λ i q. at q (same_path q p) refl i
 
     at : (q : Path) (s : Bool) → same_path q p ≡ s → t q ≡ cond s (edited_by (λ bytes. bytes ++ piece) (t p)) (t q)
     at q true is = ap t (same_from q p is) ∙ same (t p) h
+    at q false is = refl
+
+-- nothing added is no change
+pub added-nil : (t : Tree) (p : Path) → added t p [] ≡ t
+added-nil t p = λ i q. at q (same_path q p) refl i
+  where
+    same : (o : Option Entry) → edited_by (λ bytes. bytes ++ []) o ≡ o
+    same None = refl
+    same (Some (Bytes b)) = ap (λ bytes. Some (Bytes bytes)) (append-nil b)
+    same (Some Folder) = refl
+    same (Some Special) = refl
+
+    at : (q : Path) (s : Bool) → same_path q p ≡ s → cond s (edited_by (λ bytes. bytes ++ []) (t p)) (t q) ≡ t q
+    at q true is = same (t p) ∙ ap t (sym (same_from q p is))
     at q false is = refl
 
 -- ---- the same, for a path that is split

@@ -1,5 +1,5 @@
 -- What stands below a path: the rest of a path behind its front, and nothing below what is absent.
-use Rattle.std.proofs.Common.{◌≡◌, ◌∙◌, ℕ, Bool, true, false, List, [], ◌∷◌, ◌++◌, refl, sym, ap, append_assoc, append-nil, cond}
+use Rattle.std.proofs.Common.{◌≡◌, ◌∙◌, Bool, true, false, [], ◌∷◌, ◌++◌, refl, sym, ap, append_assoc, append-nil, cond}
 use Rattle.std.specs.Prelude.{Option, None, Some, is_some}
 use Rattle.std.specs.Str.{bytes_eq}
 use Rattle.pt_tree.specs.Path.{Path, rest_below}

@@ -38,7 +38,7 @@ joined_more names i n text before within is so_far how =
 abbrev has_slash : List ℕ → Bool
 has_slash = list_any (λ b. b == 47)
 
-no_slash : (n : List ℕ) → is_name n ≡ true → has_slash n ≡ false
+pub no_slash : (n : List ℕ) → is_name n ≡ true → has_slash n ≡ false
 no_slash n is =
     let all = forbidden (length n == 0) (nat_lt 255 (length n)) (is_utf8 n) (is_forbidden_name n) is in
     first (has_slash n) (list_any (λ b. b == 0) n) (bytes_eq n (46 ∷ [])) (bytes_eq n (46 ∷ 46 ∷ [])) all

@@ -137,11 +137,11 @@ proper-inserted leaf (dir k d f) x is alone absent proper =
 
 -- ---- a removal
 
-cond_proper : (t : Bool) (here there : Forest) → is_proper here ≡ true → is_proper there ≡ true → is_proper (cond t here there) ≡ true
+pub cond_proper : (t : Bool) (here there : Forest) → is_proper here ≡ true → is_proper there ≡ true → is_proper (cond t here there) ≡ true
 cond_proper true here there a b = a
 cond_proper false here there a b = b
 
-cond_before : (k : List ℕ) (t : Bool) (here there : Forest) → comes_before k here ≡ true → comes_before k there ≡ true → comes_before k (cond t here there) ≡ true
+pub cond_before : (k : List ℕ) (t : Bool) (here there : Forest) → comes_before k here ≡ true → comes_before k there ≡ true → comes_before k (cond t here there) ≡ true
 cond_before k true here there a b = a
 cond_before k false here there a b = b
 

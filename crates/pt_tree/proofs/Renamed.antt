@@ -66,7 +66,7 @@ picked_in (dir m e f) (k ∷ p) d n proper is =
     by inside later true h = inside h
     by inside later false h = later h
 
-node-append : (x : Node) (p q : Path) (y : Node) → node_at x p ≡ Some y → node_at x (p ++ q) ≡ node_at y q
+pub node-append : (x : Node) (p q : Path) (y : Node) → node_at x p ≡ Some y → node_at x (p ++ q) ≡ node_at y q
 node-append x [] q y is = let same : x ≡ y = cc in ap (λ (z : Node). node_at z q) same
 node-append (File b) (n ∷ p) q y is = absurd (cc)
 node-append Other (n ∷ p) q y is = absurd (cc)
@@ -187,12 +187,3 @@ rename_at f (x ∷ from) (y ∷ to) from_at to_at from_name to_name is_from is_t
     ≡ changed (inserted (named (last_name (y ∷ to)) (picked_at f (parent (x ∷ from)) (last_name (x ∷ from))))) (changed (removed (last_name (x ∷ from))) f (parent (x ∷ from))) (parent (y ∷ to)) =
     λ i. changed (inserted (named (b.1 i) (picked_at f (a.0 i) (a.1 i)))) (changed (removed (a.1 i)) f (a.0 i)) (b.0 i) in
     (ap tree_of same ∙ tree_renamed f x from y to proper can, ap is_proper same ∙ proper_renamed f x from y to proper can (ap is_name (sym b.1) ∙ name))
-
--- neither path of a move is the top
-pub move_from : (f : Forest) (from to : Path) → CanMove (tree_of f) from to → None ≡ split_path from → ⊥
-move_from f [] to can h = absurd (let apart = can.apart in cc)
-move_from f (x ∷ from) to can h = absurd (cc)
-
-pub move_to : (f : Forest) (from to : Path) → CanMove (tree_of f) from to → None ≡ split_path to → ⊥
-move_to f from [] can h = absurd (let absent = can.target.absent in cc)
-move_to f from (y ∷ to) can h = absurd (cc)

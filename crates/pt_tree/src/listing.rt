@@ -1,4 +1,4 @@
-ghost use Rattle.std.specs.Prelude.{◌≡◌, ◌==◌, ◌++◌, [], ◌∷◌, ℕ, IsTrue, OnOk, OnErr, length, slice_get};
+ghost use Rattle.std.specs.Prelude.{◌≡◌, ◌==◌, ◌++◌, [], ◌∷◌, IsTrue, OnErr, length, slice_get};
 ghost use Rattle.pt_tree.specs.Listing.{can_follow as can_follow_items, items_lent, left_in, listing_refusal, listing_number, names_rise};
 ghost use Rattle.pt_tree.specs.Refusal.{Answers};
 

@@ -6,10 +6,11 @@ use Rattle.pt_tree.specs.declared.kind.Kind.TheVariants as kind
 use Rattle.pt_tree.specs.Listing.{Item}
 use Rattle.pt_tree.specs.Path.{Path}
 use Rattle.pt_tree.specs.Forest.{Forest, none, file, other, dir, Node, File, Dir, Other, as_dir, as_file, dir_at, file_at, is_proper, kind_of, listing_at, listing_of, node_at}
+use Rattle.pt_tree.proofs.AtPaths.{proper_dir_at}
 use Rattle.pt_walk.specs.declared.frame.Frame.{Frame}
 use Rattle.pt_walk.specs.Left.{bytes_at, entries_from, inside_at}
 use Rattle.pt_walk.specs.Trail.{entry_at, names_to}
-use Rattle.pt_walk.proofs.Paths.{dir_listed, node_below, proper_at}
+use Rattle.pt_walk.proofs.Paths.{dir_listed, node_below}
 use Rattle.pt_walk.proofs.Standing.{standing, with_entry}
 
 -- what is known of the entry: its node, with which the rest of its directory begins, and which stands at its path
@@ -23,7 +24,7 @@ pub ahead : (top : Forest) (path : Path) (items : List Item) (place : ℕ) (item
 ahead top path items place item proper listed e =
     let at = dir_listed top path items listed in
     let here : inside_at top path ≡ at.inside = ap (λ o. unwrap_or o none) at.dir_is in
-    let it = standing at.inside place item (proper_at top path at.inside proper at.node_is) (ap (λ l. slice_get l place) at.items_are ∙ e) in
+    let it = standing at.inside place item (proper_dir_at top path at.inside proper at.dir_is) (ap (λ l. slice_get l place) at.items_are ∙ e) in
     let rest : entries_from place at.inside ≡ with_entry item.0 it.node (entries_from (place + 1) at.inside) =
     it.rest_is ∙ ap (λ k. with_entry item.0 it.node (entries_from k at.inside)) (sym (add-one place)) in
     record {

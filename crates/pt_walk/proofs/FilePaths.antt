@@ -7,11 +7,12 @@ use Rattle.pt_tree.specs.Forest.{Forest, none, file, other, dir, comes_before, i
 use Rattle.pt_tree.specs.Listing.{is_before}
 use Rattle.pt_tree.specs.Name.{is_name}
 use Rattle.pt_tree.specs.Path.{Path}
+use Rattle.pt_tree.proofs.Finding.{comes_before-trans, proper_dir, proper_file, proper_other}
+use Rattle.pt_tree.proofs.Names.{before_differs, name_itself}
 use Rattle.pt_walk.specs.Object.{entries_in, files, without_shorties}
 use Rattle.pt_walk.specs.ObjectPaths.{FilesPartInOrder, GatheredIsProper, is_logical, part_in_order, parts_before, paths_of}
 use Rattle.pt_walk.specs.Site.{is_short}
 use Rattle.pt_walk.proofs.BadEntries.{counts}
-use Rattle.pt_walk.proofs.Standing.{bytes_eq-itself, dir_parts, is_before-apart, is_before-trans}
 
 -- the paths of the files in a directory
 held : Path → Forest → List Path
@@ -71,45 +72,27 @@ all-append test (x ∷ xs) ys a b =
     let parts = and_parts (test x) (list_all test xs) a in
     and_from (test x) (list_all test (xs ++ ys)) parts.0 (all-append test xs ys parts.1 b)
 
-pub comes_before-trans : (n m : List ℕ) (f : Forest) → is_before n m ≡ true → comes_before m f ≡ true → comes_before n f ≡ true
-comes_before-trans n m none a b = refl
-comes_before-trans n m (file name bytes after) a b = is_before-trans n m name a b
-comes_before-trans n m (other name after) a b = is_before-trans n m name a b
-comes_before-trans n m (dir name inside after) a b = is_before-trans n m name a b
-
-pub file_parts : (n b : List ℕ) (f : Forest) → is_proper (file n b f) ≡ true → (is_name n ≡ true) × (comes_before n f ≡ true) × (is_proper f ≡ true)
-file_parts n b f proper =
-    let first = and_parts (is_name n) (comes_before n f && is_proper f) proper in
-    let second = and_parts (comes_before n f) (is_proper f) first.1 in
-    (first.0, second.0, second.1)
-
-pub dir_names : (n : List ℕ) (inside f : Forest) → is_proper (dir n inside f) ≡ true → (is_name n ≡ true) × (comes_before n f ≡ true)
-dir_names n inside f proper =
-    let first = and_parts (is_name n) (comes_before n f && (is_proper inside && is_proper f)) proper in
-    (first.0, (and_parts (comes_before n f) (is_proper inside && is_proper f) first.1).0)
-
 -- a name that comes before a directory's first comes before the first names of all its files
 held-after : (n : List ℕ) (f : Forest) → is_proper f ≡ true → comes_before n f ≡ true → list_all (begins_after n) (held [] f) ≡ true
 unfolding held begins_after
 held-after n none proper before = refl
 held-after n (file name bytes after) proper before =
-    let parts = file_parts name bytes after proper in
+    let parts = proper_file name bytes after proper in
     and_from (is_before n name) (list_all (begins_after n) (held [] after)) before (held-after n after parts.2 (comes_before-trans n name after before parts.1))
 held-after n (other name after) proper before =
-    let parts = file_parts name [] after proper in
+    let parts = proper_other name after proper in
     held-after n after parts.2 (comes_before-trans n name after before parts.1)
 held-after n (dir name inside after) proper before =
-    let parts = dir_parts name inside after proper in
-    let names = dir_names name inside after proper in
+    let parts = proper_dir name inside after proper in
     ap (list_all (begins_after n)) (held-dir [] name inside after)
     ∙ all-append (begins_after n) (held (name ∷ []) inside) (held [] after)
     (ap (list_all (begins_after n)) (held-below (name ∷ []) inside) ∙ begins_after-below n name (held [] inside) before)
-    (held-after n after parts.1 (comes_before-trans n name after before names.1))
+    (held-after n after parts.2 (comes_before-trans n name after before parts.1))
 
 parts-after : (n : List ℕ) (p q : Path) → begins_after n q ≡ true → parts_before (n ∷ p) q ≡ true
 unfolding begins_after
 parts-after n p [] after = absurd (cc)
-parts-after n p (m ∷ q) after = ap (λ b. cond b (parts_before p q) (is_before n m)) (is_before-apart n m after) ∙ after
+parts-after n p (m ∷ q) after = ap (λ b. cond b (parts_before p q) (is_before n m)) (before_differs n m after) ∙ after
 
 all_parts-after : (n : List ℕ) (p : Path) (ys : List Path) → list_all (begins_after n) ys ≡ true → list_all (parts_before (n ∷ p)) ys ≡ true
 all_parts-after n p [] after = refl
@@ -123,7 +106,7 @@ all_parts-below n p [] h = refl
 all_parts-below n p (x ∷ xs) h =
     let parts = and_parts (parts_before p x) (list_all (parts_before p) xs) h in
     and_from (parts_before (n ∷ p) (n ∷ x)) (list_all (parts_before (n ∷ p)) (below (n ∷ []) xs))
-    (ap (λ b. cond b (parts_before p x) (is_before n n)) (bytes_eq-itself n) ∙ parts.0)
+    (ap (λ b. cond b (parts_before p x) (is_before n n)) (name_itself n) ∙ parts.0)
     (all_parts-below n p xs parts.1)
 
 in_order-dir : (n : List ℕ) (xs ys : List Path) → part_in_order xs ≡ true → part_in_order ys ≡ true → list_all (begins_after n) ys ≡ true → part_in_order (below (n ∷ []) xs ++ ys) ≡ true
@@ -139,14 +122,13 @@ in_order : (f : Forest) → is_proper f ≡ true → part_in_order (held [] f) �
 unfolding held
 in_order none proper = refl
 in_order (file name bytes after) proper =
-    let parts = file_parts name bytes after proper in
+    let parts = proper_file name bytes after proper in
     and_from (list_all (parts_before (name ∷ [])) (held [] after)) (part_in_order (held [] after)) (all_parts-after name [] (held [] after) (held-after name after parts.2 parts.1)) (in_order after parts.2)
-in_order (other name after) proper = in_order after (file_parts name [] after proper).2
+in_order (other name after) proper = in_order after (proper_other name after proper).2
 in_order (dir name inside after) proper =
-    let parts = dir_parts name inside after proper in
-    let names = dir_names name inside after proper in
+    let parts = proper_dir name inside after proper in
     ap part_in_order (held-dir [] name inside after ∙ ap (λ l. l ++ held [] after) (held-below (name ∷ []) inside))
-    ∙ in_order-dir name (held [] inside) (held [] after) (in_order inside parts.0) (in_order after parts.1) (held-after name after parts.1 names.1)
+    ∙ in_order-dir name (held [] inside) (held [] after) (in_order inside parts.3) (in_order after parts.2) (held-after name after parts.2 parts.1)
 
 logical-below : (n : List ℕ) (xs : List Path) → is_name n ≡ true → list_all is_logical xs ≡ true → list_all is_logical (below (n ∷ []) xs) ≡ true
 unfolding below
@@ -160,14 +142,13 @@ logical : (f : Forest) → is_proper f ≡ true → list_all is_logical (held []
 unfolding held
 logical none proper = refl
 logical (file name bytes after) proper =
-    let parts = file_parts name bytes after proper in
+    let parts = proper_file name bytes after proper in
     and_from (is_logical (name ∷ [])) (list_all is_logical (held [] after)) (and_from (is_name name) true parts.0 refl) (logical after parts.2)
-logical (other name after) proper = logical after (file_parts name [] after proper).2
+logical (other name after) proper = logical after (proper_other name after proper).2
 logical (dir name inside after) proper =
-    let parts = dir_parts name inside after proper in
-    let names = dir_names name inside after proper in
+    let parts = proper_dir name inside after proper in
     ap (list_all is_logical) (held-dir [] name inside after ∙ ap (λ l. l ++ held [] after) (held-below (name ∷ []) inside))
-    ∙ all-append is_logical (below (name ∷ []) (held [] inside)) (held [] after) (logical-below name (held [] inside) names.0 (logical inside parts.0)) (logical after parts.1)
+    ∙ all-append is_logical (below (name ∷ []) (held [] inside)) (held [] after) (logical-below name (held [] inside) parts.0 (logical inside parts.3)) (logical after parts.2)
 
 pub files_part : FilesPartInOrder
 unfolding held
@@ -178,33 +159,31 @@ comes_before-gathered n none proper before = refl
 comes_before-gathered n (file name bytes after) proper before = before
 comes_before-gathered n (other name after) proper before = before
 comes_before-gathered n (dir name inside after) proper before =
-    let parts = dir_parts name inside after proper in
-    let names = dir_names name inside after proper in
+    let parts = proper_dir name inside after proper in
     elim (cases_Bool (is_short name)) [
       | inl short ↦
           ap (λ b. comes_before n (cond b (without_shorties after) (dir name inside (without_shorties after)))) short
-          ∙ comes_before-gathered n after parts.1 (comes_before-trans n name after before names.1)
+          ∙ comes_before-gathered n after parts.2 (comes_before-trans n name after before parts.1)
       | inr long ↦ ap (λ b. comes_before n (cond b (without_shorties after) (dir name inside (without_shorties after)))) long ∙ before
     ]
 
 pub gathered_proper : GatheredIsProper
 gathered_proper none proper = refl
 gathered_proper (file name bytes after) proper =
-    let parts = file_parts name bytes after proper in
+    let parts = proper_file name bytes after proper in
     and_from (is_name name) (comes_before name (without_shorties after) && is_proper (without_shorties after)) parts.0
     (and_from (comes_before name (without_shorties after)) (is_proper (without_shorties after)) (comes_before-gathered name after parts.2 parts.1) (gathered_proper after parts.2))
 gathered_proper (other name after) proper =
-    let parts = file_parts name [] after proper in
+    let parts = proper_other name after proper in
     and_from (is_name name) (comes_before name (without_shorties after) && is_proper (without_shorties after)) parts.0
     (and_from (comes_before name (without_shorties after)) (is_proper (without_shorties after)) (comes_before-gathered name after parts.2 parts.1) (gathered_proper after parts.2))
 gathered_proper (dir name inside after) proper =
-    let parts = dir_parts name inside after proper in
-    let names = dir_names name inside after proper in
+    let parts = proper_dir name inside after proper in
     elim (cases_Bool (is_short name)) [
-      | inl short ↦ ap (λ b. is_proper (cond b (without_shorties after) (dir name inside (without_shorties after)))) short ∙ gathered_proper after parts.1
+      | inl short ↦ ap (λ b. is_proper (cond b (without_shorties after) (dir name inside (without_shorties after)))) short ∙ gathered_proper after parts.2
       | inr long ↦
           ap (λ b. is_proper (cond b (without_shorties after) (dir name inside (without_shorties after)))) long
-          ∙ and_from (is_name name) (comes_before name (without_shorties after) && (is_proper inside && is_proper (without_shorties after))) names.0
-          (and_from (comes_before name (without_shorties after)) (is_proper inside && is_proper (without_shorties after)) (comes_before-gathered name after parts.1 names.1)
-          (and_from (is_proper inside) (is_proper (without_shorties after)) parts.0 (gathered_proper after parts.1)))
+          ∙ and_from (is_name name) (comes_before name (without_shorties after) && (is_proper inside && is_proper (without_shorties after))) parts.0
+          (and_from (comes_before name (without_shorties after)) (is_proper inside && is_proper (without_shorties after)) (comes_before-gathered name after parts.2 parts.1)
+          (and_from (is_proper inside) (is_proper (without_shorties after)) parts.3 (gathered_proper after parts.2)))
     ]

@@ -5,7 +5,6 @@ pub mod Findings
 mod LastFrame
 pub mod ObjectSteps
 mod OneMore
-mod OuterNames
 pub mod Paths
 mod Places
 pub mod Reached

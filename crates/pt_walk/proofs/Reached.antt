@@ -8,36 +8,35 @@ use Rattle.std.proofs.lemmas.Slice.Eq.{bytes_eq-Decides}
 use Rattle.pt_tree.specs.Forest.{Forest, none, file, other, dir, Node, File, Dir, Other, comes_before, find, is_proper, node_at}
 use Rattle.pt_tree.specs.Listing.{is_before}
 use Rattle.pt_tree.specs.Path.{Path}
+use Rattle.pt_tree.proofs.Finding.{comes_before-trans, proper_dir, proper_file, proper_other}
+use Rattle.pt_tree.proofs.Names.{before_differs, name_itself}
 use Rattle.pt_walk.specs.declared.site.At.TheVariants as at
 use Rattle.pt_walk.specs.Site.{is_short}
 use Rattle.pt_walk.specs.Sites.{Visit, Listed, Past, Deep, Site, at_of, is_last, is_listed, sites_in, visit_of, walked}
 use Rattle.pt_walk.specs.SitesReached.{IsAmongSites, ListedSitesAreReached, ReachedSitesAreListed, is_way}
-use Rattle.pt_walk.proofs.FilePaths.{comes_before-trans, dir_names, file_parts}
 use Rattle.pt_walk.proofs.Findings.{last_name_says}
 use Rattle.pt_walk.proofs.Paths.{file_leads_nowhere, other_leads_nowhere}
-use Rattle.pt_walk.proofs.Standing.{bytes_eq-itself, dir_parts, is_before-apart}
 
 -- what is found in a directory has a later name than what comes before it
 found_later : (n : List ℕ) (f : Forest) (first : List ℕ) (node : Node) → is_proper f ≡ true → comes_before n f ≡ true → find f first ≡ Some node → is_before n first ≡ true
 found_later n none first node proper before e = absurd (cc)
 found_later n (file m b f) first node proper before e =
-    let parts = file_parts m b f proper in
+    let parts = proper_file m b f proper in
     elim (cases_Bool (bytes_eq m first)) [
       | inl same ↦ subst (λ (x : List ℕ). is_before n x ≡ true) ((bytes_eq-Decides m first).0 same) before
       | inr apart ↦ found_later n f first node parts.2 (comes_before-trans n m f before parts.1) (sym (ap (λ t. cond t (Some (File b)) (find f first)) apart) ∙ e)
     ]
 found_later n (other m f) first node proper before e =
-    let parts = file_parts m [] f proper in
+    let parts = proper_other m f proper in
     elim (cases_Bool (bytes_eq m first)) [
       | inl same ↦ subst (λ (x : List ℕ). is_before n x ≡ true) ((bytes_eq-Decides m first).0 same) before
       | inr apart ↦ found_later n f first node parts.2 (comes_before-trans n m f before parts.1) (sym (ap (λ t. cond t (Some Other) (find f first)) apart) ∙ e)
     ]
 found_later n (dir m d f) first node proper before e =
-    let parts = dir_parts m d f proper in
-    let names = dir_names m d f proper in
+    let parts = proper_dir m d f proper in
     elim (cases_Bool (bytes_eq m first)) [
       | inl same ↦ subst (λ (x : List ℕ). is_before n x ≡ true) ((bytes_eq-Decides m first).0 same) before
-      | inr apart ↦ found_later n f first node parts.1 (comes_before-trans n m f before names.1) (sym (ap (λ t. cond t (Some (Dir d)) (find f first)) apart) ∙ e)
+      | inr apart ↦ found_later n f first node parts.2 (comes_before-trans n m f before parts.1) (sym (ap (λ t. cond t (Some (Dir d)) (find f first)) apart) ∙ e)
     ]
 
 -- what stands in the rest of a directory stands in it
@@ -48,7 +47,7 @@ stands_later n node f first rest inside proper before h = by_found (find f first
     by_found : (o : Option Node) → find f first ≡ o → option_and_then (λ m. node_at m rest) o ≡ Some (Dir inside) → option_and_then (λ m. node_at m rest) (cond (bytes_eq n first) (Some node) (find f first)) ≡ Some (Dir inside)
     by_found None found e = absurd (cc)
     by_found (Some it) found e =
-        ap (λ b. option_and_then (λ m. node_at m rest) (cond b (Some node) (find f first))) (is_before-apart n first (found_later n f first it proper before found))
+        ap (λ b. option_and_then (λ m. node_at m rest) (cond b (Some node) (find f first))) (before_differs n first (found_later n f first it proper before found))
         ∙ ap (option_and_then (λ m. node_at m rest)) found ∙ e
 
 among_parts : (x : Site) (xs ys : List Site) → IsAmongSites x (xs ++ ys) → IsAmongSites x xs ⊎ IsAmongSites x ys
@@ -123,7 +122,7 @@ reached_here depth path n d f to inside short to_is visit =
       first = n;
       rest = [];
       path_is = sym to_is;
-      there = ap (λ b. option_and_then (λ m. node_at m []) (cond b (Some (Dir d)) (find f n))) (bytes_eq-itself n) ∙ ap (λ (x : Forest). Some (Dir x)) same;
+      there = ap (λ b. option_and_then (λ m. node_at m []) (cond b (Some (Dir d)) (find f n))) (name_itself n) ∙ ap (λ (x : Forest). Some (Dir x)) same;
       may_lead = tests.0;
       way = short;
       deep = omega (arith, within);
@@ -139,7 +138,7 @@ reached_below depth path n d f to inside short listed it =
       first = n;
       rest = it.first ∷ it.rest;
       path_is = it.path_is ∙ append_assoc path (n ∷ []) (it.first ∷ it.rest);
-      there = ap (λ b. option_and_then (λ m. node_at m (it.first ∷ it.rest)) (cond b (Some (Dir d)) (find f n))) (bytes_eq-itself n) ∙ it.there;
+      there = ap (λ b. option_and_then (λ m. node_at m (it.first ∷ it.rest)) (cond b (Some (Dir d)) (find f n))) (name_itself n) ∙ it.there;
       may_lead = tests.0;
       way = and_from (length n == 2) (is_way (it.first ∷ it.rest)) two it.way;
       deep = omega (arith, within, long);
@@ -148,14 +147,13 @@ reached_below depth path n d f to inside short listed it =
 reached : (depth : ℕ) (path : Path) (f : Forest) (to : Path) (inside : Forest) → is_proper f ≡ true → IsAmongSites (to, Listed inside) (sites_in depth path f) → Reached depth path f to inside
 reached depth path none to inside proper h = absurd h
 reached depth path (file n b f) to inside proper h =
-    let parts = file_parts n b f proper in
+    let parts = proper_file n b f proper in
     reached_after depth path n f (file n b f) (File b) to inside parts.2 parts.1 (λ first rest. refl) (reached depth path f to inside parts.2 h)
 reached depth path (other n f) to inside proper h =
-    let parts = file_parts n [] f proper in
+    let parts = proper_other n f proper in
     reached_after depth path n f (other n f) Other to inside parts.2 parts.1 (λ first rest. refl) (reached depth path f to inside parts.2 h)
 reached depth path (dir n d f) to inside proper h =
-    let parts = dir_parts n d f proper in
-    let names = dir_names n d f proper in
+    let parts = proper_dir n d f proper in
     let visit = visit_of depth path d in
     let inner = sites_in depth (path ++ n ∷ []) d in
     elim (among_parts (to, Listed inside) (cond (is_short n) ((path ++ n ∷ [], visit) ∷ walked visit inner) []) (sites_in depth path f) h) [
@@ -165,9 +163,9 @@ reached depth path (dir n d f) to inside proper h =
             | inl e ↦ reached_here depth path n d f to inside chosen.0 (ap (λ (x : Site). x.0) e) (ap (λ (x : Site). x.1) e)
             | inr below ↦
                 let under = among_walked visit (to, Listed inside) inner below in
-                reached_below depth path n d f to inside chosen.0 under.0 (reached depth (path ++ n ∷ []) d to inside parts.0 under.1)
+                reached_below depth path n d f to inside chosen.0 under.0 (reached depth (path ++ n ∷ []) d to inside parts.3 under.1)
           ]
-      | inr after ↦ reached_after depth path n f (dir n d f) (Dir d) to inside parts.1 names.1 (λ first rest. refl) (reached depth path f to inside parts.1 after)
+      | inr after ↦ reached_after depth path n f (dir n d f) (Dir d) to inside parts.2 parts.1 (λ first rest. refl) (reached depth path f to inside parts.2 after)
     ]
 
 pub listed_reached : ListedSitesAreReached

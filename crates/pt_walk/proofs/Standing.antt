@@ -1,58 +1,16 @@
 -- What stands at a place of a proper directory.
-use Rattle.std.proofs.Common.{◌≡◌, ℕ, List, [], ◌∷◌, ◌&&◌, true, false, refl, ◌∙◌, ap, sym, subst, suc, zero}
+use Rattle.std.proofs.Common.{◌≡◌, ℕ, List, [], ◌∷◌, true, ◌∙◌, ap, sym, subst, suc, zero}
 use Rattle.std.specs.Prelude.{cond, Option, Some, slice_get}
-use Rattle.std.specs.Ordering.{is_eq, is_lt}
-use Rattle.std.specs.Cmp.Lexicographic.{texts_ties}
-use Rattle.std.specs.declared.cmp.Ordering.{Ordering}
-use Rattle.std.specs.declared.cmp.Ordering.TheVariants.{Less, Equal, Greater}
 use Rattle.std.specs.Str.{bytes_eq}
-use Rattle.std.proofs.lemmas.Bool.{and_parts, and_from}
-use Rattle.std.proofs.lemmas.Cmp.{nat_list_cmp_total, nat_list_eq_equiv}
+use Rattle.std.proofs.lemmas.Bool.{and_parts}
 use Rattle.pt_tree.specs.declared.kind.Kind.{Kind}
 use Rattle.pt_tree.specs.declared.kind.Kind.TheVariants as kind
 use Rattle.pt_tree.specs.Listing.{Item, is_before, names_rise}
-use Rattle.pt_tree.specs.Name.{is_name}
-use Rattle.pt_tree.specs.Forest.{Forest, none, file, other, dir, Node, File, Dir, Other, comes_before, find, is_proper, kind_of, listing_of}
+use Rattle.pt_tree.specs.Forest.{Forest, none, file, other, dir, Node, File, Dir, Other, find, is_proper, kind_of, listing_of}
+use Rattle.pt_tree.proofs.Finding.{proper_dir}
+use Rattle.pt_tree.proofs.Names.{before_differs, before-trans, name_itself}
+use Rattle.pt_tree.proofs.Rising.{names_rise-proper}
 use Rattle.pt_walk.specs.Left.{entries_from}
-
-less : (o : Ordering) → is_lt o ≡ true → o ≡ Less
-less Less h = refl
-less Equal h = absurd (cc)
-less Greater h = absurd (cc)
-
-pub is_before-trans : (x y z : List ℕ) → is_before x y ≡ true → is_before y z ≡ true → is_before x z ≡ true
-is_before-trans x y z a b =
-    ap is_lt (nat_list_cmp_total.trans x y z (less _ a) (less _ b))
-
--- a name that comes before another is another
-pub is_before-apart : (x y : List ℕ) → is_before x y ≡ true → bytes_eq x y ≡ false
-is_before-apart x y before = texts_ties x y ∙ ap is_eq (less _ before)
-
-pub bytes_eq-itself : (x : List ℕ) → bytes_eq x x ≡ true
-bytes_eq-itself x = nat_list_eq_equiv.refl x
-
--- the parts of a proper directory
-pub dir_parts : (n : List ℕ) (inside f : Forest) → is_proper (dir n inside f) ≡ true → (is_proper inside ≡ true) × (is_proper f ≡ true)
-dir_parts n inside f proper =
-    let after = and_parts (comes_before n f) (is_proper inside && is_proper f) (and_parts (is_name n) (comes_before n f && (is_proper inside && is_proper f)) proper).1 in
-    and_parts (is_proper inside) (is_proper f) after.1
-
-follows_first : (name : List ℕ) (f : Forest) (k : Kind) → comes_before name f ≡ true → names_rise (listing_of f) ≡ true → names_rise ((name, k) ∷ listing_of f) ≡ true
-follows_first name none k before rise = refl
-follows_first name (file n b f) k before rise = and_from _ _ before rise
-follows_first name (other n f) k before rise = and_from _ _ before rise
-follows_first name (dir n e f) k before rise = and_from _ _ before rise
-
--- its names rise
-names_rise-proper : (f : Forest) → is_proper f ≡ true → names_rise (listing_of f) ≡ true
-names_rise-proper none proper = refl
-names_rise-proper (file n b f) proper =
-    let p = and_parts _ _ (and_parts _ _ proper).1 in follows_first n f kind.File p.0 (names_rise-proper f p.1)
-names_rise-proper (other n f) proper =
-    let p = and_parts _ _ (and_parts _ _ proper).1 in follows_first n f kind.Other p.0 (names_rise-proper f p.1)
-names_rise-proper (dir n e f) proper =
-    let p = and_parts _ _ (and_parts _ _ proper).1 in
-    follows_first n f kind.Dir p.0 (names_rise-proper f (and_parts _ _ p.1).1)
 
 -- each name comes before all later ones
 before_later : (name : List ℕ) (k : Kind) (items : List Item) (i : ℕ) (item : Item) → names_rise ((name, k) ∷ items) ≡ true → slice_get items i ≡ Some item → is_before name item.0 ≡ true
@@ -62,7 +20,7 @@ before_later name k (x ∷ items) zero item rise e =
     subst (λ (y : Item). is_before name y.0 ≡ true) same (and_parts (is_before name x.0) (names_rise (x ∷ items)) rise).0
 before_later name k (x ∷ items) (suc i) item rise e =
     let parts = and_parts (is_before name x.0) (names_rise (x ∷ items)) rise in
-    is_before-trans name x.0 item.0 parts.0 (before_later x.0 x.1 items i item parts.1 e)
+    before-trans name x.0 item.0 parts.0 (before_later x.0 x.1 items i item parts.1 e)
 
 -- the entry with this name and node, and those after it
 abbrev pub with_entry : List ℕ → Node → Forest → Forest
@@ -79,13 +37,13 @@ pub record Standing (directory : Forest) (place : ℕ) (item : Item) : Type 0 wh
 
 first_found : (name found : List ℕ) (node : Node) (later : Option Node) → name ≡ found → cond (bytes_eq name found) (Some node) later ≡ Some node
 first_found name found node later same =
-    let itself : bytes_eq name found ≡ true = ap (λ n. bytes_eq name n) (sym same) ∙ bytes_eq-itself name in
+    let itself : bytes_eq name found ≡ true = ap (λ n. bytes_eq name n) (sym same) ∙ name_itself name in
     ap (λ b. cond b (Some node) later) itself
 
 later_found : (name : List ℕ) (k : Kind) (items : List Item) (i : ℕ) (item : Item) (node sought : Node) (later : Option Node) → names_rise ((name, k) ∷ items) ≡ true → slice_get items i ≡ Some item → later ≡ Some sought
     → cond (bytes_eq name item.0) (Some node) later ≡ Some sought
 later_found name k items i item node sought later rise e found =
-    let apart = is_before-apart name item.0 (before_later name k items i item rise e) in
+    let apart = before_differs name item.0 (before_later name k items i item rise e) in
     ap (λ b. cond b (Some node) later) apart ∙ found
 
 pub standing : (f : Forest) (i : ℕ) (item : Item) → is_proper f ≡ true → slice_get (listing_of f) i ≡ Some item → Standing f i item
@@ -131,7 +89,7 @@ standing (other n f) (suc i) item proper e =
       found_is = later_found n kind.Other (listing_of f) i item Other at.node _ (names_rise-proper (other n f) proper) e at.found_is;
     }
 standing (dir n inside f) (suc i) item proper e =
-    let at = standing f i item (dir_parts n inside f proper).1 e in
+    let at = standing f i item (proper_dir n inside f proper).2 e in
     record {
       node = at.node;
       kind_is = at.kind_is;

@@ -6,12 +6,13 @@ use Rattle.std.proofs.lemmas.Bool.{and_from, and_parts}
 use Rattle.pt_tree.specs.Forest.{Forest, none, Node, File, Dir, Other, find, is_proper, listing_of, node_at}
 use Rattle.pt_tree.specs.Listing.{Item}
 use Rattle.pt_tree.specs.Path.{Path}
+use Rattle.pt_tree.proofs.AtPaths.{proper_dir_at}
 use Rattle.pt_walk.specs.Left.{inside_at, listed_from}
 use Rattle.pt_walk.specs.Trail.{are_outer, entry_at, is_dir_entry, is_frame, names_to, name_at}
 use Rattle.pt_walk.specs.declared.frame.Frame.{Frame}
 use Rattle.pt_walk.specs.TrailLaws.{FitsWhenEntered, FitsWhenMoved, DirectoryIsThere, FileIsThere, ListingIsThere, PathGrows, HoldsWhatIsListed, PathSplits, PathHasANameForEach}
 use Rattle.pt_walk.proofs.Ahead.{dir_ahead, file_ahead, names_to-entry}
-use Rattle.pt_walk.proofs.Paths.{dir_listed, proper_at}
+use Rattle.pt_walk.proofs.Paths.{dir_listed}
 
 pub fits_entered : FitsWhenEntered
 fits_entered top frames items fits listing = (listing, fits)
@@ -32,7 +33,7 @@ listing_there top frame frames proper fits =
     let here : inside_at top (names_to frames) ≡ at.inside = ap (λ o. unwrap_or o none) at.dir_is in (
       at.dir_is ∙ ap (λ (d : Forest). Some d) (sym here),
       ap listing_of here ∙ at.items_are,
-      subst (λ (d : Forest). is_proper d ≡ true) (sym here) (proper_at top (names_to frames) at.inside proper at.node_is),
+      subst (λ (d : Forest). is_proper d ≡ true) (sym here) (proper_dir_at top (names_to frames) at.inside proper at.dir_is),
     )
 
 pub path_grows : PathGrows

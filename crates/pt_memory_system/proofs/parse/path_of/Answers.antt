@@ -3,7 +3,8 @@ use Rattle.std.specs.Str.{bytes_eq}
 use Rattle.std.proofs.lemmas.List.{take_rest}
 use Rattle.pt_tree.specs.Path.{joined}
 use Rattle.pt_tree.proofs.Names.{name_itself}
-use Rattle.pt_memory_system.proofs.Joined.{behind, rest_is, other_front, on_err, if_ok}
+use Rattle.pt_memory_system.proofs.Joined.{behind, rest_is, other_front}
+use Rattle.std.proofs.lemmas.Result.{IfErr-weaker, IfOk-weaker}
 use Rattle.pt_memory_system.proofs.parse.path_of.Goals as goal
 use Rattle.pt_memory_system.proofs.parse.path_of.Goals.{then-ne-via-then-ne, then-ne-via-else-ne+then-rest-ne47}
 
@@ -23,7 +24,7 @@ returns-then-ne-clause-none c = λ absent p named at.
     ]
 
 pub returns-clause-path : goal.returns-clause-path
-returns-clause-path c = if_ok c.names_of.result _ _ (λ path is p named at. is p named (rest_is c.args.root.now c.args.text.now c.split_at.result.1.now _ p c.split_at.ensures.back (take_rest c.split_at.result.1.now 1) at)) c.names_of.ensures.path
+returns-clause-path c = IfOk-weaker c.names_of.result _ _ (λ path is p named at. is p named (rest_is c.args.root.now c.args.text.now c.split_at.result.1.now _ p c.split_at.ensures.back (take_rest c.split_at.result.1.now 1) at)) c.names_of.ensures.path
 
 pub returns-clause-none : goal.returns-clause-none
-returns-clause-none c = on_err c.names_of.result _ _ (λ e is absent p named at. is absent p named (rest_is c.args.root.now c.args.text.now c.split_at.result.1.now _ p c.split_at.ensures.back (take_rest c.split_at.result.1.now 1) at)) c.names_of.ensures.none
+returns-clause-none c = IfErr-weaker c.names_of.result _ _ (λ e is absent p named at. is absent p named (rest_is c.args.root.now c.args.text.now c.split_at.result.1.now _ p c.split_at.ensures.back (take_rest c.split_at.result.1.now 1) at)) c.names_of.ensures.none

@@ -1,7 +1,8 @@
 use Rattle.std.proofs.Common.{sym, ap, ◌∙◌}
 use Rattle.std.specs.Prelude.{not}
 use Rattle.pt_memory.specs.MemDest.{dest_state}
-use Rattle.pt_memory.proofs.Conditions.{may_move, none_there, nothing_moves, stays_apart}
+use Rattle.pt_memory.proofs.Conditions.{may_move, nothing_moves, stays_apart}
+use Rattle.pt_memory.proofs.Planted.{none_there}
 use Rattle.pt_memory.proofs.mem_dest.MemDest.may_move.Goals as goal
 
 pub returns : goal.returns

@@ -2,7 +2,7 @@ use Rattle.std.proofs.Common.{◌≡◌, length, take, rules, arith, ◌∙◌, 
 use Rattle.std.specs.Prelude.{reverse}
 use Rattle.std.proofs.Math.Seq.{take-length}
 use Rattle.pt_walk.specs.Trail.{names_to}
-use Rattle.pt_walk.proofs.OuterNames.{names_to-front}
+use Rattle.pt_walk.proofs.LastFrame.{names_to-front}
 use Rattle.pt_walk.proofs.trail.Trail.path.Goals as goal
 
 pub returns : goal.returns
