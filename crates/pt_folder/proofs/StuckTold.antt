@@ -22,7 +22,7 @@ use Rattle.pt_folder.specs.declared.system.System.{Ghosts as OfSystem}
 use Rattle.pt_folder.specs.declared.writing.Writing.{Writing as Open}
 use Rattle.pt_folder.proofs.DestTold.{may_make, may_move}
 use Rattle.pt_folder.proofs.PeekTold.{peek_tells}
-use Rattle.pt_folder.proofs.Trees.{added-nil}
+use Rattle.pt_tree.proofs.AtPaths.{added-nil}
 
 -- ---- nothing is stuck
 
