@@ -74,6 +74,6 @@ module _ {F : Type 0} (bytes left : F → Option (List ℕ)) (r : Reading F) (fi
       by None is = refl
       by (Some xs) is = ap Some (place_at xs is)
 
--- what isn't read, by the place and the bytes
-pub unread_same : {F : Type 0} (bytes : F → Option (List ℕ)) (old new : Reading F) → new.place ≡ old.place → bytes new.file ≡ bytes old.file → unread_of bytes new ≡ unread_of bytes old
-unread_same bytes old new place same = λ i. option_map (drop (place i)) (same i)
+-- what isn't read stays where only the open file changes, and of it no bytes
+pub unread_same : {F : Type 0} (bytes : F → Option (List ℕ)) (old new : Reading F) → new ≡ record old { file = new.file; lost = new.lost } → bytes new.file ≡ bytes old.file → unread_of bytes new ≡ unread_of bytes old
+unread_same bytes old new still same = λ i. option_map (drop (still i).place) (same i)

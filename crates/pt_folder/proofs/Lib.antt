@@ -18,5 +18,4 @@ mod Trees
 mod Turns
 mod Shown
 mod StuckTold
-mod Untold
 mod WriteTold

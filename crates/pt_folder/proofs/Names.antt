@@ -1,11 +1,11 @@
 -- Names that a directory gives, one after another.
-use Rattle.std.proofs.Common.{◌≡◌, ℕ, true, false, List, [], ◌∷◌, ◌++◌, ◌+◌, ◌<◌, ◌≤◌, ◌==◌, length, take, drop, get_or, refl, arith, sym, ap, ◌∙◌, append_assoc, append-nil, zero, suc, cond, subst, inl, inr}
+use Rattle.std.proofs.Common.{◌≡◌, ℕ, true, false, List, [], ◌∷◌, ◌++◌, ◌+◌, ◌<◌, ◌≤◌, ◌==◌, length, take, drop, get_or, refl, arith, sym, ap, ◌∙◌, append_assoc, append-nil, cond, subst, inl, inr}
 use Rattle.std.specs.Prelude.{Option, Some, None, nat_lt, Result, Ok, Err, IfErr, IfOk, MatchResult}
 use Rattle.std.specs.Result.{IsErrAnd}
-use Rattle.std.specs.List.{All, filter, position, position_or_len}
+use Rattle.std.specs.List.{filter, position, position_or_len}
 use Rattle.std.specs.Io.KnownBytes.{Consumes}
 use Rattle.std.proofs.KnownBytes.{Consumes-trans}
-use Rattle.std.proofs.lemmas.List.Elements.{All-append, filter-append}
+use Rattle.std.proofs.lemmas.List.Elements.{All-append, All-cons, All-nil, filter-append}
 use Rattle.std.proofs.lemmas.List.Quantifiers.{position-Some}
 use Rattle.std.proofs.lemmas.List.{length-take, get_or-take, drop_more, take-append-drop}
 use Rattle.std.proofs.lemmas.Grind.{flat_map-append}
@@ -29,13 +29,9 @@ gives_one : (name : List ℕ) → LacksNul name → GivesNames (ended name) (fil
 gives_one name lacks = record {
   given = name ∷ [];
   cut = sym (append-nil (ended name));
-  whole = only name lacks;
+  whole = All-cons LacksNul name [] lacks (All-nil LacksNul);
   kept = refl;
 }
-  where
-    only : (name : List ℕ) → LacksNul name → All LacksNul (name ∷ [])
-    only name lacks zero d within = lacks
-    only name lacks (suc k) d within = absurd (omega arith)
 
 lacks_nul : (rest : List ℕ) (end : ℕ) → position (λ b. b == 0) rest ≡ Some end → LacksNul (take end rest)
 lacks_nul rest end found k d within =

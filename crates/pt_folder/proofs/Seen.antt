@@ -1,28 +1,23 @@
 -- Entries looked at one after another, by the law of looks.
-use Rattle.std.proofs.Common.{◌≡◌, ℕ, List, [], ◌∷◌, ◌++◌, true, refl, sym, ap, ◌∙◌, subst, arith, append_assoc, ◌<◌, length, get_or, zero, suc}
+use Rattle.std.proofs.Common.{◌≡◌, ℕ, List, [], ◌∷◌, ◌++◌, true, sym, ap, ◌∙◌, subst, arith, append_assoc}
 use Rattle.std.specs.Prelude.{Option, Some, IsSome, Result, Ok, Err, OnErr}
 use Rattle.std.specs.Option.{option_map, ForSome}
 use Rattle.std.specs.List.{All}
 use Rattle.std.specs.declared.io.Error.{Error}
-use Rattle.std.proofs.lemmas.List.Elements.{All-append}
+use Rattle.std.proofs.lemmas.List.Elements.{All-append, All-cons, All-nil}
 use Rattle.pt_tree.specs.declared.faults.TreeFault.{TreeFault}
 use Rattle.pt_tree.specs.declared.kind.Kind.{Kind}
 use Rattle.pt_tree.specs.Forest.{Forest, Dir, dir_at, kind_of, node_at}
 use Rattle.pt_tree.specs.Listing.{Item}
 use Rattle.pt_tree.specs.Name.{is_name}
-use Rattle.pt_tree.specs.Path.{Path, joined, parent}
+use Rattle.pt_tree.specs.Path.{Path, joined}
 use Rattle.pt_tree.proofs.Joining.{joined-push}
+use Rattle.pt_tree.proofs.Paths.{parent-push}
 use Rattle.pt_folder.specs.Folder.{entry_text}
 use Rattle.pt_folder.specs.Laws.{IsPath}
 use Rattle.pt_folder.specs.Listing.{LeadsToOwnKind, dir_front}
 use Rattle.pt_folder.specs.Seeing.{IsItem, SeesAt}
 use Rattle.pt_folder.specs.SourceLaws.{LookLaw, Looked}
-
--- the directory that an entry is in
-parent_above : (p : Path) (n : List ℕ) → parent (p ++ n ∷ []) ≡ p
-parent_above [] n = refl
-parent_above (x ∷ []) n = refl
-parent_above (x ∷ y ∷ p) n = ap (λ (q : Path). x ∷ q) (parent_above (y ∷ p) n)
 
 -- the path of an entry of the directory
 front_name : (folder : List ℕ) (p : Path) (n : List ℕ) → dir_front folder p ++ n ≡ entry_text folder (p ++ n ∷ [])
@@ -34,18 +29,14 @@ front_name folder (x ∷ p) n =
     two folder text n = simp append_assoc
 
 All-one : {X : Type 0} (P : X → Type 0) (x : X) → P x → All P (x ∷ [])
-All-one {X} P x is = first
-  where
-    first : (k : ℕ) (d : X) → k < length (x ∷ []) → P (get_or (x ∷ []) k d)
-    first zero d within = is
-    first (suc k) d within = absurd (omega arith)
+All-one P x is = All-cons P x [] is (All-nil P)
 
 module _ {S : Type 0} (kept : S → List ℕ → Option Forest) (looks : S → List ℕ → Result Kind Error → S → Type 0) (law : LookLaw kept looks) (front : List ℕ) (old mid new : S) where
   looked_at : (name text : List ℕ) (reply : Result Kind Error) → is_name name ≡ true → text ≡ front ++ name → looks mid text reply new
       → (folder : List ℕ) (p : Path) → IsPath p → front ≡ dir_front folder p → ForSome (kept mid folder) (λ f. IsSome (dir_at f p)) → Looked (kept mid folder) (kept new folder) (p ++ name ∷ []) reply
   looked_at name text reply named is asked folder p path begins can =
       law mid new folder (p ++ name ∷ []) reply (All-append (λ n. is_name n ≡ true) p (name ∷ []) path (All-one (λ n. is_name n ≡ true) name named))
-      (λ f known. subst (λ q. IsSome (dir_at f q)) (sym (parent_above p name)) (can f known))
+      (λ f known. subst (λ q. IsSome (dir_at f q)) (sym (parent-push p name)) (can f known))
       (subst (λ t. looks mid t reply new) (is ∙ ap (λ (l : List ℕ). l ++ name) begins ∙ front_name folder p name) asked)
 
   pub sees_more : (listing after : List Item) (name text : List ℕ) (kind : Kind) → SeesAt kept front old mid listing → is_name name ≡ true → text ≡ front ++ name

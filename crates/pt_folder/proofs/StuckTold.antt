@@ -22,7 +22,7 @@ use Rattle.pt_folder.specs.declared.system.System.{Ghosts as OfSystem}
 use Rattle.pt_folder.specs.declared.writing.Writing.{Writing as Open}
 use Rattle.pt_folder.proofs.DestTold.{may_make, may_move}
 use Rattle.pt_folder.proofs.PeekTold.{peek_tells}
-use Rattle.pt_folder.proofs.Trees.{added-nil}
+use Rattle.pt_tree.proofs.AtPaths.{added-nil}
 
 -- ---- nothing is stuck
 
@@ -78,7 +78,7 @@ part_of_nothing o piece = record { count = 0; left = by o }
     by (Some s) = ap Some (same s.tree s.writing)
 
 module _ {S F D : Type 0} {sys : OfSystem S F D} {handle : OfHandle F} {file : OfInput F} {dir : OfInput D} (old new : HostDest S F D sys handle file dir) where
-  pub told_same : new.folder ≡ old.folder → new.system ≡ old.system → new.writing ≡ old.writing → new.stuck ≡ old.stuck → told new ≡ told old
+  pub told_same : new.folder ≡ old.folder → new.desk.system ≡ old.desk.system → new.writing ≡ old.writing → new.stuck ≡ old.stuck → told new ≡ told old
   told_same folder system writing stuck = λ i. told_with (sys.kept (system i) (folder i).path.now) (stuck i) (writing i)
 
   pub part_refused : (piece : List ℕ) (result : Result (Unit {0}) TreeFault) → told new ≡ told old → OnErr result (LeavesPart (told old) (told new) piece)
@@ -88,6 +88,6 @@ module _ {S F D : Type 0} {sys : OfSystem S F D} {handle : OfHandle F} {file : O
   pub block_peeked : PeekLaw sys.kept file.left sys.opens → (p : Path) (block : List ℕ) (result : Result (Unit {0}) TreeFault) → CanPeek (told old) p → Peeks old new p block result → OnOk result (IsPeeked (told old) p block)
   block_peeked law p block result can (inl refused) = subst (λ r. OnOk r (IsPeeked (told old) p block)) (sym refused.4) tt
   block_peeked law p block result can (inr (none, asked)) =
-      let kept = sys.kept old.system old.folder.path.now in
+      let kept = sys.kept old.desk.system old.folder.path.now in
       subst (λ s. OnOk result (IsPeeked (told_with kept s old.writing) p block)) (sym none)
-      (peek_tells sys.kept old.folder.path.now file.left file.reads sys.opens law old.system new.system p block old.writing (subst (λ s. CanPeek (told_with kept s old.writing) p) none can) result asked)
+      (peek_tells sys.kept old.folder.path.now file.left file.reads sys.opens law old.desk.system new.desk.system p block old.writing (subst (λ s. CanPeek (told_with kept s old.writing) p) none can) result asked)

@@ -20,7 +20,8 @@ use Rattle.pt_folder.specs.Runs.{FailsToWrite, WritesAll, WritesMore, on_pairs}
 use Rattle.pt_folder.specs.Writing.{MakesAt, WritesTo}
 use Rattle.pt_folder.proofs.DestTold.{told_at}
 use Rattle.pt_folder.proofs.MoveTold.{was_told}
-use Rattle.pt_folder.proofs.Trees.{added-nil, added-added}
+use Rattle.pt_tree.proofs.AtPaths.{added-nil}
+use Rattle.pt_folder.proofs.Trees.{added-added}
 
 -- an empty file is made and is the open one, or nothing is changed
 abbrev pub HasCreated : {F : Type 0} → Kept F → Kept F → Path → Option (Open F) → Option (Open F) → Result (Unit {0}) TreeFault → Type 0

@@ -1,5 +1,6 @@
 -- What a folder as a destination tells, and what its calls ask of the system and leave.
-use Rattle.std.specs.Prelude.{◌≡◌, ◌⊎◌, ℕ, List, Option, None, Result, Err, IfSome, IsSome}
+use Rattle.std.specs.Prelude.{◌≡◌, ◌⊎◌, ℕ, List, Option, None, Result, Err, IfSome, IsSome, String}
+use Rattle.std.specs.Global.{Global}
 use Rattle.std.specs.declared.io.Error.{Error}
 use Rattle.pt_tree.specs.Dest.{Writing}
 use Rattle.pt_tree.specs.Failures.{IsCounted}
@@ -14,7 +15,9 @@ use Rattle.pt_folder.specs.Moving.{IsOfMove, MovesOnce}
 use Rattle.pt_folder.specs.Runs.{PeeksAt}
 use Rattle.pt_folder.specs.Settings.{IsSetAs}
 use Rattle.pt_folder.specs.Writing.{FailsToAdd, ClosesBy, IsOfWriting, MakesAt, WritesTo}
+use Rattle.pt_folder.specs.declared.desk.Desk.{Desk}
 use Rattle.pt_folder.specs.declared.dest.HostDest.{HostDest}
+use Rattle.pt_folder.specs.declared.folder.Folder.{Folder}
 use Rattle.pt_folder.specs.declared.stuck.Stuck.{Stuck}
 use Rattle.pt_folder.specs.declared.system.Handle.{Ghosts as OfHandle}
 use Rattle.pt_folder.specs.declared.system.Input.{Ghosts as OfInput}
@@ -25,7 +28,7 @@ module _ {S F D : Type 0} {sys : OfSystem S F D} {handle : OfHandle F} {file : O
     {dir : OfInput D} where
   -- the tree that the system keeps there, and the path of the open file; where something is stuck, as they were before
   abbrev pub told : HostDest S F D sys handle file dir → Option Writing
-  told d = told_with (sys.kept d.system d.folder.path.now) d.stuck d.writing
+  told d = told_with (sys.kept d.desk.system d.folder.path.now) d.stuck d.writing
 
   -- the same folder, with the same settings
   abbrev pub IsSame : (old new : HostDest S F D sys handle file dir) → Type 0
@@ -38,15 +41,23 @@ module _ {S F D : Type 0} {sys : OfSystem S F D} {handle : OfHandle F} {file : O
     pub failures : IsCounted old.failures new.failures result
     pub stuck : new.stuck ≡ left
 
-  -- the same failures: the last one, and how many
-  abbrev pub HasFailedAs : (old new : HostDest S F D sys handle file dir) → Type 0
-  HasFailedAs old new = (new.last ≡ old.last) × (new.failures ≡ old.failures)
+  -- the same of a call that isn't of the open file: that stays open, and what is stuck is stuck
+  pub record IsOtherCall {T : Type 0} (old new : HostDest S F D sys handle file dir)
+      (result : Result T TreeFault) : Type 0 where
+    pub keeps : IsSame old new
+    pub failures : IsCounted old.failures new.failures result
+    pub stuck : new.stuck ≡ old.stuck
+    pub writing : new.writing ≡ old.writing
+
+  -- what stays when a setting is changed: the system, the folder, the path that was looked at, and the failures
+  abbrev pub lasting : HostDest S F D sys handle file dir → Desk S × Folder × String Global × ℕ
+  lasting d = (d.desk, d.folder, d.at, d.failures)
 
   -- where something is stuck the call is refused, and nothing is asked or changed; where nothing is, this holds
   abbrev pub UnlessStuck : {T : Type 0} → (old new : HostDest S F D sys handle file dir)
       → Result T TreeFault → Type 0 → Type 0
   UnlessStuck old new result asks =
-      (IsSome old.stuck × (new.system ≡ old.system) × (new.writing ≡ old.writing)
+      (IsSome old.stuck × (new.desk.system ≡ old.desk.system) × (new.writing ≡ old.writing)
       × (new.stuck ≡ old.stuck) × (result ≡ Err Device))
       ⊎ ((old.stuck ≡ None) × asks)
 
@@ -55,13 +66,14 @@ module _ {S F D : Type 0} {sys : OfSystem S F D} {handle : OfHandle F} {file : O
       → (old new : HostDest S F D sys handle file dir) → Path → Result T TreeFault → Type 0
   Looks leads old new p result =
       UnlessStuck old new result
-      (AsksOnce sys.looks leads old.folder.path.now p old.system new.system result)
+      (AsksOnce sys.looks leads old.folder.path.now p old.desk.system new.desk.system result)
 
   -- what is kept, where memory allowed it, of a failed look
   abbrev pub KeepsLook : (old new : HostDest S F D sys handle file dir) → Path → Type 0
   KeepsLook old new p =
       KeepsCall old.folder.path.now p
-      (λ e. sys.looks old.system (entry_text old.folder.path.now p) (Err e) new.system) new.last
+      (λ e. sys.looks old.desk.system (entry_text old.folder.path.now p) (Err e) new.desk.system)
+      new.desk.last.failure
 
   -- the system is asked once to open an entry for reading, and its first bytes are this block, or the answer leads to this
   abbrev pub Peeks : (old new : HostDest S F D sys handle file dir) → Path → List ℕ
@@ -69,28 +81,30 @@ module _ {S F D : Type 0} {sys : OfSystem S F D} {handle : OfHandle F} {file : O
   Peeks old new p block result =
       UnlessStuck old new result
       (AsksOnce sys.opens (PeeksAt file.left file.reads block)
-      old.folder.path.now p old.system new.system result)
+      old.folder.path.now p old.desk.system new.desk.system result)
 
   -- what is kept, where memory allowed it, of first bytes that aren't had
   abbrev pub KeepsPeek : (old new : HostDest S F D sys handle file dir) → Path → Type 0
   KeepsPeek old new p =
       KeepsCall old.folder.path.now p
       (FailsToPeek sys.opens file.reads
-      (entry_text old.folder.path.now p) old.system new.system)
-      new.last
+      (entry_text old.folder.path.now p) old.desk.system new.desk.system)
+      new.desk.last.failure
 
   -- the system is asked once to make a directory, unless its path is too long, and so it was answered
   abbrev pub MakesDir : (old new : HostDest S F D sys handle file dir) → Path
       → Result (Unit {0}) TreeFault → Type 0
   MakesDir old new p result =
       UnlessStuck old new result
-      (MakesOnce old.longest sys.makes_dir IsAnswer old.folder.path.now p old.system new.system result)
+      (MakesOnce old.longest sys.makes_dir IsAnswer
+      old.folder.path.now p old.desk.system new.desk.system result)
 
   -- what is kept, where memory allowed it, of a directory that isn't made
   abbrev pub KeepsDir : (old new : HostDest S F D sys handle file dir) → Path → Type 0
   KeepsDir old new p =
       KeepsMaking old.longest old.folder.path.now p
-      (λ e. sys.makes_dir old.system (entry_text old.folder.path.now p) (Err e) new.system) new.last
+      (λ e. sys.makes_dir old.desk.system (entry_text old.folder.path.now p) (Err e) new.desk.system)
+      new.desk.last.failure
 
   -- the system is asked once to make a file, unless its path is too long, and by its answer that is the open one
   abbrev pub MakesFile : (old new : HostDest S F D sys handle file dir) → Path
@@ -98,25 +112,27 @@ module _ {S F D : Type 0} {sys : OfSystem S F D} {handle : OfHandle F} {file : O
   MakesFile old new p result =
       UnlessStuck old new result
       (MakesOnce old.longest sys.makes_file (MakesAt p old.writing new.writing)
-      old.folder.path.now p old.system new.system result)
+      old.folder.path.now p old.desk.system new.desk.system result)
 
   -- what is kept, where memory allowed it, of a file that isn't made
   abbrev pub KeepsFile : (old new : HostDest S F D sys handle file dir) → Path → Type 0
   KeepsFile old new p =
       KeepsMaking old.longest old.folder.path.now p
-      (λ e. sys.makes_file old.system (entry_text old.folder.path.now p) (Err e) new.system) new.last
+      (λ e. sys.makes_file old.desk.system (entry_text old.folder.path.now p) (Err e) new.desk.system)
+      new.desk.last.failure
 
   -- the writes that the open file is asked for, and so they were answered; where none is open, that is a failure
   abbrev pub Writes : (old new : HostDest S F D sys handle file dir) → List ℕ
       → Result (Unit {0}) TreeFault → Type 0
   Writes old new piece result =
       UnlessStuck old new result
-      (WritesTo sys.writes old.system old.writing new.system new.writing piece result)
+      (WritesTo sys.writes old.desk.system old.writing new.desk.system new.writing piece result)
 
   -- what is kept, where memory allowed it, of a failed write
   abbrev pub KeepsWrite : (old new : HostDest S F D sys handle file dir) → List ℕ → Type 0
   KeepsWrite old new piece =
-      IfSome new.last (IsOfWriting old.folder.path.now (FailsToAdd sys.writes piece old.system) old.writing)
+      IfSome new.desk.last.failure
+      (IsOfWriting old.folder.path.now (FailsToAdd sys.writes piece old.desk.system) old.writing)
 
   -- the open file is closed, put onto the disk before where that is asked for; where none is open, that is a failure
   abbrev pub Closes : HostDest S F D sys handle file dir → Result (Unit {0}) TreeFault → Type 0
@@ -127,7 +143,7 @@ module _ {S F D : Type 0} {sys : OfSystem S F D} {handle : OfHandle F} {file : O
   -- what is kept, where memory allowed it, of a file that isn't put onto the disk
   abbrev pub KeepsClose : (old new : HostDest S F D sys handle file dir) → Type 0
   KeepsClose old new =
-      IfSome new.last
+      IfSome new.desk.last.failure
       (IsOfWriting old.folder.path.now (λ w e. (after : F)
       × handle.syncs w (Err e) after) old.writing)
 
@@ -136,12 +152,12 @@ module _ {S F D : Type 0} {sys : OfSystem S F D} {handle : OfHandle F} {file : O
       → Result (Unit {0}) TreeFault → Type 0
   Moves old new from to result =
       UnlessStuck old new result
-      (MovesOnce sys.renames sys.opens handle.syncs old.synced old.folder.path.now from to old.system
-      new.system new.stuck result)
+      (MovesOnce sys.renames sys.opens handle.syncs old.synced old.folder.path.now from to old.desk.system
+      new.desk.system new.stuck result)
 
   -- what is kept, where memory allowed it, of a failed move
   abbrev pub KeepsMove : (old new : HostDest S F D sys handle file dir) → Path → Path → Type 0
   KeepsMove old new from to =
-      IfSome new.last
-      (IsOfMove sys.renames sys.opens handle.syncs old.folder.path.now from to old.system
-      new.system)
+      IfSome new.desk.last.failure
+      (IsOfMove sys.renames sys.opens handle.syncs old.folder.path.now from to old.desk.system
+      new.desk.system)

@@ -1,10 +1,13 @@
 -- What a folder as a source tells, and what its calls ask of the system and leave.
-use Rattle.std.specs.Prelude.{◌≡◌, ◌≤◌, ℕ, List, length, Option, Result, IfSome, string_bytes}
+use Rattle.std.specs.Prelude.{◌≡◌, ◌≤◌, ℕ, List, length, Option, Result, IfSome, String, string_bytes}
+use Rattle.std.specs.Global.{Global}
 use Rattle.pt_tree.specs.declared.faults.TreeFault.{TreeFault}
 use Rattle.pt_tree.specs.Failures.{IsCounted, IsOneMoreCall}
 use Rattle.pt_tree.specs.Listing.{Item}
 use Rattle.pt_tree.specs.Path.{Path}
 use Rattle.pt_tree.specs.Source.{Reading}
+use Rattle.pt_folder.specs.declared.folder.Folder.{Folder}
+use Rattle.pt_folder.specs.declared.reading.Reading.{Reading as Open}
 use Rattle.pt_folder.specs.declared.source.HostSource.{HostSource}
 use Rattle.pt_folder.specs.declared.system.Handle.{Ghosts as OfHandle}
 use Rattle.pt_folder.specs.declared.system.Input.{Ghosts as OfInput}
@@ -22,37 +25,38 @@ module _ {S F D : Type 0} {sys : OfSystem S F D} {handle : OfHandle F} {file : O
     {dir : OfInput D} where
   -- the tree that the system keeps there, and what isn't read of the open file
   abbrev pub told : HostSource S F D sys handle file dir → Option Reading
-  told s = told_of (sys.forest s.system s.folder.path.now) (unread_open file.bytes s.reading)
+  told s = told_of (sys.forest s.desk.system s.folder.path.now) (unread_open file.bytes s.reading)
 
   -- the directory was listed so, by calls of the system; it has no more entries than a listing may have
   abbrev pub Lists : (old new : HostSource S F D sys handle file dir) → Path → List Item → Type 0
   Lists old new p listing =
       (length listing ≤ most_entries)
       × IsListedBy sys.opens_dir sys.looks dir.reads dir.left
-      (entry_text old.folder.path.now p) (dir_front old.folder.path.now p) old.system new.system listing
+      (entry_text old.folder.path.now p) (dir_front old.folder.path.now p)
+      old.desk.system new.desk.system listing
 
   -- why it wasn't
   abbrev pub CannotList : (old new : HostSource S F D sys handle file dir) → Path → TreeFault → Type 0
   CannotList old new p fault =
       IsDueTo fault
-      (FailsToList sys.opens_dir sys.looks dir.reads old.folder.path.now p old.system new.system)
+      (FailsToList sys.opens_dir sys.looks dir.reads old.folder.path.now p old.desk.system new.desk.system)
 
   -- what is kept, where memory allowed it, of a failed listing
   abbrev pub KeepsList : (old new : HostSource S F D sys handle file dir) → Path → Type 0
-  KeepsList old new p = KeepsListing sys.looks old.folder.path.now p new.last
+  KeepsList old new p = KeepsListing sys.looks old.folder.path.now p new.desk.last.failure
 
   -- the system is asked to look, and to open what is a file, and so it was answered
   abbrev pub Opens : (old new : HostSource S F D sys handle file dir) → Path
       → Result (Unit {0}) TreeFault → Type 0
   Opens old new p result =
       OpensOnce sys.looks sys.opens old.folder.path.now p
-      old.reading new.reading old.system new.system result
+      old.reading new.reading old.desk.system new.desk.system result
 
   -- what is kept, where memory allowed it, of a failed opening
   abbrev pub KeepsOpen : (old new : HostSource S F D sys handle file dir) → Path → Type 0
   KeepsOpen old new p =
-      KeepsOpening sys.looks
-      sys.opens old.folder.path.now p old.system new.system new.last
+      KeepsOpening sys.looks sys.opens old.folder.path.now p
+      old.desk.system new.desk.system new.desk.last.failure
 
   -- the open file is read on, into this block, and so it was answered; where none is open, that is a failure
   abbrev pub Reads : (old new : HostSource S F D sys handle file dir) → List ℕ
@@ -61,7 +65,12 @@ module _ {S F D : Type 0} {sys : OfSystem S F D} {handle : OfHandle F} {file : O
 
   -- what is kept, where memory allowed it, of a failed reading
   abbrev pub KeepsRead : (old new : HostSource S F D sys handle file dir) → Type 0
-  KeepsRead old new = IfSome new.last (IsOfReading file.reads handle.goes (string_bytes old.at) old.reading)
+  KeepsRead old new =
+      IfSome new.desk.last.failure (IsOfReading file.reads handle.goes (string_bytes old.at) old.reading)
+
+  -- what stays when something is looked at: the folder, the open file, its path, and how many calls there were
+  abbrev pub lasting : HostSource S F D sys handle file dir → Folder × Option (Open F) × String Global × ℕ
+  lasting s = (s.folder, s.reading, s.at, s.calls)
 
   -- a call on the same folder is counted, and its failure is
   pub record IsCall {T : Type 0} (old new : HostSource S F D sys handle file dir)
@@ -76,5 +85,5 @@ module _ {S F D : Type 0} {sys : OfSystem S F D} {handle : OfHandle F} {file : O
     pub folder : new.folder ≡ old.folder
     pub failures : IsCounted old.failures new.failures result
     pub calls : IsOneMoreCall (was_called old.calls) (was_called new.calls)
-    pub system : new.system ≡ old.system
+    pub system : new.desk.system ≡ old.desk.system
     pub at : new.at ≡ old.at

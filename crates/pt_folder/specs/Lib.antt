@@ -1,5 +1,6 @@
 pub mod Bytes
 pub mod Calls
+pub mod Desk
 pub mod DestHeld
 pub mod DestLaws
 pub mod Devices

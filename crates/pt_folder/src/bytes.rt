@@ -7,7 +7,8 @@ use crate::system::{Input, System};
 use pt_tree::Block;
 use std::io;
 
-const BLOCK: usize = 8192;
+/// How many bytes a block holds.
+pub const BLOCK: usize = 8192;
 
 static ZEROS: [u8; BLOCK] = [0; BLOCK];
 

@@ -79,36 +79,40 @@ impl Failure {
     }
 }
 
-/// Keeps a failure at a path; none is kept where there is no memory for the path.
-pub fn keep(last: &mut Option<Failure>, alloc: Global, path: &str, cause: Cause)
-    ensures { IfSome last.new (IsAt path.now cause) }
-{
-    *last = match String::from_str(alloc, path) {
-        Ok(path) => Some(Failure::at(path, cause)),
-        Err(_) => None,
-    };
+/// The last failure of a folder's calls, and where the memory for its path comes from.
+#[derive(Drop)]
+pub struct Last {
+    pub alloc: Global,
+    pub failure: Option<Failure>,
 }
 
-/// Keeps the system's error at a path, and gives what it is answered: `Memory` for want of memory, else `Device`.
-pub fn heard(last: &mut Option<Failure>, alloc: Global, path: &str, error: io::Error) -> TreeFault
-    ensures fault { result ≡ fault_of_kind (error_kind error) }
-    ensures kept { IfSome last.new (IsAt path.now (Cause.System error)) }
-{
-    keep(last, alloc, path, Cause::System(error));
-    fault_of(error)
-}
+impl Last {
+    /// Keeps a failure at a path; none is kept where there is no memory for the path.
+    pub fn keep(&mut self, path: &str, cause: Cause)
+        ensures { IfSome self.new.failure (IsAt path.now cause) }
+    {
+        self.failure = match String::from_str(self.alloc, path) {
+            Ok(path) => Some(Failure::at(path, cause)),
+            Err(_) => None,
+        };
+    }
 
-/// Keeps the system's error at a path where a sync failed, and gives what that is answered: `Device`, whatever the error. The
-/// system has done its part by then, and no growth of ours was refused.
-pub fn unsynced(
-    last: &mut Option<Failure>,
-    alloc: Global,
-    path: &str,
-    error: io::Error,
-) -> TreeFault
-    ensures fault { result ≡ Device }
-    ensures kept { IfSome last.new (IsAt path.now (Cause.System error)) }
-{
-    keep(last, alloc, path, Cause::System(error));
-    TreeFault::Device
+    /// Keeps the system's error at a path, and gives what it is answered: `Memory` for want of memory, else `Device`.
+    pub fn heard(&mut self, path: &str, error: io::Error) -> TreeFault
+        ensures fault { result ≡ fault_of_kind (error_kind error) }
+        ensures kept { IfSome self.new.failure (IsAt path.now (Cause.System error)) }
+    {
+        self.keep(path, Cause::System(error));
+        fault_of(error)
+    }
+
+    /// Keeps the system's error at a path where a sync failed, and gives what that is answered: `Device`, whatever the error.
+    /// The system has done its part by then, and no growth of ours was refused.
+    pub fn unsynced(&mut self, path: &str, error: io::Error) -> TreeFault
+        ensures fault { result ≡ Device }
+        ensures kept { IfSome self.new.failure (IsAt path.now (Cause.System error)) }
+    {
+        self.keep(path, Cause::System(error));
+        TreeFault::Device
+    }
 }

@@ -1,23 +1,21 @@
-//! What the folders of a run share: texts of paths, kinds, and how the system's errors are answered and counted.
+//! What the folders of a run share: texts of paths, and how the system's errors are answered and counted.
 ghost use Rattle.std.specs.Prelude.{◌≡◌, ◌≢◌, ◌⊎◌, ◌↔◌, ◌≤◌, Err, IfOk, IfSome, OnOk, IsErrOf, IsTrue, length, string_bytes, true};
 ghost use Rattle.pt_tree.specs.Name.{is_name};
 ghost use Rattle.pt_folder.specs.Laws.{IsPath};
 ghost use Rattle.std.specs.IoError.{error_kind};
 ghost use Rattle.pt_tree.specs.Failures.{IsCounted};
 ghost use Rattle.pt_folder.specs.Folder.{entry_text, IsAbsent, fault_of_kind};
-ghost use Rattle.pt_folder.specs.Calls.{AsksOnce, CannotMake, IsAnswer, IsThere, LeadsToKind, MakesOnce};
-ghost use Rattle.pt_folder.specs.Failure.{IsAt, IsTooLong, IsUnasked, KeepsCall, KeepsMaking, OnDevice};
+ghost use Rattle.pt_folder.specs.Calls.{CannotMake};
+ghost use Rattle.pt_folder.specs.Failure.{IsAt, IsTooLong, IsUnasked, OnDevice};
 
-use crate::failure::{Cause, Failure, heard, keep};
-use crate::system::System;
-use pt_tree::{Kind, Name, NamePath, TreeFault};
+use crate::failure::{Cause, Failure, Last};
+use pt_tree::{Name, NamePath, TreeFault};
 use std::alloc::{AllocError, Global};
 use std::io;
 
 /// A folder of the system, by its path.
 #[derive(Drop)]
 pub struct Folder<'a> {
-    pub alloc: Global,
     pub path: &'a str,
 }
 
@@ -25,18 +23,18 @@ impl<'a> Folder<'a> {
     /// The system's path of an entry: the folder's, `/`, the names with `/` between. `Device` where the folder's is
     /// empty, since the path would lead to the top of the file system, which is kept as the last failure; else `Memory`
     /// where a growth was refused.
-    pub fn text(&self, path: &NamePath, last: &mut Option<Failure>) -> Result<String, TreeFault>
+    pub fn text(&self, path: &NamePath, last: &mut Last) -> Result<String, TreeFault>
         ensures text { IfOk result
             (λ text. string_bytes text ≡ entry_text self.now.path.now path.now) }
         ensures named { OnOk result (IsPath path.now) }
         ensures empty { IsErrOf result TreeFault.Device ↔ (length self.now.path.now ≡ 0) }
-        ensures kept { OnDevice result (IfSome last.new (IsUnasked self.now.path.now)) }
+        ensures kept { OnDevice result (IfSome last.new.failure (IsUnasked self.now.path.now)) }
     {
         if self.path.is_empty() {
-            keep(last, self.alloc, "", Cause::Empty);
+            last.keep("", Cause::Empty);
             return Err(TreeFault::Device);
         }
-        Ok(path_text(self.alloc, self.path, path)?)
+        Ok(path_text(last.alloc, self.path, path)?)
     }
 
     /// The same of an entry that is to be made: `Device` also where its path is longer than any that may be made.
@@ -44,7 +42,7 @@ impl<'a> Folder<'a> {
         &self,
         path: &NamePath,
         longest: usize,
-        last: &mut Option<Failure>,
+        last: &mut Last,
     ) -> Result<String, TreeFault>
         ensures text { IfOk result
             (λ text. string_bytes text ≡ entry_text self.now.path.now path.now) }
@@ -53,35 +51,30 @@ impl<'a> Folder<'a> {
         ensures filled { IfOk result (λ _. length self.now.path.now ≢ 0) }
         ensures refused { IsErrOf result TreeFault.Device
             → CannotMake longest self.now.path.now path.now }
-        ensures kept { OnDevice result (IfSome last.new (λ f. IsUnasked self.now.path.now f
+        ensures kept { OnDevice result (IfSome last.new.failure (λ f. IsUnasked self.now.path.now f
             ⊎ IsTooLong longest (entry_text self.now.path.now path.now) f)) }
     {
         let text = self.text(path, last)?;
         if text.len() > longest {
-            keep(last, self.alloc, text.as_str(), Cause::Long);
+            last.keep(text.as_str(), Cause::Long);
             return Err(TreeFault::Device);
         }
         Ok(text)
     }
-}
 
-/// Keeps the system's error at the path of an entry, and gives what it is answered. None is kept where there is no memory
-/// for the path.
-pub fn heard_at(
-    last: &mut Option<Failure>,
-    folder: &Folder<'_>,
-    path: &NamePath,
-    error: io::Error,
-) -> TreeFault
-    ensures fault { result ≡ fault_of_kind (error_kind error) }
-    ensures kept { IfSome last.new
-        (IsAt (entry_text folder.now.path.now path.now) (Cause.System error)) }
-{
-    *last = match path_text(folder.alloc, folder.path, path) {
-        Ok(text) => Some(Failure::at(text, Cause::System(error))),
-        Err(_) => None,
-    };
-    fault_of(error)
+    /// Keeps the system's error at the path of an entry, and gives what it is answered. None is kept where there is no
+    /// memory for the path.
+    pub fn heard_at(&self, path: &NamePath, error: io::Error, last: &mut Last) -> TreeFault
+        ensures fault { result ≡ fault_of_kind (error_kind error) }
+        ensures kept { IfSome last.new.failure
+            (IsAt (entry_text self.now.path.now path.now) (Cause.System error)) }
+    {
+        last.failure = match path_text(last.alloc, self.path, path) {
+            Ok(text) => Some(Failure::at(text, Cause::System(error))),
+            Err(_) => None,
+        };
+        fault_of(error)
+    }
 }
 
 fn path_text(alloc: Global, folder: &str, path: &NamePath) -> Result<String, AllocError>
@@ -151,69 +144,4 @@ pub fn counted<T>(failures: &mut u64, answer: Result<T, TreeFault>) -> Result<T,
         *failures = failures.saturating_add(1);
     }
     answer
-}
-
-/// The kind of an entry, links not followed; None where nothing is there, or a parent isn't a directory. `at` becomes the
-/// entry's path.
-pub fn kind_at<S: System>(
-    system: &mut S,
-    folder: &Folder<'_>,
-    path: &NamePath,
-    at: &mut String,
-    last: &mut Option<Failure>,
-) -> Result<Option<Kind>, TreeFault>
-    ensures at { OnOk result (string_bytes at.new ≡ entry_text folder.now.path.now path.now) }
-    ensures asked { AsksOnce S.looks LeadsToKind folder.now.path.now path.now
-        system.old system.new result }
-    ensures kept { OnDevice result (KeepsCall folder.now.path.now path.now
-        (λ e. S.looks system.old (entry_text folder.now.path.now path.now) (Err e) system.new)
-        last.new) }
-{
-    *at = folder.text(path, last)?;
-    match system.look(at.as_str()) {
-        Ok(kind) => Ok(Some(kind)),
-        Err(error) if is_absent(&error) => Ok(None),
-        Err(error) => Err(heard(last, folder.alloc, at.as_str(), error)),
-    }
-}
-
-/// Looks at an entry that must be there: that it isn't is a failure.
-pub fn is_there<S: System>(
-    system: &mut S,
-    folder: &Folder<'_>,
-    path: &NamePath,
-    last: &mut Option<Failure>,
-) -> Result<(), TreeFault>
-    ensures asked { AsksOnce S.looks IsThere folder.now.path.now path.now
-        system.old system.new result }
-    ensures kept { OnDevice result (KeepsCall folder.now.path.now path.now
-        (λ e. S.looks system.old (entry_text folder.now.path.now path.now) (Err e) system.new)
-        last.new) }
-{
-    let text = folder.text(path, last)?;
-    match system.look(text.as_str()) {
-        Ok(_) => Ok(()),
-        Err(error) => Err(heard(last, folder.alloc, text.as_str(), error)),
-    }
-}
-
-/// Makes a directory at the path of an entry, unless the path is longer than any that may be made.
-pub fn make_dir<S: System>(
-    system: &mut S,
-    folder: &Folder<'_>,
-    path: &NamePath,
-    longest: usize,
-    last: &mut Option<Failure>,
-) -> Result<(), TreeFault>
-    ensures asked { MakesOnce longest S.makes_dir IsAnswer folder.now.path.now path.now
-        system.old system.new result }
-    ensures kept { OnDevice result (KeepsMaking longest folder.now.path.now path.now
-        (λ e. S.makes_dir system.old (entry_text folder.now.path.now path.now) (Err e) system.new)
-        last.new) }
-{
-    let text = folder.text_to_make(path, longest, last)?;
-    match system.make_dir(text.as_str()) {
-        Ok(()) => Ok(()),
-        Err(error) => Err(heard(last, folder.alloc, text.as_str(), error)),
-    }
 }

@@ -2,6 +2,7 @@
 #![tactic(auto)]
 
 mod bytes;
+mod desk;
 mod dest;
 mod failure;
 mod folder;

@@ -5,25 +5,26 @@ ghost use Rattle.pt_tree.specs.Forest.{dir_at, listing_at};
 ghost use Rattle.pt_tree.specs.Listing.{names_rise};
 ghost use Rattle.pt_folder.specs.Seeing.{SeesAt};
 ghost use Rattle.std.specs.List.{FoldsTo};
-ghost use Rattle.pt_folder.specs.Failure.{FailsLook, IsAt, IsOfCall, IsOfEntry, IsOfName, IsOfNames, KeepsListing, OnDevice};
+ghost use Rattle.pt_folder.specs.Failure.{IsAt, IsOfEntry, IsOfName, IsOfNames, KeepsListing, OnDevice};
 ghost use Rattle.pt_folder.specs.Folder.{entry_text};
 ghost use Rattle.pt_tree.specs.Listing.{can_follow};
 ghost use Rattle.pt_folder.specs.Calls.{IsDueTo, fault_of as fault_for};
-ghost use Rattle.pt_folder.specs.Listing.{FailsToGet, FailsToList, FailsToLook, GetsNames, IsListedBy, LeadsToOwnKind, LooksAt, dir_front, most_entries};
+ghost use Rattle.pt_folder.specs.Listing.{FailsToGet, FailsToList, FailsToLook, GetsNames, IsListedBy, LooksAt, dir_front, most_entries};
 ghost use Rattle.pt_folder.specs.Names.{AddsNames, GivesNames, IsRefusedName, RefusesBytes, is_entry};
 
-use crate::failure::{Cause, Failure, heard, keep};
+use crate::bytes::BLOCK;
+use crate::desk::Desk;
+use crate::failure::{Cause, Last};
 use crate::folder::{Folder, name_text};
 use crate::system::{Input, System};
 use pt_tree::{Kind, Listing, ListingFault, Name, NameFault, NamePath, TreeFault};
-use std::alloc::Global;
 
 // The greatest number of a directory's entries.
 const MOST: usize = 16_777_216;
 
 const LONGEST_NAME: usize = 255;
 
-const PIECE: usize = 8192;
+const PIECE: usize = BLOCK;
 
 /// The names and kinds in a directory of a folder, in the order of the names' bytes; links aren't followed.
 ///
@@ -31,52 +32,49 @@ const PIECE: usize = 8192;
 /// that an entry may have or has no NUL behind it, there are more than 16,777,216 entries, or 2^64 - 1 reads found no end.
 /// `Memory` where a growth was refused.
 pub fn list<S: System>(
-    system: &mut S,
+    desk: &mut Desk<S>,
     folder: &Folder<'_>,
     path: &NamePath,
-    last: &mut Option<Failure>,
 ) -> Result<Listing, TreeFault>
-    requires { ForSome (S.forest system.old folder.now.path.now) (λ f. IsSome (dir_at f path.now)) }
-    ensures same { S.forest system.new folder.now.path.now
-        ≡ S.forest system.old folder.now.path.now }
-    ensures told { IfOk result (λ listing. ForSome (S.forest system.old folder.now.path.now)
+    requires { ForSome (S.forest desk.old.system folder.now.path.now)
+        (λ f. IsSome (dir_at f path.now)) }
+    ensures same { S.forest desk.new.system folder.now.path.now
+        ≡ S.forest desk.old.system folder.now.path.now }
+    ensures told { IfOk result (λ listing. ForSome (S.forest desk.old.system folder.now.path.now)
         (λ f. listing_at f path.now ≡ Some listing)) }
     ensures most { IfOk result (λ listing. length listing ≤ most_entries) }
     ensures listed { IfOk result (IsListedBy S.opens_dir S.looks S.Dir.Input.reads S.Dir.Input.left
         (entry_text folder.now.path.now path.now) (dir_front folder.now.path.now path.now)
-        system.old system.new) }
-    ensures fault { IfErr result (λ fault. IsDueTo fault (FailsToList S.opens_dir S.looks
-        S.Dir.Input.reads folder.now.path.now path.now system.old system.new)) }
-    ensures kept { OnDevice result (KeepsListing S.looks folder.now.path.now path.now last.new) }
+        desk.old.system desk.new.system) }
+    ensures fault { IfErr result (λ fault. IsDueTo fault
+        (FailsToList S.opens_dir S.looks S.Dir.Input.reads folder.now.path.now path.now
+        desk.old.system desk.new.system)) }
+    ensures kept { OnDevice result
+        (KeepsListing S.looks folder.now.path.now path.now desk.new.last.failure) }
 {
-    let mut text = folder.text(path, last)?;
-    let mut names = names_in(system, folder.alloc, text.as_str(), last)?;
+    let mut text = folder.text(path, &mut desk.last)?;
+    let mut names = names_in(desk, text.as_str())?;
     names.sort_unstable();
     if !path.is_empty() {
         text.push('/')?;
     }
-    with_kinds(system, folder.alloc, text, names, last)
+    with_kinds(desk, text, names)
 }
 
 #[tactic(auto, using(crate::proofs::Kept::kept_names))]
-fn names_in<S: System>(
-    system: &mut S,
-    alloc: Global,
-    text: &str,
-    last: &mut Option<Failure>,
-) -> Result<Vec<Name>, TreeFault>
+fn names_in<S: System>(desk: &mut Desk<S>, text: &str) -> Result<Vec<Name>, TreeFault>
     ensures most { IfOk result (λ names. vec_len names ≤ most_entries) }
-    ensures asked { (reply : _) × S.opens_dir system.old text.now reply system.new
+    ensures asked { (reply : _) × S.opens_dir desk.old.system text.now reply desk.new.system
         × MatchResult reply (λ dir. (after : _) × MatchResult result
         (λ names. GetsNames S.Dir.Input.reads dir names.items after
         × IfSome (S.Dir.Input.left dir) (λ bytes. GivesNames bytes names.items))
         (λ fault. IsDueTo fault (FailsToGet S.Dir.Input.reads most_entries dir after)))
         (λ e. result ≡ Err (fault_for e)) }
-    ensures kept { OnDevice result (IfSome last.new (IsOfNames text.now)) }
+    ensures kept { OnDevice result (IfSome desk.new.last.failure (IsOfNames text.now)) }
 {
-    match system.open_names(text) {
-        Ok(mut dir) => read_names(alloc, &mut dir, most(), text, last),
-        Err(error) => Err(heard(last, alloc, text, error)),
+    match desk.system.open_names(text) {
+        Ok(mut dir) => read_names(&mut dir, most(), text, &mut desk.last),
+        Err(error) => Err(desk.last.heard(text, error)),
     }
 }
 
@@ -91,11 +89,10 @@ fn most() -> usize
 /// What fails is kept at the directory's path.
 #[tactic(auto, using(crate::proofs::Kept::kept_names))]
 pub fn read_names<D: Input>(
-    alloc: Global,
     dir: &mut D,
     most: usize,
     text: &str,
-    last: &mut Option<Failure>,
+    last: &mut Last,
 ) -> Result<Vec<Name>, TreeFault>
     ensures most { IfOk result (λ names. vec_len names ≤ most) }
     ensures read { IfOk result (λ names. GetsNames D.reads dir.old names.items dir.new) }
@@ -103,47 +100,46 @@ pub fn read_names<D: Input>(
         (λ fault. IsDueTo fault (FailsToGet D.reads most dir.old dir.new)) }
     ensures names { IfOk result
         (λ names. IfSome (D.left dir.old) (λ bytes. GivesNames bytes names.items)) }
-    ensures kept { OnDevice result (IfSome last.new (IsOfNames text.now)) }
+    ensures kept { OnDevice result (IfSome last.new.failure (IsOfNames text.now)) }
 {
-    let mut names = Vec::new(alloc);
+    let mut names = Vec::new(last.alloc);
     let mut piece = [0u8; PIECE];
     for _ in 0..u64::MAX {
         match dir.read_piece(&mut piece) {
             Ok(0) => return Ok(names),
-            Ok(count) => add_names(alloc, &mut names, &piece[..count], most, text, last)?,
-            Err(error) => return Err(heard(last, alloc, text, error)),
+            Ok(count) => add_names(&mut names, &piece[..count], most, text, last)?,
+            Err(error) => return Err(last.heard(text, error)),
         }
     }
-    keep(last, alloc, text, Cause::Endless);
+    last.keep(text, Cause::Endless);
     Err(TreeFault::Device)
 }
 
 // Adds the names of a piece of a directory, each ended by a NUL.
 #[tactic(auto, using(crate::proofs::Kept::kept_names))]
 fn add_names(
-    alloc: Global,
     names: &mut Vec<Name>,
     piece: &[u8],
     most: usize,
     text: &str,
-    last: &mut Option<Failure>,
+    last: &mut Last,
 ) -> Result<(), TreeFault>
     requires { vec_len names.old ≤ most }
     ensures most { vec_len names.new ≤ most }
     ensures names { OnOk result (AddsNames piece.now names.old.items names.new.items) }
     ensures fault { IfErr result
         (λ fault. IsDueTo fault (RefusesBytes most names.old.items piece.now)) }
-    ensures kept { OnDevice result (IfSome last.new (IsOfNames text.now)) }
+    ensures kept { OnDevice result (IfSome last.new.failure (IsOfNames text.now)) }
 {
     let mut rest = piece;
     while let Some(end) = nul_at(rest) {
-        add_name(alloc, names, &rest[..end], most, text, last)?;
+        add_name(names, &rest[..end], most, text, last)?;
         rest = &rest[end + 1..];
     }
     if rest.is_empty() {
         Ok(())
     } else {
-        keep(last, alloc, text, Cause::Endless);
+        last.keep(text, Cause::Endless);
         Err(TreeFault::Device)
     }
 }
@@ -158,12 +154,11 @@ fn nul_at(bytes: &[u8]) -> Option<usize>
 // Adds a name, unless it is `.` or `..`.
 #[tactic(auto, using(crate::proofs::Kept::kept_names, crate::proofs::Kept::kept_name))]
 fn add_name(
-    alloc: Global,
     names: &mut Vec<Name>,
     bytes: &[u8],
     most: usize,
     text: &str,
-    last: &mut Option<Failure>,
+    last: &mut Last,
 ) -> Result<(), TreeFault>
     requires { vec_len names.old ≤ most }
     ensures most { vec_len names.new ≤ most }
@@ -172,21 +167,21 @@ fn add_name(
     ensures fault { IfErr result
         (λ fault. IsDueTo fault (IsRefusedName most names.old.items bytes.now)) }
     ensures cause { OnDevice result
-        (IfSome last.new (λ f. IsOfName most names.old.items bytes.now f.cause)) }
-    ensures kept { OnDevice result (IfSome last.new (IsOfNames text.now)) }
+        (IfSome last.new.failure (λ f. IsOfName most names.old.items bytes.now f.cause)) }
+    ensures kept { OnDevice result (IfSome last.new.failure (IsOfNames text.now)) }
 {
     if bytes == b".".as_slice() || bytes == b"..".as_slice() {
         return Ok(());
     }
     if names.len() >= most {
-        keep(last, alloc, text, Cause::Entries);
+        last.keep(text, Cause::Entries);
         return Err(TreeFault::Device);
     }
-    match Name::of(alloc, bytes) {
+    match Name::of(last.alloc, bytes) {
         Ok(name) => names.push(name).map_err(|_| TreeFault::Memory),
         Err(NameFault::Memory) => Err(TreeFault::Memory),
         Err(_) => {
-            keep(last, alloc, text, Cause::Name);
+            last.keep(text, Cause::Name);
             Err(TreeFault::Device)
         }
     }
@@ -194,52 +189,35 @@ fn add_name(
 
 // The entries of these names, in their order, with their kinds. The text is the directory's path, with `/` behind.
 fn with_kinds<S: System>(
-    system: &mut S,
-    alloc: Global,
+    desk: &mut Desk<S>,
     text: String,
     names: Vec<Name>,
-    last: &mut Option<Failure>,
 ) -> Result<Listing, TreeFault>
     ensures names { IfOk result (λ listing. map (λ item. item.0) listing ≡ names.items) }
     ensures rise { IfOk result (λ listing. IsTrue (names_rise listing)) }
-    ensures seen { IfOk result (SeesAt S.forest (string_bytes text) system.old system.new) }
-    ensures same { OnErr result (SeesAt S.forest (string_bytes text) system.old system.new []) }
-    ensures looked { IfOk result (λ listing.
-        FoldsTo (LooksAt S.looks (string_bytes text)) system.old listing system.new) }
-    ensures fault { IfErr result (λ fault. IsDueTo fault
-        (FailsToLook S.looks (string_bytes text) names.items system.old system.new)) }
-    ensures kept { OnDevice result (IfSome last.new (IsOfEntry S.looks (string_bytes text))) }
+    ensures seen { IfOk result
+        (SeesAt S.forest (string_bytes text) desk.old.system desk.new.system) }
+    ensures same { OnErr result
+        (SeesAt S.forest (string_bytes text) desk.old.system desk.new.system []) }
+    ensures looked { IfOk result (λ listing. FoldsTo (LooksAt S.looks (string_bytes text))
+        desk.old.system listing desk.new.system) }
+    ensures fault { IfErr result (λ fault. IsDueTo fault (FailsToLook S.looks (string_bytes text)
+        names.items desk.old.system desk.new.system)) }
+    ensures kept { OnDevice result
+        (IfSome desk.new.last.failure (IsOfEntry S.looks (string_bytes text))) }
 {
     let mut text = text;
     let end = text.len();
     text.reserve(LONGEST_NAME)?;
-    let mut listing = Listing::new(alloc);
+    let mut listing = Listing::new(desk.last.alloc);
     for name in names {
         text.push_str(name_text(&name))?;
-        let kind = own_kind(system, alloc, text.as_str(), last)?;
+        let kind = desk.own_kind(text.as_str())?;
         text.truncate(end);
-        add_entry(&mut listing, name, kind, alloc, text.as_str(), last)?;
+        add_entry(&mut listing, name, kind, text.as_str(), &mut desk.last)?;
     }
     let _count = listing.len();
     Ok(listing)
-}
-
-// The kind of an entry itself, links not followed.
-fn own_kind<S: System>(
-    system: &mut S,
-    alloc: Global,
-    text: &str,
-    last: &mut Option<Failure>,
-) -> Result<Kind, TreeFault>
-    ensures asked { (reply : _) × S.looks system.old text.now reply system.new
-        × LeadsToOwnKind reply result }
-    ensures kept { OnDevice result
-        (IfSome last.new (IsOfCall text.now (FailsLook S.looks text.now))) }
-{
-    match system.look(text) {
-        Ok(kind) => Ok(kind),
-        Err(error) => Err(heard(last, alloc, text, error)),
-    }
 }
 
 // Adds an entry to the listing of the directory whose path, with `/` behind, is the text.
@@ -247,19 +225,18 @@ fn add_entry(
     listing: &mut Listing,
     name: Name,
     kind: Kind,
-    alloc: Global,
     text: &str,
-    last: &mut Option<Failure>,
+    last: &mut Last,
 ) -> Result<(), TreeFault>
     ensures added { OnOk result (listing.new ≡ listing.old ++ (name, kind) ∷ []) }
     ensures fault { IfErr result (λ fault. IsDueTo fault (can_follow listing.old name ≡ false)) }
-    ensures kept { OnDevice result (IfSome last.new (IsAt text.now Cause.Twice)) }
+    ensures kept { OnDevice result (IfSome last.new.failure (IsAt text.now Cause.Twice)) }
 {
     match listing.add(name, kind) {
         Ok(()) => Ok(()),
         Err(ListingFault::Memory) => Err(TreeFault::Memory),
         Err(ListingFault::NotRising) => {
-            keep(last, alloc, text, Cause::Twice);
+            last.keep(text, Cause::Twice);
             Err(TreeFault::Device)
         }
     }

@@ -4,13 +4,13 @@ ghost use Rattle.std.specs.Prelude.{drop as drop_items};
 ghost use Rattle.std.specs.Option.{option_map};
 ghost use Rattle.pt_folder.specs.Reading.{FailsToGoBack, FailsToReadOn, GoesFirst, IsNext, ReadsNext, Stands, unread_of};
 
-use crate::bytes::read_block;
+use crate::bytes::{BLOCK, read_block};
 use crate::system::{Handle, Input};
 use pt_tree::Block;
 use std::io;
 
 // Behind this place no whole block can be counted.
-const LAST: u64 = u64::MAX - 8192;
+const LAST: u64 = u64::MAX - BLOCK as u64;
 
 /// A file, the place where its next block begins, whether its end was met, and whether it may stand elsewhere.
 #[derive(Drop)]
@@ -73,8 +73,7 @@ impl<F: Handle> Reading<F> {
         requires { Stands F.bytes F.left self.old }
         ensures stands { Stands F.bytes F.left self.new }
         ensures there { OnOk result (self.new.lost ≡ false) }
-        ensures place { self.new.place ≡ self.old.place }
-        ensures ended { self.new.ended ≡ self.old.ended }
+        ensures still { self.new ≡ record self.old { file = self.new.file; lost = self.new.lost } }
         ensures same { F.bytes self.new.file ≡ F.bytes self.old.file }
         ensures gone { OnOk result (GoesFirst F.goes self.old self.new.file) }
         ensures error { IfErr result (λ e. FailsToGoBack F.goes self.old e self.new) }

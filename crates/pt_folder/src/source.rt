@@ -7,13 +7,15 @@ ghost use Rattle.pt_folder.specs.Calls.{AsksOnce, LeadsToKind};
 ghost use Rattle.pt_tree.specs.Failures.{IsCounted};
 ghost use Rattle.pt_tree.specs.Forest.{Dir, dir_at, kind_of, node_at};
 ghost use Rattle.pt_tree.specs.Path.{parent};
+ghost use Rattle.pt_folder.specs.Desk.{new_desk};
 ghost use Rattle.pt_folder.specs.Failure.{OnDevice};
 ghost use Rattle.pt_folder.specs.Folder.{entry_text};
-ghost use Rattle.pt_folder.specs.Opening.{IsOfFile, KeepsOpening, LeadsToFile, OpensOnce};
+ghost use Rattle.pt_folder.specs.Opening.{KeepsOpening, OpensOnce};
 ghost use Rattle.pt_folder.specs.Reading.{IsNext, IsOfReading, ReadsBy, StandsOpen, unread_open};
 
-use crate::failure::{Cause, Failure, heard, keep};
-use crate::folder::{Folder, counted, kind_at};
+use crate::desk::Desk;
+use crate::failure::{Cause, Failure, Last};
+use crate::folder::{Folder, counted};
 use crate::listing;
 use crate::reading::Reading;
 use crate::system::{Handle, Input, System};
@@ -23,32 +25,31 @@ use std::alloc::Global;
 /// A folder of the system as a source. It tells the tree that the system keeps there, where it keeps one.
 #[derive(Drop)]
 pub struct HostSource<'a, S: System> {
-    system: S,
+    desk: Desk<S>,
     folder: Folder<'a>,
     reading: Option<Reading<S::File>>,
     at: String,
-    last: Option<Failure>,
     failures: u64,
     calls: u64,
     ghost stands: { StandsOpen ⟦<S::File as Input>⟧.bytes ⟦<S::File as Input>⟧.left reading },
 }
 
 impl<'a, S: System> HostSource<'a, S> {
+    ghost use Rattle.pt_folder.specs.HostSource.{lasting};
+
     /// A source over the folder at a path of a system, as the runtime's. It calls nothing and takes no memory.
     pub fn new(system: S, alloc: Global, path: &'a str) -> HostSource<'a, S>
         ensures failures { result.failures ≡ 0 }
         ensures calls { result.calls ≡ 0 }
         ensures path { result.folder.path.now ≡ path.now }
-        ensures system { result.system ≡ system }
+        ensures desk { result.desk ≡ new_desk system alloc }
         ensures reading { result.reading ≡ None }
-        ensures last { result.last ≡ None }
     {
         HostSource {
-            system,
-            folder: Folder { alloc, path },
+            desk: Desk::new(system, alloc),
+            folder: Folder { path },
             reading: None,
             at: String::new(alloc),
-            last: None,
             failures: 0,
             calls: 0,
         }
@@ -56,9 +57,9 @@ impl<'a, S: System> HostSource<'a, S> {
 
     /// The last failure, if there was one and memory for its path.
     pub fn last_failure(&self) -> Option<&Failure>
-        ensures { option_map (λ f. f.now) result ≡ self.now.last }
+        ensures { option_map (λ f. f.now) result ≡ self.now.desk.last.failure }
     {
-        self.last.as_ref()
+        self.desk.last.failure.as_ref()
     }
 
     /// The path of the file that was opened last; empty before the first.
@@ -72,36 +73,28 @@ impl<'a, S: System> HostSource<'a, S> {
     ///
     /// Where the system keeps a tree, a directory has to be above the path. The open file stays as it is.
     pub fn look(&mut self, path: &NamePath) -> Result<Option<Kind>, TreeFault>
-        requires { ForSome (S.forest self.old.system self.old.folder.path.now)
+        requires { ForSome (S.forest self.old.desk.system self.old.folder.path.now)
             (λ f. IsSome (dir_at f (parent path.now))) }
         ensures kind { IfOk result (λ here.
-            ForSome (S.forest self.old.system self.old.folder.path.now)
+            ForSome (S.forest self.old.desk.system self.old.folder.path.now)
             (λ f. option_map kind_of (node_at (Dir f) path.now) ≡ here)) }
-        ensures same { S.forest self.new.system self.new.folder.path.now
-            ≡ S.forest self.old.system self.old.folder.path.now }
+        ensures same { S.forest self.new.desk.system self.new.folder.path.now
+            ≡ S.forest self.old.desk.system self.old.folder.path.now }
         ensures asked { AsksOnce S.looks LeadsToKind self.old.folder.path.now path.now
-            self.old.system self.new.system result }
-        ensures reading { self.new.reading ≡ self.old.reading }
-        ensures folder { self.new.folder ≡ self.old.folder }
-        ensures calls { self.new.calls ≡ self.old.calls }
+            self.old.desk.system self.new.desk.system result }
+        ensures still { lasting self.new ≡ lasting self.old }
         ensures failures { IsCounted self.old.failures self.new.failures result }
     {
-        let mut at = String::new(self.folder.alloc);
-        let kind = kind_at(
-            &mut self.system,
-            &self.folder,
-            path,
-            &mut at,
-            &mut self.last,
-        );
+        let mut at = String::new(self.desk.last.alloc);
+        let kind = self.desk.kind_at(&self.folder, path, &mut at);
         counted(&mut self.failures, kind)
     }
 
     /// The system, as the calls left it; the open file is closed.
     pub fn into_system(self) -> S
-        ensures { result ≡ self.entry.system }
+        ensures { result ≡ self.entry.desk.system }
     {
-        self.system
+        self.desk.system
     }
 }
 
@@ -124,9 +117,9 @@ impl<'a, S: System> Source for HostSource<'a, S> {
 
     ghost keeps_on = { λ _ _ _ p q. q ∙ p };
 
-    ghost proper = { λ s state is. proper_held (S.forest s.system s.folder.path.now)
+    ghost proper = { λ s state is. proper_held (S.forest s.desk.system s.folder.path.now)
         (unread_open ⟦<S::File as Input>⟧.bytes s.reading) state
-        (S.proper_law s.system s.folder.path.now) is };
+        (S.proper_law s.desk.system s.folder.path.now) is };
 
     fn failures(&self) -> u64 {
         self.failures
@@ -143,7 +136,7 @@ impl<'a, S: System> Source for HostSource<'a, S> {
         ensures call { IsCall self.old self.new result }
     {
         self.calls = self.calls.wrapping_add(1);
-        let listing = listing::list(&mut self.system, &self.folder, path, &mut self.last);
+        let listing = listing::list(&mut self.desk, &self.folder, path);
         counted(&mut self.failures, listing)
     }
 
@@ -161,12 +154,11 @@ impl<'a, S: System> Source for HostSource<'a, S> {
     {
         self.calls = self.calls.wrapping_add(1);
         let opened = open(
-            &mut self.system,
+            &mut self.desk,
             &self.folder,
             path,
             &mut self.reading,
             &mut self.at,
-            &mut self.last,
         );
         counted(&mut self.failures, opened)
     }
@@ -185,9 +177,8 @@ impl<'a, S: System> Source for HostSource<'a, S> {
         let read = read_on(
             &mut self.reading,
             block,
-            self.folder.alloc,
             self.at.as_str(),
-            &mut self.last,
+            &mut self.desk.last,
         );
         counted(&mut self.failures, read)
     }
@@ -196,51 +187,28 @@ impl<'a, S: System> Source for HostSource<'a, S> {
 // Opens an entry for reading, and makes it the open file. It is looked at first: what is no file now isn't opened, since
 // opening a pipe waits for its writer.
 fn open<S: System>(
-    system: &mut S,
+    desk: &mut Desk<S>,
     folder: &Folder<'_>,
     path: &NamePath,
     opened: &mut Option<Reading<S::File>>,
     at: &mut String,
-    last: &mut Option<Failure>,
 ) -> Result<(), TreeFault>
     ensures same { OnErr result (opened.new ≡ opened.old) }
     ensures asked { OpensOnce S.looks S.opens folder.now.path.now path.now
-        opened.old opened.new system.old system.new result }
+        opened.old opened.new desk.old.system desk.new.system result }
     ensures at { OnOk result (string_bytes at.new ≡ entry_text folder.now.path.now path.now) }
     ensures kept { OnDevice result (KeepsOpening S.looks S.opens
-        folder.now.path.now path.now system.old system.new last.new) }
+        folder.now.path.now path.now desk.old.system desk.new.system desk.new.last.failure) }
 {
-    let text = folder.text(path, last)?;
-    look_at_file(system, folder.alloc, text.as_str(), last)?;
-    match system.open_to_read(text.as_str()) {
+    let text = folder.text(path, &mut desk.last)?;
+    desk.look_at_file(text.as_str())?;
+    match desk.system.open_to_read(text.as_str()) {
         Ok(file) => {
             *opened = Some(Reading::at_start(file));
             *at = text;
             Ok(())
         }
-        Err(error) => Err(heard(last, folder.alloc, text.as_str(), error)),
-    }
-}
-
-// Whether a file stands at a path, links not followed: that none does is a failure.
-fn look_at_file<S: System>(
-    system: &mut S,
-    alloc: Global,
-    text: &str,
-    last: &mut Option<Failure>,
-) -> Result<(), TreeFault>
-    ensures asked { (reply : _) × S.looks system.old text.now reply system.new
-        × LeadsToFile reply result }
-    ensures kept { OnDevice result
-        (IfSome last.new (IsOfFile S.looks text.now system.old system.new)) }
-{
-    match system.look(text) {
-        Ok(Kind::File) => Ok(()),
-        Ok(_) => {
-            keep(last, alloc, text, Cause::NotFile);
-            Err(TreeFault::Device)
-        }
-        Err(error) => Err(heard(last, alloc, text, error)),
+        Err(error) => Err(desk.last.heard(text.as_str(), error)),
     }
 }
 
@@ -250,9 +218,8 @@ fn look_at_file<S: System>(
 fn read_on<F: Handle + Drop>(
     reading: &mut Option<Reading<F>>,
     block: &mut Block,
-    alloc: Global,
     at: &str,
-    last: &mut Option<Failure>,
+    last: &mut Last,
 ) -> Result<(), TreeFault>
     requires { StandsOpen F.bytes F.left reading.old }
     ensures stands { StandsOpen F.bytes F.left reading.new }
@@ -264,16 +231,16 @@ fn read_on<F: Handle + Drop>(
     ensures empty { OnErr result (block.new.items ≡ []) }
     ensures reads { ReadsBy F.reads F.goes reading.old reading.new block.new.items result }
     ensures kept { OnDevice result
-        (IfSome last.new (IsOfReading F.reads F.goes at.now reading.old)) }
+        (IfSome last.new.failure (IsOfReading F.reads F.goes at.now reading.old)) }
 {
     match reading {
         Some(open) => match open.read(block) {
             Ok(()) => Ok(()),
-            Err(error) => Err(heard(last, alloc, at, error)),
+            Err(error) => Err(last.heard(at, error)),
         },
         None => {
             block.clear();
-            keep(last, alloc, at, Cause::Closed);
+            last.keep(at, Cause::Closed);
             Err(TreeFault::Device)
         }
     }

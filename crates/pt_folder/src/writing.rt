@@ -8,8 +8,9 @@ ghost use Rattle.pt_folder.specs.Stuck.{stuck_by_close};
 ghost use Rattle.pt_folder.specs.Writing.{ClosesBy, FailsToAdd, IsMadeAt, IsOfWriting, MakesAt, WritesTo, open_unless_within};
 
 use crate::bytes::write_out;
-use crate::failure::{Cause, Failure, heard, keep};
-use crate::folder::{Folder, heard_at};
+use crate::desk::Desk;
+use crate::failure::{Cause, Last};
+use crate::folder::Folder;
 use crate::stuck::Stuck;
 use crate::system::{Handle, System};
 use pt_tree::{NamePath, TreeFault};
@@ -23,54 +24,53 @@ pub struct Writing<F> {
 
 // Makes an empty file where nothing stands, and makes it the open one.
 pub(crate) fn create<S: System>(
-    system: &mut S,
+    desk: &mut Desk<S>,
     folder: &Folder<'_>,
     path: &NamePath,
     longest: usize,
     writing: &mut Option<Writing<S::File>>,
-    last: &mut Option<Failure>,
 ) -> Result<(), TreeFault>
     ensures opened { OnOk result (IsMadeAt path.now writing.new) }
     ensures same { OnErr result (writing.new ≡ writing.old) }
     ensures asked { MakesOnce longest S.makes_file
         (MakesAt path.now writing.old writing.new) folder.now.path.now path.now
-        system.old system.new result }
+        desk.old.system desk.new.system result }
     ensures kept { OnDevice result (KeepsMaking longest folder.now.path.now path.now
-        (λ e. S.makes_file system.old (entry_text folder.now.path.now path.now) (Err e)
-        system.new) last.new) }
+        (λ e. S.makes_file desk.old.system (entry_text folder.now.path.now path.now) (Err e)
+        desk.new.system) desk.new.last.failure) }
 {
-    let text = folder.text_to_make(path, longest, last)?;
+    let text = folder.text_to_make(path, longest, &mut desk.last)?;
     let path = path.copy()?;
-    match system.make_file(text.as_str()) {
+    match desk.system.make_file(text.as_str()) {
         Ok(file) => {
             *writing = Some(Writing { file, path });
             Ok(())
         }
-        Err(error) => Err(heard(last, folder.alloc, text.as_str(), error)),
+        Err(error) => Err(desk.last.heard(text.as_str(), error)),
     }
 }
 
 // Adds a piece to the open file, which stays open; where none is open, it is a failure.
 pub(crate) fn add<S: System>(
-    system: &mut S,
+    desk: &mut Desk<S>,
+    folder: &Folder<'_>,
     writing: &mut Option<Writing<S::File>>,
     piece: &[u8],
-    folder: &Folder<'_>,
-    last: &mut Option<Failure>,
 ) -> Result<(), TreeFault>
     ensures closed { IfNone writing.old (result ≡ Err Device) }
-    ensures writes { WritesTo S.writes system.old writing.old system.new writing.new
+    ensures writes { WritesTo S.writes desk.old.system writing.old desk.new.system writing.new
         piece.now result }
-    ensures kept { OnDevice result (IfSome last.new (IsOfWriting folder.now.path.now
-        (FailsToAdd S.writes piece.now system.old) writing.old)) }
+    ensures kept { OnDevice result (IfSome desk.new.last.failure
+        (IsOfWriting folder.now.path.now (FailsToAdd S.writes piece.now desk.old.system)
+        writing.old)) }
 {
     match writing {
-        Some(open) => match write_out(system, &mut open.file, piece) {
+        Some(open) => match write_out(&mut desk.system, &mut open.file, piece) {
             Ok(()) => Ok(()),
-            Err(error) => Err(heard_at(last, folder, &open.path, error)),
+            Err(error) => Err(folder.heard_at(&open.path, error, &mut desk.last)),
         },
         None => {
-            keep(last, folder.alloc, "", Cause::Closed);
+            desk.last.keep("", Cause::Closed);
             Err(TreeFault::Device)
         }
     }
@@ -79,20 +79,20 @@ pub(crate) fn add<S: System>(
 // Closes the open file, which is put onto the disk first where that is asked for: where that isn't possible, it is stuck. Where
 // none is open, it is a failure.
 pub(crate) fn close<F: Handle + Drop>(
-    writing: &mut Option<Writing<F>>,
-    stuck: &mut Option<Stuck>,
-    synced: bool,
+    last: &mut Last,
     folder: &Folder<'_>,
-    last: &mut Option<Failure>,
+    writing: &mut Option<Writing<F>>,
+    synced: bool,
+    stuck: &mut Option<Stuck>,
 ) -> Result<(), TreeFault>
     ensures closed { ClosesBy F.syncs synced writing.old result }
-    ensures kept { OnDevice result (IfSome last.new (IsOfWriting folder.now.path.now
+    ensures kept { OnDevice result (IfSome last.new.failure (IsOfWriting folder.now.path.now
         (λ w e. (after : F) × F.syncs w (Err e) after) writing.old)) }
     ensures writing { writing.new ≡ None }
     ensures stuck { stuck.new ≡ stuck_by_close stuck.old writing.old result }
 {
     let Some(mut open) = writing.take() else {
-        keep(last, folder.alloc, "", Cause::Closed);
+        last.keep("", Cause::Closed);
         return Err(TreeFault::Device);
     };
     if !synced {
@@ -101,7 +101,7 @@ pub(crate) fn close<F: Handle + Drop>(
     match open.file.sync() {
         Ok(()) => Ok(()),
         Err(error) => {
-            heard_at(last, folder, &open.path, error);
+            folder.heard_at(&open.path, error, last);
             *stuck = Some(Stuck::Closed(open.path));
             Err(TreeFault::Device)
         }
@@ -109,12 +109,26 @@ pub(crate) fn close<F: Handle + Drop>(
 }
 
 // Closes the open file if it is at a path or below.
-pub(crate) fn close_within<F: Drop>(writing: &mut Option<Writing<F>>, path: &NamePath)
+fn close_within<F: Drop>(writing: &mut Option<Writing<F>>, path: &NamePath)
     ensures { writing.new ≡ open_unless_within path.now writing.old }
 {
     if let Some(open) = writing {
         if open.path.is_within(path) {
             *writing = None;
         }
+    }
+}
+
+// The same where what stood there was moved.
+pub(crate) fn close_moved<F: Drop>(
+    writing: &mut Option<Writing<F>>,
+    path: &NamePath,
+    moved: &Result<(), TreeFault>,
+)
+    ensures same { OnErr moved.now (writing.new ≡ writing.old) }
+    ensures left { OnOk moved.now (writing.new ≡ open_unless_within path.now writing.old) }
+{
+    if moved.is_ok() {
+        close_within(writing, path);
     }
 }

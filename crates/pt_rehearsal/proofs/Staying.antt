@@ -36,20 +36,20 @@ module _ {S F D : Type 0} {sys : OfSystem S F D} {handle : OfHandle F} {file : O
     {dir : OfInput D} (old new : HostDest S F D sys handle file dir)
     (keeps : (new.folder ≡ old.folder) × IsSetAs old.longest old.synced new.longest new.synced) (writing : new.writing ≡ old.writing) (stuck : new.stuck ≡ old.stuck) where
   -- the system isn't asked
-  pub unasked : new.system ≡ old.system → Stays old new
+  pub unasked : new.desk.system ≡ old.desk.system → Stays old new
   unasked system = (keeps.0, keeps.1, writing, stuck, ap (λ s. sys.kept s old.folder.path.now) system)
 
   -- it is asked to look somewhere
   pub looked : KindLaw sys.kept sys.looks → {T : Type 0} (leads : Result Kind Error → Result T TreeFault → Type 0) (p : Path) (result : Result T TreeFault)
       → Looks leads old new p result → Stays old new
   looked law leads p result (inl refused) = unasked refused.1
-  looked law leads p result (inr asked) = (keeps.0, keeps.1, writing, stuck, kind_keeps sys.kept old.folder.path.now sys.looks law leads old.system new.system p result asked.1)
+  looked law leads p result (inr asked) = (keeps.0, keeps.1, writing, stuck, kind_keeps sys.kept old.folder.path.now sys.looks law leads old.desk.system new.desk.system p result asked.1)
 
   -- it is asked for first bytes
   pub peeked : PeekLaw sys.kept file.left sys.opens → (p : Path) (block : List ℕ) (result : Result (Unit {0}) TreeFault) → Peeks old new p block result → Stays old new
   peeked law p block result (inl refused) = unasked refused.1
   peeked law p block result (inr asked) =
-      (keeps.0, keeps.1, writing, stuck, peek_keeps sys.kept old.folder.path.now file.left file.reads sys.opens law old.system new.system p block result asked.1)
+      (keeps.0, keeps.1, writing, stuck, peek_keeps sys.kept old.folder.path.now file.left file.reads sys.opens law old.desk.system new.desk.system p block result asked.1)
 
 module _ {S F D : Type 0} {sys : OfSystem S F D} {handle : OfHandle F} {file : OfInput F}
     {dir : OfInput D} where
@@ -59,13 +59,13 @@ module _ {S F D : Type 0} {sys : OfSystem S F D} {handle : OfHandle F} {file : O
     (q.1.0 ∙ p.1.0, q.1.1 ∙ p.1.1),
     q.2 ∙ p.2,
     q.3 ∙ p.3,
-    subst (λ f. sys.kept c.system f.path.now ≡ sys.kept b.system f.path.now) p.0 q.4 ∙ p.4,
+    subst (λ f. sys.kept c.desk.system f.path.now ≡ sys.kept b.desk.system f.path.now) p.0 q.4 ∙ p.4,
   )
 
   -- what is told is the same
   pub told_still : (old new : HostDest S F D sys handle file dir) → Stays old new → told_by new ≡ told_by old
   told_still old new s =
-      let kept = ap (λ f. sys.kept new.system f.path.now) s.0 ∙ s.4 in
+      let kept = ap (λ f. sys.kept new.desk.system f.path.now) s.0 ∙ s.4 in
       λ i. told_with (kept i) (s.3 i) (s.2 i)
 
 -- ---- what stands at a path
@@ -174,5 +174,5 @@ fits_anew told v steps none no_step tree = ∣ subst (FitsTold told v) (sym no_s
 module _ {S F D : Type 0} {sys : OfSystem S F D} {handle : OfHandle F} {file : OfInput F}
     {dir : OfInput D} where
   -- what a folder tells is a tree
-  pub dest_tree : (d : HostDest S F D sys handle file dir) → ((t : Tree) → (sys.kept d.system d.folder.path.now).tree ≡ Some t → IsTree t) → (w : Writing) → told_by d ≡ Some w → IsTree w.tree
-  dest_tree d law w is = tree_with (sys.kept d.system d.folder.path.now) d.stuck d.writing w law d.back is
+  pub dest_tree : (d : HostDest S F D sys handle file dir) → ((t : Tree) → (sys.kept d.desk.system d.folder.path.now).tree ≡ Some t → IsTree t) → (w : Writing) → told_by d ≡ Some w → IsTree w.tree
+  dest_tree d law w is = tree_with (sys.kept d.desk.system d.folder.path.now) d.stuck d.writing w law d.back is

@@ -57,12 +57,12 @@ module _ {S F D : Type 0} {sys : OfSystem S F D} {handle : OfHandle F} {file : O
   abbrev pub LooksUnlessKnown : (old new : Rehearsal S F D sys handle file dir) → Path
       → Result (Option Kind) TreeFault → Type 0
   LooksUnlessKnown old new p result =
-      ((new.dest.system ≡ old.dest.system) × IsFromMemory (seen_at (view old.remembered) p) result)
+      ((new.dest.desk.system ≡ old.dest.desk.system) × IsFromMemory (seen_at (view old.remembered) p) result)
       ⊎ ((seen_at (view old.remembered) p ≡ seen.Standing) × Looks LeadsToKind old.dest new.dest p result)
 
   -- the same of first bytes
   abbrev pub PeeksUnlessKnown : (old new : Rehearsal S F D sys handle file dir) → Path → List ℕ
       → Result (Unit {0}) TreeFault → Type 0
   PeeksUnlessKnown old new p block result =
-      ((new.dest.system ≡ old.dest.system) × IsNotPeeked (seen_at (view old.remembered) p) result)
+      ((new.dest.desk.system ≡ old.dest.desk.system) × IsNotPeeked (seen_at (view old.remembered) p) result)
       ⊎ ((seen_at (view old.remembered) p ≡ seen.Standing) × Peeks old.dest new.dest p block result)

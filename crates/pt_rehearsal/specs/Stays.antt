@@ -19,13 +19,13 @@ module _ {S F D : Type 0} {sys : OfSystem S F D} {handle : OfHandle F} {file : O
       × IsSetAs old.longest old.synced new.longest new.synced
       × (new.writing ≡ old.writing)
       × (new.stuck ≡ old.stuck)
-      × (sys.kept new.system old.folder.path.now ≡ sys.kept old.system old.folder.path.now)
+      × (sys.kept new.desk.system old.folder.path.now ≡ sys.kept old.desk.system old.folder.path.now)
 
   -- nothing is asked, as of an entry that isn't right in the folder, or where it is refused; or the system is asked once to
   -- look at the folder itself, and a failed look is the answer
   abbrev pub LooksAtFolder : (old new : HostDest S F D sys handle file dir) → Path
       → Result (Unit {0}) TreeFault → Type 0
   LooksAtFolder old new p result =
-      ((new.system ≡ old.system) × OnOk result (length p ≢ 1))
+      ((new.desk.system ≡ old.desk.system) × OnOk result (length p ≢ 1))
       ⊎ ((looked : Result (Unit {0}) TreeFault) × Looks IsThere old new [] looked
       × OnErr looked (result ≡ looked))

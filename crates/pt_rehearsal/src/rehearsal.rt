@@ -39,12 +39,12 @@ impl<'a, S: System> Rehearsal<'a, S> {
     /// A rehearsal over a folder, of which nothing is put onto the disk, that remembers nothing yet. It calls nothing and
     /// takes no memory.
     pub fn new(alloc: Global, dest: HostDest<'a, S>) -> Rehearsal<'a, S>
-        ensures system { result.dest.system ≡ dest.entry.system }
+        ensures system { result.dest.desk.system ≡ dest.entry.desk.system }
         ensures folder { result.dest.folder ≡ dest.entry.folder }
         ensures longest { result.dest.longest ≡ dest.entry.longest }
         ensures failures { result.dest.failures ≡ dest.entry.failures }
         ensures told { told result
-            ≡ told_of (S.kept dest.entry.system dest.entry.folder.path.now) None }
+            ≡ told_of (S.kept dest.entry.desk.system dest.entry.folder.path.now) None }
         ensures stuck { result.dest.stuck ≡ None }
         ensures remembered { view result.remembered ≡ nothing }
     {
@@ -89,7 +89,8 @@ impl<'a, S: System> Dest for Rehearsal<'a, S> {
       (q.1.0 ∙ p.1.0, q.1.1 ∙ p.1.1),
       q.2 ∙ p.2,
       q.3 ∙ p.3,
-      subst (λ f. S.kept c.dest.system f.path.now ≡ S.kept b.dest.system f.path.now) p.0 q.4 ∙ p.4,
+      subst (λ f. S.kept c.dest.desk.system f.path.now ≡ S.kept b.dest.desk.system f.path.now)
+          p.0 q.4 ∙ p.4,
     ) };
 
     ghost is_tree = { λ d state is.
@@ -157,7 +158,7 @@ impl<'a, S: System> Dest for Rehearsal<'a, S> {
         ensures made { OnOk result (told self.new
             ≡ option_map (after_create path.now) (told self.old)) }
         ensures same { OnErr result (told self.new ≡ told self.old) }
-        ensures system { self.new.dest.system ≡ self.old.dest.system }
+        ensures system { self.new.dest.desk.system ≡ self.old.dest.desk.system }
         ensures fits { OnOk result (length (entry_text self.old.dest.folder.path.now path.now)
             ≤ self.old.dest.longest) }
         ensures refused { OnDevice result
@@ -207,7 +208,7 @@ impl<'a, S: System> Dest for Rehearsal<'a, S> {
         ensures moved { OnOk result (told self.new
             ≡ option_map (after_rename from.now to.now) (told self.old)) }
         ensures same { OnErr result (told self.new ≡ told self.old) }
-        ensures system { self.new.dest.system ≡ self.old.dest.system }
+        ensures system { self.new.dest.desk.system ≡ self.old.dest.desk.system }
         ensures refused { OnDevice result
             (moved_to (view self.old.remembered) from.now to.now ≡ None) }
         ensures remembered { Remembers (moved_to (view self.old.remembered) from.now to.now) result

@@ -31,10 +31,10 @@ pub(crate) fn equipped<'a, S: System, D: System, W: Write, F: Syncs + Drop>(
     store: &'a str,
     folder: &'a str,
 ) -> Devices<'a, S, D, W, F>
-    ensures store { (result.source.system ≡ ground.store)
+    ensures store { (result.source.desk.system ≡ ground.store)
         × (result.source.folder.path.now ≡ store.now) }
     ensures unread { (result.source.reading ≡ None) × (result.source.failures ≡ 0) }
-    ensures folder { (result.dest.system ≡ ground.folder)
+    ensures folder { (result.dest.desk.system ≡ ground.folder)
         × (result.dest.folder.path.now ≡ folder.now) }
     ensures unwritten { (result.dest.writing ≡ None) × (result.dest.failures ≡ 0) }
     ensures longest { result.dest.longest + spare_of wanted.now.job.layout ≡ 4095 }

@@ -53,13 +53,13 @@ where
           synced = devices.entry.dest.synced;
         })
         (world (told_without wanted.ignored (source_told
-        (S.forest devices.entry.source.system devices.entry.source.folder.path.now)
+        (S.forest devices.entry.source.desk.system devices.entry.source.folder.path.now)
         (unread_open S.File.Input.bytes devices.entry.source.reading)))
-        (dest_told (D.kept devices.entry.dest.system devices.entry.dest.folder.path.now)
+        (dest_told (D.kept devices.entry.dest.desk.system devices.entry.dest.folder.path.now)
         devices.entry.dest.stuck devices.entry.dest.writing)
         (W.contents devices.entry.log.writer)
         devices.entry.source.failures devices.entry.dest.failures devices.entry.log.failures)
-        (D.kept devices.entry.dest.system devices.entry.dest.folder.path.now)
+        (D.kept devices.entry.dest.desk.system devices.entry.dest.folder.path.now)
         result.ground result.status }
 {
     let alloc = rt.alloc();
@@ -119,13 +119,13 @@ fn made<'a, S: Source, D: System, L: Log>(
     tally: &Tally,
 ) -> Ran<'a, D>
     ensures promises { IsRun job rehearse
-        (dest_told (D.kept dest.entry.system dest.entry.folder.path.now) None None)
+        (dest_told (D.kept dest.entry.desk.system dest.entry.folder.path.now) None None)
         (world (S.told source.old)
-        (dest_told (D.kept dest.entry.system dest.entry.folder.path.now)
+        (dest_told (D.kept dest.entry.desk.system dest.entry.folder.path.now)
         dest.entry.stuck dest.entry.writing)
         (L.told log.old) (S.failed source.old) dest.entry.failures (L.failed log.old))
         (world (S.told source.new)
-        (dest_told (D.kept result.dest.system dest.entry.folder.path.now)
+        (dest_told (D.kept result.dest.desk.system dest.entry.folder.path.now)
         result.dest.stuck result.dest.writing)
         (L.told log.new) (S.failed source.new) result.dest.failures (L.failed log.new))
         result.ran }
@@ -135,8 +135,8 @@ fn made<'a, S: Source, D: System, L: Log>(
     ensures stuck { IsStuckBy dest.entry.synced dest.entry.failures (run_status result.ran)
         result.dest.stuck }
     ensures rehearsed { LeavesKept rehearse
-        (D.kept dest.entry.system dest.entry.folder.path.now)
-        (D.kept result.dest.system dest.entry.folder.path.now) }
+        (D.kept dest.entry.desk.system dest.entry.folder.path.now)
+        (D.kept result.dest.desk.system dest.entry.folder.path.now) }
 {
     if rehearse {
         let mut rehearsal = Rehearsal::new(alloc, dest);

@@ -18,8 +18,8 @@ returns-clause-same g c =
       | else-not-is_empty w ↦ inr (w.if-not-is_empty.false, ap string_bytes w.text-is)
     ])
     in
-    let same = names_same kept g.S.Dir.Input.left g.S.System.opens_dir g.met.S.System.names_law folder p c.args.system.now c.names_in.new.system c.as_str.result.now c.in_ok-text.ensures.named text c.requires _ c.names_in.ensures.asked in
-    list_same kept folder p c.args.system.now c.names_in.new.system c.with_kinds.new.system (string_bytes c.if-not-is_empty.text) c.in_ok-text.ensures.named begins same c.requires c.with_kinds.result c.with_kinds.ensures.seen c.with_kinds.ensures.same
+    let same = names_same kept g.S.Dir.Input.left g.S.System.opens_dir g.met.S.System.names_law folder p c.args.desk.now.system c.names_in.new.desk.system c.as_str.result.now c.in_ok-text.ensures.named text c.requires _ c.names_in.ensures.asked in
+    list_same kept folder p c.args.desk.now.system c.names_in.new.desk.system c.with_kinds.new.desk.system (string_bytes c.if-not-is_empty.text) c.in_ok-text.ensures.named begins same c.requires c.with_kinds.result c.with_kinds.ensures.seen c.with_kinds.ensures.same
 
 pub returns-clause-told : goal.returns-clause-told
 returns-clause-told g c =
@@ -34,7 +34,7 @@ returns-clause-told g c =
       | else-not-is_empty w ↦ inr (w.if-not-is_empty.false, ap string_bytes w.text-is)
     ])
     in
-    let same = names_same kept g.S.Dir.Input.left g.S.System.opens_dir g.met.S.System.names_law folder p c.args.system.now c.names_in.new.system c.as_str.result.now c.in_ok-text.ensures.named text c.requires _ c.names_in.ensures.asked in
-    let given = names_given kept g.S.Dir.Input.left g.S.System.opens_dir g.met.S.System.names_law folder p c.args.system.now c.names_in.new.system c.as_str.result.now c.in_ok-text.ensures.named text c.requires c.in_ok-names.names c.in_ok-names.names.items (λ dir after. GetsNames g.S.Dir.Input.reads dir c.in_ok-names.names.items after) c.in_ok-names.ensures.asked in
-    list_told kept folder p c.args.system.now c.names_in.new.system c.with_kinds.new.system (string_bytes c.if-not-is_empty.text) c.in_ok-text.ensures.named begins same c.requires c.in_ok-names.names.items c.sort_unstable.new.self.items c.with_kinds.result (g.met.S.System.proper_law c.args.system.now folder) given c.sort_unstable.ensures.permutation
+    let same = names_same kept g.S.Dir.Input.left g.S.System.opens_dir g.met.S.System.names_law folder p c.args.desk.now.system c.names_in.new.desk.system c.as_str.result.now c.in_ok-text.ensures.named text c.requires _ c.names_in.ensures.asked in
+    let given = names_given kept g.S.Dir.Input.left g.S.System.opens_dir g.met.S.System.names_law folder p c.args.desk.now.system c.names_in.new.desk.system c.as_str.result.now c.in_ok-text.ensures.named text c.requires c.in_ok-names.names c.in_ok-names.names.items (λ dir after. GetsNames g.S.Dir.Input.reads dir c.in_ok-names.names.items after) c.in_ok-names.ensures.asked in
+    list_told kept folder p c.args.desk.now.system c.names_in.new.desk.system c.with_kinds.new.desk.system (string_bytes c.if-not-is_empty.text) c.in_ok-text.ensures.named begins same c.requires c.in_ok-names.names.items c.sort_unstable.new.self.items c.with_kinds.result (g.met.S.System.proper_law c.args.desk.now.system folder) given c.sort_unstable.ensures.permutation
     c.with_kinds.ensures.names c.with_kinds.ensures.seen c.with_kinds.ensures.rise

@@ -17,13 +17,13 @@ returns g c =
     let after = c.audit-ran.new in
     let ignoring = c.new-source.ensures in
     let names = ap (λ w. w.names) ignoring ∙ c.new-ignoring.ensures.names in
-    let system = ap (λ w. w.source.system) ignoring ∙ ap (λ s. s.system) c.new-ignoring.ensures.source ∙ c.new.ensures.system in
+    let system = ap (λ w. w.source.desk.system) ignoring ∙ ap (λ s. s.desk.system) c.new-ignoring.ensures.source ∙ ap (λ d. d.system) c.new.ensures.desk in
     let path = ap (λ w. w.source.folder.path.now) ignoring ∙ ap (λ s. s.folder.path.now) c.new-ignoring.ensures.source ∙ c.new.ensures.path in
     let store = store_is forest _ names system path in
-    let folder = root_is folders _ c.new-root.ensures.system c.new-root.ensures.path in
+    let folder = root_is folders _ (ap (λ d. d.system) c.new-root.ensures.desk) c.new-root.ensures.path in
     let first = ap contents c.new-log.ensures.writer in
     let output = c.into_writer.ensures in
-    let kept = c.into_system.ensures ∙ ap (λ s. s.system) (c.into_source-source.ensures ∙ ap (λ i. i.source) c.into_source-ignoring.ensures) in
+    let kept = c.into_system.ensures ∙ ap (λ s. s.desk.system) (c.into_source-source.ensures ∙ ap (λ i. i.source) c.into_source-ignoring.ensures) in
     let later = store_is forest _ (made.source.0.0 ∙ names) (sym kept) (ap (λ f. f.path.now) made.source.0.1 ∙ path) in
     let stands = root_is folders _ (sym c.into_system-2.ensures) (ap (λ f. f.path.now) made.root.0 ∙ c.new-root.ensures.path) in
     record {

@@ -9,7 +9,7 @@ pub returns-then-rehearse-clause-promises : goal.returns-then-rehearse-clause-pr
 returns-then-rehearse-clause-promises g c =
     let begun = c.new-rehearsal.result in
     let ended = c.make_turns-ran.new.dest in
-    rehearsed c.args.job (dest_told (g.D.System.kept c.args.dest.system c.args.dest.folder.path.now) None None) _ _ _ _ _ _ _ _ _
+    rehearsed c.args.job (dest_told (g.D.System.kept c.args.dest.desk.system c.args.dest.folder.path.now) None None) _ _ _ _ _ _ _ _ _
     c.args.rehearse (told begun) (told ended) _ _ _ _ begun.dest.failures ended.dest.failures
     c.if-rehearse.true c.new-rehearsal.ensures.told (tells_still begun ended c.make_turns-ran.ensures.dest_stays)
     c.new-rehearsal.ensures.failures (ap (λ d. d.failures) (sym c.into_dest-dest.ensures)) c.make_turns-ran.ensures.promises
@@ -17,7 +17,7 @@ returns-then-rehearse-clause-promises g c =
 pub returns-clause-promises : goal.returns-clause-promises
 returns-clause-promises g c =
     let stays = c.make_turns-ran-2.ensures.dest_stays in
-    carried c.args.job (dest_told (g.D.System.kept c.args.dest.system c.args.dest.folder.path.now) None None) _ _ _ _ _ _ _ _ _
+    carried c.args.job (dest_told (g.D.System.kept c.args.dest.desk.system c.args.dest.folder.path.now) None None) _ _ _ _ _ _ _ _ _
     c.args.rehearse _ _ _ _ c.if-rehearse.false (rw (stays.0) at c.make_turns-ran-2.ensures.promises)
 
 pub returns-then-rehearse-clause-stuck : goal.returns-then-rehearse-clause-stuck

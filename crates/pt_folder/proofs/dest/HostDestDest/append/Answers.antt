@@ -8,7 +8,7 @@ returns-then-is_some-clause-part g c =
     let old = c.args.self.now in
     let new = c.refuse.new.self in
     let refused = c.refuse.ensures in
-    part_refused old new c.args.piece.now c.refuse.result (told_same old new refused.call.keeps.0 refused.system refused.writing refused.call.stuck)
+    part_refused old new c.args.piece.now c.refuse.result (told_same old new refused.call.keeps.0 refused.system refused.call.writing refused.call.stuck)
 
 pub invariant_of-self : goal.invariant_of-self
 invariant_of-self g c =
@@ -18,9 +18,9 @@ invariant_of-self g c =
     let none = none_stuck self.stuck (sym c.is_some.ensures ∙ c.if-is_some.false) in
     let added = c.add-added in
     record {
-      placed = λ free. append_placed kept folder g.S.System.writes g.met.S.System.write_law self.system added.new.system c.args.piece.now self.writing added.new.writing added.result added.ensures.writes (self.placed none);
+      placed = λ free. append_placed kept folder g.S.System.writes g.met.S.System.write_law self.desk.system added.new.desk.system c.args.piece.now self.writing added.new.writing added.result added.ensures.writes (self.placed none);
       wanted = self.wanted;
-      back = ∣ none_back (kept added.new.system folder) self.stuck none ∣₁;
+      back = ∣ none_back (kept added.new.desk.system folder) self.stuck none ∣₁;
       risen = none_risen c.counted.new.failures self.stuck none;
     }
 
@@ -31,7 +31,7 @@ returns-clause-added g c =
     let folder = self.folder.path.now in
     let none = none_stuck self.stuck (sym c.is_some.ensures ∙ c.if-is_some.false) in
     let added = c.add-added in
-    rw (c.counted.ensures.same, none) (at_ok added.result _ _ (append_tells kept folder g.S.System.writes g.met.S.System.write_law self.system added.new.system c.args.piece.now self.writing added.new.writing added.result added.ensures.writes (self.placed none)))
+    rw (c.counted.ensures.same, none) (at_ok added.result _ _ (append_tells kept folder g.S.System.writes g.met.S.System.write_law self.desk.system added.new.desk.system c.args.piece.now self.writing added.new.writing added.result added.ensures.writes (self.placed none)))
 
 pub returns-clause-part : goal.returns-clause-part
 returns-clause-part g c =
@@ -40,4 +40,4 @@ returns-clause-part g c =
     let folder = self.folder.path.now in
     let none = none_stuck self.stuck (sym c.is_some.ensures ∙ c.if-is_some.false) in
     let added = c.add-added in
-    rw (c.counted.ensures.same, none) (at_err added.result _ _ (append_tells kept folder g.S.System.writes g.met.S.System.write_law self.system added.new.system c.args.piece.now self.writing added.new.writing added.result added.ensures.writes (self.placed none)))
+    rw (c.counted.ensures.same, none) (at_err added.result _ _ (append_tells kept folder g.S.System.writes g.met.S.System.write_law self.desk.system added.new.desk.system c.args.piece.now self.writing added.new.writing added.result added.ensures.writes (self.placed none)))

@@ -10,12 +10,12 @@ invariant_of-self g c =
     let folder = self.folder.path.now in
     let none = none_stuck self.stuck (sym c.is_some.ensures ∙ c.if-is_some.false) in
     let made = c.create-made in
-    let can = may_make_free (kept self.system folder) self.stuck self.writing none c.args.path.now c.requires in
-    let gives = create_gives kept folder self.system made.new.system c.args.path.now self.writing made.new.writing g.S.System.makes_file g.met.S.System.file_law self.longest made.result can made.ensures.asked made.ensures.same in
+    let can = may_make_free (kept self.desk.system folder) self.stuck self.writing none c.args.path.now c.requires in
+    let gives = create_gives kept folder self.desk.system made.new.desk.system c.args.path.now self.writing made.new.writing g.S.System.makes_file g.met.S.System.file_law self.longest made.result can made.ensures.asked made.ensures.same in
     record {
-      placed = λ free. create_placed kept folder self.system made.new.system c.args.path.now self.writing made.new.writing made.result gives (self.placed none);
+      placed = λ free. create_placed kept folder self.desk.system made.new.desk.system c.args.path.now self.writing made.new.writing made.result gives (self.placed none);
       wanted = self.wanted;
-      back = ∣ none_back (kept made.new.system folder) self.stuck none ∣₁;
+      back = ∣ none_back (kept made.new.desk.system folder) self.stuck none ∣₁;
       risen = none_risen c.counted.new.failures self.stuck none;
     }
 
@@ -26,9 +26,9 @@ returns-clause-made g c =
     let folder = self.folder.path.now in
     let none = none_stuck self.stuck (sym c.is_some.ensures ∙ c.if-is_some.false) in
     let made = c.create-made in
-    let can = may_make_free (kept self.system folder) self.stuck self.writing none c.args.path.now c.requires in
-    let gives = create_gives kept folder self.system made.new.system c.args.path.now self.writing made.new.writing g.S.System.makes_file g.met.S.System.file_law self.longest made.result can made.ensures.asked made.ensures.same in
-    rw (c.counted.ensures.same, none) (create_made kept folder self.system made.new.system c.args.path.now self.writing made.new.writing made.result gives)
+    let can = may_make_free (kept self.desk.system folder) self.stuck self.writing none c.args.path.now c.requires in
+    let gives = create_gives kept folder self.desk.system made.new.desk.system c.args.path.now self.writing made.new.writing g.S.System.makes_file g.met.S.System.file_law self.longest made.result can made.ensures.asked made.ensures.same in
+    rw (c.counted.ensures.same, none) (create_made kept folder self.desk.system made.new.desk.system c.args.path.now self.writing made.new.writing made.result gives)
 
 pub returns-clause-same : goal.returns-clause-same
 returns-clause-same g c =
@@ -37,6 +37,6 @@ returns-clause-same g c =
     let folder = self.folder.path.now in
     let none = none_stuck self.stuck (sym c.is_some.ensures ∙ c.if-is_some.false) in
     let made = c.create-made in
-    let can = may_make_free (kept self.system folder) self.stuck self.writing none c.args.path.now c.requires in
-    let gives = create_gives kept folder self.system made.new.system c.args.path.now self.writing made.new.writing g.S.System.makes_file g.met.S.System.file_law self.longest made.result can made.ensures.asked made.ensures.same in
-    rw (c.counted.ensures.same, none) (create_same kept folder self.system made.new.system c.args.path.now self.writing made.new.writing made.result gives)
+    let can = may_make_free (kept self.desk.system folder) self.stuck self.writing none c.args.path.now c.requires in
+    let gives = create_gives kept folder self.desk.system made.new.desk.system c.args.path.now self.writing made.new.writing g.S.System.makes_file g.met.S.System.file_law self.longest made.result can made.ensures.asked made.ensures.same in
+    rw (c.counted.ensures.same, none) (create_same kept folder self.desk.system made.new.desk.system c.args.path.now self.writing made.new.writing made.result gives)

@@ -10,12 +10,12 @@ invariant_of-self g c =
     let folder = self.folder.path.now in
     let none = none_stuck self.stuck (sym c.is_some.ensures ∙ c.if-is_some.false) in
     let made = c.make_dir-made in
-    let can = may_make_free (kept self.system folder) self.stuck self.writing none c.args.path.now c.requires in
-    let gives = mkdir_gives kept folder g.S.System.makes_dir g.met.S.System.dir_law self.system made.new.system c.args.path.now self.longest made.result can made.ensures.asked in
+    let can = may_make_free (kept self.desk.system folder) self.stuck self.writing none c.args.path.now c.requires in
+    let gives = mkdir_gives kept folder g.S.System.makes_dir g.met.S.System.dir_law self.desk.system made.new.self.system c.args.path.now self.longest made.result can made.ensures.asked in
     record {
-      placed = λ free. mkdir_placed kept folder self.writing self.system made.new.system c.args.path.now made.result gives (self.placed none);
+      placed = λ free. mkdir_placed kept folder self.writing self.desk.system made.new.self.system c.args.path.now made.result gives (self.placed none);
       wanted = self.wanted;
-      back = ∣ none_back (kept made.new.system folder) self.stuck none ∣₁;
+      back = ∣ none_back (kept made.new.self.system folder) self.stuck none ∣₁;
       risen = none_risen c.counted.new.failures self.stuck none;
     }
 
@@ -26,9 +26,9 @@ returns-clause-made g c =
     let folder = self.folder.path.now in
     let none = none_stuck self.stuck (sym c.is_some.ensures ∙ c.if-is_some.false) in
     let made = c.make_dir-made in
-    let can = may_make_free (kept self.system folder) self.stuck self.writing none c.args.path.now c.requires in
-    let gives = mkdir_gives kept folder g.S.System.makes_dir g.met.S.System.dir_law self.system made.new.system c.args.path.now self.longest made.result can made.ensures.asked in
-    rw (c.counted.ensures.same, none) (mkdir_made kept folder self.writing self.system made.new.system c.args.path.now made.result gives)
+    let can = may_make_free (kept self.desk.system folder) self.stuck self.writing none c.args.path.now c.requires in
+    let gives = mkdir_gives kept folder g.S.System.makes_dir g.met.S.System.dir_law self.desk.system made.new.self.system c.args.path.now self.longest made.result can made.ensures.asked in
+    rw (c.counted.ensures.same, none) (mkdir_made kept folder self.writing self.desk.system made.new.self.system c.args.path.now made.result gives)
 
 pub returns-clause-same : goal.returns-clause-same
 returns-clause-same g c =
@@ -37,6 +37,6 @@ returns-clause-same g c =
     let folder = self.folder.path.now in
     let none = none_stuck self.stuck (sym c.is_some.ensures ∙ c.if-is_some.false) in
     let made = c.make_dir-made in
-    let can = may_make_free (kept self.system folder) self.stuck self.writing none c.args.path.now c.requires in
-    let gives = mkdir_gives kept folder g.S.System.makes_dir g.met.S.System.dir_law self.system made.new.system c.args.path.now self.longest made.result can made.ensures.asked in
-    rw (c.counted.ensures.same, none) (mkdir_same kept folder self.writing self.system made.new.system c.args.path.now made.result gives)
+    let can = may_make_free (kept self.desk.system folder) self.stuck self.writing none c.args.path.now c.requires in
+    let gives = mkdir_gives kept folder g.S.System.makes_dir g.met.S.System.dir_law self.desk.system made.new.self.system c.args.path.now self.longest made.result can made.ensures.asked in
+    rw (c.counted.ensures.same, none) (mkdir_same kept folder self.writing self.desk.system made.new.self.system c.args.path.now made.result gives)

@@ -10,14 +10,15 @@ invariant_of-self g c =
     let folder = self.folder.path.now in
     let none = none_stuck self.stuck (sym c.is_some.ensures ∙ c.if-is_some.false) in
     let moved = c.moved-moved in
-    let can = may_move_free (kept self.system folder) self.stuck self.writing none c.args.from.now c.args.to.now c.requires in
-    let law = g.met.S.System.tree_law self.system folder in
-    let gives = rename_gives kept folder self.system moved.new.system c.args.from.now c.args.to.now self.synced g.S.System.renames g.S.System.opens g.S.File.Handle.syncs g.met.S.System.move_law g.met.S.System.still_law moved.new.stuck moved.result can moved.ensures.asked in
+    let closed = c.close_moved in
+    let can = may_move_free (kept self.desk.system folder) self.stuck self.writing none c.args.from.now c.args.to.now c.requires in
+    let law = g.met.S.System.tree_law self.desk.system folder in
+    let gives = rename_gives kept folder self.desk.system moved.new.desk.system c.args.from.now c.args.to.now self.synced g.S.System.renames g.S.System.opens g.S.File.Handle.syncs g.met.S.System.move_law g.met.S.System.still_law moved.new.stuck moved.result can moved.ensures.asked in
     record {
-      placed = rename_placed kept folder self.system moved.new.system c.args.from.now c.args.to.now self.writing moved.new.writing moved.new.stuck moved.result gives moved.ensures.left moved.ensures.same (self.placed none);
-      wanted = rename_wanted kept folder self.system moved.new.system c.args.from.now c.args.to.now g.S.System.renames g.S.System.opens g.S.File.Handle.syncs self.synced moved.new.stuck moved.result moved.ensures.asked;
-      back = ∣ rename_back kept folder self.system moved.new.system c.args.from.now c.args.to.now self.writing moved.new.writing moved.new.stuck law can moved.result gives ∣₁;
-      risen = device_risen self.failures c.counted.new.failures moved.new.stuck moved.result c.counted.ensures.counted (rename_device kept folder self.system moved.new.system c.args.from.now c.args.to.now g.S.System.renames g.S.System.opens g.S.File.Handle.syncs self.synced moved.new.stuck moved.result moved.ensures.asked);
+      placed = rename_placed kept folder self.desk.system moved.new.desk.system c.args.from.now c.args.to.now self.writing closed.new.writing moved.new.stuck moved.result gives closed.ensures.left closed.ensures.same (self.placed none);
+      wanted = rename_wanted kept folder self.desk.system moved.new.desk.system c.args.from.now c.args.to.now g.S.System.renames g.S.System.opens g.S.File.Handle.syncs self.synced moved.new.stuck moved.result moved.ensures.asked;
+      back = ∣ rename_back kept folder self.desk.system moved.new.desk.system c.args.from.now c.args.to.now self.writing closed.new.writing moved.new.stuck law can moved.result gives ∣₁;
+      risen = device_risen self.failures c.counted.new.failures moved.new.stuck moved.result c.counted.ensures.counted (rename_device kept folder self.desk.system moved.new.desk.system c.args.from.now c.args.to.now g.S.System.renames g.S.System.opens g.S.File.Handle.syncs self.synced moved.new.stuck moved.result moved.ensures.asked);
     }
 
 pub returns-clause-moved : goal.returns-clause-moved
@@ -27,10 +28,11 @@ returns-clause-moved g c =
     let folder = self.folder.path.now in
     let none = none_stuck self.stuck (sym c.is_some.ensures ∙ c.if-is_some.false) in
     let moved = c.moved-moved in
-    let can = may_move_free (kept self.system folder) self.stuck self.writing none c.args.from.now c.args.to.now c.requires in
-    let law = g.met.S.System.tree_law self.system folder in
-    let gives = rename_gives kept folder self.system moved.new.system c.args.from.now c.args.to.now self.synced g.S.System.renames g.S.System.opens g.S.File.Handle.syncs g.met.S.System.move_law g.met.S.System.still_law moved.new.stuck moved.result can moved.ensures.asked in
-    rw (c.counted.ensures.same, none) (rename_moved kept folder self.system moved.new.system c.args.from.now c.args.to.now self.writing moved.new.writing moved.new.stuck moved.result gives moved.ensures.left)
+    let closed = c.close_moved in
+    let can = may_move_free (kept self.desk.system folder) self.stuck self.writing none c.args.from.now c.args.to.now c.requires in
+    let law = g.met.S.System.tree_law self.desk.system folder in
+    let gives = rename_gives kept folder self.desk.system moved.new.desk.system c.args.from.now c.args.to.now self.synced g.S.System.renames g.S.System.opens g.S.File.Handle.syncs g.met.S.System.move_law g.met.S.System.still_law moved.new.stuck moved.result can moved.ensures.asked in
+    rw (c.counted.ensures.same, none) (rename_moved kept folder self.desk.system moved.new.desk.system c.args.from.now c.args.to.now self.writing closed.new.writing moved.new.stuck moved.result gives closed.ensures.left)
 
 pub returns-clause-same : goal.returns-clause-same
 returns-clause-same g c =
@@ -39,7 +41,8 @@ returns-clause-same g c =
     let folder = self.folder.path.now in
     let none = none_stuck self.stuck (sym c.is_some.ensures ∙ c.if-is_some.false) in
     let moved = c.moved-moved in
-    let can = may_move_free (kept self.system folder) self.stuck self.writing none c.args.from.now c.args.to.now c.requires in
-    let law = g.met.S.System.tree_law self.system folder in
-    let gives = rename_gives kept folder self.system moved.new.system c.args.from.now c.args.to.now self.synced g.S.System.renames g.S.System.opens g.S.File.Handle.syncs g.met.S.System.move_law g.met.S.System.still_law moved.new.stuck moved.result can moved.ensures.asked in
-    rw (c.counted.ensures.same, none) (rename_same kept folder self.system moved.new.system c.args.from.now c.args.to.now self.writing moved.new.writing moved.new.stuck law can moved.result gives moved.ensures.same)
+    let closed = c.close_moved in
+    let can = may_move_free (kept self.desk.system folder) self.stuck self.writing none c.args.from.now c.args.to.now c.requires in
+    let law = g.met.S.System.tree_law self.desk.system folder in
+    let gives = rename_gives kept folder self.desk.system moved.new.desk.system c.args.from.now c.args.to.now self.synced g.S.System.renames g.S.System.opens g.S.File.Handle.syncs g.met.S.System.move_law g.met.S.System.still_law moved.new.stuck moved.result can moved.ensures.asked in
+    rw (c.counted.ensures.same, none) (rename_same kept folder self.desk.system moved.new.desk.system c.args.from.now c.args.to.now self.writing closed.new.writing moved.new.stuck law can moved.result gives closed.ensures.same)

@@ -9,14 +9,14 @@ invariant_of-self g c =
     let old = c.args.self.now in
     let mid = c.may_make.new.self in
     let told = c.may_make.ensures in
-    record { fits = fits_still (told_by old.dest) (told_by mid) (view old.remembered) (view old.remembered) old.played.steps (told_still old.dest mid (unasked old.dest mid told.call.keeps told.writing told.call.stuck told.system)) refl old.fits }
+    record { fits = fits_still (told_by old.dest) (told_by mid) (view old.remembered) (view old.remembered) old.played.steps (told_still old.dest mid (unasked old.dest mid told.call.keeps told.call.writing told.call.stuck told.system)) refl old.fits }
 
 pub invariant_of-self-in-Break-branch-2 : goal.invariant_of-self-in-Break-branch-2
 invariant_of-self-in-Break-branch-2 g c =
     let old = c.args.self.now in
     let mid = c.may_make.new.self in
     let told = c.may_make.ensures in
-    record { fits = fits_still (told_by old.dest) (told_by mid) (view old.remembered) (view c.make_file.new.self) old.played.steps (told_still old.dest mid (unasked old.dest mid told.call.keeps told.writing told.call.stuck told.system)) c.in_err-make_file.ensures.err old.fits }
+    record { fits = fits_still (told_by old.dest) (told_by mid) (view old.remembered) (view c.make_file.new.self) old.played.steps (told_still old.dest mid (unasked old.dest mid told.call.keeps told.call.writing told.call.stuck told.system)) c.in_err-make_file.ensures.err old.fits }
 
 pub invariant_of-self-then-not-branch : goal.invariant_of-self-then-not-branch
 invariant_of-self-then-not-branch g c =
@@ -25,7 +25,7 @@ invariant_of-self-then-not-branch g c =
     let new = c.refuse.new.self in
     let first = c.may_make.ensures in
     let told = c.refuse.ensures in
-    let stays = stays_on old.dest mid new (unasked old.dest mid first.call.keeps first.writing first.call.stuck first.system) (unasked mid new told.call.keeps told.writing told.call.stuck told.system) in
+    let stays = stays_on old.dest mid new (unasked old.dest mid first.call.keeps first.call.writing first.call.stuck first.system) (unasked mid new told.call.keeps told.call.writing told.call.stuck told.system) in
     let same = becomes_same (made_file (view old.remembered) c.args.path.now) c.in_ok-make_file.field-0 (view old.remembered) (view c.make_file.new.self) c.if-not-branch.true c.in_ok-make_file.ensures.ok in
     record { fits = fits_still (told_by old.dest) (told_by new) (view old.remembered) (view c.make_file.new.self) old.played.steps (told_still old.dest new stays) same.1 old.fits }
 
@@ -44,6 +44,6 @@ invariant_of-self-2 g c =
     let next = becomes_next (made_file (view old.remembered) c.args.path.now) c.in_ok-make_file.field-0 (view old.remembered) (view c.make_file.new.self) c.if-not-branch.false c.in_ok-make_file.ensures.ok in
     record {
       fits =
-          fits_file_made (told_by old.dest) (told_by mid) (view old.remembered) (view c.make_file.new.self) old.played.steps c.then-self.result.steps (told_still old.dest mid (unasked old.dest mid told.call.keeps told.writing told.call.stuck told.system))
+          fits_file_made (told_by old.dest) (told_by mid) (view old.remembered) (view c.make_file.new.self) old.played.steps c.then-self.result.steps (told_still old.dest mid (unasked old.dest mid told.call.keeps told.call.writing told.call.stuck told.system))
           c.args.path.now c.requires next c.then-self.ensures old.fits;
     }

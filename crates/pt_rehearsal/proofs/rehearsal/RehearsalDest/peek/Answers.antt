@@ -14,7 +14,7 @@ pub invariant_of-self : goal.invariant_of-self
 invariant_of-self g c =
     let old = c.args.self.now in
     let told = c.refuse.ensures in
-    let same = told_still old.dest c.refuse.new.self (unasked old.dest c.refuse.new.self told.call.keeps told.writing told.call.stuck told.system) in
+    let same = told_still old.dest c.refuse.new.self (unasked old.dest c.refuse.new.self told.call.keeps told.call.writing told.call.stuck told.system) in
     record { fits = fits_still (told_by old.dest) (told_by c.refuse.new.self) (view old.remembered) (view old.remembered) old.played.steps same refl old.fits }
 
 pub peek-requires : goal.peek-requires
@@ -37,7 +37,7 @@ pub returns-in-Folder : goal.returns-in-Folder
 returns-in-Folder g c =
     let old = c.args.self.now in
     let told = c.refuse.ensures in
-    let stays = unasked old.dest c.refuse.new.self told.call.keeps told.writing told.call.stuck told.system in
+    let stays = unasked old.dest c.refuse.new.self told.call.keeps told.call.writing told.call.stuck told.system in
     record {
       block = search rules;
       empty = search rules;

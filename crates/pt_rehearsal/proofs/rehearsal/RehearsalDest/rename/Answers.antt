@@ -15,7 +15,7 @@ invariant_of-self-then-not-branch g c =
     let new = c.refuse.new.self in
     let told = c.refuse.ensures in
     let same = becomes_same (moved_to (view old.remembered) c.args.from.now c.args.to.now) c.in_ok-move_to.field-0 (view old.remembered) (view c.move_to.new.self) c.if-not-branch.true c.in_ok-move_to.ensures.ok in
-    record { fits = fits_still (told_by old.dest) (told_by new) (view old.remembered) (view c.move_to.new.self) old.played.steps (told_still old.dest new (unasked old.dest new told.call.keeps told.writing told.call.stuck told.system)) same.1 old.fits }
+    record { fits = fits_still (told_by old.dest) (told_by new) (view old.remembered) (view c.move_to.new.self) old.played.steps (told_still old.dest new (unasked old.dest new told.call.keeps told.call.writing told.call.stuck told.system)) same.1 old.fits }
 
 pub invariant_of-self-2 : goal.invariant_of-self-2
 invariant_of-self-2 g c =
