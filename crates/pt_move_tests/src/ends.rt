@@ -1,7 +1,7 @@
 // Runs that end before their end, what they leave, and the runs after them.
 #![tactic(auto)]
 
-use crate::objects::{ABC, Base, Files, ONE, tree_of};
+use crate::objects::{ABC, Base, Files, ONE, STORE, TOLD, tree_of};
 use crate::steps::{Ends, Step, wrong};
 use crate::stores::{Asked, go_on, job};
 use pt_memory::{LooseSource, MemDest, MemLog};
@@ -10,15 +10,8 @@ use pt_texts::{path, store};
 use std::alloc::Global;
 use std::test::Fail;
 
-const STORE: &str = "ab/c/obj/a.txt=abc";
-
 const DONE: &str =
     "{\"as\":\"done\",\"at\":\"ab/c/obj\",\"bytes\":3,\"empty\":0,\"files\":1,\"id\":\"abc\",\"to\":\"ba7/816/bf8/abc\"}\n";
-
-const DONE_AND_END: &str =
-    r#"{"as":"done","at":"ab/c/obj","bytes":3,"empty":0,"files":1,"id":"abc","to":"ba7/816/bf8/abc"}
-{"as":"end","done":1,"present":0,"skip":0}
-"#;
 
 // Whether a run whose log takes so many bytes leaves the object and these bytes, and ends in a fault if more were to follow.
 fn ends_by_its_log(alloc: Global, want: &MemDest, taken: usize) -> Result<bool, Fail> {
@@ -29,14 +22,14 @@ fn ends_by_its_log(alloc: Global, want: &MemDest, taken: usize) -> Result<bool, 
     let job = job(alloc, Asked::Usual)?;
     let answer = migrate(alloc, &mut source, &mut dest, &mut log, job);
     let is_fault = answer == Err(Fault::Log);
-    let lines = DONE_AND_END.as_bytes().get(..taken);
-    Ok(is_fault == (taken < DONE_AND_END.len()) && dest.same(want) && lines == Some(log.bytes()))
+    let lines = TOLD.as_bytes().get(..taken);
+    Ok(is_fault == (taken < TOLD.len()) && dest.same(want) && lines == Some(log.bytes()))
 }
 
 // The first number of bytes at which that is otherwise.
 fn first_wrong_byte(alloc: Global) -> Result<Option<usize>, Fail> {
     let want = tree_of(alloc, Base::Object(ONE), ABC)?;
-    for taken in 0..DONE_AND_END.len() + 1 {
+    for taken in 0..TOLD.len() + 1 {
         if !ends_by_its_log(alloc, &want, taken)? {
             return Ok(Some(taken));
         }
@@ -152,7 +145,7 @@ const TEN_CALLS: &[Step] = &[
 const ELEVEN_CALLS: &[Step] = &[
     Step::Store(STORE),
     Step::SourceFails(11),
-    Step::Run(Asked::Usual, Ends::Well, DONE_AND_END),
+    Step::Run(Asked::Usual, Ends::Well, TOLD),
     Step::Is(Base::Object(ONE), ABC),
 ];
 

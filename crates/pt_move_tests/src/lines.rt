@@ -1,6 +1,7 @@
 // The lines, the turns and the most records of runs over worked stores.
 #![tactic(auto)]
 
+use crate::objects::{STORE, TOLD};
 use crate::stores::{Asked, go_on, job};
 use pt_memory::{MemDest, MemLog};
 use pt_move::{Mover, Report};
@@ -329,11 +330,6 @@ const OF_ONE: &str =
 {"as":"end","done":1,"present":0,"skip":0}
 "#;
 
-const OF_THREE: &str =
-    r#"{"as":"done","at":"ab/c/obj","bytes":3,"empty":0,"files":1,"id":"abc","to":"ba7/816/bf8/abc"}
-{"as":"end","done":1,"present":0,"skip":0}
-"#;
-
 // Stores with the limits of files, of the bytes of a path, of depth and of the bytes of a file, the turns and the lines.
 const LIMITED: [(&str, [u64; 4], u64, &str); 11] = [
     (
@@ -371,7 +367,7 @@ const LIMITED: [(&str, [u64; 4], u64, &str); 11] = [
         OTHER,
     ),
     ("ab/c/obj/a.txt=abc", [1, 1, 1, 1], 19, LIMIT),
-    ("ab/c/obj/a.txt=abc", [1, 5, 3, 3], 43, OF_THREE),
+    ("ab/c/obj/a.txt=abc", [1, 5, 3, 3], 43, TOLD),
 ];
 
 #[test]
@@ -385,7 +381,7 @@ fn what_is_past_a_limit_is_passed_over(rt: HostRuntime) -> Result<(), Fail> {
 
 // The digits and the number of tuples, the turns and the lines.
 const TUPLES: [(u32, u32, u64, &str); 3] = [
-    (3, 3, 43, OF_THREE),
+    (3, 3, 43, TOLD),
     (
         2,
         4,
@@ -408,7 +404,7 @@ const TUPLES: [(u32, u32, u64, &str); 3] = [
 fn tuples_change_the_number_of_turns(rt: HostRuntime) -> Result<(), Fail> {
     for (size, count, turns, lines) in TUPLES {
         let asked = Asked::Tuples(size, count);
-        let told = turns_by_lines(rt.alloc(), asked, "ab/c/obj/a.txt=abc", lines)?;
+        let told = turns_by_lines(rt.alloc(), asked, STORE, lines)?;
         assert!(rt; told == Some(turns), "{count} of {size}: {told:?}");
     }
     Ok(())

@@ -131,7 +131,15 @@ const QUOTED_INVENTORY: &str =
 
 const QUOTED_DIGEST: &str = "71a47b66e207d18a83f4ecab45bedf840e0aef244dba30f877d152aa2628459a";
 
-/// The object of the store of one object, and the one file of its contents.
+/// The store of one object of one file, and the lines of a run that carries it.
+pub const STORE: &str = "ab/c/obj/a.txt=abc";
+
+pub const TOLD: &str =
+    r#"{"as":"done","at":"ab/c/obj","bytes":3,"empty":0,"files":1,"id":"abc","to":"ba7/816/bf8/abc"}
+{"as":"end","done":1,"present":0,"skip":0}
+"#;
+
+/// That object, and the one file of its contents.
 pub const ONE: Frame = Frame {
     place: "ocfl/ba7/816/bf8/abc",
     inventory: INVENTORY,

@@ -1,7 +1,7 @@
 // Runs over what stands in a destination already: the order of the start, roots, and second runs.
 #![tactic(auto)]
 
-use crate::objects::{ABC, Base, CONFIG, ONE, ROOT, STAGED};
+use crate::objects::{ABC, Base, CONFIG, ONE, ROOT, STAGED, STORE};
 use crate::steps::{Ends, Step, wrong};
 use crate::stores::{Asked, job, outcome};
 use pt_memory::MemDest;
@@ -9,8 +9,6 @@ use pt_move::{Fault, Report};
 use pt_texts::{add, path, store, tree};
 use std::alloc::Global;
 use std::test::Fail;
-
-const STORE: &str = "ab/c/obj/a.txt=abc";
 
 const PRESENT: Report = Report {
     done: 0,

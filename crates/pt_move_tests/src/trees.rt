@@ -1,7 +1,7 @@
 // The destinations that runs over worked stores leave, whole.
 #![tactic(auto)]
 
-use crate::objects::{ABC, Base, CONFIG, EQUAL, Files, NO_FILES, ONE, QUOTED};
+use crate::objects::{ABC, Base, CONFIG, EQUAL, Files, NO_FILES, ONE, QUOTED, STORE};
 use crate::steps::{Step, wrong};
 use crate::stores::Asked;
 use std::alloc::Global;
@@ -19,7 +19,7 @@ const CARRIED: [(&str, Asked, &str, Base, Files); 6] = [
     (
         "an object, whole, and nothing beside it",
         Asked::Usual,
-        "ab/c/obj/a.txt=abc",
+        STORE,
         Base::Object(ONE),
         ABC,
     ),
@@ -106,7 +106,7 @@ const LAYOUTS: [(u32, u32, &str); 2] = [
 
 fn says(alloc: Global, size: u32, count: u32, ending: &'static str) -> Result<bool, Fail> {
     let steps = [
-        Step::Store("ab/c/obj/a.txt=abc"),
+        Step::Store(STORE),
         Step::Carry(Asked::Tuples(size, count)),
         Step::EndsWith(CONFIG, ending),
     ];
