@@ -1,7 +1,7 @@
 //! Calls of a destination and a source as data, for tests.
 use pt_folder::{HostDest, HostSource};
 use pt_texts::path;
-use pt_tree::{Block, Dest, Kind, Listing, Source, TreeFault};
+use pt_tree::{Block, Dest, Kind, Listing, Name, Source, TreeFault};
 use std::alloc::Global;
 use std::rt::Files;
 use std::test::Fail;
@@ -83,15 +83,20 @@ fn lines(alloc: Global, listing: &Listing) -> Result<String, Fail> {
     let mut text = String::new(alloc);
     for i in 0..listing.len() {
         if let Some((name, kind)) = listing.get(i) {
-            text.push_str(str::from_utf8(name.bytes())?)?;
-            text.push_str(match kind {
-                Kind::File => " file\n",
-                Kind::Dir => " dir\n",
-                Kind::Other => " other\n",
-            })?;
+            push_line(&mut text, name, kind)?;
         }
     }
     Ok(text)
+}
+
+fn push_line(text: &mut String, name: &Name, kind: Kind) -> Result<(), Fail> {
+    text.push_str(str::from_utf8(name.bytes())?)?;
+    text.push_str(match kind {
+        Kind::File => " file\n",
+        Kind::Dir => " dir\n",
+        Kind::Other => " other\n",
+    })?;
+    Ok(())
 }
 
 /// The letters `a` to `z` over and over.

@@ -1,6 +1,7 @@
 //! What `names` writes, also to outputs that fail.
 use pt_cli::{NamesFault, names_to};
 use pt_name::Layout;
+use std::alloc::Global;
 use std::io;
 use std::io::Write;
 use std::test::Fail;
@@ -58,85 +59,94 @@ impl Write for Full {
     }
 }
 
+// Identifiers, and the two lines of each.
+const NAMES: [(&str, &str); 3] = [
+    ("abc", "ab/c\nba7/816/bf8/abc\n"),
+    (
+        "ark:/13030/xt12t3",
+        "ar/k+/=1/30/30/=x/t1/2t/3\n4b8/4fe/385/ark%3a%2f13030%2fxt12t3\n",
+    ),
+    (
+        "..hor/rib:le-$id",
+        ",,/ho/r=/ri/b+/le/-$/id\n487/326/d8c/%2e%2ehor%2frib%3ale-%24id\n",
+    ),
+];
+
+fn are_names(alloc: Global, id: &str, lines: &str) -> Result<bool, Fail> {
+    let mut out = Vec::new(alloc);
+    names_to(alloc, &Layout::default_form(), "", id, &mut out)?;
+    Ok(out.as_slice() == lines.as_bytes())
+}
+
 #[test]
 fn names_are_written(rt: HostRuntime) -> Result<(), Fail> {
-    let alloc = rt.alloc();
-    let rows = [
-        ("abc", "ab/c\nba7/816/bf8/abc\n"),
-        (
-            "ark:/13030/xt12t3",
-            "ar/k+/=1/30/30/=x/t1/2t/3\n4b8/4fe/385/ark%3a%2f13030%2fxt12t3\n",
-        ),
-        (
-            "..hor/rib:le-$id",
-            ",,/ho/r=/ri/b+/le/-$/id\n487/326/d8c/%2e%2ehor%2frib%3ale-%24id\n",
-        ),
-    ];
-    for (id, lines) in rows {
-        let mut out = Vec::new(alloc);
-        names_to(alloc, &Layout::default_form(), "", id, &mut out)?;
-        assert_eq!(rt; out.as_slice(), lines.as_bytes(), "{id}");
+    for (id, lines) in NAMES {
+        assert!(rt; are_names(rt.alloc(), id, lines)?, "{id}");
     }
     Ok(())
 }
 
+// Bytes at a time, bytes in all, whether it flushes, the answer, what was written.
+const OUTPUTS: [(usize, usize, bool, Result<(), NamesFault>, &str); 5] = [
+    (100, 3, true, Err(NamesFault::Write), "ab/"),
+    (100, 21, true, Ok(()), "ab/c\nba7/816/bf8/abc\n"),
+    (1, 21, true, Ok(()), "ab/c\nba7/816/bf8/abc\n"),
+    (1, 20, true, Err(NamesFault::Write), "ab/c\nba7/816/bf8/abc"),
+    (
+        4,
+        21,
+        false,
+        Err(NamesFault::Write),
+        "ab/c\nba7/816/bf8/abc\n",
+    ),
+];
+
+// What `names` of `abc` answers; none where something else is written.
+fn answer_of(
+    alloc: Global,
+    at_a_time: usize,
+    room: usize,
+    flushes: bool,
+    written: &str,
+) -> Option<Result<(), NamesFault>> {
+    let mut out = Limited {
+        bytes: Vec::new(alloc),
+        at_a_time,
+        room,
+        flushes,
+    };
+    let answer = names_to(alloc, &Layout::default_form(), "", "abc", &mut out);
+    (out.bytes.as_slice() == written.as_bytes()).then_some(answer)
+}
+
 #[test]
-fn outputs_that_fail(rt: HostRuntime) -> Result<(), Fail> {
-    let alloc = rt.alloc();
-    // bytes at a time, bytes in all, whether it flushes, the answer, what was written
-    let rows: [(usize, usize, bool, Result<(), NamesFault>, &str); 5] = [
-        (100, 3, true, Err(NamesFault::Write), "ab/"),
-        (100, 21, true, Ok(()), "ab/c\nba7/816/bf8/abc\n"),
-        (1, 21, true, Ok(()), "ab/c\nba7/816/bf8/abc\n"),
-        (1, 20, true, Err(NamesFault::Write), "ab/c\nba7/816/bf8/abc"),
-        (
-            4,
-            21,
-            false,
-            Err(NamesFault::Write),
-            "ab/c\nba7/816/bf8/abc\n",
-        ),
-    ];
-    for (at_a_time, room, flushes, answer, written) in rows {
-        let mut out = Limited {
-            bytes: Vec::new(alloc),
-            at_a_time,
-            room,
-            flushes,
-        };
-        assert_eq!(rt;
-            names_to(alloc, &Layout::default_form(), "", "abc", &mut out),
-            answer,
-            "{room} bytes, {at_a_time} at a time"
+fn outputs_that_fail(rt: HostRuntime) {
+    for (at_a_time, room, flushes, answer, written) in OUTPUTS {
+        let found = answer_of(rt.alloc(), at_a_time, room, flushes, written);
+        assert!(rt;
+            found == Some(answer),
+            "{room} bytes, {at_a_time} at a time: {found:?}"
         );
-        assert_eq!(rt; out.bytes.as_slice(), written.as_bytes());
     }
-    assert_eq!(rt;
-        names_to(alloc, &Layout::default_form(), "", "abc", &mut Full),
-        Err(NamesFault::Write)
-    );
-    Ok(())
+    let full = names_to(rt.alloc(), &Layout::default_form(), "", "abc", &mut Full);
+    assert!(rt; full == Err(NamesFault::Write));
+}
+
+// What `names` of the empty identifier answers, and how much it writes.
+fn answer_of_nothing(alloc: Global) -> (Result<(), NamesFault>, usize) {
+    let mut out = Vec::new(alloc);
+    let answer = names_to(alloc, &Layout::default_form(), "", "", &mut out);
+    (answer, out.len())
 }
 
 #[test]
 fn the_empty_identifier_is_refused(rt: HostRuntime) {
-    let alloc = rt.alloc();
-    let mut out = Vec::new(alloc);
-    assert_eq!(rt;
-        names_to(alloc, &Layout::default_form(), "", "", &mut out),
-        Err(NamesFault::Empty)
-    );
-    assert!(rt; out.is_empty());
+    let answer = answer_of_nothing(rt.alloc());
+    assert!(rt; answer == (Err(NamesFault::Empty), 0), "{answer:?}");
 }
 
 #[test]
 fn numbers_of_names_faults(rt: HostRuntime) {
-    assert_eq!(rt;
-        [
-            NamesFault::Empty.number(),
-            NamesFault::Write.number(),
-            NamesFault::Memory.number()
-        ],
-        [1, 2, 3]
-    );
+    let faults = [NamesFault::Empty, NamesFault::Write, NamesFault::Memory];
+    assert!(rt; faults.map(|fault| fault.number()) == [1, 2, 3]);
 }

@@ -1,164 +1,210 @@
 // Runs that end before their end, what they leave, and the runs after them.
 #![tactic(auto)]
 
-use crate::stores::{go_on, job, outcome, turns};
-use crate::trees::{ROOT, one_object};
+use crate::objects::{ABC, Base, Files, ONE, STORE, TOLD, tree_of};
+use crate::steps::{Ends, Step, wrong};
+use crate::stores::{Asked, go_on, job};
 use pt_memory::{LooseSource, MemDest, MemLog};
 use pt_move::{Fault, Mover, Turn, migrate};
-use pt_texts::{add, path, store, tree};
+use pt_texts::{path, store};
 use std::alloc::Global;
 use std::test::Fail;
-
-const ONE: &str = "ab/c/obj/a.txt=abc";
 
 const DONE: &str =
     "{\"as\":\"done\",\"at\":\"ab/c/obj\",\"bytes\":3,\"empty\":0,\"files\":1,\"id\":\"abc\",\"to\":\"ba7/816/bf8/abc\"}\n";
 
-const END: &str = "{\"as\":\"end\",\"done\":1,\"present\":0,\"skip\":0}\n";
+// Whether a run whose log takes so many bytes leaves the object and these bytes, and ends in a fault if more were to follow.
+fn ends_by_its_log(alloc: Global, want: &MemDest, taken: usize) -> Result<bool, Fail> {
+    let mut source = store(alloc, STORE)?;
+    let mut dest = MemDest::new(alloc);
+    let mut log = MemLog::new(alloc);
+    log.fuse(Some(taken as u64));
+    let job = job(alloc, Asked::Usual)?;
+    let answer = migrate(alloc, &mut source, &mut dest, &mut log, job);
+    let is_fault = answer == Err(Fault::Log);
+    let lines = TOLD.as_bytes().get(..taken);
+    Ok(is_fault == (taken < TOLD.len()) && dest.same(want) && lines == Some(log.bytes()))
+}
+
+// The first number of bytes at which that is otherwise.
+fn first_wrong_byte(alloc: Global) -> Result<Option<usize>, Fail> {
+    let want = tree_of(alloc, Base::Object(ONE), ABC)?;
+    for taken in 0..TOLD.len() + 1 {
+        if !ends_by_its_log(alloc, &want, taken)? {
+            return Ok(Some(taken));
+        }
+    }
+    Ok(None)
+}
 
 #[test]
 fn a_log_may_fail_at_each_of_its_bytes(rt: HostRuntime) -> Result<(), Fail> {
-    let alloc = rt.alloc();
-    let want = one_object(alloc)?;
-    let lines = format!(in alloc; "{DONE}{END}")?;
-    for taken in 0..lines.len() + 1 {
-        let mut dest = MemDest::new(alloc);
-        let mut log = MemLog::new(alloc);
-        log.fuse(Some(taken as u64));
-        let answer = migrate(
-            alloc,
-            &mut store(alloc, ONE)?,
-            &mut dest,
-            &mut log,
-            job(alloc)?,
-        );
-        assert_eq!(rt; answer == Err(Fault::Log), taken < lines.len());
-        assert!(rt; dest.same(&want) && lines.as_bytes().get(..taken) == Some(log.bytes()));
-    }
+    let wrong = first_wrong_byte(rt.alloc())?;
+    assert!(rt; wrong.is_none(), "at byte {wrong:?}");
     Ok(())
+}
+
+// How many steps of a run pass before its log fails at ten bytes, the turns and the objects that it reports, and what the
+// next step answers; none where its log is another.
+fn after_a_full_log(alloc: Global) -> Result<Option<(u64, u64, u64, Result<Turn, Fault>)>, Fail> {
+    let mut source = store(alloc, STORE)?;
+    let mut dest = MemDest::new(alloc);
+    let mut log = MemLog::new(alloc);
+    log.fuse(Some(10));
+    let mut mover = Mover::start(alloc, job(alloc, Asked::Usual)?);
+    let (made, _) = go_on(&mut mover, &mut source, &mut dest, &mut log, 100);
+    let report = mover.report();
+    let after = mover.step(&mut source, &mut dest, &mut log);
+    if log.bytes() != b"{\"as\":\"don".as_slice() {
+        return Ok(None);
+    }
+    Ok(Some((made, report.turns, report.done, after)))
 }
 
 #[test]
 fn a_log_that_failed_ends_the_run(rt: HostRuntime) -> Result<(), Fail> {
-    let alloc = rt.alloc();
-    let mut source = store(alloc, ONE)?;
+    let after = after_a_full_log(rt.alloc())?;
+    assert!(rt; after == Some((37, 38, 0, Err(Fault::Ended))), "{after:?}");
+    Ok(())
+}
+
+// How many of 42 steps pass where 42 turns may be made, what the two steps after them answer, and the turns that are
+// reported; none where the log or the destination is another than that of the object.
+fn after_its_turns(alloc: Global) -> Result<Option<(u64, [Result<Turn, Fault>; 2], u64)>, Fail> {
+    let mut source = store(alloc, STORE)?;
     let mut dest = MemDest::new(alloc);
     let mut log = MemLog::new(alloc);
-    log.fuse(Some(10));
-    let mut mover = Mover::start(alloc, job(alloc)?);
-    let (made, _) = go_on(&mut mover, &mut source, &mut dest, &mut log, 100);
-    assert_eq!(rt;
-        (made, mover.report().turns, mover.report().done),
-        (37, 38, 0)
-    );
-    let after = mover.step(&mut source, &mut dest, &mut log);
-    assert_eq!(rt; after, Err(Fault::Ended));
-    assert_eq!(rt; str::from_utf8(log.bytes())?, "{\"as\":\"don");
-    Ok(())
+    let mut mover = Mover::start(alloc, job(alloc, Asked::Turns(42))?);
+    let (made, _) = go_on(&mut mover, &mut source, &mut dest, &mut log, 42);
+    let first = mover.step(&mut source, &mut dest, &mut log);
+    let second = mover.step(&mut source, &mut dest, &mut log);
+    let is_left = dest.same(&tree_of(alloc, Base::Object(ONE), ABC)?);
+    if !is_left || log.bytes() != DONE.as_bytes() {
+        return Ok(None);
+    }
+    Ok(Some((made, [first, second], mover.report().turns)))
 }
 
 #[test]
 fn the_limit_of_turns_ends_a_run(rt: HostRuntime) -> Result<(), Fail> {
-    let alloc = rt.alloc();
-    let mut job = job(alloc)?;
-    job.limits = turns(42)?;
-    let mut source = store(alloc, ONE)?;
+    let after = after_its_turns(rt.alloc())?;
+    let answers = [Err(Fault::Turns), Err(Fault::Ended)];
+    assert!(rt; after == Some((42, answers, 42)), "{after:?}");
+    Ok(())
+}
+
+// How many of 42 steps pass where 43 turns may be made, and what the two steps after them answer; none where the destination
+// is another than that of the object.
+fn after_its_end(alloc: Global) -> Result<Option<(u64, [Result<Turn, Fault>; 2])>, Fail> {
+    let mut source = LooseSource::of(store(alloc, STORE)?);
     let mut dest = MemDest::new(alloc);
     let mut log = MemLog::new(alloc);
-    let mut mover = Mover::start(alloc, job);
+    let mut mover = Mover::start(alloc, job(alloc, Asked::Turns(43))?);
     let (made, _) = go_on(&mut mover, &mut source, &mut dest, &mut log, 42);
-    assert_eq!(rt; made, 42);
-    let after = mover.step(&mut source, &mut dest, &mut log);
-    assert_eq!(rt; after, Err(Fault::Turns));
-    let after = mover.step(&mut source, &mut dest, &mut log);
-    assert_eq!(rt; after, Err(Fault::Ended));
-    assert_eq!(rt; mover.report().turns, 42);
-    assert_eq!(rt; str::from_utf8(log.bytes())?, DONE);
-    assert!(rt; dest.same(&one_object(alloc)?));
-    Ok(())
+    let first = mover.step(&mut source, &mut dest, &mut log);
+    let second = mover.step(&mut source, &mut dest, &mut log);
+    let is_left = dest.same(&tree_of(alloc, Base::Object(ONE), ABC)?);
+    Ok(is_left.then_some((made, [first, second])))
 }
 
 #[test]
 fn the_last_turn_is_finished_and_nothing_follows(rt: HostRuntime) -> Result<(), Fail> {
-    let alloc = rt.alloc();
-    let mut job = job(alloc)?;
-    job.limits = turns(43)?;
-    let mut source = LooseSource::of(store(alloc, ONE)?);
-    let mut dest = MemDest::new(alloc);
-    let mut log = MemLog::new(alloc);
-    let mut mover = Mover::start(alloc, job);
-    let (made, _) = go_on(&mut mover, &mut source, &mut dest, &mut log, 42);
-    assert_eq!(rt; made, 42);
-    let last = mover.step(&mut source, &mut dest, &mut log);
-    assert_eq!(rt; last, Ok(Turn::Finished));
-    let after = mover.step(&mut source, &mut dest, &mut log);
-    assert_eq!(rt; after, Err(Fault::Ended));
-    assert!(rt; dest.same(&one_object(alloc)?));
+    let after = after_its_end(rt.alloc())?;
+    let answers = [Ok(Turn::Finished), Err(Fault::Ended)];
+    assert!(rt; after == Some((42, answers)), "{after:?}");
     Ok(())
 }
+
+const FIVE_TURNS: &[Step] = &[
+    Step::Store("pairtree_root/"),
+    Step::Run(Asked::Turns(5), Ends::In(Fault::Turns), ""),
+    Step::Is(Base::Nothing, &[("staging/", "")]),
+];
 
 #[test]
 fn five_turns_make_staging_alone(rt: HostRuntime) -> Result<(), Fail> {
-    let alloc = rt.alloc();
-    let mut job = job(alloc)?;
-    job.limits = turns(5)?;
-    let mut source = store(alloc, "pairtree_root/")?;
-    let mut dest = MemDest::new(alloc);
-    let (answer, lines) = outcome(alloc, &mut source, &mut dest, job)?;
-    assert_eq!(rt; answer, Err(Fault::Turns));
-    assert!(rt; lines.is_empty() && dest.same(&tree(alloc, &[("staging/", "")])?));
+    let wrong = wrong(rt.alloc(), FIVE_TURNS)?;
+    assert!(rt; wrong.is_none(), "step {wrong:?}");
     Ok(())
 }
 
-// The root, and an object in `staging` whose one file holds this.
-fn staged(alloc: Global, bytes: &str) -> Result<MemDest, Fail> {
-    let mut dest = tree(alloc, &ROOT)?;
-    for file in [
-        ("staging/0=ocfl_object_1.1", "ocfl_object_1.1\n"),
-        ("staging/v1/content/a.txt", bytes),
-    ] {
-        add(alloc, &mut dest, &[file])?;
-    }
-    Ok(dest)
-}
+// A run over the store of one object takes eleven calls of its source.
+const TEN_CALLS: &[Step] = &[
+    Step::Store(STORE),
+    Step::SourceFails(10),
+    Step::Run(Asked::Usual, Ends::In(Fault::Source), ""),
+    Step::Is(
+        Base::Root,
+        &[
+            ("staging/0=ocfl_object_1.1", "ocfl_object_1.1\n"),
+            ("staging/v1/content/a.txt", "abc"),
+        ],
+    ),
+];
+
+const ELEVEN_CALLS: &[Step] = &[
+    Step::Store(STORE),
+    Step::SourceFails(11),
+    Step::Run(Asked::Usual, Ends::Well, TOLD),
+    Step::Is(Base::Object(ONE), ABC),
+];
 
 #[test]
 fn a_source_that_fails_ends_the_run(rt: HostRuntime) -> Result<(), Fail> {
-    let alloc = rt.alloc();
-    // A run over the store of one object takes eleven calls of its source.
-    let left = [
-        (10, Some(Fault::Source), staged(alloc, "abc")?),
-        (11, None, one_object(alloc)?),
-    ];
-    for (calls, fault, want) in left {
-        let mut source = store(alloc, ONE)?;
-        source.fuse(Some(calls));
-        let mut dest = MemDest::new(alloc);
-        let (answer, lines) = outcome(alloc, &mut source, &mut dest, job(alloc)?)?;
-        assert_eq!(rt; (answer.err(), lines.is_empty()), (fault, fault.is_some()));
-        assert!(rt; dest.same(&want));
+    for (calls, steps) in [(10, TEN_CALLS), (11, ELEVEN_CALLS)] {
+        let wrong = wrong(rt.alloc(), steps)?;
+        assert!(rt; wrong.is_none(), "{calls} calls: step {wrong:?}");
     }
     Ok(())
+}
+
+// What a file of `abc` holds when it is read again, and what is left then.
+const CHANGED: [(&str, Files); 3] = [
+    (
+        "abd",
+        &[
+            ("staging/0=ocfl_object_1.1", "ocfl_object_1.1\n"),
+            ("staging/v1/content/a.txt", "abd"),
+        ],
+    ),
+    (
+        "ab",
+        &[
+            ("staging/0=ocfl_object_1.1", "ocfl_object_1.1\n"),
+            ("staging/v1/content/a.txt", "ab"),
+        ],
+    ),
+    (
+        "abcd",
+        &[
+            ("staging/0=ocfl_object_1.1", "ocfl_object_1.1\n"),
+            ("staging/v1/content/a.txt", ""),
+        ],
+    ),
+];
+
+// Whether that ends a run before its log, and leaves this.
+fn ends_by_a_change(alloc: Global, bytes: &str, left: Files) -> Result<bool, Fail> {
+    let mut source = LooseSource::of(store(alloc, STORE)?);
+    let file = path(alloc, "pairtree_root/ab/c/obj/a.txt")?;
+    source.swap_after(8, &file, bytes.as_bytes())?;
+    let mut dest = MemDest::new(alloc);
+    let mut log = MemLog::new(alloc);
+    let job = job(alloc, Asked::Usual)?;
+    let answer = migrate(alloc, &mut source, &mut dest, &mut log, job);
+    let is_left = dest.same(&tree_of(alloc, Base::Root, left)?);
+    Ok(answer == Err(Fault::Changed) && log.bytes().is_empty() && is_left)
 }
 
 #[test]
 fn a_file_that_changes_ends_the_run(rt: HostRuntime) -> Result<(), Fail> {
-    let alloc = rt.alloc();
-    for (bytes, left) in [("abd", "abd"), ("ab", "ab"), ("abcd", "")] {
-        let mut source = LooseSource::of(store(alloc, ONE)?);
-        let file = path(alloc, "pairtree_root/ab/c/obj/a.txt")?;
-        source.swap_after(8, &file, bytes.as_bytes())?;
-        let mut dest = MemDest::new(alloc);
-        let mut log = MemLog::new(alloc);
-        let answer = migrate(alloc, &mut source, &mut dest, &mut log, job(alloc)?);
-        assert_eq!(rt;
-            (answer, log.bytes().is_empty()),
-            (Err(Fault::Changed), true)
-        );
-        assert!(rt; dest.same(&staged(alloc, left)?));
+    for (bytes, left) in CHANGED {
+        assert!(rt; ends_by_a_change(rt.alloc(), bytes, left)?, "{bytes}");
     }
     Ok(())
 }
+
+const TWO: &str = "ab/c/obj/a.txt=abc ab/cd/obj/a.txt=abc ab/cd/obj/b.bin*16384";
 
 const TWO_DONE: &str =
     r#"{"as":"done","at":"ab/c/obj","bytes":3,"empty":0,"files":1,"id":"abc","to":"ba7/816/bf8/abc"}
@@ -171,46 +217,38 @@ const ONE_PRESENT: &str = r#"{"as":"present","at":"ab/c/obj","id":"abc","to":"ba
 {"as":"end","done":1,"present":1,"skip":0}
 "#;
 
+// One object, and another under way: the second `append` of its last file left half of its piece.
+const UNDER_WAY: Files = &[
+    ("ocfl/ba7/816/bf8/abc/v1/content/a.txt", "abc"),
+    ("staging/0=ocfl_object_1.1", "ocfl_object_1.1\n"),
+    ("staging/v1/content/a.txt", "abc"),
+    ("staging/v1/content/b.bin", "*12288"),
+];
+
+const UNBROKEN: &[Step] = &[
+    Step::Store(TWO),
+    Step::Run(Asked::Usual, Ends::Well, TWO_DONE),
+];
+
+const BROKEN: &[Step] = &[
+    Step::Store(TWO),
+    // The call after 56 is the second `append` of the last file.
+    Step::DestFails(56),
+    Step::Run(Asked::Usual, Ends::In(Fault::Dest), DONE),
+    Step::Is(Base::Object(ONE), UNDER_WAY),
+    Step::DestIsWell,
+    Step::Run(Asked::Usual, Ends::In(Fault::StagingLeft), ""),
+    Step::Is(Base::Object(ONE), UNDER_WAY),
+    Step::Take("staging"),
+    Step::Run(Asked::Usual, Ends::Well, ONE_PRESENT),
+    Step::IsUnbroken,
+];
+
 #[test]
 fn staging_is_left_and_taken_away_by_hand(rt: HostRuntime) -> Result<(), Fail> {
-    let alloc = rt.alloc();
-    let mut source = store(
-        alloc,
-        "ab/c/obj/a.txt=abc ab/cd/obj/a.txt=abc ab/cd/obj/b.bin*16384",
-    )?;
-    let mut whole = MemDest::new(alloc);
-    let (answer, lines) = outcome(alloc, &mut source, &mut whole, job(alloc)?)?;
-    assert_eq!(rt; (answer.is_ok(), lines.as_str()), (true, TWO_DONE));
-    // The call after 56 is the second `append` of the last file. It leaves half of its piece.
-    let mut dest = MemDest::new(alloc);
-    dest.fuse(Some(56));
-    let (answer, lines) = outcome(alloc, &mut source, &mut dest, job(alloc)?)?;
-    assert_eq!(rt; (answer, lines.as_str()), (Err(Fault::Dest), DONE));
-    let mut want = one_object(alloc)?;
-    add(
-        alloc,
-        &mut want,
-        &[
-            ("staging/0=ocfl_object_1.1", "ocfl_object_1.1\n"),
-            ("staging/v1/content/a.txt", "abc"),
-        ],
-    )?;
-    add(
-        alloc,
-        &mut want,
-        &[(
-            "staging/v1/content/b.bin",
-            "a".repeat(alloc, 12_288)?.as_str(),
-        )],
-    )?;
-    assert!(rt; dest.same(&want));
-    dest.fuse(None);
-    let (answer, lines) = outcome(alloc, &mut source, &mut dest, job(alloc)?)?;
-    assert_eq!(rt; (answer, lines.as_str()), (Err(Fault::StagingLeft), ""));
-    assert!(rt; dest.same(&want));
-    dest.take_away(&path(alloc, "staging")?)?;
-    let (answer, lines) = outcome(alloc, &mut source, &mut dest, job(alloc)?)?;
-    assert_eq!(rt; (answer.is_ok(), lines.as_str()), (true, ONE_PRESENT));
-    assert!(rt; dest.same(&whole));
+    for (what, steps) in [("unbroken", UNBROKEN), ("broken", BROKEN)] {
+        let wrong = wrong(rt.alloc(), steps)?;
+        assert!(rt; wrong.is_none(), "{what}: step {wrong:?}");
+    }
     Ok(())
 }

@@ -9,7 +9,11 @@ mod identifiers;
 #[cfg(test)]
 mod lines;
 #[cfg(test)]
+mod objects;
+#[cfg(test)]
 mod starts;
+#[cfg(test)]
+mod steps;
 #[cfg(test)]
 mod stores;
 #[cfg(test)]

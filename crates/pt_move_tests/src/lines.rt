@@ -1,24 +1,44 @@
 // The lines, the turns and the most records of runs over worked stores.
 #![tactic(auto)]
 
-use crate::stores::{go_on, job};
+use crate::objects::{STORE, TOLD};
+use crate::stores::{Asked, go_on, job};
 use pt_memory::{MemDest, MemLog};
-use pt_move::{Job, Mover, Report};
-use pt_name::{Layout, Share};
+use pt_move::{Mover, Report};
 use pt_texts::store;
-use pt_walk::Limits;
 use std::alloc::Global;
 use std::test::Fail;
 
 // A run to its end, step by step: its report, the most records held between two turns, and its lines.
-fn told(alloc: Global, entries: &str, job: Job) -> Result<(Report, u128, String), Fail> {
+fn told(alloc: Global, asked: Asked, entries: &str) -> Result<(Report, u128, String), Fail> {
     let mut source = store(alloc, entries)?;
     let mut dest = MemDest::new(alloc);
     let mut log = MemLog::new(alloc);
-    let mut mover = Mover::start(alloc, job);
+    let mut mover = Mover::start(alloc, job(alloc, asked)?);
     let (_, most) = go_on(&mut mover, &mut source, &mut dest, &mut log, 100_000);
     let lines = String::from_str(alloc, str::from_utf8(log.bytes())?)?;
     Ok((mover.report(), most, lines))
+}
+
+// The turns of a run and the most records, where these are its lines.
+fn by_lines(
+    alloc: Global,
+    asked: Asked,
+    entries: &str,
+    lines: &str,
+) -> Result<Option<(u64, u128)>, Fail> {
+    let (report, most, told) = told(alloc, asked, entries)?;
+    Ok((told.as_str() == lines).then_some((report.turns, most)))
+}
+
+// The turns alone.
+fn turns_by_lines(
+    alloc: Global,
+    asked: Asked,
+    entries: &str,
+    lines: &str,
+) -> Result<Option<u64>, Fail> {
+    Ok(by_lines(alloc, asked, entries, lines)?.map(|(turns, _)| turns))
 }
 
 // Stores with their turns, the most records and the lines.
@@ -216,24 +236,18 @@ const GATHERED: [(&str, u64, u128, &str); 5] = [
 
 #[test]
 fn stores_are_told_in_their_lines(rt: HostRuntime) -> Result<(), Fail> {
-    let alloc = rt.alloc();
     for (entries, turns, most, lines) in PLAIN {
-        let (report, held, told) = told(alloc, entries, job(alloc)?)?;
-        assert_eq!(rt; (report.turns, held), (turns, most), "of {entries}");
-        assert_eq!(rt; told.as_str(), lines, "of {entries}");
+        let told = by_lines(rt.alloc(), Asked::Usual, entries, lines)?;
+        assert!(rt; told == Some((turns, most)), "of {entries}: {told:?}");
     }
     Ok(())
 }
 
 #[test]
 fn divided_sites_are_gathered(rt: HostRuntime) -> Result<(), Fail> {
-    let alloc = rt.alloc();
     for (entries, turns, most, lines) in GATHERED {
-        let mut job = job(alloc)?;
-        job.gather = true;
-        let (report, held, told) = told(alloc, entries, job)?;
-        assert_eq!(rt; (report.turns, held), (turns, most), "of {entries}");
-        assert_eq!(rt; told.as_str(), lines, "of {entries}");
+        let told = by_lines(rt.alloc(), Asked::Gather, entries, lines)?;
+        assert!(rt; told == Some((turns, most)), "of {entries}: {told:?}");
     }
     Ok(())
 }
@@ -285,13 +299,9 @@ const SHARES: [((u32, u32), &str); 4] = [
 
 #[test]
 fn each_line_is_of_one_share(rt: HostRuntime) -> Result<(), Fail> {
-    let alloc = rt.alloc();
     for ((index, count), lines) in SHARES {
-        let mut job = job(alloc)?;
-        job.limits = Limits::of(1_000_000, 4_000, 3, 1 << 43, 1 << 40)?;
-        job.share = Share::of(index, count)?;
-        let (_, _, told) = told(alloc, SHARED, job)?;
-        assert_eq!(rt; told.as_str(), lines, "{index} of {count}");
+        let told = by_lines(rt.alloc(), Asked::Share(index, count), SHARED, lines)?;
+        assert!(rt; told.is_some(), "{index} of {count}");
     }
     Ok(())
 }
@@ -309,8 +319,18 @@ const BOTH: &str = r#"{"as":"skip","at":"ab/cd","cause":"limit"}
 {"as":"end","done":0,"present":0,"skip":2}
 "#;
 
-// Stores with the limits of files, of the bytes of a path, of depth and of the bytes of a file, the turns and the
-// lines; no lines where the object is carried.
+// The lines of an object of one file of so many bytes that is carried.
+const OF_8192: &str =
+    r#"{"as":"done","at":"ab/c/obj","bytes":8192,"empty":0,"files":1,"id":"abc","to":"ba7/816/bf8/abc"}
+{"as":"end","done":1,"present":0,"skip":0}
+"#;
+
+const OF_ONE: &str =
+    r#"{"as":"done","at":"ab/c/obj","bytes":1,"empty":0,"files":1,"id":"abc","to":"ba7/816/bf8/abc"}
+{"as":"end","done":1,"present":0,"skip":0}
+"#;
+
+// Stores with the limits of files, of the bytes of a path, of depth and of the bytes of a file, the turns and the lines.
 const LIMITED: [(&str, [u64; 4], u64, &str); 11] = [
     (
         "ab/c/obj/a= ab/c/obj/b= ab/c/obj/z?",
@@ -331,8 +351,8 @@ const LIMITED: [(&str, [u64; 4], u64, &str); 11] = [
         BOTH,
     ),
     ("ab/c/obj/f*8193", [9, 4_000, 600, 8_192], 26, LIMIT),
-    ("ab/c/obj/f*8192", [9, 4_000, 600, 8_192], 43, ""),
-    ("ab/c/obj/a/b=a", [9, 3, 600, 9_000], 46, ""),
+    ("ab/c/obj/f*8192", [9, 4_000, 600, 8_192], 43, OF_8192),
+    ("ab/c/obj/a/b=a", [9, 3, 600, 9_000], 46, OF_ONE),
     ("ab/c/obj/a/bc=a", [9, 3, 600, 9_000], 25, LIMIT),
     (
         "ab/c/obj/a*8193 ab/c/obj/z?",
@@ -347,84 +367,112 @@ const LIMITED: [(&str, [u64; 4], u64, &str); 11] = [
         OTHER,
     ),
     ("ab/c/obj/a.txt=abc", [1, 1, 1, 1], 19, LIMIT),
-    ("ab/c/obj/a.txt=abc", [1, 5, 3, 3], 43, ""),
+    ("ab/c/obj/a.txt=abc", [1, 5, 3, 3], 43, TOLD),
 ];
 
 #[test]
 fn what_is_past_a_limit_is_passed_over(rt: HostRuntime) -> Result<(), Fail> {
-    let alloc = rt.alloc();
-    for (entries, [files, path_bytes, depth, file_bytes], turns, lines) in LIMITED {
-        let mut job = job(alloc)?;
-        job.limits = Limits::of(files, path_bytes, depth, file_bytes, 1 << 40)?;
-        let (report, _, told) = told(alloc, entries, job)?;
-        assert_eq!(rt; report.turns, turns, "of {entries}");
-        assert!(rt; report.done == 1 && lines.is_empty() || told.as_str() == lines);
+    for (entries, most, turns, lines) in LIMITED {
+        let told = turns_by_lines(rt.alloc(), Asked::Limits(most), entries, lines)?;
+        assert!(rt; told == Some(turns), "of {entries}: {told:?}");
     }
     Ok(())
 }
+
+// The digits and the number of tuples, the turns and the lines.
+const TUPLES: [(u32, u32, u64, &str); 3] = [
+    (3, 3, 43, TOLD),
+    (
+        2,
+        4,
+        44,
+        r#"{"as":"done","at":"ab/c/obj","bytes":3,"empty":0,"files":1,"id":"abc","to":"ba/78/16/bf/abc"}
+{"as":"end","done":1,"present":0,"skip":0}
+"#,
+    ),
+    (
+        0,
+        0,
+        40,
+        r#"{"as":"done","at":"ab/c/obj","bytes":3,"empty":0,"files":1,"id":"abc","to":"abc"}
+{"as":"end","done":1,"present":0,"skip":0}
+"#,
+    ),
+];
 
 #[test]
 fn tuples_change_the_number_of_turns(rt: HostRuntime) -> Result<(), Fail> {
-    let alloc = rt.alloc();
-    for (size, count, turns, to) in [
-        (3, 3, 43, "ba7/816/bf8/abc"),
-        (2, 4, 44, "ba/78/16/bf/abc"),
-        (0, 0, 40, "abc"),
-    ] {
-        let mut job = job(alloc)?;
-        job.layout = Layout::of(size, count)?;
-        let (report, _, told) = told(alloc, "ab/c/obj/a.txt=abc", job)?;
-        assert_eq!(rt; report.turns, turns);
-        let line = format!(in alloc;
-            "{{\"as\":\"done\",\"at\":\"ab/c/obj\",\"bytes\":3,\"empty\":0,\"files\":1,\"id\":\"abc\",\"to\":\"{to}\"}}\n"
-        )?;
-        assert!(rt; told.starts_with(line.as_str()));
+    for (size, count, turns, lines) in TUPLES {
+        let asked = Asked::Tuples(size, count);
+        let told = turns_by_lines(rt.alloc(), asked, STORE, lines)?;
+        assert!(rt; told == Some(turns), "{count} of {size}: {told:?}");
     }
     Ok(())
 }
 
+const RESERVED: &str = r#"{"as":"skip","at":"ex/te/ns/io/ns","cause":"reserved"}
+{"as":"end","done":0,"present":0,"skip":1}
+"#;
+
 #[test]
 fn without_tuples_one_place_is_reserved(rt: HostRuntime) -> Result<(), Fail> {
-    let alloc = rt.alloc();
-    let mut job = job(alloc)?;
-    job.layout = Layout::of(0, 0)?;
-    let (report, _, told) = told(alloc, "ex/te/ns/io/ns/obj/f=", job)?;
-    assert_eq!(rt; report.turns, 31);
-    assert_eq!(rt;
-        told.as_str(),
-        "{\"as\":\"skip\",\"at\":\"ex/te/ns/io/ns\",\"cause\":\"reserved\"}\n{\"as\":\"end\",\"done\":0,\"present\":0,\"skip\":1}\n"
-    );
+    let store = "ex/te/ns/io/ns/obj/f=";
+    let told = turns_by_lines(rt.alloc(), Asked::Tuples(0, 0), store, RESERVED)?;
+    assert!(rt; told == Some(31), "{told:?}");
     Ok(())
 }
 
-// The depth of the last of so many directories, one in the other, whose innermost holds an object.
+// How many objects, turns and limits are told where so many directories, one in the other, lead to an object.
+fn of_depth(alloc: Global, count: usize) -> Result<(u64, u64, bool), Fail> {
+    let mut entry = "ab/".repeat(alloc, count)?;
+    entry.push_str("obj/f=")?;
+    let (report, _, told) = told(alloc, Asked::Usual, entry.as_str())?;
+    let is_limit = told.contains("\"cause\":\"limit\"");
+    Ok((report.done, report.turns, is_limit))
+}
+
+// The number of directories, one in the other, whose innermost holds an object; how many are carried, the turns, and whether
+// the limit of depth is told.
+const DEPTHS: [(usize, (u64, u64, bool)); 3] = [
+    (599, (1, 1_832, false)),
+    (600, (0, 1_817, true)),
+    (601, (0, 1_816, true)),
+];
+
 #[test]
 fn an_object_may_be_six_hundred_deep(rt: HostRuntime) -> Result<(), Fail> {
-    let alloc = rt.alloc();
-    for (count, done, turns) in [(599, 1, 1_832), (600, 0, 1_817), (601, 0, 1_816)] {
-        let mut entry = "ab/".repeat(alloc, count)?;
-        entry.push_str("obj/f=")?;
-        let (report, _, told) = told(alloc, entry.as_str(), job(alloc)?)?;
-        assert_eq!(rt; (report.done, report.turns), (done, turns));
-        assert_eq!(rt; told.contains("\"cause\":\"limit\""), done == 0);
+    for (count, wanted) in DEPTHS {
+        let told = of_depth(rt.alloc(), count)?;
+        assert!(rt; told == wanted, "{count}: {told:?}");
     }
     Ok(())
 }
 
 // An identifier of 1,002 bytes, a name of 255 and a file of 100,000: its place was computed apart from this program.
-#[test]
-fn what_is_long_is_carried(rt: HostRuntime) -> Result<(), Fail> {
-    let alloc = rt.alloc();
+const LONG_DIGEST: &str = "d026b9af8545d3b965fb83ab5f10d5072c902affb8dc2629ef670baf8c651d74";
+
+// How many such objects are carried, present and passed over; none where the first line is another.
+fn of_long_names(alloc: Global) -> Result<Option<(u64, u64, u64)>, Fail> {
     let name = "n".repeat(alloc, 255)?;
     let entries = format!(in alloc; "pairtree_prefix*1000 ab/obj/{name}*100000")?;
-    let (report, _, told) = told(alloc, entries.as_str(), job(alloc)?)?;
-    assert_eq!(rt; (report.done, report.present, report.skipped), (1, 0, 0));
+    let (report, _, told) = told(alloc, Asked::Usual, entries.as_str())?;
+    let line = long_line(alloc)?;
+    let is_first = told.starts_with(line.as_str());
+    Ok(is_first.then_some((report.done, report.present, report.skipped)))
+}
+
+fn long_line(alloc: Global) -> Result<String, Fail> {
     let id = "a".repeat(alloc, 1001)?;
     let front = "a".repeat(alloc, 100)?;
-    let digest = "d026b9af8545d3b965fb83ab5f10d5072c902affb8dc2629ef670baf8c651d74";
-    let line = format!(in alloc;
-        "{{\"as\":\"done\",\"at\":\"ab/obj\",\"bytes\":100000,\"empty\":0,\"files\":1,\"id\":\"{id}b\",\"to\":\"d02/6b9/af8/{front}-{digest}\"}}\n"
-    )?;
-    assert!(rt; told.starts_with(line.as_str()));
+    let place = format!(in alloc; "d02/6b9/af8/{front}-{LONG_DIGEST}")?;
+    Ok(format!(in alloc;
+        "{{\"as\":\"done\",\"at\":\"ab/obj\",\"bytes\":100000,\"empty\":0,\"files\":1,\"id\":\"{id}b\",\"to\":\"{place}\"}}\n"
+    )?)
+}
+
+#[test]
+fn what_is_long_is_carried(rt: HostRuntime) -> Result<(), Fail> {
+    let told = of_long_names(rt.alloc())?;
+    assert!(rt; told == Some((1, 0, 0)), "{told:?}");
     Ok(())
 }

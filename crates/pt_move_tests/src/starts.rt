@@ -1,91 +1,106 @@
 // Runs over what stands in a destination already: the order of the start, roots, and second runs.
 #![tactic(auto)]
 
-use crate::stores::{job, outcome};
-use crate::trees::{CONFIG, DIGEST, INVENTORY, ROOT, framed, one_object};
-use pt_memory::{MemDest, MemSource};
+use crate::objects::{ABC, Base, CONFIG, ONE, ROOT, STAGED, STORE};
+use crate::steps::{Ends, Step, wrong};
+use crate::stores::{Asked, job, outcome};
+use pt_memory::MemDest;
 use pt_move::{Fault, Report};
-use pt_name::Layout;
-use pt_texts::{add, path, plant, store, tree};
+use pt_texts::{add, path, store, tree};
 use std::alloc::Global;
 use std::test::Fail;
 
-const ONE: &str = "ab/c/obj/a.txt=abc";
+const PRESENT: Report = Report {
+    done: 0,
+    present: 1,
+    skipped: 0,
+    turns: 18,
+};
+
+const PRESENT_LINES: &str = r#"{"as":"present","at":"ab/c/obj","id":"abc","to":"ba7/816/bf8/abc"}
+{"as":"end","done":0,"present":1,"skip":0}
+"#;
+
+const SECOND: &[Step] = &[
+    Step::Store(STORE),
+    Step::Carry(Asked::Usual),
+    Step::Plant("ab/c/obj/"),
+    Step::Run(Asked::Usual, Ends::Told(PRESENT), PRESENT_LINES),
+    Step::Is(Base::Object(ONE), ABC),
+    Step::Plant("ab/c/obj/m?"),
+    Step::Run(Asked::Usual, Ends::Told(PRESENT), PRESENT_LINES),
+    Step::Is(Base::Object(ONE), ABC),
+];
 
 #[test]
 fn a_second_run_finds_all_present(rt: HostRuntime) -> Result<(), Fail> {
-    let alloc = rt.alloc();
-    let mut source = store(alloc, ONE)?;
-    let mut dest = MemDest::new(alloc);
-    let _ = outcome(alloc, &mut source, &mut dest, job(alloc)?)?;
-    for more in ["ab/c/obj/", "ab/c/obj/m?"] {
-        plant(alloc, &mut source, more)?;
-        let (answer, lines) = outcome(alloc, &mut source, &mut dest, job(alloc)?)?;
-        let report = Report {
-            done: 0,
-            present: 1,
-            skipped: 0,
-            turns: 18,
-        };
-        assert_eq!(rt; answer, Ok(report));
-        assert_eq!(rt;
-            lines.as_str(),
-            "{\"as\":\"present\",\"at\":\"ab/c/obj\",\"id\":\"abc\",\"to\":\"ba7/816/bf8/abc\"}\n{\"as\":\"end\",\"done\":0,\"present\":1,\"skip\":0}\n"
-        );
-        assert!(rt; dest.same(&one_object(alloc)?));
-    }
+    let wrong = wrong(rt.alloc(), SECOND)?;
+    assert!(rt; wrong.is_none(), "step {wrong:?}");
     Ok(())
 }
+
+const SPLIT: Report = Report {
+    done: 0,
+    present: 0,
+    skipped: 1,
+    turns: 23,
+};
+
+const GATHERED: Report = Report {
+    done: 1,
+    present: 0,
+    skipped: 0,
+    turns: 47,
+};
+
+const DIVIDED: &[Step] = &[
+    Step::Store("ab/c/notes.txt=abc ab/c/obj/f="),
+    Step::Run(
+        Asked::Usual,
+        Ends::Told(SPLIT),
+        r#"{"as":"skip","at":"ab/c","cause":"split"}
+{"as":"end","done":0,"present":0,"skip":1}
+"#,
+    ),
+    Step::Run(
+        Asked::Gather,
+        Ends::Told(GATHERED),
+        r#"{"as":"done","at":"ab/c","bytes":3,"empty":0,"files":2,"id":"abc","to":"ba7/816/bf8/abc"}
+{"as":"end","done":1,"present":0,"skip":0}
+"#,
+    ),
+    Step::Has("ocfl/ba7/816/bf8/abc/v1/content/notes.txt"),
+    Step::Has("ocfl/ba7/816/bf8/abc/v1/content/obj/f"),
+];
 
 #[test]
 fn a_divided_site_is_gathered_by_a_later_run(rt: HostRuntime) -> Result<(), Fail> {
-    let alloc = rt.alloc();
-    let mut source = store(alloc, "ab/c/notes.txt=abc ab/c/obj/f=")?;
-    let mut dest = MemDest::new(alloc);
-    let mut reports = [(0, 0, 0); 2];
-    for (gather, report) in [false, true].into_iter().zip(&mut reports) {
-        let mut job = job(alloc)?;
-        job.gather = gather;
-        let (answer, _) = outcome(alloc, &mut source, &mut dest, job)?;
-        if let Ok(told) = answer {
-            *report = (told.done, told.skipped, told.turns);
-        }
-    }
-    assert_eq!(rt; reports, [(0, 1, 23), (1, 0, 47)]);
-    for file in ["notes.txt", "obj/f"] {
-        let at = format!(in alloc; "ocfl/ba7/816/bf8/abc/v1/content/{file}")?;
-        assert!(rt; dest.file(&path(alloc, at.as_str())?).is_some());
-    }
+    let wrong = wrong(rt.alloc(), DIVIDED)?;
+    assert!(rt; wrong.is_none(), "step {wrong:?}");
     Ok(())
 }
 
+const START: &[Step] = &[
+    Step::Plant("pairtree_root/"),
+    Step::Plant("pairtree_prefix*1025"),
+    Step::Add(&[("staging/", ""), ("ocfl", "")]),
+    Step::Run(Asked::Usual, Ends::In(Fault::NotPairtree), ""),
+    Step::Plant("pairtree_version0_1="),
+    Step::Run(Asked::Usual, Ends::In(Fault::Prefix), ""),
+    Step::Store("pairtree_prefix=a"),
+    Step::Run(Asked::Usual, Ends::In(Fault::StagingLeft), ""),
+    Step::Is(Base::Nothing, &[("staging/", ""), ("ocfl", "")]),
+    Step::Take("staging"),
+    Step::Run(Asked::Usual, Ends::In(Fault::Target), ""),
+    Step::Is(Base::Nothing, &[("ocfl", "")]),
+    Step::Store("pairtree_prefix/"),
+    Step::Run(Asked::Usual, Ends::In(Fault::Prefix), ""),
+];
+
 #[test]
 fn the_start_is_told_in_its_order(rt: HostRuntime) -> Result<(), Fail> {
-    let alloc = rt.alloc();
-    let mut source = MemSource::new(alloc);
-    plant(alloc, &mut source, "pairtree_root/")?;
-    plant(alloc, &mut source, "pairtree_prefix*1025")?;
-    let mut dest = tree(alloc, &[("staging/", ""), ("ocfl", "")])?;
-    let (answer, _) = outcome(alloc, &mut source, &mut dest, job(alloc)?)?;
-    assert_eq!(rt; answer, Err(Fault::NotPairtree));
-    plant(alloc, &mut source, "pairtree_version0_1=")?;
-    let (answer, _) = outcome(alloc, &mut source, &mut dest, job(alloc)?)?;
-    assert_eq!(rt; answer, Err(Fault::Prefix));
-    let mut good = store(alloc, "pairtree_prefix=a")?;
-    let (answer, _) = outcome(alloc, &mut good, &mut dest, job(alloc)?)?;
-    assert_eq!(rt; answer, Err(Fault::StagingLeft));
-    assert!(rt; dest.same(&tree(alloc, &[("staging/", ""), ("ocfl", "")])?));
-    dest.take_away(&path(alloc, "staging")?)?;
-    let (answer, lines) = outcome(alloc, &mut good, &mut dest, job(alloc)?)?;
-    assert_eq!(rt; (answer, lines.is_empty()), (Err(Fault::Target), true));
-    assert!(rt; dest.same(&tree(alloc, &[("ocfl", "")])?));
-    let (answer, _) = outcome(
-        alloc,
-        &mut store(alloc, "pairtree_prefix/")?,
-        &mut dest,
-        job(alloc)?,
-    )?;
-    assert_eq!(rt; answer, Err(Fault::Prefix));
+    let wrong = wrong(rt.alloc(), START)?;
+    assert!(rt; wrong.is_none(), "step {wrong:?}");
     Ok(())
 }
 
@@ -113,45 +128,53 @@ fn other_root(alloc: Global, taken: &str, at: &str, bytes: &str) -> Result<MemDe
     Ok(dest)
 }
 
+// Whether a run over it is refused, writes no line and changes nothing.
+fn is_refused(alloc: Global, taken: &str, at: &str, bytes: &str) -> Result<bool, Fail> {
+    let mut dest = other_root(alloc, taken, at, bytes)?;
+    let mut source = store(alloc, STORE)?;
+    let (answer, lines) = outcome(alloc, &mut source, &mut dest, job(alloc, Asked::Usual)?)?;
+    let is_same = dest.same(&other_root(alloc, taken, at, bytes)?);
+    Ok(answer == Err(Fault::Target) && lines.is_empty() && is_same)
+}
+
 #[test]
 fn another_root_is_refused_and_left_alone(rt: HostRuntime) -> Result<(), Fail> {
-    let alloc = rt.alloc();
     for (taken, at, bytes) in UNUSABLE {
-        let mut dest = other_root(alloc, taken, at, bytes)?;
-        let (answer, lines) = outcome(alloc, &mut store(alloc, ONE)?, &mut dest, job(alloc)?)?;
-        assert_eq!(rt; (answer, lines.is_empty()), (Err(Fault::Target), true));
-        assert!(rt; dest.same(&other_root(alloc, taken, at, bytes)?));
+        assert!(rt; is_refused(rt.alloc(), taken, at, bytes)?, "{at}: {bytes}");
     }
     Ok(())
 }
+
+const OTHER_TUPLES: &[Step] = &[
+    Step::Store(STORE),
+    Step::Add(&ROOT),
+    Step::Run(Asked::Tuples(2, 4), Ends::In(Fault::Target), ""),
+    Step::Is(Base::Root, &[]),
+    Step::Run(Asked::Tuples(0, 0), Ends::In(Fault::Target), ""),
+    Step::Is(Base::Root, &[]),
+];
 
 #[test]
 fn other_tuples_need_another_root(rt: HostRuntime) -> Result<(), Fail> {
-    let alloc = rt.alloc();
-    let mut dest = tree(alloc, &ROOT)?;
-    for (size, count) in [(2, 4), (0, 0)] {
-        let mut job = job(alloc)?;
-        job.layout = Layout::of(size, count)?;
-        let (answer, _) = outcome(alloc, &mut store(alloc, ONE)?, &mut dest, job)?;
-        assert_eq!(rt; answer, Err(Fault::Target));
-        assert!(rt; dest.same(&tree(alloc, &ROOT)?));
-    }
+    let wrong = wrong(rt.alloc(), OTHER_TUPLES)?;
+    assert!(rt; wrong.is_none(), "step {wrong:?}");
     Ok(())
 }
 
+const ON_THE_WAY: &[Step] = &[
+    Step::Store(STORE),
+    Step::Add(&ROOT),
+    Step::Add(&[("ocfl/ba7", "")]),
+    Step::Run(Asked::Usual, Ends::In(Fault::Target), ""),
+    Step::Is(
+        Base::Object(STAGED),
+        &[("ocfl/ba7", ""), ("staging/v1/content/a.txt", "abc")],
+    ),
+];
+
 #[test]
 fn a_file_on_the_way_stays_and_staging_holds_the_object(rt: HostRuntime) -> Result<(), Fail> {
-    let alloc = rt.alloc();
-    let mut dest = tree(alloc, &ROOT)?;
-    add(alloc, &mut dest, &[("ocfl/ba7", "")])?;
-    let (answer, lines) = outcome(alloc, &mut store(alloc, ONE)?, &mut dest, job(alloc)?)?;
-    assert_eq!(rt; (answer, lines.is_empty()), (Err(Fault::Target), true));
-    let mut want = framed(alloc, "staging", INVENTORY, "sha512", DIGEST)?;
-    add(
-        alloc,
-        &mut want,
-        &[("ocfl/ba7", ""), ("staging/v1/content/a.txt", "abc")],
-    )?;
-    assert!(rt; dest.same(&want));
+    let wrong = wrong(rt.alloc(), ON_THE_WAY)?;
+    assert!(rt; wrong.is_none(), "step {wrong:?}");
     Ok(())
 }

@@ -1,4 +1,4 @@
-// The jobs, and steps of a run.
+// The jobs of runs, and steps of one.
 #![tactic(auto)]
 
 ghost use Rattle.pt_move.specs.Running.{HasBegun};
@@ -6,23 +6,30 @@ ghost use Rattle.pt_state.specs.Outside.{world};
 
 use pt_memory::{MemDest, MemLog, MemSource};
 use pt_move::{Fault, Job, Mover, Report, Turn, migrate};
-use pt_name::{Layout, Share};
+use pt_name::{Layout, LayoutFault, Share, ShareFault};
 use pt_object::{Algorithm, Meta};
 use pt_tree::{Dest, Log, Source};
-use pt_walk::Limits;
+use pt_walk::{Limits, LimitsFault};
 use std::alloc::Global;
 use std::test::Fail;
 
-pub fn limits() -> Limits {
-    Limits::of(1_000_000, 4_000, 600, 1 << 43, 1 << 40).unwrap()
+/// What a job has that isn't as usual: three tuples of three digits, SHA-512, the greatest limits, the whole store.
+#[derive(Clone, Copy)]
+pub enum Asked {
+    Usual,
+    Gather,
+    Sha256,
+    /// Tuples of so many digits, and so many of them.
+    Tuples(u32, u32),
+    /// The limit of turns.
+    Turns(u64),
+    /// The limits of files, of the bytes of a path, of depth and of the bytes of a file.
+    Limits([u64; 4]),
+    /// The share of this number, of so many, with the limit of depth 3.
+    Share(u32, u32),
 }
 
-// The greatest limits, but for that of turns.
-pub fn turns(turns: u64) -> Result<Limits, Fail> {
-    Ok(Limits::of(1_000_000, 4_000, 600, 1 << 43, turns)?)
-}
-
-pub fn job(alloc: Global) -> Result<Job, Fail> {
+pub fn job(alloc: Global, asked: Asked) -> Result<Job, Fail> {
     let meta = Meta::of(
         alloc,
         "2024-05-01T12:00:00Z",
@@ -32,12 +39,44 @@ pub fn job(alloc: Global) -> Result<Job, Fail> {
     )?;
     Ok(Job {
         meta,
-        layout: Layout::default_form(),
-        algorithm: Algorithm::Sha512,
-        limits: limits(),
-        gather: false,
-        share: Share::whole(),
+        layout: layout(asked)?,
+        algorithm: algorithm(asked),
+        limits: limits(asked)?,
+        gather: matches!(asked, Asked::Gather),
+        share: share(asked)?,
     })
+}
+
+fn layout(asked: Asked) -> Result<Layout, LayoutFault> {
+    match asked {
+        Asked::Tuples(size, count) => Layout::of(size, count),
+        _ => Ok(Layout::default_form()),
+    }
+}
+
+fn algorithm(asked: Asked) -> Algorithm {
+    match asked {
+        Asked::Sha256 => Algorithm::Sha256,
+        _ => Algorithm::Sha512,
+    }
+}
+
+fn limits(asked: Asked) -> Result<Limits, LimitsFault> {
+    let (most, turns) = match asked {
+        Asked::Limits(most) => (most, 1 << 40),
+        Asked::Turns(turns) => ([1_000_000, 4_000, 600, 1 << 43], turns),
+        Asked::Share(..) => ([1_000_000, 4_000, 3, 1 << 43], 1 << 40),
+        _ => ([1_000_000, 4_000, 600, 1 << 43], 1 << 40),
+    };
+    let [files, path_bytes, depth, file_bytes] = most;
+    Limits::of(files, path_bytes, depth, file_bytes, turns)
+}
+
+fn share(asked: Asked) -> Result<Share, ShareFault> {
+    match asked {
+        Asked::Share(index, count) => Share::of(index, count),
+        _ => Ok(Share::whole()),
+    }
 }
 
 // Makes so many steps, and stops at the first that doesn't answer `More`. Gives how many answered it, and the most

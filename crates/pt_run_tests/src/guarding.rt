@@ -7,15 +7,26 @@ use std::cell::Cell;
 use std::io;
 use std::io::ErrorKind;
 use std::path::PathBuf;
-use std::test::Fail;
 
-// Where each path leads, by pairs, what the folders at paths are known by, and what comes of the lock.
+// Where paths lead.
+type Leads = &'static [(&'static str, &'static str)];
+
+// The numbers of folders at paths.
+type Numbers = &'static [(&'static str, u64)];
+
+// What comes of asking for the lock.
+#[derive(Clone, Copy)]
+enum Lock {
+    Held,
+    Taken,
+    Unknown,
+}
+
 #[derive(Drop)]
 struct Paths {
-    leads: &'static [(&'static str, &'static str)],
-    folders: &'static [(&'static str, u64)],
-    taken: bool,
-    known: bool,
+    leads: Leads,
+    numbers: Numbers,
+    lock: Lock,
     asked: Cell<bool>,
 }
 
@@ -41,7 +52,7 @@ impl<'a> Places for &'a Paths {
 
     // A folder is known by its number, or else by the length of its path.
     fn identify(&mut self, path: &str) -> io::Result<Folder> {
-        for (at, inode) in self.folders {
+        for (at, inode) in self.numbers {
             if *at == path {
                 return Ok(Folder {
                     device: 1,
@@ -60,143 +71,156 @@ impl<'a> Places for &'a Paths {
 
     fn hold(&mut self, _: &str) -> Hold<u8> {
         self.asked.set(true);
-        if !self.known {
-            return Hold::Unknown(io::Error::from(ErrorKind::PermissionDenied));
-        }
-        if self.taken {
-            Hold::Taken
-        } else {
-            Hold::Held(7)
+        match self.lock {
+            Lock::Held => Hold::Held(7),
+            Lock::Taken => Hold::Taken,
+            Lock::Unknown => Hold::Unknown(io::Error::from(ErrorKind::PermissionDenied)),
         }
     }
 
     fn release(&mut self, _: u8) {}
 }
 
-fn map(leads: &'static [(&'static str, &'static str)], known: bool, taken: bool) -> Paths {
+fn where_to(leads: Leads, numbers: Numbers, lock: Lock) -> Paths {
     Paths {
         leads,
-        folders: KNOWN,
-        taken,
-        known,
+        numbers,
+        lock,
         asked: Cell::new(false),
     }
 }
 
-// The same with other folders.
-fn among(folders: &'static [(&'static str, u64)], paths: Paths) -> Paths {
-    Paths { folders, ..paths }
+// What comes of a run between the two folders `s` and `d`.
+fn begun(alloc: Global, paths: &Paths) -> Result<io::Result<u8>, GuardFault> {
+    begin(&mut &*paths, alloc, "s", "d")
 }
 
-// The two folders, each another.
-const KNOWN: &[(&str, u64)] = &[("s", 1), ("d", 2)];
+// What it is refused for where the lock can be had.
+fn refusal(alloc: Global, leads: Leads, numbers: Numbers) -> Option<GuardFault> {
+    begun(alloc, &where_to(leads, numbers, Lock::Held)).err()
+}
 
-#[test]
-fn folders_in_one_another_are_refused(rt: HostRuntime) -> Result<(), Fail> {
-    let rows: [&'static [(&'static str, &'static str)]; 4] = [
-        &[("s", "/x"), ("d", "/x")],
-        &[("s", "/x"), ("d", "/x/y/z")],
-        &[("s", "/d/ocfl/in"), ("d", "/d"), ("d/ocfl", "/d/ocfl")],
-        &[("s", "/else/in"), ("d", "/d"), ("d/staging", "/else")],
-    ];
-    for leads in rows {
-        let places = map(leads, true, true);
-        let begun = begin(&mut &places, rt.alloc(), "s", "d");
-        assert!(rt; matches!(begun, Err(GuardFault::Overlap)));
-        assert!(rt; !places.asked.get());
+// Whether it is refused as an overlap, before the lock is asked for.
+fn is_refused_unasked(alloc: Global, leads: Leads) -> bool {
+    let paths = where_to(leads, &[("s", 1), ("d", 2)], Lock::Taken);
+    matches!(begun(alloc, &paths), Err(GuardFault::Overlap)) && !paths.asked.get()
+}
+
+// Whether it begins where it has the lock, or can't ask for it, and is refused where another has it.
+fn goes_by_its_lock(alloc: Global, leads: Leads, numbers: Numbers) -> bool {
+    let held = begun(alloc, &where_to(leads, numbers, Lock::Held));
+    let taken = begun(alloc, &where_to(leads, numbers, Lock::Taken));
+    let unknown = begun(alloc, &where_to(leads, numbers, Lock::Unknown));
+    matches!(held, Ok(Ok(7))) && matches!(taken, Err(GuardFault::Taken)) && is_denied(unknown)
+}
+
+// Whether it begins without its lock, which it wasn't let ask for.
+fn is_denied(begun: Result<io::Result<u8>, GuardFault>) -> bool {
+    match begun {
+        Ok(Err(error)) => error.kind() == ErrorKind::PermissionDenied,
+        _ => false,
     }
-    Ok(())
 }
 
+const INSIDE: &[Leads] = &[
+    &[("s", "/x"), ("d", "/x")],
+    &[("s", "/x"), ("d", "/x/y/z")],
+    &[("s", "/d/ocfl/in"), ("d", "/d"), ("d/ocfl", "/d/ocfl")],
+    &[("s", "/else/in"), ("d", "/d"), ("d/staging", "/else")],
+];
+
 #[test]
-fn others_begin_where_they_have_the_lock(rt: HostRuntime) -> Result<(), Fail> {
-    let rows: [(
-        &'static [(&'static str, &'static str)],
-        &'static [(&'static str, u64)],
-    ); 4] = [
-        (&[("s", "/x"), ("d", "/xy")], &[("s", 1), ("d", 2)]),
-        (
-            &[("s", "/d/beside"), ("d", "/d"), ("d/ocfl", "/d/ocfl")],
-            &[("s", 1), ("d", 2), ("d/ocfl", 4)],
-        ),
-        (&[("s", "/x")], &[("s", 1)]),
-        (&[("d", "/x")], &[("d", 2)]),
-    ];
-    for (leads, folders) in rows {
-        let alloc = rt.alloc();
-        let held = begun(alloc, among(folders, map(leads, true, false)));
-        assert!(rt; matches!(held, Ok(Ok(7))));
-        let taken = begun(alloc, among(folders, map(leads, true, true)));
-        assert!(rt; matches!(taken, Err(GuardFault::Taken)));
-        match begun(alloc, among(folders, map(leads, false, true))) {
-            Ok(Err(error)) => assert!(rt; error.kind() == ErrorKind::PermissionDenied),
-            _ => assert!(rt; false),
-        }
+fn folders_in_one_another_are_refused(rt: HostRuntime) {
+    for leads in INSIDE {
+        assert!(rt; is_refused_unasked(rt.alloc(), leads), "{leads:?}");
     }
-    Ok(())
 }
 
-// What comes of a run between the two folders.
-fn begun(alloc: Global, places: Paths) -> Result<io::Result<u8>, GuardFault> {
-    begin(&mut &places, alloc, "s", "d")
-}
-
-// What comes of folders that lie apart by their paths.
-fn by_folders(
-    alloc: Global,
-    leads: &'static [(&'static str, &'static str)],
-    folders: &'static [(&'static str, u64)],
-) -> Option<GuardFault> {
-    begun(alloc, among(folders, map(leads, true, false))).err()
-}
+const APART: &[(Leads, Numbers)] = &[
+    (&[("s", "/x"), ("d", "/xy")], &[("s", 1), ("d", 2)]),
+    (
+        &[("s", "/d/beside"), ("d", "/d"), ("d/ocfl", "/d/ocfl")],
+        &[("s", 1), ("d", 2), ("d/ocfl", 4)],
+    ),
+    (&[("s", "/x")], &[("s", 1)]),
+    (&[("d", "/x")], &[("d", 2)]),
+];
 
 #[test]
-fn a_folder_by_another_path_is_known(rt: HostRuntime) -> Result<(), Fail> {
-    let both: &'static [(&'static str, &'static str)] = &[
-        ("s", "/x/s"),
-        ("s/pairtree_root", "/x/s/pairtree_root"),
-        ("d", "/y/z/d"),
-        ("d/ocfl", "/y/z/d/ocfl"),
-    ];
-    let rows: [&'static [(&'static str, u64)]; 6] = [
+fn others_begin_where_they_have_the_lock(rt: HostRuntime) {
+    for (leads, numbers) in APART {
+        assert!(rt; goes_by_its_lock(rt.alloc(), leads, numbers), "{leads:?}");
+    }
+}
+
+// Two folders that lie apart by their paths.
+const BOTH: Leads = &[
+    ("s", "/x/s"),
+    ("s/pairtree_root", "/x/s/pairtree_root"),
+    ("d", "/y/z/d"),
+    ("d/ocfl", "/y/z/d/ocfl"),
+];
+
+// What paths on the way to them are known by, and what a run is refused for then.
+const ON_THE_WAY: &[(Numbers, Option<GuardFault>)] = &[
+    (
         &[
             ("s", 1),
             ("s/pairtree_root", 3),
             ("d/ocfl", 4),
             ("/y/z/d", 1),
         ],
+        Some(GuardFault::Overlap),
+    ),
+    (
         &[("s", 1), ("s/pairtree_root", 3), ("d/ocfl", 4), ("/y/z", 1)],
+        Some(GuardFault::Overlap),
+    ),
+    (
         &[("s", 1), ("s/pairtree_root", 3), ("d/ocfl", 4), ("/", 1)],
+        Some(GuardFault::Overlap),
+    ),
+    (
         &[("s", 1), ("s/pairtree_root", 3), ("d/ocfl", 4), ("/y", 3)],
+        Some(GuardFault::Overlap),
+    ),
+    (
         &[("s", 1), ("s/pairtree_root", 3), ("d/ocfl", 4), ("/x", 4)],
+        Some(GuardFault::Overlap),
+    ),
+    (
         &[
             ("s", 1),
             ("s/pairtree_root", 3),
             ("d/ocfl", 4),
             ("/x/s/pairtree_root", 4),
         ],
-    ];
-    for folders in rows {
-        let fault = by_folders(rt.alloc(), both, folders);
-        assert_eq!(rt; fault, Some(GuardFault::Overlap));
-    }
-    let fault = by_folders(
-        rt.alloc(),
-        both,
+        Some(GuardFault::Overlap),
+    ),
+    (
         &[("s", 1), ("s/pairtree_root", 3), ("d/ocfl", 4), ("/", 9)],
-    );
-    assert_eq!(rt; fault, None);
-    Ok(())
-}
+        None,
+    ),
+];
 
 #[test]
-fn what_stands_and_has_no_place_is_refused(rt: HostRuntime) -> Result<(), Fail> {
-    let alloc = rt.alloc();
-    let fault = by_folders(alloc, &[("s", "/x")], &[("s", 1), ("d", 2)]);
-    assert_eq!(rt; fault, Some(GuardFault::Hidden));
-    let fault = by_folders(alloc, &[("d", "/x")], &[("s", 1), ("d", 2)]);
-    assert_eq!(rt; fault, Some(GuardFault::Hidden));
-    let fault = by_folders(alloc, &[("s", "/x"), ("d", "/y")], &[("d", 2)]);
-    assert_eq!(rt; fault, Some(GuardFault::Hidden));
-    Ok(())
+fn a_folder_by_another_path_is_known(rt: HostRuntime) {
+    for (numbers, fault) in ON_THE_WAY {
+        assert!(rt; refusal(rt.alloc(), BOTH, numbers) == *fault, "{numbers:?}");
+    }
+}
+
+// Folders that stand, one of which has no place.
+const UNPLACED: &[(Leads, Numbers)] = &[
+    (&[("s", "/x")], &[("s", 1), ("d", 2)]),
+    (&[("d", "/x")], &[("s", 1), ("d", 2)]),
+    (&[("s", "/x"), ("d", "/y")], &[("d", 2)]),
+];
+
+#[test]
+fn what_stands_and_has_no_place_is_refused(rt: HostRuntime) {
+    for (leads, numbers) in UNPLACED {
+        let fault = refusal(rt.alloc(), leads, numbers);
+        assert!(rt; fault == Some(GuardFault::Hidden), "{leads:?}");
+    }
 }

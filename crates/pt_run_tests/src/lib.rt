@@ -9,3 +9,5 @@ mod durable;
 mod guarding;
 #[cfg(test)]
 mod rehearsing;
+#[cfg(test)]
+mod steps;

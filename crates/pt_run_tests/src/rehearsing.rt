@@ -1,117 +1,106 @@
 //! Rehearsals, and paths that are too long.
 use crate::counting::Counts;
-use pt_folder::{Cause, HostDest};
-use pt_rehearsal::Rehearsal;
-use pt_texts::path;
-use pt_tree::{Block, Dest, Kind, TreeFault};
-use std::test::Fail;
+use crate::steps::{Step, wrong_in_folder, wrong_in_rehearsal};
+use pt_folder::HostDest;
+use pt_tree::{Kind, TreeFault};
+use std::alloc::Global;
+
+const WHOLE: &[Step] = &[
+    Step::Mkdir("staging", Ok(())),
+    Step::Create("staging/a", Ok(())),
+    Step::Append("bytes", Ok(())),
+    Step::Finish(Ok(())),
+    Step::Kind("ocfl/abc", Ok(Some(Kind::File))),
+    Step::Rename("staging", "ocfl/abc", Ok(())),
+    Step::Kind("ocfl/abc", Ok(Some(Kind::Dir))),
+    Step::Kind("staging", Ok(Some(Kind::File))),
+    Step::Peek("staging/a", Ok(0)),
+    Step::Changes(0),
+    Step::Syncs(0),
+    Step::Looks(3),
+];
 
 #[test]
-#[tactic(auto, using(pt_rehearsal::specs::Untold::untold_may_make, pt_rehearsal::specs::Untold::untold_can_write, pt_rehearsal::specs::Untold::untold_may_move, pt_rehearsal::specs::Untold::untold_can_peek))]
-fn a_rehearsal_changes_nothing(rt: HostRuntime) -> Result<(), Fail> {
-    let alloc = rt.alloc();
-    let counts = Counts::new();
-    let mut dest = Rehearsal::new(alloc, HostDest::new(counts.system(), alloc, "f"));
-    let (staging, place) = (path(alloc, "staging")?, path(alloc, "ocfl/abc")?);
-    let file = path(alloc, "staging/a")?;
-    dest.mkdir(&staging)?;
-    dest.create(&file)?;
-    dest.append(b"bytes".as_slice())?;
-    dest.finish()?;
-    assert_eq!(rt; dest.kind(&place)?, Some(Kind::File));
-    dest.rename(&staging, &place)?;
-    assert_eq!(rt; dest.kind(&place)?, Some(Kind::Dir));
-    assert_eq!(rt; dest.kind(&staging)?, Some(Kind::File));
-    let mut block = Block::new();
-    dest.peek(&file, &mut block)?;
-    assert!(rt; block.is_empty());
-    assert_eq!(rt; (counts.changes.get(), counts.syncs.get()), (0, 0));
-    assert_eq!(rt; counts.looks.get(), 3);
-    Ok(())
+fn a_rehearsal_changes_nothing(rt: HostRuntime) {
+    let wrong = wrong_in_rehearsal(&Counts::new(), rt.alloc(), WHOLE);
+    assert!(rt; wrong == Ok(None), "step {wrong:?}");
 }
 
-#[test]
-#[tactic(auto, using(pt_rehearsal::specs::Untold::untold_may_make, pt_rehearsal::specs::Untold::untold_may_move))]
-fn a_rehearsal_knows_the_folders_that_it_would_have_made(rt: HostRuntime) -> Result<(), Fail> {
-    let alloc = rt.alloc();
-    let counts = Counts::new();
-    let mut dest = Rehearsal::new(alloc, HostDest::new(counts.system(), alloc, "f"));
-    let (staging, root) = (path(alloc, "staging")?, path(alloc, "ocfl")?);
-    dest.mkdir(&staging)?;
-    dest.rename(&staging, &root)?;
-    for text in ["ocfl/abc", "ocfl/abc/def"] {
-        let tuple = path(alloc, text)?;
-        dest.mkdir(&tuple)?;
-        assert_eq!(rt; dest.kind(&tuple)?, Some(Kind::Dir));
-    }
-    assert_eq!(rt; dest.kind(&root)?, Some(Kind::Dir));
-    assert_eq!(rt; counts.looks.get(), 1);
-    assert_eq!(rt; dest.kind(&staging)?, Some(Kind::File));
-    assert_eq!(rt; counts.looks.get(), 2);
-    Ok(())
-}
+const REMEMBERED: &[Step] = &[
+    Step::Mkdir("staging", Ok(())),
+    Step::Rename("staging", "ocfl", Ok(())),
+    Step::Mkdir("ocfl/abc", Ok(())),
+    Step::Kind("ocfl/abc", Ok(Some(Kind::Dir))),
+    Step::Mkdir("ocfl/abc/def", Ok(())),
+    Step::Kind("ocfl/abc/def", Ok(Some(Kind::Dir))),
+    Step::Kind("ocfl", Ok(Some(Kind::Dir))),
+    Step::Looks(1),
+    Step::Kind("staging", Ok(Some(Kind::File))),
+    Step::Looks(2),
+];
 
 #[test]
-#[tactic(auto, using(pt_rehearsal::specs::Untold::untold_may_make, pt_rehearsal::specs::Untold::untold_may_move, pt_rehearsal::specs::Untold::untold_can_peek))]
-fn a_rehearsal_refuses_what_it_does_not_know(rt: HostRuntime) -> Result<(), Fail> {
-    let alloc = rt.alloc();
-    let counts = Counts::new();
-    let mut dest = Rehearsal::new(alloc, HostDest::new(counts.system(), alloc, "f"));
-    let staging = path(alloc, "staging")?;
-    let inside = path(alloc, "staging/a")?;
-    let place = path(alloc, "ocfl/abc")?;
-    dest.mkdir(&staging)?;
-    dest.mkdir(&inside)?;
-    assert_eq!(rt; dest.kind(&inside), Err(TreeFault::Device));
-    let mut block = Block::new();
-    assert_eq!(rt; dest.peek(&inside, &mut block), Err(TreeFault::Device));
-    assert_eq!(rt; dest.create(&place), Err(TreeFault::Device));
-    assert_eq!(rt; dest.mkdir(&path(alloc, "other")?), Err(TreeFault::Device));
-    assert_eq!(rt; dest.rename(&place, &inside), Err(TreeFault::Device));
-    assert_eq!(rt; dest.failures(), 5);
-    assert!(rt; dest.dest().last_failure().is_none());
-    Ok(())
+fn a_rehearsal_knows_the_folders_that_it_would_have_made(rt: HostRuntime) {
+    let wrong = wrong_in_rehearsal(&Counts::new(), rt.alloc(), REMEMBERED);
+    assert!(rt; wrong == Ok(None), "step {wrong:?}");
 }
 
+const UNKNOWN: &[Step] = &[
+    Step::Mkdir("staging", Ok(())),
+    Step::Mkdir("staging/a", Ok(())),
+    Step::Kind("staging/a", Err(TreeFault::Device)),
+    Step::Peek("staging/a", Err(TreeFault::Device)),
+    Step::Create("ocfl/abc", Err(TreeFault::Device)),
+    Step::Mkdir("other", Err(TreeFault::Device)),
+    Step::Rename("ocfl/abc", "staging/a", Err(TreeFault::Device)),
+    Step::Failures(5),
+    Step::NoPath,
+];
+
 #[test]
-#[tactic(auto, using(pt_rehearsal::specs::Untold::untold_may_make))]
-fn a_rehearsal_needs_its_folder(rt: HostRuntime) -> Result<(), Fail> {
-    let alloc = rt.alloc();
+fn a_rehearsal_refuses_what_it_does_not_know(rt: HostRuntime) {
+    let wrong = wrong_in_rehearsal(&Counts::new(), rt.alloc(), UNKNOWN);
+    assert!(rt; wrong == Ok(None), "step {wrong:?}");
+}
+
+const NO_FOLDER: &[Step] = &[
+    Step::Kind("staging", Ok(None)),
+    Step::Mkdir("staging", Err(TreeFault::Device)),
+    Step::Failures(1),
+    Step::FailedAt("f/"),
+];
+
+#[test]
+fn a_rehearsal_needs_its_folder(rt: HostRuntime) {
     let counts = Counts::new();
     counts.no_look.set(true);
-    let mut dest = Rehearsal::new(alloc, HostDest::new(counts.system(), alloc, "f"));
-    let staging = path(alloc, "staging")?;
-    assert_eq!(rt; dest.kind(&staging)?, None);
-    assert_eq!(rt; dest.mkdir(&staging), Err(TreeFault::Device));
-    assert_eq!(rt; dest.failures(), 1);
-    match dest.dest().last_failure() {
-        Some(failure) => assert_eq!(rt; failure.path(), "f/"),
-        None => assert!(rt; false),
-    }
-    Ok(())
+    let wrong = wrong_in_rehearsal(&counts, rt.alloc(), NO_FOLDER);
+    assert!(rt; wrong == Ok(None), "step {wrong:?}");
+}
+
+// Where a path, the folder's before it, has five bytes at most.
+const LONG: &[Step] = &[
+    Step::Mkdir("abc", Ok(())),
+    Step::Create("a/b", Ok(())),
+    Step::Changes(2),
+    Step::Mkdir("abcd", Err(TreeFault::Device)),
+    Step::Create("abcd", Err(TreeFault::Device)),
+    Step::Mkdir("\u{e9}cd", Err(TreeFault::Device)),
+    Step::Create("\u{e9}cd", Err(TreeFault::Device)),
+    Step::Changes(2),
+    Step::Failures(4),
+    Step::TooLong("f/\u{e9}cd"),
+];
+
+// The first of these steps that goes otherwise.
+fn wrong_in_short_paths(alloc: Global, steps: &[Step]) -> Result<Option<usize>, TreeFault> {
+    let counts = Counts::new();
+    let mut dest = HostDest::new(counts.system(), alloc, "f").with_longest(5);
+    wrong_in_folder(&mut dest, &counts, alloc, steps)
 }
 
 #[test]
-#[tactic(auto, using(pt_folder::specs::DestHeld::untold_may_make))]
-fn longer_paths_are_not_made(rt: HostRuntime) -> Result<(), Fail> {
-    let alloc = rt.alloc();
-    let counts = Counts::new();
-    let mut dest = HostDest::new(counts.system(), alloc, "f").with_longest(5);
-    dest.mkdir(&path(alloc, "abc")?)?;
-    dest.create(&path(alloc, "a/b")?)?;
-    assert_eq!(rt; counts.changes.get(), 2);
-    for text in ["abcd", "\u{e9}cd"] {
-        let long = path(alloc, text)?;
-        assert_eq!(rt; dest.mkdir(&long), Err(TreeFault::Device));
-        assert_eq!(rt; dest.create(&long), Err(TreeFault::Device));
-    }
-    assert_eq!(rt; (counts.changes.get(), dest.failures()), (2, 4));
-    match dest.last_failure() {
-        Some(failure) => {
-            assert_eq!(rt; failure.path(), "f/\u{e9}cd");
-            assert!(rt; matches!(failure.cause(), Cause::Long));
-        }
-        None => assert!(rt; false),
-    }
-    Ok(())
+fn longer_paths_are_not_made(rt: HostRuntime) {
+    let wrong = wrong_in_short_paths(rt.alloc(), LONG);
+    assert!(rt; wrong == Ok(None), "step {wrong:?}");
 }
