@@ -203,9 +203,9 @@ none_blamed_for_ended w = record { source = refl; dest = refl; log = refl }
 
 -- a fault of a turn is no answer of a run that made none
 pub err_answer : (old new : Running) (g g' : Option (List ℕ)) (F F' : Failures) (why : Fault) → IsOfTurn why → IsTurn old → new.phase ≡ phase.Ended → TurnLeaves old.state new.state g g' F F' (Err why) → EndsAs old new (Err why)
-err_answer old new g g' F F' fault.Turns own = absurd own
-err_answer old new g g' F F' fault.Ended own = absurd own
-err_answer old new g g' F F' _ _ turn ended left = (turn, ended)
+err_answer _ _ _ _ _ _ fault.Turns own _ _ _ = absurd own
+err_answer _ _ _ _ _ _ fault.Ended own _ _ _ = absurd own
+err_answer _ _ _ _ _ _ _ _ turn ended _ = (turn, ended)
 
 pub err_counted : (old new : Running) {g : Option (List ℕ)} (g' : Option (List ℕ)) (F F' : Failures) (why : Fault) → IsOfTurn why → TurnLeaves old.state new.state g g' F F' (Err why) → IsCounted old new (Err why)
 err_counted old new g' F F' fault.Turns own left = absurd own

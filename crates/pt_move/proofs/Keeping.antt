@@ -60,11 +60,11 @@ keeps_after here s s' old new answer going turned start is =
 
 -- it holds of a fault of a turn as it does of any but that of an ended run
 halted : (P : Fault → Type 0) (why : Fault) → P why → IfHalted (Err why) P
-halted P fault.Source p = p
+halted _ fault.Ended _ = tt
 halted _ _ p = p
 
 unless_ended : (P : Type 0) (why : Fault) → P → UnlessEnded (Err why) P
-unless_ended P fault.Source p = p
+unless_ended _ fault.Ended _ = tt
 unless_ended _ _ p = p
 
 module _ (start : Start) (old new : World) (before : Running) (s' : State) where

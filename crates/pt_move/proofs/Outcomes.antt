@@ -15,6 +15,8 @@ use Rattle.pt_move.proofs.LateLog.{BlamesLogLate, turn_late}
 use Rattle.pt_begun.proofs.ends.Ending.{ends_well}
 use Rattle.pt_begun.proofs.ends.EndStates.{ends_with_states}
 use Rattle.pt_begun.proofs.refusals.GoodStarts.{nothing_is_refused}
+use Rattle.pt_begun.proofs.refusals.Reasons.{of_turn}
+use Rattle.pt_plan.specs.RunFaults.{IsOfTurn}
 use Rattle.pt_begun.proofs.source.InPairtree.{some_same}
 use Rattle.pt_begun.proofs.refusals.Refusing.{refuses_rightly}
 use Rattle.pt_begun.proofs.refusals.StagingFound.{finds_staging}
@@ -42,9 +44,10 @@ of_dest fault.StagingLeft start left target = left refl
 of_dest fault.Target start left target = target refl
 of_dest _ _ _ _ = tt
 
-of_both : {job : Job} (why : Fault) (source : Forest) (start : Tree) → (why ≡ fault.Target → SaysOfBoth job fault.Target source start) → SaysOfBoth job why source start
-of_both fault.Target source start target = target refl
-of_both _ _ _ _ = tt
+of_both : {job : Job} (why : Fault) (source : Forest) (start : Tree) → IsOfTurn why → (why ≡ fault.Target → SaysOfBoth job fault.Target source start) → SaysOfBoth job why source start
+of_both fault.Turns _ _ own _ = absurd own
+of_both fault.Target source start _ target = target refl
+of_both _ _ _ _ _ = tt
 
 if_early : (why : Fault) (P : Type 0) → (law.is_early why ≡ true → P) → IfEarly why P
 if_early fault.NotPairtree P early = early refl
@@ -137,7 +140,7 @@ module _ (s s' : State) (here : Phase) (fed fed' : List ℕ) (old new : World) (
         (λ same. finds_target job start old new run after t begun (rw same at turn) start_is),
     λ f t source_is start_is.
         let reading = reading_of old.source source_is in
-        of_both why f t
+        of_both why f t (of_turn turn)
         (λ same. rw reading.2 at
         (finds_target_of job start old new run after reading.0 t begun (rw same at turn) reading.1 start_is).1),
   )
