@@ -341,7 +341,7 @@ unfolding Surveys TurnKeeps CountedTurn Did Stays LeavesSome
 says_of_turn here s s' told told' w v l l' a c a' c' why (count, it) counted = record {
   rightly = (keeps_after here s s' (world told None None a 0 c) (world told' None None a' 0 c') (Err why) (going here it.stands) (counted_alone here s s' told told' w v l l' a 0 c a' 0 c' (Err why) counted) no_start (is_begun a 0 c it)).says.says;
   no_dest = by (counted.1 it.fed (fed_going s.job.algorithm s.hasher it.fed (going here it.stands) it.was)).1.1;
-  turns = λ is. no_turns why (of_turn (counted.1 it.fed (fed_going s.job.algorithm s.hasher it.fed (going here it.stands) it.was)).1.1) is;
+  turns = λ is. absurd (no_turns why (of_turn (counted.1 it.fed (fed_going s.job.algorithm s.hasher it.fed (going here it.stands) it.was)).1.1) is);
 }
   where
     by : {before after : Kept} {why : Fault} → Turn (job_of s.job) here before after (world told w l a 0 c) (world told' v l' a' 0 c') (Err why) → is_of_dest why ≡ false
