@@ -1,14 +1,14 @@
 -- What is read of the root after a step of the survey.
-use Rattle.std.proofs.Common.{◌≡◌, ◌≢◌, ◌<◌, ◌≤◌, ◌+◌, ℕ, zero, suc, Bool, true, false, List, [], ◌∷◌, ◌++◌, refl, ap, sym, ◌∙◌, subst, arith, inl, inr, ◌⊎◌, append-nil, append_assoc, drop, length, min, take}
-use Rattle.std.specs.Prelude.{All, IfOk, Option, None, Some, ◌==◌}
+use Rattle.std.proofs.Common.{◌≡◌, ◌≢◌, ◌<◌, ◌≤◌, ◌+◌, ℕ, zero, suc, Bool, true, false, List, [], ◌∷◌, ◌++◌, refl, ap, sym, ◌∙◌, subst, arith, inl, inr, ◌⊎◌, append_assoc, drop, length, min, take}
+use Rattle.std.specs.Prelude.{All, Option, None, Some, ◌==◌}
 use Rattle.std.specs.Bool.{OnTrue}
-use Rattle.std.specs.Option.{ForSome, option_and_then, option_map, option_map_or}
+use Rattle.std.specs.Option.{option_and_then, option_map, option_map_or}
 use Rattle.std.proofs.lemmas.Bool.{eqb-true}
 use Rattle.std.proofs.lemmas.List.{length-append, take-append-drop, take-append-le, take_all, take_min}
 use Rattle.std.proofs.lemmas.List.Elements.{All-nil, All-push}
 use Rattle.pt_audit.proofs.Pacing.{still_alike}
 use Rattle.pt_begun.proofs.source.InPairtree.{some_same}
-use Rattle.pt_audit.specs.Beside.{AreAlike, AreFew, HasEnded, HaveRead, IsBehind, IsPaced, IsAtObject, IsClosed, IsOpened, PacedAt, BehindAt, ReadBeside}
+use Rattle.pt_audit.specs.Beside.{AreAlike, AreFew, HasEnded, HaveRead, IsBehind, IsPaced, IsAtObject, IsOpened, PacedAt, BehindAt, ReadBeside}
 use Rattle.pt_audit.specs.declared.beside.Beside.{Beside}
 use Rattle.pt_compare.specs.Beside.{OpensStanding, StandsAlike}
 use Rattle.pt_compare.specs.Bytes.{CameNext, TellsEnd, left_in}

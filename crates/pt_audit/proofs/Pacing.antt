@@ -1,8 +1,8 @@
 -- The root is read as far as the survey has seen: what a step of the survey leaves to be read.
 use Rattle.std.proofs.Common.{◌≡◌, ◌<◌, ◌≤◌, ◌+◌, ◌-◌, ℕ, zero, suc, Bool, true, false, List, [], ◌∷◌, ◌++◌, refl, ap, sym, ◌∙◌, subst, arith, inl, inr, ◌⊎◌, append-nil, cond, drop, length, take}
-use Rattle.std.specs.Prelude.{All, Option, None, Some, Ok, is_some, unwrap_or, ⊤}
+use Rattle.std.specs.Prelude.{All, Option, None, Some, Ok, is_some, unwrap_or}
 use Rattle.std.specs.Bool.{MatchBool, OnTrue}
-use Rattle.std.specs.Option.{ForSome, option_map}
+use Rattle.std.specs.Option.{option_map}
 use Rattle.std.proofs.lemmas.Bool.{true≢false}
 use Rattle.std.proofs.lemmas.List.{length-append, length-drop, take-append-drop, take-append-le, take_all}
 use Rattle.std.proofs.lemmas.List.Elements.{All-nil}
@@ -12,7 +12,7 @@ use Rattle.pt_audit.specs.declared.beside.Beside.{Beside}
 use Rattle.pt_begun.proofs.source.InPairtree.{file_in_pairtree}
 use Rattle.pt_begun.specs.BegunHeld.{RowsAt}
 use Rattle.pt_compare.proofs.Opening.{dir_above}
-use Rattle.pt_compare.proofs.Passed.{block_is, left_next}
+use Rattle.pt_compare.proofs.Passed.{block_is}
 use Rattle.pt_compare.specs.Beside.{StandsAlike}
 use Rattle.pt_compare.specs.Bytes.{left_in}
 use Rattle.pt_compare.specs.Parts.{in_content}
@@ -24,7 +24,7 @@ use Rattle.pt_object.specs.Contents.{content_of, is_noted, noted}
 use Rattle.pt_object.specs.declared.contents.Content.{Content}
 use Rattle.pt_plan.specs.Job.{Job}
 use Rattle.pt_plan.specs.Run.{Held}
-use Rattle.pt_plan.specs.TurnScan.{EndsFile, EndsObject, EndsSite, EntersDirectory, EntersObject, IsTooDeep, IsTooLong, LeavesDirectory, MeetsDeep, MeetsLimit, MeetsOther, OpensFile, PassesShorty, ReadsOn, Scans, StartsInSite, logical_path, own_listings}
+use Rattle.pt_plan.specs.TurnScan.{EndsFile, EndsObject, EndsSite, EntersDirectory, EntersObject, IsTooDeep, IsTooLong, LeavesDirectory, MeetsDeep, MeetsLimit, MeetsOther, OpensFile, PassesShorty, ReadsOn, Scans, StartsInSite, logical_path}
 use Rattle.pt_plan.specs.TurnWalk.{in_pairtree, in_root}
 use Rattle.pt_plan.specs.World.{Answers, Calls}
 use Rattle.pt_plan.specs.declared.object.Object.{Object}
@@ -36,7 +36,7 @@ use Rattle.pt_state.specs.States.{held_of, job_of}
 use Rattle.pt_state.specs.declared.state.State.{State}
 use Rattle.pt_survey.proofs.Stepping.{stands_so}
 use Rattle.pt_survey.specs.Files.{Scanned, ScansOn, is_of_object, is_scanning, names_before}
-use Rattle.pt_survey.specs.Surveying.{IsHand, IsHandAt, IsSurvey, Surveys, passed, sight_at}
+use Rattle.pt_survey.specs.Surveying.{IsHand, IsHandAt, Surveys, passed, sight_at}
 use Rattle.pt_survey.specs.declared.survey.AtHand.{AtHand}
 use Rattle.pt_survey.specs.declared.survey.Sight.{Sight}
 use Rattle.pt_survey.specs.declared.survey.Sight.TheVariants as sight

@@ -1,5 +1,5 @@
 -- The files of the root that are read beside those of an object, and how far they are alike.
-use Rattle.std.specs.Prelude.{◌≡◌, ◌≢◌, ◌≤◌, ◌⊎◌, ℕ, zero, suc, Bool, true, false, All, List, [], ◌∷◌, ◌++◌, drop, length, take, Option, Some, ⊤}
+use Rattle.std.specs.Prelude.{◌≡◌, ◌≤◌, ◌⊎◌, ℕ, zero, suc, false, All, List, [], ◌∷◌, ◌++◌, drop, length, take, Option, Some, ⊤}
 use Rattle.std.specs.Bool.{OnTrue}
 use Rattle.std.specs.Option.{ForSome}
 use Rattle.pt_audit.specs.declared.beside.Beside.{Beside}

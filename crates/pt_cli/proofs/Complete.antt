@@ -1,7 +1,7 @@
 -- What the parser accepts has an answer: no words that it takes ask for nothing that there is.
 use Rattle.std.proofs.Common.{◌≡◌, ◌∙◌, ◌||◌, ℕ, Bool, true, false, cond, not, List, [], ◌∷◌, Option, Some, None, Result, refl, sym, ap, arith, true≢false}
 use Rattle.std.specs.Prelude.{⊤, codes, is_some, option_map}
-use Rattle.std.specs.List.{find, fold, list_any}
+use Rattle.std.specs.List.{list_any}
 use Rattle.std.specs.Str.{bytes_eq}
 use Rattle.std.specs.Str.Parse.{ParsesUnsigned}
 use Rattle.std.specs.Borrow.{Bor}

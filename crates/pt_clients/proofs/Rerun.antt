@@ -1,5 +1,5 @@
 -- A run over what another left, once `staging` is taken away.
-use Rattle.std.proofs.Common.{◌≡◌, ◌++◌, ℕ, List, refl, sym, ap, ◌∙◌, subst}
+use Rattle.std.proofs.Common.{◌≡◌, ℕ, List, refl, sym, ap, ◌∙◌, subst}
 use Rattle.std.specs.Prelude.{IsSome, Option, None, Some, Ok, Err}
 use Rattle.std.specs.Io.KnownBytes.{Appends}
 use Rattle.std.specs.Option.{option_map}
@@ -9,7 +9,6 @@ use Rattle.pt_object.specs.Scripts.{staging}
 use Rattle.pt_plan.proofs.LaterTrees.{rerun_leaves_the_same}
 use Rattle.pt_plan.specs.Carried.{after_all}
 use Rattle.pt_plan.specs.Job.{Job as Plan}
-use Rattle.pt_plan.specs.RerunLaws.{RerunEnds}
 use Rattle.pt_plan.specs.Roots.{root_in, with_root}
 use Rattle.pt_plan.specs.World.{World, dest_tree, source_tree}
 use Rattle.pt_state.specs.States.{job_of}

@@ -1,5 +1,5 @@
 -- Runs that are made anew after a fault, once `staging` is taken away.
-use Rattle.std.specs.Prelude.{◌≡◌, ℕ, List, IsSome, Option, Some}
+use Rattle.std.specs.Prelude.{◌≡◌, IsSome, Option, Some}
 use Rattle.std.specs.Option.{option_map}
 use Rattle.pt_object.specs.Scripts.{staging}
 use Rattle.pt_plan.specs.Carried.{IsStart, after_all}

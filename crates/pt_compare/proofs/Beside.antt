@@ -1,7 +1,7 @@
 -- A content that is known to be alike is met without being read.
-use Rattle.std.proofs.Common.{◌≡◌, ◌<◌, ℕ, zero, suc, arith, List, [], ◌∷◌, ◌++◌, false, refl, sym, ap, ◌∙◌, subst, take}
+use Rattle.std.proofs.Common.{◌≡◌, ◌<◌, ℕ, zero, suc, arith, List, [], ◌∷◌, ◌++◌, subst, take}
 use Rattle.std.proofs.lemmas.List.Elements.{All-head, All-tail}
-use Rattle.std.specs.Prelude.{All, Option, None, Some, Result, Ok, Err, slice_get}
+use Rattle.std.specs.Prelude.{All, Option, Some, Result, Ok, Err, slice_get}
 use Rattle.pt_compare.specs.Beside.{AreAlike, StandsAlike, TakesFile}
 use Rattle.pt_compare.specs.Marks.{Marks, inside}
 use Rattle.pt_compare.specs.Meeting.{MeetsFrom, MeetsIn}

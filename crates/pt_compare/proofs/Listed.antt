@@ -3,7 +3,7 @@ use Rattle.std.proofs.Common.{◌≡◌, ℕ, zero, suc, List, [], ◌∷◌, �
 use Rattle.std.specs.Prelude.{Option, None, Some, slice_get}
 use Rattle.std.specs.Option.{option_and_then}
 use Rattle.std.specs.Str.{bytes_eq}
-use Rattle.pt_tree.specs.Forest.{Forest, Node, File, Dir, Other, none, file, other, dir, as_dir, dir_at, find, is_proper, kind_of, listing_at, listing_of, node_at}
+use Rattle.pt_tree.specs.Forest.{Forest, Node, File, Dir, Other, none, file, other, dir, as_dir, find, is_proper, kind_of, listing_of, node_at}
 use Rattle.pt_tree.specs.Listing.{Item}
 use Rattle.pt_tree.specs.Path.{Path}
 use Rattle.pt_tree.specs.declared.kind.Kind.{Kind}

@@ -1,15 +1,15 @@
 -- Folders that are known to stand, and what is opened below them.
-use Rattle.std.proofs.Common.{◌≡◌, ◌<◌, ◌+◌, ℕ, zero, suc, List, [], ◌∷◌, ◌++◌, Bool, true, false, refl, sym, ap, ◌∙◌, subst, drop, take, length, append-nil, append_assoc, get_or}
+use Rattle.std.proofs.Common.{◌≡◌, ◌<◌, ◌+◌, ℕ, suc, List, [], ◌∷◌, ◌++◌, Bool, true, false, refl, sym, ap, ◌∙◌, subst, drop, take, length, append-nil, append_assoc, get_or}
 use Rattle.std.specs.Prelude.{Option, None, Some, cond}
-use Rattle.std.specs.Option.{ForSome, option_map, option_map_or}
-use Rattle.std.specs.Cmp.Lexicographic.{other_text, same_text}
+use Rattle.std.specs.Option.{option_map, option_map_or}
+use Rattle.std.specs.Cmp.Lexicographic.{same_text}
 use Rattle.std.specs.Str.{bytes_eq}
 use Rattle.std.proofs.lemmas.Bool.{true≢false}
 use Rattle.std.proofs.lemmas.List.{drop_more, take-append-drop}
 use Rattle.pt_compare.specs.Root.{CanLook, Stands, is_dir, kind_at, same_kind}
 use Rattle.pt_compare.specs.Ways.{common_names}
 use Rattle.pt_compare.proofs.Roots.{below, stands_dir}
-use Rattle.pt_tree.specs.Forest.{Dir, Forest, kind_of, node_at}
+use Rattle.pt_tree.specs.Forest.{Dir, Forest, kind_of}
 use Rattle.pt_tree.specs.Path.{Path, parent, split_path}
 use Rattle.pt_tree.specs.declared.kind.Kind.TheVariants as kind
 

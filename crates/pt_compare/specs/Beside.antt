@@ -1,5 +1,5 @@
 -- Files that are known to be alike on both sides, since they were read beside each other.
-use Rattle.std.specs.Prelude.{◌≡◌, Bool, true, false, List, ◌++◌, take, Option, Some, Result, Ok, Err, All}
+use Rattle.std.specs.Prelude.{◌≡◌, Bool, true, false, ◌++◌, take, Option, Some, Result, Ok, Err, All}
 use Rattle.std.specs.Option.{ForSome, option_map}
 use Rattle.pt_compare.specs.Marks.{Marks, inside, without_mark}
 use Rattle.pt_compare.specs.Meeting.{IsWrongFile}

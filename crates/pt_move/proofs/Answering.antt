@@ -2,7 +2,7 @@
 use Rattle.std.proofs.Common.{◌≡◌, ◌≢◌, ◌<◌, ◌≤◌, ◌+◌, ◌==◌, Bool, cond, false, true, ℕ, List, [], refl, sym, ap, ◌∙◌, arith, inl, inr}
 use Rattle.std.proofs.lemmas.Bool.{OnFalse_at, OnFalse_from}
 use Rattle.std.specs.Prelude.{Option, None, Some, Ok, Err}
-use Rattle.pt_state.proofs.Words.{HasBeenFed, Algorithm, Hasher, Writing, Reading, Answer, phase_after, Job, Held, Run, new_run, Failures, World, source_tree, Fault, Phase, held_of, job_of, kept_of, IsLayout, Tree, counts_of}
+use Rattle.pt_state.proofs.Words.{HasBeenFed, Algorithm, Hasher, Writing, Reading, Answer, phase_after, Job, Held, Run, new_run, Failures, World, source_tree, Fault, Phase, held_of, job_of, kept_of, IsLayout, Tree}
 use Rattle.pt_state.proofs.Words.fault
 use Rattle.pt_state.proofs.Words.part
 use Rattle.pt_state.proofs.Words.phase
@@ -36,7 +36,6 @@ use Rattle.pt_begun.specs.Past.{Past}
 use Rattle.pt_begun.proofs.ends.Permitted.{begun_permits}
 use Rattle.pt_plan.specs.Permits.{MayMakeContent}
 use Rattle.pt_state.specs.declared.job.Job as own
-use Rattle.pt_move.specs.Bounds.{lines_put}
 use Rattle.pt_move.specs.Leaving.{Blames}
 use Rattle.pt_move.specs.declared.mover.Turn as own_turn
 use Rattle.pt_move.specs.declared.mover.Turn.TheVariants as turn

@@ -1,5 +1,5 @@
 -- What a turn of a run leaves and says, from what it is of the definitions.
-use Rattle.std.proofs.Common.{◌≡◌, ℕ, List, false, true, refl, ap, ◌∙◌}
+use Rattle.std.proofs.Common.{◌≡◌, ℕ, List, false, true, refl, ◌∙◌}
 use Rattle.std.specs.Prelude.{Option, None, Some, Ok, Err}
 use Rattle.pt_state.proofs.Words.{Forest, Reading, Tree, Answer, phase_after, Job, Kept, Run, turning, Turn, World, source_tree, Fault, Phase, job_of, kept_of}
 use Rattle.pt_state.proofs.Words.fault

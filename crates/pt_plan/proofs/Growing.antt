@@ -1,5 +1,5 @@
 -- How what a run carries and tells grows, item by item.
-use Rattle.std.proofs.Common.{◌≡◌, ◌≤◌, ℕ, zero, suc, List, [], ◌∷◌, ◌++◌, length, refl, ◌∙◌, ap, sym, subst, append_assoc, take}
+use Rattle.std.proofs.Common.{◌≡◌, ℕ, zero, suc, List, [], ◌∷◌, ◌++◌, length, refl, ◌∙◌, ap, sym, append_assoc, take}
 use Rattle.std.specs.Prelude.{None, Some, Option, Some, flat_map, slice_get}
 use Rattle.std.specs.Option.{option_map, option_or}
 use Rattle.std.proofs.lemmas.List.{take_all}

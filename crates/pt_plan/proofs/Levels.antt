@@ -1,11 +1,10 @@
 -- Paths of one length, and longer ones.
-use Rattle.std.proofs.Common.{◌≡◌, ℕ, ◌<◌, List, [], ◌∷◌, ◌++◌, Bool, true, false, length, refl, sym, ◌∙◌, ap, arith}
-use Rattle.std.specs.Prelude.{cond, ◌&&◌, None, Some, is_some}
+use Rattle.std.proofs.Common.{◌≡◌, ℕ, ◌<◌, List, [], ◌∷◌, Bool, true, false, length, refl, sym, ◌∙◌, ap, arith}
+use Rattle.std.specs.Prelude.{cond, ◌&&◌, None, is_some}
 use Rattle.std.specs.Str.{bytes_eq}
 use Rattle.std.proofs.lemmas.Bool.{false≢true, true≢false}
 use Rattle.pt_object.proofs.Ways.{is_same, leads, path_itself, same_name}
 use Rattle.pt_tree.specs.Path.{Path, rest_below, same_path}
-use Rattle.pt_tree.proofs.Below.{whole_of}
 
 -- of two paths of one length one leads to the other only if they are one
 pub level : (p q : Path) → length p ≡ length q → leads p q ≡ same_path p q

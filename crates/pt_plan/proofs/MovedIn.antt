@@ -1,6 +1,6 @@
 -- Things made in the root of a destination, and moved there.
 use Rattle.std.proofs.Common.{◌≡◌, ℕ, zero, suc, List, [], ◌∷◌, ◌++◌, Bool, true, false, refl, sym, ◌∙◌, ap, cond, take, append_assoc, ◌&&◌}
-use Rattle.std.specs.Prelude.{◌||◌, Option, None, Some, codes, is_some, slice_get}
+use Rattle.std.specs.Prelude.{◌||◌, Option, None, Some, codes, slice_get}
 use Rattle.std.specs.Option.{option_or}
 use Rattle.std.specs.Str.{bytes_eq}
 use Rattle.std.proofs.lemmas.Bool.{false≢true, true≢false}
@@ -15,7 +15,6 @@ use Rattle.pt_plan.specs.Carried.{folder_where}
 use Rattle.pt_plan.specs.GrowthLaws.{FoldersGrow, HasNoGaps, ObjectIsMovedIn, RootIsItsOwn, RootIsMadeInPlace, RootIsMovedIn, RootsHaveNoGaps}
 use Rattle.pt_plan.specs.Roots.{root_in, storage_root, with_folders, with_root}
 use Rattle.pt_plan.proofs.Folders.{is_one}
-use Rattle.pt_plan.proofs.Growing.{append_nil}
 
 -- ---- a root of a destination
 

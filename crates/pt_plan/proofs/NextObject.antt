@@ -1,9 +1,9 @@
 -- With one item more, its object stands at its place, and the rest of the root with its tuple directories stays.
-use Rattle.std.proofs.Common.{◌≡◌, ℕ, suc, List, [], ◌∷◌, ◌++◌, Bool, true, false, refl, sym, ◌∙◌, ap, cond}
+use Rattle.std.proofs.Common.{◌≡◌, ℕ, suc, List, [], ◌∷◌, ◌++◌, Bool, true, false, refl, sym, ◌∙◌, ap}
 use Rattle.std.specs.Prelude.{◌||◌, ◌&&◌, Option, None, Some, is_some, not}
 use Rattle.std.specs.Option.{option_and_then, option_or}
 use Rattle.std.proofs.lemmas.Bool.{false_from_ne_true, true≢false}
-use Rattle.pt_object.proofs.Ways.{leads, leads-itself, leads-longer, leads-on, name_itself}
+use Rattle.pt_object.proofs.Ways.{leads, leads-itself, leads-longer, leads-on}
 use Rattle.pt_object.specs.Holding.{placed, placed_at}
 use Rattle.pt_object.specs.Object.{object_of}
 use Rattle.pt_object.specs.Root.{base, base_where}

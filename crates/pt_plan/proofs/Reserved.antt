@@ -1,5 +1,5 @@
 -- No named item has a reserved place.
-use Rattle.std.proofs.Common.{◌≡◌, ℕ, zero, suc, Bool, true, false, List, [], ◌∷◌, ◌++◌, refl, subst, cond, map}
+use Rattle.std.proofs.Common.{◌≡◌, ℕ, zero, suc, Bool, true, false, List, [], ◌∷◌, ◌++◌, refl, cond, map}
 use Rattle.std.specs.Prelude.{Option, None, Some, not, slice_get}
 use Rattle.std.specs.List.{concat, list_all}
 use Rattle.std.specs.Str.{is_utf8}

@@ -1,6 +1,6 @@
 -- What a change of a tree leaves, and paths whose texts differ.
-use Rattle.std.proofs.Common.{◌≡◌, ◌∙◌, ℕ, Bool, true, false, List, [], ◌∷◌, ◌++◌, cond, refl, ap, sym}
-use Rattle.std.specs.Prelude.{◌||◌, Option, None, Some}
+use Rattle.std.proofs.Common.{◌≡◌, ◌∙◌, ℕ, Bool, true, false, List, ◌++◌, cond, refl, ap, sym}
+use Rattle.std.specs.Prelude.{◌||◌, None, Some}
 use Rattle.std.specs.Str.{bytes_eq}
 use Rattle.std.proofs.lemmas.Bool.{true≢false}
 use Rattle.pt_tree.specs.Name.{AreNames}

@@ -1,5 +1,5 @@
 -- What is remembered fits the tree after each step but a move.
-use Rattle.std.proofs.Common.{◌≡◌, ◌∙◌, ◌⊎◌, inl, inr, ℕ, Bool, true, false, List, [], ◌∷◌, ◌++◌, cond, refl, ap, sym, subst}
+use Rattle.std.proofs.Common.{◌≡◌, ◌∙◌, ◌⊎◌, inl, inr, ℕ, Bool, true, false, List, [], ◌∷◌, cond, refl, ap, sym, subst}
 use Rattle.std.specs.Prelude.{◌||◌, nat_lt, length, Option, None, Some}
 use Rattle.std.specs.Option.{option_map, ForSome}
 use Rattle.std.specs.Str.{bytes_eq}
@@ -7,14 +7,14 @@ use Rattle.std.proofs.lemmas.Bool.{or_from, or_left, or_parts, or_right, true≢
 use Rattle.pt_tree.specs.Dest.{Writing, added_to, after_append, after_finish, after_mkdir}
 use Rattle.pt_tree.specs.Name.{AreNames}
 use Rattle.pt_tree.specs.Path.{Path, joined, same_path}
-use Rattle.pt_tree.specs.Tree.{CanMake, Entry, Folder, IsTree, Tree, added, put}
+use Rattle.pt_tree.specs.Tree.{CanMake, Entry, Folder, Tree, put}
 use Rattle.pt_tree.proofs.Below.{gap_below}
 use Rattle.pt_begun.proofs.dest.Trees.{tree_added, tree_put}
 use Rattle.pt_object.proofs.Ways.{is_same, name_itself, same_name}
 use Rattle.pt_rehearsal.specs.Texts.{with_text}
 use Rattle.pt_rehearsal.specs.Seeing.{View, Within, is_folder, is_hidden, is_inside, is_itself, is_met, met_in, with_folder, with_met}
 use Rattle.pt_rehearsal.specs.Fitting.{Fits, FitsWithin}
-use Rattle.pt_rehearsal.proofs.Changes.{added_folder, added_none, added_off, nothing_below, or_later, put_at_none, put_folder, put_here, put_off, text_apart, text_of, text_once, told_apart, told_apart_back}
+use Rattle.pt_rehearsal.proofs.Changes.{added_folder, added_none, added_off, nothing_below, or_later, put_at_none, put_folder, put_here, put_off, text_apart, text_once, told_apart, told_apart_back}
 
 -- ---- a directory below the top, in a place that is known
 

@@ -1,12 +1,12 @@
 -- What is remembered fits the tree after a move of the directory that is filled.
-use Rattle.std.proofs.Common.{◌≡◌, ◌∙◌, ◌<◌, ◌+◌, ℕ, suc, Bool, true, false, List, [], ◌∷◌, ◌++◌, cond, length, refl, ap, sym, subst, arith, lt-ltb, ltb-true}
+use Rattle.std.proofs.Common.{◌≡◌, ◌∙◌, ◌+◌, ℕ, Bool, true, false, List, [], ◌∷◌, ◌++◌, cond, length, refl, ap, sym, subst}
 use Rattle.std.specs.Prelude.{◌||◌, nat_lt, Option, None, Some}
 use Rattle.std.specs.Str.{bytes_eq}
 use Rattle.std.proofs.lemmas.Bool.{or_from, or_left, or_parts, or_right, true≢false}
 use Rattle.pt_tree.specs.Dest.{Writing, after_rename, open_unless_below}
 use Rattle.pt_tree.specs.Name.{AreNames}
 use Rattle.pt_tree.specs.Path.{Path, joined, rest_below}
-use Rattle.pt_tree.specs.Tree.{CanMove, Entry, Folder, Tree, moved, moved_at}
+use Rattle.pt_tree.specs.Tree.{CanMove, Folder, Tree, moved, moved_at}
 use Rattle.pt_tree.proofs.Below.{gap_below, rest_of, whole_of}
 use Rattle.pt_begun.proofs.dest.Trees.{tree_moved}
 use Rattle.pt_object.proofs.Ways.{bytes_eq-sym, name_itself}

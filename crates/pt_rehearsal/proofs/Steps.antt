@@ -2,18 +2,18 @@
 use Rattle.std.proofs.Common.{◌≡◌, ◌∙◌, ◌<◌, ◌≤◌, ◌+◌, ℕ, suc, Bool, true, false, List, [], ◌∷◌, ◌++◌, cond, length, refl, ap, sym, subst, arith, lt-ltb, ltb-true}
 use Rattle.std.specs.Prelude.{◌||◌, nat_lt, Option, None, Some}
 use Rattle.std.specs.Str.{bytes_eq}
-use Rattle.std.proofs.lemmas.Bool.{ltb-false, or_from, or_left, or_parts, or_right, true≢false}
+use Rattle.std.proofs.lemmas.Bool.{ltb-false, or_left, or_parts, or_right, true≢false}
 use Rattle.std.proofs.lemmas.List.{length-append}
 use Rattle.pt_tree.specs.Dest.{Writing, after_create, after_mkdir, after_rename}
 use Rattle.pt_tree.specs.Name.{AreNames}
 use Rattle.pt_tree.specs.Path.{Path, joined}
 use Rattle.pt_tree.specs.Tree.{Bytes, CanMake, CanMove, Folder, IsTree, Tree}
-use Rattle.pt_object.proofs.Ways.{name_itself, same_name}
+use Rattle.pt_object.proofs.Ways.{name_itself}
 use Rattle.pt_rehearsal.specs.Seeing.{View, Within, begun_at, is_folder, is_hidden, is_inside, is_itself, is_met, lesser, made_dir, made_dir_as, made_file, made_file_as, made_known, moved_as, moved_at_top, moved_known, moved_to, nothing, renamed_to, seen_at, seen_by, with_met}
 use Rattle.pt_rehearsal.specs.declared.remembered.Seen.{Seen}
 use Rattle.pt_rehearsal.specs.declared.remembered.Seen.TheVariants as seen
 use Rattle.pt_rehearsal.specs.Fitting.{Fits}
-use Rattle.pt_rehearsal.proofs.Changes.{or_later, put_here}
+use Rattle.pt_rehearsal.proofs.Changes.{or_later}
 use Rattle.pt_rehearsal.proofs.Fitted.{fits_begun, fits_hidden, fits_noted, itself_is, some_inj}
 use Rattle.pt_rehearsal.proofs.Moves.{KnowsOn, fits_moved}
 

@@ -3,7 +3,6 @@ use Rattle.std.specs.Prelude.{◌≡◌, ◌||◌, ℕ, Bool, true, false, cond,
 use Rattle.std.specs.Option.{option_map}
 use Rattle.std.specs.Str.{bytes_eq}
 use Rattle.pt_tree.specs.Path.{Path, joined}
-use Rattle.pt_tree.specs.declared.faults.MemoryFault.{MemoryFault}
 use Rattle.pt_rehearsal.specs.Texts.{has, with_text}
 use Rattle.pt_rehearsal.specs.declared.remembered.Inner.{Inner}
 use Rattle.pt_rehearsal.specs.declared.remembered.Remembered.{Remembered}

@@ -1,7 +1,7 @@
 -- What a step reads of the files of an object.
-use Rattle.std.proofs.Common.{◌≡◌, ◌∙◌, ℕ, List, Bool, true, false, refl, ap, sym, subst}
+use Rattle.std.proofs.Common.{◌≡◌, ◌∙◌, ℕ, List, true, false, refl, ap, sym, subst}
 use Rattle.std.specs.Prelude.{Option, Ok}
-use Rattle.std.specs.Bool.{MatchBool, OnTrue}
+use Rattle.std.specs.Bool.{MatchBool}
 use Rattle.std.proofs.lemmas.Bool.{true≢false}
 use Rattle.pt_move.proofs.Answering.{fed_going}
 use Rattle.pt_move.specs.Turning.{CountedTurn}
@@ -18,7 +18,7 @@ use Rattle.pt_plan.specs.declared.phase.Phase.{Phase}
 use Rattle.pt_plan.specs.declared.phase.Phase.TheVariants as phase
 use Rattle.pt_scan.specs.Blocks.{ReadsNext}
 use Rattle.pt_state.specs.Outside.{world}
-use Rattle.pt_state.specs.States.{held_of, job_of, kept_of}
+use Rattle.pt_state.specs.States.{job_of, kept_of}
 use Rattle.pt_state.specs.declared.state.State.{State}
 use Rattle.pt_survey.proofs.Seen.{making_is_none, placing_is_none}
 use Rattle.pt_survey.proofs.Stepping.{going, line_follows}

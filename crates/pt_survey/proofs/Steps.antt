@@ -1,5 +1,5 @@
 -- What holds of each step of a survey.
-use Rattle.std.proofs.Common.{◌≡◌, ◌≢◌, arith, ℕ, true, false, List, [], refl, sym, subst}
+use Rattle.std.proofs.Common.{◌≡◌, ◌≢◌, arith, ℕ, true, false, List, refl, sym, subst}
 use Rattle.std.specs.Prelude.{Option, Ok}
 use Rattle.std.proofs.lemmas.Bool.{true≢false}
 use Rattle.pt_tree.specs.Dest.{Writing}

@@ -1,6 +1,6 @@
 -- A log in which what stood stands, and which device a step blames.
 use Rattle.std.proofs.Common.{◌≡◌, ◌≢◌, ◌∙◌, ap, append-nil, append_assoc, sym}
-use Rattle.std.specs.Prelude.{ℕ, List, [], ◌++◌, Option, None, Some, IfErr, Result, Ok, Err}
+use Rattle.std.specs.Prelude.{ℕ, List, [], ◌++◌, Option, None, Some, IfErr, Result}
 use Rattle.std.specs.Io.KnownBytes.{Appends}
 use Rattle.pt_move.specs.Counting.{Counts}
 use Rattle.pt_plan.specs.declared.fault.Fault.{Fault}

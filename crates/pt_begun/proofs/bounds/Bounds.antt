@@ -1,5 +1,5 @@
 -- What a source's items are held with is within its bound.
-use Rattle.std.proofs.Common.{◌≡◌, ◌≤◌, ◌+◌, ℕ, zero, suc, Bool, false, List, [], ◌∷◌, ◌++◌, refl, ap, sym, ◌∙◌, subst, append_assoc, arith, cond, length}
+use Rattle.std.proofs.Common.{◌≡◌, ◌≤◌, ◌+◌, ℕ, zero, suc, false, List, [], ◌∷◌, ◌++◌, refl, ap, sym, ◌∙◌, append_assoc, arith, length}
 use Rattle.std.specs.Prelude.{None, Some, flat_map, fold, max, slice_get}
 use Rattle.std.proofs.lemmas.List.{length-append, map-append}
 use Rattle.pt_object.specs.Distinct.{distinct, distinct_after}
@@ -11,8 +11,8 @@ use Rattle.pt_walk.proofs.BadEntries.{counts, looks_behind}
 use Rattle.pt_walk.specs.Left.{inside_at, listed}
 use Rattle.pt_walk.specs.Object.{Entry, before_bad, entries, files, first_bad}
 use Rattle.pt_walk.specs.Sites.{Listed}
-use Rattle.pt_plan.specs.Bound.{bound, dirs, greatest, held_at_item, held_by_verdict, held_in_object, path_of_dir, records_of, scanned}
-use Rattle.pt_plan.specs.Items.{Item, Named, PairtreeObject, Verdict, is_too_deep, item_of, items, verdict_of}
+use Rattle.pt_plan.specs.Bound.{bound, dirs, greatest, held_at_item, path_of_dir, records_of, scanned}
+use Rattle.pt_plan.specs.Items.{Item, Named, PairtreeObject, is_too_deep, item_of, items, verdict_of}
 use Rattle.pt_plan.specs.Job.{Job}
 use Rattle.pt_plan.specs.Store.{pairtree_of, prefix_of, sites_of}
 use Rattle.pt_begun.proofs.held.DistinctRows.{distinct_in_turn, get_map}

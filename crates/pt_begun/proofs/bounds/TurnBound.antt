@@ -1,10 +1,9 @@
 -- After any turn no more is held than the source's bound.
-use Rattle.std.proofs.Common.{◌≡◌, Bool, true, false, refl, sym, subst}
+use Rattle.std.proofs.Common.{◌≡◌, Bool, true, false, refl}
 use Rattle.std.specs.Prelude.{Option, Some, Ok, Err}
-use Rattle.pt_tree.specs.Forest.{Forest}
 use Rattle.pt_tree.specs.Source.{Reading, after_next, after_open}
 use Rattle.pt_plan.specs.Job.{Job}
-use Rattle.pt_plan.specs.Run.{Held, Kept, Run, turning}
+use Rattle.pt_plan.specs.Run.{Kept, Run, turning}
 use Rattle.pt_plan.specs.Turn.{Did, GoesOn, Turn}
 use Rattle.pt_plan.specs.World.{Answers, Asked, AsksNothing, Lists, Opens, OpensAndReads, Reads, World}
 use Rattle.pt_plan.specs.declared.phase.Phase.{Phase}

@@ -1,5 +1,5 @@
 -- Where a run stands in the contents, what of them is made.
-use Rattle.std.proofs.Common.{◌≡◌, ◌<◌, ◌≤◌, ◌+◌, ℕ, zero, suc, Bool, true, false, List, [], ◌∷◌, ◌++◌, refl, ap, sym, ◌∙◌, subst, arith, cond, drop, length, map, take}
+use Rattle.std.proofs.Common.{◌≡◌, ◌<◌, ◌≤◌, ◌+◌, ℕ, zero, suc, Bool, true, false, List, [], ◌∷◌, ◌++◌, refl, ap, sym, ◌∙◌, arith, cond, drop, length, map, take}
 use Rattle.std.specs.List.{list_all}
 use Rattle.std.specs.Prelude.{Option, None, Some, codes, nat_lt, not, slice_get, ◌||◌}
 use Rattle.std.proofs.lemmas.Bool.{and_parts, ltb-false, or_right}
@@ -21,7 +21,7 @@ use Rattle.pt_plan.specs.TurnMake.{behind_stored, content_at, in_content, in_ver
 use Rattle.pt_plan.specs.declared.object.Object.{Object}
 use Rattle.pt_plan.specs.declared.phase.Part.TheVariants as part
 use Rattle.pt_plan.specs.declared.phase.Position.{Position}
-use Rattle.pt_begun.specs.PartsMade.{AreNewFrom, IsAtRow, contents_before, contents_of, content_paths, folders_before, is_above_one, made_before, script_of_object}
+use Rattle.pt_begun.specs.PartsMade.{IsAtRow, contents_before, contents_of, content_paths, folders_before, is_above_one, made_before, script_of_object}
 use Rattle.pt_begun.specs.Past.{with_bytes, with_bytes_of}
 use Rattle.pt_begun.proofs.held.DistinctRows.{get_map, get_map_none, order_distinct}
 use Rattle.pt_begun.proofs.source.InPairtree.{some_same}

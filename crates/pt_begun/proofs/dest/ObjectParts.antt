@@ -1,5 +1,5 @@
 -- The parts of an object are the items of its script, one after another.
-use Rattle.std.proofs.Common.{◌≡◌, ◌+◌, ℕ, List, [], ◌∷◌, ◌++◌, refl, ap, sym, ◌∙◌, subst, append_assoc, arith, drop, length, map, take}
+use Rattle.std.proofs.Common.{◌≡◌, ◌+◌, ℕ, List, [], ◌∷◌, ◌++◌, refl, ap, sym, ◌∙◌, append_assoc, arith, drop, length, map, take}
 use Rattle.std.proofs.lemmas.List.{length-append, length-map, map-append}
 use Rattle.pt_object.specs.Files.{object_declaration_bytes, sidecar_text}
 use Rattle.pt_object.specs.Object.{inventory_name, object_declaration_name, sidecar_name, stored_files, version_folder}

@@ -1,5 +1,5 @@
 -- The items of a script, one after another, and the contents of an object among them.
-use Rattle.std.proofs.Common.{◌≡◌, ◌<◌, ◌≤◌, ◌+◌, ℕ, zero, suc, Bool, true, false, List, [], ◌∷◌, ◌++◌, refl, ap, sym, ◌∙◌, subst, append-nil, append_assoc, arith, cond, drop, length, map, take}
+use Rattle.std.proofs.Common.{◌≡◌, ◌<◌, ◌≤◌, ◌+◌, ℕ, zero, suc, Bool, true, false, List, [], ◌∷◌, ◌++◌, refl, ap, sym, ◌∙◌, append-nil, append_assoc, arith, cond, drop, length, map, take}
 use Rattle.std.specs.List.{list_all}
 use Rattle.std.specs.Prelude.{Option, None, Some, filter, not, slice_get, ◌&&◌}
 use Rattle.std.proofs.lemmas.Bool.{and_parts, true≢false}

@@ -1,15 +1,12 @@
 -- What the versions say of the objects that a run leaves that ends well.
-use Rattle.std.proofs.Common.{◌≡◌, true, sym, subst}
-use Rattle.std.specs.Prelude.{All, Some}
+use Rattle.std.proofs.Common.{◌≡◌, true}
+use Rattle.std.specs.Prelude.{Some}
 use Rattle.pt_tree.specs.Forest.{is_proper}
 use Rattle.pt_tree.specs.Source.{Reading}
 use Rattle.pt_tree.specs.Tree.{IsTree, Tree}
 use Rattle.pt_plan.proofs.WholeObjects.{carried_have_their_files}
-use Rattle.pt_plan.specs.Carried.{all_carried}
 use Rattle.pt_plan.specs.Job.{Job}
-use Rattle.pt_plan.specs.Roots.{root_in}
 use Rattle.pt_plan.specs.Run.{Run}
-use Rattle.pt_plan.specs.WholeLaws.{HasItsFiles}
 use Rattle.pt_plan.specs.World.{World}
 use Rattle.pt_begun.specs.Begun.{Begun, Start}
 use Rattle.pt_begun.specs.BegunDest.{DestPart}

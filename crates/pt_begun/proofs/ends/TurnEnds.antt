@@ -1,8 +1,8 @@
 -- A turn that halts the run leaves it ended.
-use Rattle.std.proofs.Common.{◌≡◌, ℕ, Bool, true, false, List, refl, ap, sym, ◌∙◌, subst}
+use Rattle.std.proofs.Common.{◌≡◌, ℕ, Bool, true, false, List, refl, ap, sym, ◌∙◌}
 use Rattle.std.specs.Prelude.{Option, None, Some, Err}
 use Rattle.pt_tree.specs.Dest.{Writing}
-use Rattle.pt_tree.specs.Forest.{Forest, is_proper}
+use Rattle.pt_tree.specs.Forest.{is_proper}
 use Rattle.pt_tree.specs.Source.{Reading}
 use Rattle.pt_tree.specs.Tree.{Tree}
 use Rattle.pt_walk.specs.Trail.{is_trail}
@@ -14,11 +14,11 @@ use Rattle.pt_plan.specs.Turn.{Did, FailsAtFirst, FailsLater, Follows, IsRefused
 use Rattle.pt_plan.specs.TurnMake.{ReadsMore, ReadsOther}
 use Rattle.pt_plan.specs.TurnPlace.{IsInTheWay}
 use Rattle.pt_plan.specs.TurnStart.{HasStaging, IsNoRoot, IsNoFile, Differs}
-use Rattle.pt_plan.specs.World.{Answers, Asked, AsksNothing, Calls, Change, Changes, LeavesFront, LeavesPart, Lists, NewFile, OfFile, OfPiece, Opens, OpensAndReads, Puts, Reads, Untouched, World, source_tree}
+use Rattle.pt_plan.specs.World.{Answers, Asked, AsksNothing, Calls, Change, Changes, LeavesFront, LeavesPart, Lists, NewFile, OfFile, OfPiece, Opens, OpensAndReads, Reads, Untouched, World, source_tree}
 use Rattle.pt_plan.specs.declared.fault.Fault.{Fault}
 use Rattle.pt_plan.specs.declared.phase.Phase.{Phase}
 use Rattle.pt_plan.specs.declared.phase.Phase.TheVariants as phase
-use Rattle.pt_begun.specs.Begun.{Begun, HasTold, IsPast as a_past, IsQuiet, ItemsPart, LeftAt, Start, TellsAsBefore, TellsStill}
+use Rattle.pt_begun.specs.Begun.{Begun, HasTold, IsPast as a_past, IsQuiet, LeftAt, Start, TellsAsBefore, TellsStill}
 use Rattle.pt_begun.specs.BegunDest.{DestPart}
 use Rattle.pt_begun.specs.BegunLaws.{TurnEndsBegun}
 use Rattle.pt_begun.specs.EndLaws.{is_ended}

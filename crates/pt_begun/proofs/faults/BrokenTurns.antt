@@ -1,5 +1,5 @@
 -- What a turn that breaks off leaves of the destination and the log may be left by a fault.
-use Rattle.std.proofs.Common.{◌≡◌, ℕ, suc, false, List, [], ◌++◌, refl, ap, sym, ◌∙◌, subst, append_assoc, drop, take}
+use Rattle.std.proofs.Common.{◌≡◌, ℕ, suc, false, List, [], ◌++◌, refl, ap, sym, ◌∙◌, append_assoc, drop, take}
 use Rattle.std.specs.Prelude.{Option, Some, flat_map}
 use Rattle.std.proofs.lemmas.List.{take-append-drop}
 use Rattle.pt_object.specs.Holding.{IsFree}

@@ -1,6 +1,6 @@
 -- What a turn of the walk or of the scan leaves that breaks off may be left by a fault.
-use Rattle.std.proofs.Common.{◌≡◌, ℕ, Bool, true, false, List, [], cond, refl, subst}
-use Rattle.std.specs.Prelude.{Option, None, Some, Ok}
+use Rattle.std.proofs.Common.{◌≡◌, ℕ, Bool, true, false, List, [], cond, refl}
+use Rattle.std.specs.Prelude.{None, Some, Ok}
 use Rattle.pt_name.specs.Share.{is_first}
 use Rattle.pt_object.specs.Holding.{IsFree}
 use Rattle.pt_object.specs.Scripts.{staging}

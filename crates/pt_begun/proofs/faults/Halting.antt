@@ -10,7 +10,7 @@ use Rattle.pt_plan.specs.Lines.{text}
 use Rattle.pt_plan.specs.Roots.{root_in}
 use Rattle.pt_plan.specs.Run.{Held, Run, turning}
 use Rattle.pt_plan.specs.Turn.{BreaksOff, Follows}
-use Rattle.pt_plan.specs.World.{Calls, LeavesFront, LeavesPart, WasFound, WasRead, World}
+use Rattle.pt_plan.specs.World.{Calls, WasFound, WasRead, World}
 use Rattle.pt_plan.specs.declared.phase.Phase.{Phase}
 use Rattle.pt_plan.specs.declared.phase.Phase.TheVariants as phase
 use Rattle.pt_begun.specs.Begun.{HasTold, IsPast, Start}

@@ -1,5 +1,5 @@
 -- Where the log fails nothing stands at `staging`.
-use Rattle.std.proofs.Common.{◌≡◌, ℕ, Bool, true, false, List, [], ◌++◌, refl, ap, sym, ◌∙◌, subst}
+use Rattle.std.proofs.Common.{◌≡◌, ℕ, Bool, true, false, List, [], ◌++◌, refl, ap, sym, ◌∙◌}
 use Rattle.std.specs.Prelude.{Option, None, Some}
 use Rattle.pt_object.specs.Holding.{IsFree}
 use Rattle.pt_object.specs.Scripts.{staging}
@@ -10,15 +10,10 @@ use Rattle.pt_plan.specs.Carried.{Carried}
 use Rattle.pt_plan.specs.Job.{Job}
 use Rattle.pt_plan.specs.Run.{Counts, Held}
 use Rattle.pt_plan.specs.Turn.{Did, FailsAtFirst, FailsLater, Follows, IsRefused, LeavesSome, Stays, Start as a_start, Walk, Scan, Make, Place}
-use Rattle.pt_plan.specs.TurnMake.{Makings}
 use Rattle.pt_plan.specs.TurnMake as make
-use Rattle.pt_plan.specs.TurnPlace.{Places}
 use Rattle.pt_plan.specs.TurnPlace as place
-use Rattle.pt_plan.specs.TurnScan.{Scans}
 use Rattle.pt_plan.specs.TurnScan as scan
-use Rattle.pt_plan.specs.TurnStart.{Starts}
 use Rattle.pt_plan.specs.TurnStart as start
-use Rattle.pt_plan.specs.TurnWalk.{Walks}
 use Rattle.pt_plan.specs.TurnWalk as walk
 use Rattle.pt_plan.specs.World.{Calls, Change, ChangesNothing, Finds, LeavesPart, Untouched, dest_tree}
 use Rattle.pt_plan.specs.declared.object.Object.{Object}

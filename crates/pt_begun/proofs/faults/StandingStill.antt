@@ -10,7 +10,6 @@ use Rattle.pt_object.specs.Object.{bytes_in, rows_of, stored_files}
 use Rattle.pt_object.specs.Root.{base, base_where}
 use Rattle.pt_object.specs.Script.{Item, MakeFile, item_in, made}
 use Rattle.pt_object.specs.Scripts.{object_items, root_items, staging}
-use Rattle.pt_tree.specs.Dest.{Writing}
 use Rattle.pt_tree.specs.Path.{Path, rest_below, same_path}
 use Rattle.pt_tree.specs.Tree.{Entry, IsTree, Tree}
 use Rattle.pt_tree.proofs.Below.{whole_of}

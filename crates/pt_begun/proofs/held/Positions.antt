@@ -1,5 +1,5 @@
 -- Where a run stands in the contents of an object, from row to row.
-use Rattle.std.proofs.Common.{◌≡◌, ◌+◌, ℕ, suc, ◌&&◌, Bool, true, false, List, [], ◌∷◌, ◌++◌, refl, ap, sym, ◌∙◌, subst, append_assoc, arith, cond, drop, length, map, take}
+use Rattle.std.proofs.Common.{◌≡◌, ◌+◌, ℕ, suc, ◌&&◌, Bool, true, false, List, [], ◌∷◌, ◌++◌, refl, ap, sym, ◌∙◌, append_assoc, arith, cond, drop, length, map, take}
 use Rattle.std.specs.List.{list_all}
 use Rattle.std.specs.Prelude.{Option, None, Some, codes, is_some, nat_lt, not, slice_get, ◌||◌}
 use Rattle.std.specs.Str.{bytes_eq}

@@ -1,7 +1,7 @@
 -- What is said of rows and of the bytes that are held at their paths, when one more file was read.
 use Rattle.std.proofs.Common.{◌≡◌, ℕ, suc, true, List, [], ◌∷◌, ◌++◌, refl, ap, sym, ◌∙◌, subst, arith, cond, drop, take}
 use Rattle.std.specs.List.{list_all}
-use Rattle.std.specs.Prelude.{All, Option, Some, slice_get}
+use Rattle.std.specs.Prelude.{All, Some, slice_get}
 use Rattle.std.proofs.lemmas.Bool.{and_parts}
 use Rattle.std.proofs.lemmas.List.Elements.{All-cons, All-push}
 use Rattle.pt_object.proofs.Ways.{path_itself}

@@ -1,12 +1,11 @@
 -- The object under way is the one that the next item is carried as, and what is made of it is what a fault may leave of it.
-use Rattle.std.proofs.Common.{inr, ◌≡◌, ◌≤◌, ℕ, true, List, [], ◌∷◌, ◌++◌, ap, sym, ◌∙◌, subst, append_assoc, arith, drop, length, take}
+use Rattle.std.proofs.Common.{inr, ◌≡◌, ◌≤◌, ℕ, true, List, [], ◌∷◌, ◌++◌, ap, sym, ◌∙◌, append_assoc, arith, drop, length, take}
 use Rattle.std.specs.Prelude.{Some, slice_get}
 use Rattle.std.proofs.lemmas.List.{take-append-drop}
 use Rattle.std.proofs.Math.Seq.{take-append_seam}
 use Rattle.pt_object.specs.FilePaths.{File}
 use Rattle.pt_object.specs.Root.{base}
 use Rattle.pt_object.specs.Script.{Item, MakeFile, StandsAtPrefix, done, made}
-use Rattle.pt_object.specs.Scripts.{script_of}
 use Rattle.pt_object.specs.declared.rows.Row.{Row}
 use Rattle.pt_tree.specs.Forest.{Forest, is_proper}
 use Rattle.pt_tree.specs.Path.{Path}

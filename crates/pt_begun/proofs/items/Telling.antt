@@ -1,5 +1,5 @@
 -- What devices tell that told at the start.
-use Rattle.std.proofs.Common.{◌≡◌, ℕ, List, refl, subst}
+use Rattle.std.proofs.Common.{◌≡◌, ℕ, List, refl}
 use Rattle.std.specs.Prelude.{Option, None, Some}
 use Rattle.pt_plan.specs.Lines.{Line}
 use Rattle.pt_plan.specs.World.{Puts}

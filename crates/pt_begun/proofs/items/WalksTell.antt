@@ -1,12 +1,11 @@
 -- What the turns of the walk tell is the line of the item that they end.
-use Rattle.std.proofs.Common.{◌≡◌, ℕ, suc, true, List, [], ◌∷◌, refl, ap, sym, ◌∙◌, subst, arith, length, take, ◌<◌}
+use Rattle.std.proofs.Common.{◌≡◌, ℕ, suc, true, List, [], ◌∷◌, refl, ap, sym, ◌∙◌, arith, length, take, ◌<◌}
 use Rattle.std.specs.Prelude.{Option, None, Some, Ok, is_some, slice_get}
 use Rattle.std.specs.Option.{option_map}
 use Rattle.pt_name.specs.Place.{place_of}
 use Rattle.pt_name.specs.Share.{is_first}
 use Rattle.pt_tree.specs.Dest.{Writing, IsKindAt}
 use Rattle.pt_tree.specs.Forest.{Forest, is_proper}
-use Rattle.pt_tree.specs.Path.{Path}
 use Rattle.pt_tree.specs.Source.{Reading}
 use Rattle.pt_tree.specs.Tree.{Entry, Tree, kind_of_entry}
 use Rattle.pt_tree.specs.declared.kind.Kind.{Kind}
@@ -20,7 +19,7 @@ use Rattle.pt_walk.specs.declared.frame.Frame.{Frame}
 use Rattle.pt_plan.specs.Carried.{Carried, carried_among, is_taken}
 use Rattle.pt_plan.specs.Items.{Item, Named, PairtreeObject, Verdict, VerdictOn, item_of, items, verdict_of}
 use Rattle.pt_plan.specs.Job.{Job}
-use Rattle.pt_plan.specs.Lines.{Line, Present}
+use Rattle.pt_plan.specs.Lines.{Line}
 use Rattle.pt_plan.specs.PlaceLaws.{IsRooted}
 use Rattle.pt_plan.specs.Roots.{root_in}
 use Rattle.pt_plan.specs.Run.{Held}

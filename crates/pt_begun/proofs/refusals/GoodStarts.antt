@@ -1,7 +1,7 @@
 -- From a good start nothing is refused: each refusal says what no good start is.
 use Rattle.std.proofs.Common.{◌≡◌, ℕ, zero, suc, Bool, true, false, List, [], ◌∷◌, refl, ap, sym, ◌∙◌, inl, inr}
 use Rattle.std.specs.List.{list_all}
-use Rattle.std.specs.Prelude.{Some, Err, flat_map, is_some, slice_get, ◌⊎◌}
+use Rattle.std.specs.Prelude.{Some, flat_map, is_some, slice_get, ◌⊎◌}
 use Rattle.std.proofs.lemmas.Bool.{and_parts, false≢true, true≢false}
 use Rattle.std.proofs.lemmas.List.Folds.{list_all-append}
 use Rattle.pt_object.specs.FilePaths.{File}

@@ -1,5 +1,5 @@
 -- A run halts for what stands at `staging` only where something stood there.
-use Rattle.std.proofs.Common.{◌≡◌, ℕ, List, true, refl, ap, sym, ◌∙◌, subst}
+use Rattle.std.proofs.Common.{◌≡◌, ℕ, List, true, refl, ap, sym, ◌∙◌}
 use Rattle.std.specs.Prelude.{None, Some, Err, Option, is_some}
 use Rattle.std.specs.Option.{option_map}
 use Rattle.pt_object.specs.Scripts.{staging}

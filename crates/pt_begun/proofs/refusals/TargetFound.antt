@@ -1,5 +1,5 @@
 -- A run halts for the destination's root only where it can't be gone on with.
-use Rattle.std.proofs.Common.{◌≡◌, ◌≤◌, ◌<◌, ◌+◌, ℕ, zero, suc, Bool, true, false, List, [], ◌∷◌, ◌++◌, refl, ap, sym, ◌∙◌, subst, arith, length, map, take}
+use Rattle.std.proofs.Common.{◌≡◌, ◌≤◌, ◌<◌, ◌+◌, ℕ, zero, suc, Bool, true, false, List, [], ◌∷◌, ◌++◌, refl, ap, sym, ◌∙◌, arith, length, map, take}
 use Rattle.std.specs.List.{list_all}
 use Rattle.std.specs.Prelude.{◌≢◌, Option, None, Some, Err, ⊤}
 use Rattle.std.specs.Option.{option_map, option_or}
@@ -30,10 +30,9 @@ use Rattle.pt_plan.specs.declared.fault.Fault.TheVariants as fault
 use Rattle.pt_plan.specs.declared.object.Object.{Object}
 use Rattle.pt_plan.specs.declared.phase.Phase.{Phase}
 use Rattle.pt_plan.specs.declared.phase.Phase.TheVariants as phase
-use Rattle.pt_begun.specs.Begun.{Begun, IsFreeAt, IsPast, Start}
+use Rattle.pt_begun.specs.Begun.{Begun, IsPast, Start}
 use Rattle.pt_begun.specs.BegunDest.{DestPart, root_now, root_on_way}
 use Rattle.pt_begun.specs.BegunHeld.{HeldAt}
-use Rattle.pt_begun.specs.BegunSource.{SourcePart}
 use Rattle.pt_begun.specs.Past.{Past, object_held}
 use Rattle.pt_begun.specs.RefusalLaws.{FindsTarget, FindsTargetOf, HasOtherFile, IsBadTarget, IsBarred, IsCarriedOf, IsNoFolder}
 use Rattle.pt_begun.proofs.items.CarriedNext.{carried_next}

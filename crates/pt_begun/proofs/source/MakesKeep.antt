@@ -1,5 +1,5 @@
 -- The turns that make an object keep where the run stands, where the source tells.
-use Rattle.std.proofs.Common.{◌≡◌, ◌-◌, ℕ, ◌+◌, true, false, List, [], ◌∷◌, ◌++◌, refl, ap, sym, ◌∙◌, subst, arith, length, take}
+use Rattle.std.proofs.Common.{◌≡◌, ◌-◌, ℕ, ◌+◌, true, false, List, [], ◌∷◌, ◌++◌, refl, ap, sym, ◌∙◌, arith, length, take}
 use Rattle.std.specs.Prelude.{Some, Ok, nat_lt, slice_get}
 use Rattle.std.specs.Option.{ForSome, option_map}
 use Rattle.std.proofs.lemmas.Bool.{ltb-false}
@@ -7,7 +7,6 @@ use Rattle.pt_object.specs.declared.rows.Row.{Row}
 use Rattle.pt_tree.specs.Forest.{file_at, is_proper}
 use Rattle.pt_tree.specs.Source.{Reading, IsRead, after_next}
 use Rattle.pt_walk.specs.Left.{bytes_at}
-use Rattle.pt_walk.specs.declared.frame.Frame.{Frame}
 use Rattle.pt_plan.specs.Job.{Job}
 use Rattle.pt_plan.specs.Run.{Held, with_fed}
 use Rattle.pt_plan.specs.Store.{pairtree_of, pairtree_root}
@@ -19,7 +18,7 @@ use Rattle.pt_plan.specs.declared.phase.Part.TheVariants as part
 use Rattle.pt_plan.specs.declared.phase.Phase.{Phase}
 use Rattle.pt_plan.specs.declared.phase.Phase.TheVariants as phase
 use Rattle.pt_plan.specs.declared.phase.Position.{Position}
-use Rattle.pt_begun.specs.BegunSource.{HasStarted, IsCopyingFile, IsReading, IsScanned, SourceAt}
+use Rattle.pt_begun.specs.BegunSource.{HasStarted, IsCopyingFile, IsScanned, SourceAt}
 use Rattle.pt_begun.specs.Past.{done_after}
 use Rattle.pt_begun.proofs.held.EitherPhase.{after_sidecar}
 use Rattle.pt_begun.proofs.source.InObject.{site_itself}

@@ -1,11 +1,11 @@
 -- A site that was judged to have an object, with the object before it is entered.
-use Rattle.std.proofs.Common.{◌≡◌, ◌-◌, ℕ, suc, Bool, true, false, List, [], ◌∷◌, ◌++◌, refl, ap, sym, ◌∙◌, subst, cond, length, arith, drop}
+use Rattle.std.proofs.Common.{◌≡◌, ◌-◌, ℕ, Bool, true, false, List, [], ◌∷◌, ◌++◌, refl, ap, sym, ◌∙◌, cond, length, arith, drop}
 use Rattle.std.specs.Prelude.{Option, None, Some, Result, Ok, Err, is_none, ◌+◌}
 use Rattle.std.specs.Str.{is_utf8}
 use Rattle.pt_name.specs.Share.{Portion, holds, is_first}
 use Rattle.std.specs.List.{concat}
 use Rattle.pt_name.specs.Reading.{reading_of}
-use Rattle.pt_tree.specs.Forest.{Forest, Node, Dir, none, file, other, dir, is_proper, listing_of}
+use Rattle.pt_tree.specs.Forest.{Forest, Dir, none, file, other, dir, is_proper, listing_of}
 use Rattle.pt_tree.specs.Listing.{Item}
 use Rattle.pt_tree.specs.Path.{Path}
 use Rattle.pt_tree.specs.declared.kind.Kind.{Kind}
@@ -26,7 +26,7 @@ use Rattle.pt_walk.specs.declared.site.At.TheVariants as at
 use Rattle.pt_walk.specs.declared.site.Form.{Form}
 use Rattle.pt_walk.specs.declared.site.Finding.{Finding}
 use Rattle.pt_walk.specs.declared.site.Finding.TheVariants as finding
-use Rattle.pt_begun.specs.BegunSource.{IsInObject, IsOnWay, IsSiteOf, IsToJudge, inside_object, object_at}
+use Rattle.pt_begun.specs.BegunSource.{IsInObject, IsSiteOf, IsToJudge, inside_object, object_at}
 use Rattle.pt_plan.specs.Items.{is_reserved, Interior, Named, PairtreeObject, Skip, Verdict, VerdictOn, encapsulated, ours, verdict_by_finding, verdict_by_reading, verdict_by_visit, verdict_of, verdict_on_candidate}
 use Rattle.pt_plan.specs.Job.{Job, form_of}
 use Rattle.pt_plan.specs.Store.{pairtree_of}

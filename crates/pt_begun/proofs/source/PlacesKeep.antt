@@ -1,9 +1,8 @@
 -- The turns that place an object, and that tell of it and of the end, keep what holds where the source tells.
-use Rattle.std.proofs.Common.{◌≡◌, ℕ, suc, List, refl, subst}
+use Rattle.std.proofs.Common.{◌≡◌, ℕ, suc, List, refl}
 use Rattle.std.specs.Prelude.{Some, Ok}
 use Rattle.pt_tree.specs.Source.{Reading}
 use Rattle.pt_walk.specs.Trail.{sought}
-use Rattle.pt_walk.specs.declared.frame.Frame.{Frame}
 use Rattle.pt_begun.specs.BegunSource.{HasStarted, HoldsNoObject, IsOnWay, IsScanned, SourceAt}
 use Rattle.pt_begun.specs.Past.{done_after}
 use Rattle.pt_plan.specs.Job.{Job}

@@ -1,5 +1,5 @@
 -- The files of a storage root are read whole by their first block.
-use Rattle.std.proofs.Common.{◌≡◌, ◌<◌, ◌≤◌, ◌+◌, ℕ, zero, suc, List, ◌++◌, refl, ap, sym, ◌∙◌, subst, arith, length, take}
+use Rattle.std.proofs.Common.{◌≡◌, ◌<◌, ◌≤◌, ◌+◌, ℕ, zero, suc, List, ◌++◌, refl, ap, sym, ◌∙◌, arith, length, take}
 use Rattle.std.specs.Prelude.{Option, None, Some, codes, decimal, min, slice_get}
 use Rattle.std.specs.Option.{option_map}
 use Rattle.std.proofs.lemmas.Bool.{ltb-true}

@@ -12,7 +12,7 @@ use Rattle.pt_tree.specs.declared.kind.Kind.TheVariants as kind
 use Rattle.pt_walk.specs.Left.{bytes_at}
 use Rattle.pt_walk.specs.Trail.{advanced, current_entry, entered, entries_held, is_trail, names_to, parent, sought, trail_path}
 use Rattle.pt_walk.specs.declared.frame.Frame.{Frame}
-use Rattle.pt_plan.specs.Bound.{bound, dirs, scanned}
+use Rattle.pt_plan.specs.Bound.{bound, scanned}
 use Rattle.pt_plan.specs.Items.{PairtreeObject}
 use Rattle.pt_plan.specs.Job.{Job}
 use Rattle.pt_plan.specs.Run.{Held, with_trail}
@@ -27,7 +27,6 @@ use Rattle.pt_begun.specs.BegunHeld.{HeldAt}
 use Rattle.pt_begun.specs.BegunSource.{AreHeldThere, HasRoom, HasStarted, IsScanning, IsWithinBound, SourcePart, object_at}
 use Rattle.pt_begun.specs.Past.{bytes_after, Past, past_after, with_bytes}
 use Rattle.pt_begun.specs.SourceLaws.{ScanningKeepsSource}
-use Rattle.pt_begun.proofs.bounds.Bounds.{IsOne}
 use Rattle.pt_begun.proofs.source.InObject.{path_in_object, site_entered, site_itself}
 use Rattle.pt_begun.proofs.source.InPairtree.{listing_in, pairtree_proper}
 use Rattle.pt_begun.proofs.source.ReadsOn.{reads_end}

@@ -1,5 +1,5 @@
 -- Each turn that goes on keeps what holds where the source tells: the turns of the start and of the walk, and those that make and place an object.
-use Rattle.std.proofs.Common.{◌≡◌, ◌≤◌, ℕ, true, List, [], ◌++◌, refl, ap, sym, ◌∙◌, subst, arith, length}
+use Rattle.std.proofs.Common.{◌≡◌, ◌≤◌, ℕ, true, List, [], ◌++◌, refl, ap, sym, ◌∙◌, arith, length}
 use Rattle.std.specs.Prelude.{Option, None, Some, Ok, slice_get, take}
 use Rattle.std.specs.Option.{ForSome, option_map}
 use Rattle.pt_object.specs.FilePaths.{part_in_order, row_paths}

@@ -1,5 +1,5 @@
 -- The turns of the walk lower what is left.
-use Rattle.std.proofs.Common.{◌≡◌, ◌≤◌, ℕ, zero, suc, ◌+◌, ◌&&◌, true, false, List, [], ◌∷◌, refl, ap, sym, ◌∙◌, subst, arith, drop, length}
+use Rattle.std.proofs.Common.{◌≡◌, ◌≤◌, ℕ, zero, suc, ◌+◌, ◌&&◌, true, false, List, [], ◌∷◌, refl, ap, sym, ◌∙◌, arith, drop, length}
 use Rattle.std.specs.Prelude.{Bool, Option, None, Some, map, nat_lt, slice_get, sum_by, unwrap_or}
 use Rattle.std.specs.Option.{option_map}
 use Rattle.std.proofs.lemmas.Bool.{and_parts}
@@ -30,7 +30,7 @@ use Rattle.pt_begun.proofs.source.NewObject.{new_object_there}
 use Rattle.pt_begun.proofs.source.WalksKeep.{done_at_shorty, none_at_end, none_at_entry}
 use Rattle.pt_begun.proofs.items.ScansTell.{item_of_site, named_so}
 use Rattle.pt_begun.specs.WorkLaws.{AreMarked, EntersFree, WalkingLowers}
-use Rattle.pt_begun.specs.WorkLeft.{before_scan, items_left, left, still_listed}
+use Rattle.pt_begun.specs.WorkLeft.{items_left, left, still_listed}
 use Rattle.pt_begun.proofs.turns_left.Copying.{drop_at}
 
 -- ---- the items

@@ -1,5 +1,5 @@
 use Rattle.std.proofs.Common.{ap, subst, sym}
-use Rattle.std.specs.Prelude.{Some, take}
+use Rattle.std.specs.Prelude.{Some}
 use Rattle.pt_tree.specs.Dest.{CanWrite}
 use Rattle.pt_memory.specs.MemDest.{dest_told}
 use Rattle.pt_tree.proofs.Held.{can_write-created, can_write-appended}

@@ -1,5 +1,5 @@
-use Rattle.std.proofs.Common.{◌∙◌, ap, append-nil}
-use Rattle.std.specs.Prelude.{[], ◌++◌}
+use Rattle.std.proofs.Common.{◌∙◌, ap}
+use Rattle.std.specs.Prelude.{◌++◌}
 use Rattle.pt_rehearsal.proofs.TextSets.{has_more}
 use Rattle.pt_rehearsal.proofs.texts.put.Goals as goal
 

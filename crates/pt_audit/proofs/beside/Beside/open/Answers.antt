@@ -1,4 +1,4 @@
-use Rattle.std.proofs.Common.{arith, rules, ap, sym, ◌∙◌}
+use Rattle.std.proofs.Common.{rules, ◌∙◌}
 use Rattle.pt_audit.proofs.Following.{opened_at, opened_paced, unopened_paced}
 use Rattle.pt_audit.proofs.beside.Beside.open.Goals as goal
 
