@@ -1,6 +1,6 @@
 //! Values from outside: the table of what a site is, the limits at their ends, and one walk of two listings.
-ghost use Rattle.std.specs.Prelude.{◌≡◌};
-ghost use Rattle.pt_walk.specs.Trail.{current_entry, is_dir_entry};
+ghost use Rattle.std.specs.Prelude.{◌≡◌, IsTrue};
+ghost use Rattle.pt_walk.specs.Trail.{can_enter, current_entry, is_dir_entry};
 
 use crate::answers::{is_path, refuses};
 use pt_tree::{Kind, Listing, Name};
@@ -229,6 +229,12 @@ fn is_at(trail: &Trail, name: &str, kind: Kind) -> bool {
     }
 }
 
+fn enters(trail: &mut Trail, listing: Listing) -> bool
+    requires { IsTrue (can_enter trail.old) }
+{
+    trail.enter(listing).is_ok()
+}
+
 fn path_is(trail: &Trail, want: &str) -> bool {
     match trail.path() {
         Ok(path) => is_path(&path, want),
@@ -265,10 +271,10 @@ fn goes_back_and_leaves(rt: &impl Abort, trail: &mut Trail) {
 fn a_trail_enters_advances_and_leaves(rt: HostRuntime) -> Result<(), Fail> {
     let mut trail = Trail::new(rt.alloc());
     assert!(rt; trail.current().is_none() && trail.innermost().is_none());
-    trail.enter(listing_of(rt.alloc(), &[("ab", Kind::Dir)])?)?;
+    assert!(rt; enters(&mut trail, listing_of(rt.alloc(), &[("ab", Kind::Dir)])?));
     assert!(rt; is_at_directory(&trail));
     let below = [("c", Kind::Dir), ("x", Kind::File)];
-    trail.enter(listing_of(rt.alloc(), &below)?)?;
+    assert!(rt; enters(&mut trail, listing_of(rt.alloc(), &below)?));
     advances(&rt, &mut trail);
     goes_back_and_leaves(&rt, &mut trail);
     Ok(())
