@@ -1,34 +1,104 @@
 ghost use Rattle.std.specs.Prelude.{◌≡◌, IfOk, map};
 ghost use Rattle.pt_object.specs.Distinct.{content_of_row, distinct};
 
-use crate::objects::{OF_ABC, OF_NOTHING};
-use pt_object::{Algorithm, Contents, Hasher, Meta, Rows, inventory};
-use pt_tree::{Block, MemoryFault, Name, NamePath};
-use std::alloc::Global;
+use crate::answers::gives_text;
+use crate::objects::{OF_ABC, OF_NOTHING, SHORT_OF_ABC};
+use pt_object::{Algorithm, Contents, Digest, Hasher, Meta, MetaFault, Rows, inventory};
+use pt_texts::path;
+use pt_tree::{MemoryFault, NamePath};
+use std::alloc::{AllocError, Global};
 use std::test::Fail;
 
-// The SHA-256 of `abc`.
-const SHORT_OF_ABC: &str = "ba7816bf8f01cfea414140de5dae2223b00361a396177a9cb410ff61f20015ad";
+// An object, and what its inventory says.
+struct Case {
+    name: &'static str,
+    id: &'static str,
+    algorithm: Algorithm,
+    word: &'static str,
+    // The paths of the files and their bytes.
+    files: &'static [(&'static str, &'static str)],
+    address: Option<&'static str>,
+    // Of each digest the paths that the manifest has, and those that the state has, as they are written in JSON.
+    manifest: &'static [(&'static str, &'static str)],
+    state: &'static [(&'static str, &'static str)],
+    user: &'static str,
+}
 
-// The rows of files that each have at most one block.
-fn rows_of(alloc: Global, algorithm: Algorithm, files: &[(&[&str], &str)]) -> Result<Rows, Fail> {
-    let mut rows = Rows::new(alloc);
-    for (names, text) in files {
-        let mut path = NamePath::new(alloc);
-        for name in names.iter() {
-            path.push(Name::of(alloc, name.as_bytes())?)?;
-        }
-        let mut block = Block::new();
-        for byte in text.as_bytes() {
-            if block.len() < 8192 {
-                block.push(*byte);
-            }
-        }
-        let mut hasher = Hasher::start(algorithm);
-        hasher.feed(&block);
-        rows.push(&path, &hasher.end(), text.len() as u64)?;
+const CASES: &[Case] = &[
+    Case {
+        name: "one file",
+        id: "abc",
+        algorithm: Algorithm::Sha512,
+        word: "sha512",
+        files: &[("a.txt", "abc")],
+        address: None,
+        manifest: &[(OF_ABC, "\"v1/content/a.txt\"")],
+        state: &[(OF_ABC, "\"a.txt\"")],
+        user: "{\"name\":\"Ada\"}",
+    },
+    Case {
+        name: "equal contents",
+        id: "abcd",
+        algorithm: Algorithm::Sha512,
+        word: "sha512",
+        files: &[("a/x", "abc"), ("a.txt", "abc"), ("c", "")],
+        address: Some(""),
+        manifest: &[
+            (OF_NOTHING, "\"v1/content/c\""),
+            (OF_ABC, "\"v1/content/a/x\""),
+        ],
+        state: &[(OF_NOTHING, "\"c\""), (OF_ABC, "\"a/x\",\"a.txt\"")],
+        user: "{\"name\":\"Ada\"}",
+    },
+    Case {
+        name: "no files, and an address",
+        id: "abc",
+        algorithm: Algorithm::Sha512,
+        word: "sha512",
+        files: &[],
+        address: Some("mailto:ada@example.org"),
+        manifest: &[],
+        state: &[],
+        user: "{\"address\":\"mailto:ada@example.org\",\"name\":\"Ada\"}",
+    },
+    Case {
+        name: "a quote, by SHA-256",
+        id: "abc",
+        algorithm: Algorithm::Sha256,
+        word: "sha256",
+        files: &[("q\"x", "abc")],
+        address: None,
+        manifest: &[(SHORT_OF_ABC, "\"v1/content/q\\\"x\"")],
+        state: &[(SHORT_OF_ABC, "\"q\\\"x\"")],
+        user: "{\"name\":\"Ada\"}",
+    },
+];
+
+fn digest_of(algorithm: Algorithm, text: &str) -> Digest {
+    let mut hasher = Hasher::start(algorithm);
+    hasher.feed_bytes(text.as_bytes());
+    hasher.end()
+}
+
+fn takes_file(rows: &mut Rows, alloc: Global, algorithm: Algorithm, at: &str, text: &str) -> bool {
+    match path(alloc, at) {
+        Ok(at) => takes_row(rows, &at, &digest_of(algorithm, text), text.len()),
+        Err(_) => false,
     }
-    Ok(rows)
+}
+
+fn takes_row(rows: &mut Rows, at: &NamePath, digest: &Digest, length: usize) -> bool {
+    rows.push(at, digest, length as u64).is_ok()
+}
+
+fn rows_of(alloc: Global, case: &Case) -> Option<Rows> {
+    let mut rows = Rows::new(alloc);
+    for (at, text) in case.files {
+        if !takes_file(&mut rows, alloc, case.algorithm, at, text) {
+            return None;
+        }
+    }
+    Some(rows)
 }
 
 // The contents of these rows, noted in order.
@@ -43,119 +113,78 @@ fn contents_of(alloc: Global, rows: &Rows) -> Result<Contents, MemoryFault>
     Ok(contents)
 }
 
-fn written(
-    alloc: Global,
-    id: &str,
-    algorithm: Algorithm,
-    files: &[(&[&str], &str)],
-    address: Option<&str>,
-) -> Result<String, Fail> {
-    let rows = rows_of(alloc, algorithm, files)?;
-    let contents = contents_of(alloc, &rows)?;
-    let meta = Meta::of(
+fn meta_of(alloc: Global, case: &Case) -> Result<Meta, MetaFault> {
+    Meta::of(
         alloc,
         "2024-05-01T12:00:00Z",
         "Ada",
-        address,
+        case.address,
         "Migrated from Pairtree",
-    )?;
-    Ok(inventory(alloc, id, &rows, &contents, &meta, algorithm)?)
+    )
 }
 
-fn expected(
-    alloc: Global,
-    id: &str,
-    algorithm: &str,
-    manifest: &str,
-    state: &str,
-    user: &str,
-) -> Result<String, Fail> {
-    Ok(format!(in alloc;
-        "{{\"digestAlgorithm\":\"{algorithm}\",\"head\":\"v1\",\"id\":\"{id}\",\"manifest\":{manifest},\"type\":\"https://ocfl.io/1.1/spec/#inventory\",\"versions\":{{\"v1\":{{\"created\":\"2024-05-01T12:00:00Z\",\"message\":\"Migrated from Pairtree\",\"state\":{state},\"user\":{user}}}}}}}"
-    )?)
+// The inventory of these rows and contents is this text.
+fn is_inventory(alloc: Global, case: &Case, rows: &Rows, contents: &Contents, want: &str) -> bool
+    requires { contents.now ≡ map content_of_row (distinct rows.now) }
+{
+    match meta_of(alloc, case) {
+        Ok(meta) => gives_text(
+            inventory(alloc, case.id, rows, contents, &meta, case.algorithm),
+            want,
+        ),
+        Err(_) => false,
+    }
 }
 
-const ADA: &str = "{\"name\":\"Ada\"}";
-
-#[test]
-fn inventory_of_one_file(rt: HostRuntime) -> Result<(), Fail> {
-    let alloc = rt.alloc();
-    let manifest = format!(in alloc; "{{\"{OF_ABC}\":[\"v1/content/a.txt\"]}}")?;
-    let state = format!(in alloc; "{{\"{OF_ABC}\":[\"a.txt\"]}}")?;
-    let text = written(
-        alloc,
-        "abc",
-        Algorithm::Sha512,
-        &[(&["a.txt"], "abc")],
-        None,
-    )?;
-    let want = expected(
-        alloc,
-        "abc",
-        "sha512",
-        manifest.as_str(),
-        state.as_str(),
-        ADA,
-    )?;
-    assert_eq!(rt; text.as_str(), want.as_str());
-    Ok(())
+fn has_inventory(alloc: Global, case: &Case, rows: &Rows, want: &str) -> bool {
+    match contents_of(alloc, rows) {
+        Ok(contents) => is_inventory(alloc, case, rows, &contents, want),
+        Err(_) => false,
+    }
 }
 
-#[test]
-fn inventory_of_equal_contents(rt: HostRuntime) -> Result<(), Fail> {
-    let alloc = rt.alloc();
-    let manifest = format!(in alloc;
-        "{{\"{OF_NOTHING}\":[\"v1/content/c\"],\"{OF_ABC}\":[\"v1/content/a/x\"]}}"
-    )?;
-    let state = format!(in alloc; "{{\"{OF_NOTHING}\":[\"c\"],\"{OF_ABC}\":[\"a/x\",\"a.txt\"]}}")?;
-    let files = [
-        (["a", "x"].as_slice(), "abc"),
-        (["a.txt"].as_slice(), "abc"),
-        (["c"].as_slice(), ""),
-    ];
-    let text = written(alloc, "abcd", Algorithm::Sha512, &files, Some(""))?;
-    let want = expected(
-        alloc,
-        "abcd",
-        "sha512",
-        manifest.as_str(),
-        state.as_str(),
-        ADA,
-    )?;
-    assert_eq!(rt; text.as_str(), want.as_str());
-    Ok(())
+fn is_written(alloc: Global, case: &Case, want: &str) -> bool {
+    match rows_of(alloc, case) {
+        Some(rows) => has_inventory(alloc, case, &rows, want),
+        None => false,
+    }
+}
+
+fn push_member(text: &mut String, digest: &str, paths: &str) -> Result<(), AllocError> {
+    let comma = if text.is_empty() { "" } else { "," };
+    write!(text, "{comma}\"{digest}\":[{paths}]")
+}
+
+// The members of a JSON object with an array for each digest.
+fn by_digest(alloc: Global, rows: &[(&str, &str)]) -> Result<String, AllocError> {
+    let mut text = String::new(alloc);
+    for (digest, paths) in rows {
+        push_member(&mut text, digest, paths)?;
+    }
+    Ok(text)
+}
+
+fn text_of(alloc: Global, case: &Case, manifest: &str, state: &str) -> Result<String, AllocError> {
+    let word = case.word;
+    let id = case.id;
+    let user = case.user;
+    format!(in alloc;
+        "{{\"digestAlgorithm\":\"{word}\",\"head\":\"v1\",\"id\":\"{id}\",\"manifest\":{{{manifest}}},\"type\":\"https://ocfl.io/1.1/spec/#inventory\",\"versions\":{{\"v1\":{{\"created\":\"2024-05-01T12:00:00Z\",\"message\":\"Migrated from Pairtree\",\"state\":{{{state}}},\"user\":{user}}}}}}}"
+    )
+}
+
+fn wanted(alloc: Global, case: &Case) -> Result<String, AllocError> {
+    let manifest = by_digest(alloc, case.manifest)?;
+    let state = by_digest(alloc, case.state)?;
+    text_of(alloc, case, manifest.as_str(), state.as_str())
 }
 
 #[test]
-fn inventory_of_no_files(rt: HostRuntime) -> Result<(), Fail> {
-    let alloc = rt.alloc();
-    let user = "{\"address\":\"mailto:ada@example.org\",\"name\":\"Ada\"}";
-    let text = written(
-        alloc,
-        "abc",
-        Algorithm::Sha512,
-        &[],
-        Some("mailto:ada@example.org"),
-    )?;
-    let want = expected(alloc, "abc", "sha512", "{}", "{}", user)?;
-    assert_eq!(rt; text.as_str(), want.as_str());
-    Ok(())
-}
-
-#[test]
-fn inventory_by_sha256_escapes_a_quote(rt: HostRuntime) -> Result<(), Fail> {
-    let alloc = rt.alloc();
-    let manifest = format!(in alloc; "{{\"{SHORT_OF_ABC}\":[\"v1/content/q\\\"x\"]}}")?;
-    let state = format!(in alloc; "{{\"{SHORT_OF_ABC}\":[\"q\\\"x\"]}}")?;
-    let text = written(alloc, "abc", Algorithm::Sha256, &[(&["q\"x"], "abc")], None)?;
-    let want = expected(
-        alloc,
-        "abc",
-        "sha256",
-        manifest.as_str(),
-        state.as_str(),
-        ADA,
-    )?;
-    assert_eq!(rt; text.as_str(), want.as_str());
+fn inventories(rt: HostRuntime) -> Result<(), Fail> {
+    for case in CASES {
+        let name = case.name;
+        let want = wanted(rt.alloc(), case)?;
+        assert!(rt; is_written(rt.alloc(), case, want.as_str()), "{name}");
+    }
     Ok(())
 }

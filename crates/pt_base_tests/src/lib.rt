@@ -3,7 +3,11 @@
 #![tactic(auto)]
 
 #[cfg(test)]
+mod answers;
+#[cfg(test)]
 mod inventories;
+#[cfg(test)]
+mod listings;
 #[cfg(test)]
 mod logs;
 #[cfg(test)]

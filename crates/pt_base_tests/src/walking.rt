@@ -1,9 +1,12 @@
 //! Values from outside: the table of what a site is, the limits at their ends, and one walk of two listings.
-ghost use Rattle.std.specs.Prelude.{◌≡◌};
-ghost use Rattle.pt_walk.specs.Trail.{current_entry, is_dir_entry};
+ghost use Rattle.std.specs.Prelude.{◌≡◌, IsTrue};
+ghost use Rattle.pt_walk.specs.Trail.{can_enter, current_entry, is_dir_entry};
 
+use crate::answers::{is_path, refuses};
 use pt_tree::{Kind, Listing, Name};
 use pt_walk::{At, Cause, Finding, Form, Limits, LimitsFault, Trail, is_shorty, judge, laws};
+use std::alloc::Global;
+use std::process::Abort;
 use std::test::Fail;
 
 const SITES: [(&[(&str, Kind)], Finding, Finding, Finding); 13] = [
@@ -88,55 +91,64 @@ const SITES: [(&[(&str, Kind)], Finding, Finding, Finding); 13] = [
     ),
 ];
 
-fn listing_of(rt: &HostRuntime, entries: &[(&str, Kind)]) -> Result<Listing, Fail> {
-    let mut listing = Listing::new(rt.alloc());
+fn listing_of(alloc: Global, entries: &[(&str, Kind)]) -> Result<Listing, Fail> {
+    let mut listing = Listing::new(alloc);
     for (name, kind) in entries {
-        listing.add(Name::of(rt.alloc(), name.as_bytes())?, *kind)?;
+        listing.add(Name::of(alloc, name.as_bytes())?, *kind)?;
     }
     Ok(listing)
+}
+
+// As the top it is judged so in both forms, and as another site by the form.
+fn is_judged(listing: &Listing, at_top: Finding, plain: Finding, gathering: Finding) -> bool {
+    judge(listing, At::Root, Form::Plain) == at_top
+        && judge(listing, At::Root, Form::Gathering) == at_top
+        && judge(listing, At::Pair, Form::Plain) == plain
+        && judge(listing, At::Last, Form::Plain) == plain
+        && judge(listing, At::Pair, Form::Gathering) == gathering
+        && judge(listing, At::Last, Form::Gathering) == gathering
 }
 
 #[test]
 fn sites_are_what_the_table_says(rt: HostRuntime) -> Result<(), Fail> {
     for (entries, at_top, plain, gathering) in SITES {
-        let listing = listing_of(&rt, entries)?;
-        for form in [Form::Plain, Form::Gathering] {
-            assert_eq!(rt; judge(&listing, At::Root, form), at_top, "{entries:?}");
-        }
-        for at in [At::Pair, At::Last] {
-            assert_eq!(rt; judge(&listing, at, Form::Plain), plain, "{entries:?}");
-            assert_eq!(rt;
-                judge(&listing, at, Form::Gathering),
-                gathering,
-                "{entries:?}"
-            );
-        }
+        let listing = listing_of(rt.alloc(), entries)?;
+        assert!(rt;
+            is_judged(&listing, at_top, plain, gathering),
+            "{entries:?}"
+        );
     }
     Ok(())
 }
 
+// The causes with their words, the first of which has the number 1.
+const CAUSES: [(Cause, &str); 9] = [
+    (Cause::Root, "root"),
+    (Cause::Empty, "empty"),
+    (Cause::Split, "split"),
+    (Cause::Past, "past"),
+    (Cause::Name, "name"),
+    (Cause::Utf8, "utf8"),
+    (Cause::Other, "other"),
+    (Cause::Limit, "limit"),
+    (Cause::Reserved, "reserved"),
+];
+
 #[test]
 fn causes_have_numbers_and_words(rt: HostRuntime) {
-    let all = [
-        (Cause::Root, "root"),
-        (Cause::Empty, "empty"),
-        (Cause::Split, "split"),
-        (Cause::Past, "past"),
-        (Cause::Name, "name"),
-        (Cause::Utf8, "utf8"),
-        (Cause::Other, "other"),
-        (Cause::Limit, "limit"),
-        (Cause::Reserved, "reserved"),
-    ];
-    for (i, (cause, word)) in all.iter().enumerate() {
-        assert_eq!(rt; usize::from(cause.number()), i + 1);
-        assert_eq!(rt; cause.word(), *word);
+    for (i, (cause, word)) in CAUSES.iter().enumerate() {
+        let number = usize::from(cause.number());
+        assert!(rt; number == i + 1 && cause.word() == *word, "{word}");
     }
 }
 
+fn is_shorty_of(alloc: Global, name: &str, kind: Kind) -> Option<bool> {
+    let name = Name::of(alloc, name.as_bytes()).ok()?;
+    Some(is_shorty(&name, kind))
+}
+
 #[test]
-fn shorties_are_directories_of_one_or_two_bytes(rt: HostRuntime) -> Result<(), Fail> {
-    let alloc = rt.alloc();
+fn shorties_are_directories_of_one_or_two_bytes(rt: HostRuntime) {
     for (name, kind, answer) in [
         ("a", Kind::Dir, true),
         ("ab", Kind::Dir, true),
@@ -144,47 +156,61 @@ fn shorties_are_directories_of_one_or_two_bytes(rt: HostRuntime) -> Result<(), F
         ("ab", Kind::File, false),
         ("ab", Kind::Other, false),
     ] {
-        let entry = Name::of(alloc, name.as_bytes())?;
-        assert_eq!(rt; is_shorty(&entry, kind), answer);
+        assert!(rt;
+            is_shorty_of(rt.alloc(), name, kind) == Some(answer),
+            "{name}: {kind:?}"
+        );
     }
-    Ok(())
 }
+
+// The numbers of files, bytes of a path, names on a way, bytes of a file and turns.
+fn numbers_of(limits: &Limits) -> [u64; 5] {
+    [
+        limits.files(),
+        limits.path_bytes(),
+        limits.depth(),
+        limits.file_bytes(),
+        limits.turns(),
+    ]
+}
+
+fn limits_of(numbers: [u64; 5]) -> Result<Limits, LimitsFault> {
+    let [files, path_bytes, depth, file_bytes, turns] = numbers;
+    Limits::of(files, path_bytes, depth, file_bytes, turns)
+}
+
+const GREATEST: [u64; 5] = [1_000_000, 4_000, 600, 8_796_093_022_208, 1_099_511_627_776];
 
 #[test]
 fn limits_end_at_their_greatest_values(rt: HostRuntime) -> Result<(), Fail> {
-    let limits = Limits::of(1_000_000, 4_000, 600, 8_796_093_022_208, 1_099_511_627_776)?;
-    assert_eq!(rt; limits.files(), 1_000_000);
-    assert_eq!(rt; limits.path_bytes(), 4_000);
-    assert_eq!(rt; limits.depth(), 600);
-    assert_eq!(rt; limits.file_bytes(), 8_796_093_022_208);
-    assert_eq!(rt; limits.turns(), 1_099_511_627_776);
-    assert_eq!(rt; Limits::greatest(), limits);
-    assert_eq!(rt; Limits::of(1, 1, 1, 1, 1)?.depth(), 1);
-    for (numbers, fault) in [
-        ([0, 1, 1, 1, 1], LimitsFault::Zero),
-        ([1, 0, 1, 1, 1], LimitsFault::Zero),
-        ([1, 1, 0, 1, 1], LimitsFault::Zero),
-        ([1, 1, 1, 0, 1], LimitsFault::Zero),
-        ([1, 1, 1, 1, 0], LimitsFault::Zero),
-        ([1_000_001, 1, 1, 1, 0], LimitsFault::Zero),
-        ([1_000_001, 1, 1, 1, 1], LimitsFault::TooLarge),
-        ([1, 4_001, 1, 1, 1], LimitsFault::TooLarge),
-        ([1, 1, 601, 1, 1], LimitsFault::TooLarge),
-        ([1, 1, 1, 8_796_093_022_209, 1], LimitsFault::TooLarge),
-        ([1, 1, 1, 1, 1_099_511_627_777], LimitsFault::TooLarge),
-    ] {
-        let [files, path_bytes, depth, file_bytes, turns] = numbers;
-        assert_eq!(rt;
-            Limits::of(files, path_bytes, depth, file_bytes, turns),
-            Err(fault),
-            "{numbers:?}"
-        );
-    }
-    assert_eq!(rt;
-        [LimitsFault::Zero.number(), LimitsFault::TooLarge.number()],
-        [1, 2]
-    );
+    let limits = limits_of(GREATEST)?;
+    assert!(rt; numbers_of(&limits) == GREATEST);
+    assert!(rt; Limits::greatest() == limits);
+    assert!(rt; limits_of([1, 1, 1, 1, 1])?.depth() == 1);
     Ok(())
+}
+
+const NO_LIMITS: &[([u64; 5], LimitsFault)] = &[
+    ([0, 1, 1, 1, 1], LimitsFault::Zero),
+    ([1, 0, 1, 1, 1], LimitsFault::Zero),
+    ([1, 1, 0, 1, 1], LimitsFault::Zero),
+    ([1, 1, 1, 0, 1], LimitsFault::Zero),
+    ([1, 1, 1, 1, 0], LimitsFault::Zero),
+    ([1_000_001, 1, 1, 1, 0], LimitsFault::Zero),
+    ([1_000_001, 1, 1, 1, 1], LimitsFault::TooLarge),
+    ([1, 4_001, 1, 1, 1], LimitsFault::TooLarge),
+    ([1, 1, 601, 1, 1], LimitsFault::TooLarge),
+    ([1, 1, 1, 8_796_093_022_209, 1], LimitsFault::TooLarge),
+    ([1, 1, 1, 1, 1_099_511_627_777], LimitsFault::TooLarge),
+];
+
+#[test]
+fn limits_that_are_refused(rt: HostRuntime) {
+    for (numbers, fault) in NO_LIMITS {
+        assert!(rt; refuses(limits_of(*numbers), *fault), "{numbers:?}");
+    }
+    assert!(rt; LimitsFault::Zero.number() == 1);
+    assert!(rt; LimitsFault::TooLarge.number() == 2);
 }
 
 fn is_at_directory(trail: &Trail) -> bool
@@ -203,34 +229,54 @@ fn is_at(trail: &Trail, name: &str, kind: Kind) -> bool {
     }
 }
 
+fn enters(trail: &mut Trail, listing: Listing) -> bool
+    requires { IsTrue (can_enter trail.old) }
+{
+    trail.enter(listing).is_ok()
+}
+
+fn path_is(trail: &Trail, want: &str) -> bool {
+    match trail.path() {
+        Ok(path) => is_path(&path, want),
+        Err(_) => false,
+    }
+}
+
+// At the first of the two entries below `ab`; afterwards behind them.
+fn advances(rt: &impl Abort, trail: &mut Trail) {
+    assert!(rt; trail.records() == 3 && trail.len() == 2);
+    assert!(rt; path_is(trail, "ab"));
+    assert!(rt; is_at(trail, "c", Kind::Dir));
+    assert!(rt; trail.current().is_some());
+    trail.advance();
+    assert!(rt; is_at(trail, "x", Kind::File));
+    assert!(rt; trail.current().is_some());
+    trail.advance();
+    assert!(rt; trail.current().is_none());
+}
+
+// Behind the entries below `ab`; afterwards at `ab`.
+fn goes_back_and_leaves(rt: &impl Abort, trail: &mut Trail) {
+    assert!(rt; trail.len() > 0);
+    trail.seek(0);
+    assert!(rt; is_at(trail, "c", Kind::Dir));
+    assert!(rt; trail.len() > 0);
+    trail.leave();
+    assert!(rt; trail.records() == 1 && path_is(trail, ""));
+    assert!(rt; is_at(trail, "ab", Kind::Dir));
+    assert!(rt; trail.innermost().is_some_and(|listing| listing.len() == 1));
+}
+
 #[test]
 fn a_trail_enters_advances_and_leaves(rt: HostRuntime) -> Result<(), Fail> {
     let mut trail = Trail::new(rt.alloc());
-    assert!(rt; trail.current().is_none());
-    assert!(rt; trail.innermost().is_none());
-    trail.enter(listing_of(&rt, &[("ab", Kind::Dir)])?)?;
+    assert!(rt; trail.current().is_none() && trail.innermost().is_none());
+    assert!(rt; enters(&mut trail, listing_of(rt.alloc(), &[("ab", Kind::Dir)])?));
     assert!(rt; is_at_directory(&trail));
-    trail.enter(listing_of(&rt, &[("c", Kind::Dir), ("x", Kind::File)])?)?;
-    assert_eq!(rt; trail.records(), 3);
-    assert_eq!(rt; trail.len(), 2);
-    assert_eq!(rt; trail.path()?.join()?.as_slice(), b"ab".as_slice());
-    assert!(rt; is_at(&trail, "c", Kind::Dir));
-    assert!(rt; trail.current().is_some());
-    trail.advance();
-    assert!(rt; is_at(&trail, "x", Kind::File));
-    assert!(rt; trail.current().is_some());
-    trail.advance();
-    assert!(rt; trail.current().is_none());
-    assert!(rt; trail.len() > 0);
-    trail.seek(0);
-    assert!(rt; is_at(&trail, "c", Kind::Dir));
-    assert!(rt; trail.len() > 0);
-    trail.leave();
-    assert_eq!(rt; trail.records(), 1);
-    assert!(rt; trail.path()?.is_empty());
-    assert!(rt; is_at(&trail, "ab", Kind::Dir));
-    let length = trail.innermost().ok_or("no listing")?.len();
-    assert_eq!(rt; length, 1);
+    let below = [("c", Kind::Dir), ("x", Kind::File)];
+    assert!(rt; enters(&mut trail, listing_of(rt.alloc(), &below)?));
+    advances(&rt, &mut trail);
+    goes_back_and_leaves(&rt, &mut trail);
     Ok(())
 }
 
