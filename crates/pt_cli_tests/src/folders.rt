@@ -171,7 +171,7 @@ const READ: Entries = Entries {
 
 // What is opened, whether it is there, where the next block begins, and how long it is. A directory isn't opened, and the
 // open file is read on.
-const BLOCKS: [(&str, bool, usize, usize); 10] = [
+const BLOCKS: &[(&str, bool, usize, usize)] = &[
     ("long", true, 0, 8192),
     ("no", false, 8192, 8192),
     ("no", false, 16_384, 3616),
@@ -199,10 +199,10 @@ fn wrong_block_by(
 ) -> Result<(Option<usize>, u64), Fail> {
     let mut block = Block::new();
     let mut well = next(source, &mut block) == Err(TreeFault::Device);
-    for (i, (name, there, start, len)) in BLOCKS.into_iter().enumerate() {
-        well = well && opened(source, alloc, name)? == answer(there);
+    for (i, (name, there, start, len)) in BLOCKS.iter().enumerate() {
+        well = well && opened(source, alloc, name)? == answer(*there);
         next(source, &mut block)?;
-        if !well || block.len() != len || !are_letters(&block, start) {
+        if !well || block.len() != *len || !are_letters(&block, *start) {
             return Ok((Some(i), source.failures()));
         }
     }
