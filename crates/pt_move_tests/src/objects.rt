@@ -30,15 +30,24 @@ pub struct Frame {
 
 /// The tree of these files beside the base.
 pub fn tree_of(alloc: Global, base: Base, files: Files) -> Result<MemDest, Fail> {
-    let mut dest = match base {
-        Base::Nothing => MemDest::new(alloc),
-        Base::Root => tree(alloc, &ROOT)?,
-        Base::Object(frame) => framed(alloc, &frame)?,
-    };
-    for (at, text) in files {
-        add_file(alloc, &mut dest, at, text)?;
-    }
+    let mut dest = base_of(alloc, base)?;
+    add_files(alloc, &mut dest, files)?;
     Ok(dest)
+}
+
+fn base_of(alloc: Global, base: Base) -> Result<MemDest, Fail> {
+    match base {
+        Base::Nothing => Ok(MemDest::new(alloc)),
+        Base::Root => Ok(tree(alloc, &ROOT)?),
+        Base::Object(frame) => framed(alloc, &frame),
+    }
+}
+
+fn add_files(alloc: Global, dest: &mut MemDest, files: Files) -> Result<(), Fail> {
+    for (at, text) in files {
+        add_file(alloc, dest, at, text)?;
+    }
+    Ok(())
 }
 
 fn add_file(alloc: Global, dest: &mut MemDest, at: &str, text: &str) -> Result<(), Fail> {
