@@ -142,7 +142,7 @@ fn after_call(
 }
 
 // A step, how many calls of the system it makes at 4,096 bytes a time, and how many bytes stay in the block where one fails.
-const CALLS: [(Step<'_>, u64, usize); 6] = [
+const CALLS: &[(Step<'_>, u64, usize)] = &[
     (Step::Kind("a"), 1, 8192),
     (Step::Peek("a"), 3, 0),
     (Step::Mkdir("a"), 1, 8192),
@@ -153,7 +153,8 @@ const CALLS: [(Step<'_>, u64, usize); 6] = [
 
 // The first of these calls that fails otherwise: a failure of the device counts, and want of memory doesn't.
 fn wrong_call(alloc: Global, step: Step<'_>, calls: u64, left: usize) -> Result<Option<u64>, Fail> {
-    for failing in 1..calls + 1 {
+    for passing in 0..calls {
+        let failing = passing + 1;
         let refused = after_fault(alloc, ErrorKind::PermissionDenied, step, failing)?;
         let wanting = after_fault(alloc, ErrorKind::OutOfMemory, step, failing)?;
         if !is_left(refused, Err(TreeFault::Device), 1, left)
@@ -171,17 +172,17 @@ fn is_left(after: After, answer: Result<(), TreeFault>, failures: u64, left: usi
 
 #[test]
 fn each_call_of_a_destination_fails(rt: HostRuntime) -> Result<(), Fail> {
-    for (i, (step, calls, left)) in CALLS.into_iter().enumerate() {
-        let well = after_fault(rt.alloc(), ErrorKind::PermissionDenied, step, 0)?;
-        assert!(rt; well == (Ok(()), 0, 8192, calls), "row {i}: {well:?}");
-        let wrong = wrong_call(rt.alloc(), step, calls, left)?;
+    for (i, (step, calls, left)) in CALLS.iter().enumerate() {
+        let well = after_fault(rt.alloc(), ErrorKind::PermissionDenied, *step, 0)?;
+        assert!(rt; well == (Ok(()), 0, 8192, *calls), "row {i}: {well:?}");
+        let wrong = wrong_call(rt.alloc(), *step, *calls, *left)?;
         assert!(rt; wrong.is_none(), "row {i}: call {wrong:?}");
     }
     Ok(())
 }
 
 // What a look for a kind fails for, what is answered, and how many failures that makes.
-const ABSENT: [(ErrorKind, Result<(), TreeFault>, u64); 3] = [
+const ABSENT: &[(ErrorKind, Result<(), TreeFault>, u64)] = &[
     (ErrorKind::NotFound, Ok(()), 0),
     (ErrorKind::NotADirectory, Ok(()), 0),
     (ErrorKind::FilesystemLoop, Err(TreeFault::Device), 1),
@@ -189,10 +190,10 @@ const ABSENT: [(ErrorKind, Result<(), TreeFault>, u64); 3] = [
 
 #[test]
 fn absent_kinds_are_no_failures(rt: HostRuntime) -> Result<(), Fail> {
-    for (i, (error, answer, failures)) in ABSENT.into_iter().enumerate() {
-        let found = after_fault(rt.alloc(), error, Step::Kind("a"), 1)?;
+    for (i, (error, answer, failures)) in ABSENT.iter().enumerate() {
+        let found = after_fault(rt.alloc(), *error, Step::Kind("a"), 1)?;
         assert!(rt;
-            is_left(found, answer, failures, 8192),
+            is_left(found, *answer, *failures, 8192),
             "row {i}: {found:?}"
         );
     }
@@ -378,7 +379,7 @@ fn failures_of(
 
 // What the system gives, each name ended by a NUL, what is answered, and how many failures that makes; a name that ends in
 // `d` is a directory, one in `l` a link.
-const LISTINGS: [(&'static [u8], &str, u64); 9] = [
+const LISTINGS: &[(&[u8], &str, u64)] = &[
     (b"", "", 0),
     (b".\0..\0", "", 0),
     (
@@ -406,9 +407,9 @@ fn failures_by_names(
 
 #[test]
 fn listings_are_sorted_or_refused(rt: HostRuntime) -> Result<(), Fail> {
-    for (i, (names, answer, failures)) in LISTINGS.into_iter().enumerate() {
+    for (i, (names, answer, failures)) in LISTINGS.iter().enumerate() {
         let found = failures_by_names(rt.alloc(), names, answer)?;
-        assert!(rt; found == Some(failures), "row {i}: {found:?}");
+        assert!(rt; found == Some(*failures), "row {i}: {found:?}");
     }
     Ok(())
 }

@@ -43,8 +43,9 @@ fn link(rt: &HostRuntime, to: &str, folder: &str, rest: &str) -> Result<(), Fail
     Ok(())
 }
 
-// Files of so many letters, and links, each to what its first text says.
+// Directories, files of so many letters, and links, each to what its first text says.
 struct Entries {
+    dirs: &'static [&'static str],
     files: &'static [(&'static str, usize)],
     links: &'static [(&'static str, &'static str)],
 }
@@ -52,28 +53,38 @@ struct Entries {
 // A new folder of this name with these entries.
 fn make_with(rt: &HostRuntime, name: &str, entries: &Entries) -> Result<String, Fail> {
     let folder = make_folder(rt, name)?;
-    for (file, len) in entries.files {
-        put(rt, &folder, file, *len)?;
-    }
-    for (to, rest) in entries.links {
-        link(rt, to, &folder, rest)?;
-    }
+    make_entries(rt, &folder, entries)?;
     Ok(folder)
 }
 
-// Two files, a directory with a file, and links to a file, a directory and nothing.
-fn make_entries(rt: &HostRuntime, name: &str) -> Result<String, Fail> {
-    let folder = make_folder(rt, name)?;
-    for file in ["b", "\u{e9}", "Z"] {
-        put(rt, &folder, file, 1)?;
+fn make_entries(rt: &HostRuntime, folder: &str, entries: &Entries) -> Result<(), Fail> {
+    for rest in entries.dirs {
+        fs::create_dir(rt, format!(in rt.alloc(); "{folder}/{rest}")?)?;
     }
-    fs::create_dir(rt, format!(in rt.alloc(); "{folder}/dir")?)?;
-    put(rt, &folder, "dir/in", 1)?;
-    for (to, rest) in [("b", "to_file"), ("dir", "to_dir"), ("no", ".to_nothing")] {
-        link(rt, to, &folder, rest)?;
-    }
-    Ok(folder)
+    make_files(rt, folder, entries)?;
+    make_links(rt, folder, entries)
 }
+
+fn make_files(rt: &HostRuntime, folder: &str, entries: &Entries) -> Result<(), Fail> {
+    for (rest, len) in entries.files {
+        put(rt, folder, rest, *len)?;
+    }
+    Ok(())
+}
+
+fn make_links(rt: &HostRuntime, folder: &str, entries: &Entries) -> Result<(), Fail> {
+    for (to, rest) in entries.links {
+        link(rt, to, folder, rest)?;
+    }
+    Ok(())
+}
+
+// Three files, a directory with a file, and links to a file, a directory and nothing.
+const KINDS_OF_ENTRIES: Entries = Entries {
+    dirs: &["dir"],
+    files: &[("b", 1), ("\u{e9}", 1), ("Z", 1), ("dir/in", 1)],
+    links: &[("b", "to_file"), ("dir", "to_dir"), ("no", ".to_nothing")],
+};
 
 // What each path's list answers.
 const LISTS: [(&str, &str); 6] = [
@@ -107,7 +118,7 @@ fn wrong_list_by(
 
 #[test]
 fn listing_gives_the_entries_own_kinds(rt: HostRuntime) -> Result<(), Fail> {
-    let folder = make_entries(&rt, "pt_folder_list")?;
+    let folder = make_with(&rt, "pt_folder_list", &KINDS_OF_ENTRIES)?;
     let wrong = wrong_list(&rt, &folder)?;
     fs::remove_dir_all(&rt, &folder)?;
     assert!(rt; wrong == (None, 4), "path and failures {wrong:?}");
@@ -154,7 +165,7 @@ fn wrong_kind_by(
 
 #[test]
 fn kinds_are_those_of_the_entries(rt: HostRuntime) -> Result<(), Fail> {
-    let folder = make_entries(&rt, "pt_folder_kinds")?;
+    let folder = make_with(&rt, "pt_folder_kinds", &KINDS_OF_ENTRIES)?;
     let wrong = wrong_kind(&rt, &folder, &KINDS)?;
     fs::remove_dir_all(&rt, &folder)?;
     let gone = wrong_kind(&rt, &folder, &[("", None)])?;
@@ -165,13 +176,14 @@ fn kinds_are_those_of_the_entries(rt: HostRuntime) -> Result<(), Fail> {
 }
 
 const READ: Entries = Entries {
+    dirs: &[],
     files: &[("long", 20_000), ("full", 8192), ("short", 3)],
     links: &[],
 };
 
 // What is opened, whether it is there, where the next block begins, and how long it is. A directory isn't opened, and the
 // open file is read on.
-const BLOCKS: [(&str, bool, usize, usize); 10] = [
+const BLOCKS: &[(&str, bool, usize, usize)] = &[
     ("long", true, 0, 8192),
     ("no", false, 8192, 8192),
     ("no", false, 16_384, 3616),
@@ -199,10 +211,10 @@ fn wrong_block_by(
 ) -> Result<(Option<usize>, u64), Fail> {
     let mut block = Block::new();
     let mut well = next(source, &mut block) == Err(TreeFault::Device);
-    for (i, (name, there, start, len)) in BLOCKS.into_iter().enumerate() {
-        well = well && opened(source, alloc, name)? == answer(there);
+    for (i, (name, there, start, len)) in BLOCKS.iter().enumerate() {
+        well = well && opened(source, alloc, name)? == answer(*there);
         next(source, &mut block)?;
-        if !well || block.len() != len || !are_letters(&block, start) {
+        if !well || block.len() != *len || !are_letters(&block, *start) {
             return Ok((Some(i), source.failures()));
         }
     }
@@ -277,6 +289,7 @@ fn wrong_in(
 }
 
 const LINK: Entries = Entries {
+    dirs: &[],
     files: &[],
     links: &[("nothing", "link")],
 };
@@ -344,6 +357,7 @@ fn files_are_peeked_at(rt: HostRuntime) -> Result<(), Fail> {
 }
 
 const EMPTY: Entries = Entries {
+    dirs: &[],
     files: &[],
     links: &[],
 };

@@ -1,12 +1,13 @@
 // Runs that end before their end, what they leave, and the runs after them.
 #![tactic(auto)]
 
-use crate::objects::{ABC, Base, Files, ONE, STORE, TOLD, tree_of};
+use crate::objects::{ABC, Base, Files, ONE, STORE, TOLD, one_object, tree_of};
 use crate::steps::{Ends, Step, wrong};
 use crate::stores::{Asked, go_on, job};
 use pt_memory::{LooseSource, MemDest, MemLog};
-use pt_move::{Fault, Mover, Turn, migrate};
+use pt_move::{Fault, Job, Mover, Turn, migrate};
 use pt_texts::{path, store};
+use pt_tree::Source;
 use std::alloc::Global;
 use std::test::Fail;
 
@@ -15,11 +16,11 @@ const DONE: &str =
 
 // Whether a run whose log takes so many bytes leaves the object and these bytes, and ends in a fault if more were to follow.
 fn ends_by_its_log(alloc: Global, want: &MemDest, taken: usize) -> Result<bool, Fail> {
+    let job = job(alloc, Asked::Usual)?;
     let mut source = store(alloc, STORE)?;
     let mut dest = MemDest::new(alloc);
     let mut log = MemLog::new(alloc);
     log.fuse(Some(taken as u64));
-    let job = job(alloc, Asked::Usual)?;
     let answer = migrate(alloc, &mut source, &mut dest, &mut log, job);
     let is_fault = answer == Err(Fault::Log);
     let lines = TOLD.as_bytes().get(..taken);
@@ -27,10 +28,9 @@ fn ends_by_its_log(alloc: Global, want: &MemDest, taken: usize) -> Result<bool, 
 }
 
 // The first number of bytes at which that is otherwise.
-fn first_wrong_byte(alloc: Global) -> Result<Option<usize>, Fail> {
-    let want = tree_of(alloc, Base::Object(ONE), ABC)?;
+fn first_wrong_byte(alloc: Global, want: &MemDest) -> Result<Option<usize>, Fail> {
     for taken in 0..TOLD.len() + 1 {
-        if !ends_by_its_log(alloc, &want, taken)? {
+        if !ends_by_its_log(alloc, want, taken)? {
             return Ok(Some(taken));
         }
     }
@@ -39,79 +39,102 @@ fn first_wrong_byte(alloc: Global) -> Result<Option<usize>, Fail> {
 
 #[test]
 fn a_log_may_fail_at_each_of_its_bytes(rt: HostRuntime) -> Result<(), Fail> {
-    let wrong = first_wrong_byte(rt.alloc())?;
+    let wrong = first_wrong_byte(rt.alloc(), &one_object(rt.alloc())?)?;
     assert!(rt; wrong.is_none(), "at byte {wrong:?}");
     Ok(())
 }
 
-// How many steps of a run pass before its log fails at ten bytes, the turns and the objects that it reports, and what the
-// next step answers; none where its log is another.
-fn after_a_full_log(alloc: Global) -> Result<Option<(u64, u64, u64, Result<Turn, Fault>)>, Fail> {
-    let mut source = store(alloc, STORE)?;
+// A run that is stopped: what its job has that isn't as usual, how many bytes its log takes, how many steps are made while it
+// goes on, and what is in its log then.
+struct Stopped {
+    asked: Asked,
+    taken: Option<u64>,
+    steps: u64,
+    lines: &'static str,
+}
+
+// How many steps went on, what the two steps after them answer, and the turns and the objects that are reported.
+type After = (u64, [Result<Turn, Fault>; 2], u64, u64);
+
+fn after_steps<S: Source>(
+    alloc: Global,
+    source: &mut S,
+    dest: &mut MemDest,
+    log: &mut MemLog,
+    run: (Job, u64),
+) -> After {
+    let (job, steps) = run;
+    let mut mover = Mover::start(alloc, job);
+    let (made, _) = go_on(&mut mover, source, dest, log, steps);
+    let first = mover.step(source, dest, log);
+    let second = mover.step(source, dest, log);
+    let report = mover.report();
+    (made, [first, second], report.turns, report.done)
+}
+
+// The same over this source; none where the log is another, or the destination doesn't hold just the object.
+fn after<S: Source>(
+    alloc: Global,
+    source: &mut S,
+    stopped: &Stopped,
+) -> Result<Option<After>, Fail> {
+    let want = one_object(alloc)?;
+    let job = job(alloc, stopped.asked)?;
     let mut dest = MemDest::new(alloc);
     let mut log = MemLog::new(alloc);
-    log.fuse(Some(10));
-    let mut mover = Mover::start(alloc, job(alloc, Asked::Usual)?);
-    let (made, _) = go_on(&mut mover, &mut source, &mut dest, &mut log, 100);
-    let report = mover.report();
-    let after = mover.step(&mut source, &mut dest, &mut log);
-    if log.bytes() != b"{\"as\":\"don".as_slice() {
-        return Ok(None);
-    }
-    Ok(Some((made, report.turns, report.done, after)))
+    log.fuse(stopped.taken);
+    let after = after_steps(alloc, source, &mut dest, &mut log, (job, stopped.steps));
+    let is_left = dest.same(&want) && log.bytes() == stopped.lines.as_bytes();
+    Ok(is_left.then_some(after))
 }
+
+const FULL_LOG: Stopped = Stopped {
+    asked: Asked::Usual,
+    taken: Some(10),
+    steps: 100,
+    lines: "{\"as\":\"don",
+};
 
 #[test]
 fn a_log_that_failed_ends_the_run(rt: HostRuntime) -> Result<(), Fail> {
-    let after = after_a_full_log(rt.alloc())?;
-    assert!(rt; after == Some((37, 38, 0, Err(Fault::Ended))), "{after:?}");
+    let after = after(rt.alloc(), &mut store(rt.alloc(), STORE)?, &FULL_LOG)?;
+    let answers = [Err(Fault::Ended), Err(Fault::Ended)];
+    assert!(rt; after == Some((37, answers, 38, 0)), "{after:?}");
     Ok(())
 }
 
-// How many of 42 steps pass where 42 turns may be made, what the two steps after them answer, and the turns that are
-// reported; none where the log or the destination is another than that of the object.
-fn after_its_turns(alloc: Global) -> Result<Option<(u64, [Result<Turn, Fault>; 2], u64)>, Fail> {
-    let mut source = store(alloc, STORE)?;
-    let mut dest = MemDest::new(alloc);
-    let mut log = MemLog::new(alloc);
-    let mut mover = Mover::start(alloc, job(alloc, Asked::Turns(42))?);
-    let (made, _) = go_on(&mut mover, &mut source, &mut dest, &mut log, 42);
-    let first = mover.step(&mut source, &mut dest, &mut log);
-    let second = mover.step(&mut source, &mut dest, &mut log);
-    let is_left = dest.same(&tree_of(alloc, Base::Object(ONE), ABC)?);
-    if !is_left || log.bytes() != DONE.as_bytes() {
-        return Ok(None);
-    }
-    Ok(Some((made, [first, second], mover.report().turns)))
-}
+const TOO_FEW_TURNS: Stopped = Stopped {
+    asked: Asked::Turns(42),
+    taken: None,
+    steps: 42,
+    lines: DONE,
+};
 
 #[test]
 fn the_limit_of_turns_ends_a_run(rt: HostRuntime) -> Result<(), Fail> {
-    let after = after_its_turns(rt.alloc())?;
+    let after = after(rt.alloc(), &mut store(rt.alloc(), STORE)?, &TOO_FEW_TURNS)?;
     let answers = [Err(Fault::Turns), Err(Fault::Ended)];
-    assert!(rt; after == Some((42, answers, 42)), "{after:?}");
+    assert!(rt; after == Some((42, answers, 42, 1)), "{after:?}");
     Ok(())
 }
 
-// How many of 42 steps pass where 43 turns may be made, and what the two steps after them answer; none where the destination
-// is another than that of the object.
-fn after_its_end(alloc: Global) -> Result<Option<(u64, [Result<Turn, Fault>; 2])>, Fail> {
-    let mut source = LooseSource::of(store(alloc, STORE)?);
-    let mut dest = MemDest::new(alloc);
-    let mut log = MemLog::new(alloc);
-    let mut mover = Mover::start(alloc, job(alloc, Asked::Turns(43))?);
-    let (made, _) = go_on(&mut mover, &mut source, &mut dest, &mut log, 42);
-    let first = mover.step(&mut source, &mut dest, &mut log);
-    let second = mover.step(&mut source, &mut dest, &mut log);
-    let is_left = dest.same(&tree_of(alloc, Base::Object(ONE), ABC)?);
-    Ok(is_left.then_some((made, [first, second])))
+const ENOUGH_TURNS: Stopped = Stopped {
+    asked: Asked::Turns(43),
+    taken: None,
+    steps: 42,
+    lines: TOLD,
+};
+
+// The same over a source that may change.
+fn after_loose(alloc: Global, stopped: &Stopped) -> Result<Option<After>, Fail> {
+    after(alloc, &mut LooseSource::of(store(alloc, STORE)?), stopped)
 }
 
 #[test]
 fn the_last_turn_is_finished_and_nothing_follows(rt: HostRuntime) -> Result<(), Fail> {
-    let after = after_its_end(rt.alloc())?;
+    let after = after_loose(rt.alloc(), &ENOUGH_TURNS)?;
     let answers = [Ok(Turn::Finished), Err(Fault::Ended)];
-    assert!(rt; after == Some((42, answers)), "{after:?}");
+    assert!(rt; after == Some((42, answers, 43, 1)), "{after:?}");
     Ok(())
 }
 
@@ -183,23 +206,33 @@ const CHANGED: [(&str, Files); 3] = [
     ),
 ];
 
-// Whether that ends a run before its log, and leaves this.
-fn ends_by_a_change(alloc: Global, bytes: &str, left: Files) -> Result<bool, Fail> {
-    let mut source = LooseSource::of(store(alloc, STORE)?);
+// The store whose file holds that after eight calls.
+fn changing(alloc: Global, bytes: &str) -> Result<LooseSource, Fail> {
     let file = path(alloc, "pairtree_root/ab/c/obj/a.txt")?;
+    let mut source = LooseSource::of(store(alloc, STORE)?);
     source.swap_after(8, &file, bytes.as_bytes())?;
+    Ok(source)
+}
+
+// Whether a run over it ends before its log, and leaves this.
+fn ends_by_a_change(alloc: Global, bytes: &str, left: &MemDest) -> Result<bool, Fail> {
+    let job = job(alloc, Asked::Usual)?;
+    let mut source = changing(alloc, bytes)?;
     let mut dest = MemDest::new(alloc);
     let mut log = MemLog::new(alloc);
-    let job = job(alloc, Asked::Usual)?;
     let answer = migrate(alloc, &mut source, &mut dest, &mut log, job);
-    let is_left = dest.same(&tree_of(alloc, Base::Root, left)?);
-    Ok(answer == Err(Fault::Changed) && log.bytes().is_empty() && is_left)
+    Ok(answer == Err(Fault::Changed) && log.bytes().is_empty() && dest.same(left))
+}
+
+fn leaves_by_a_change(alloc: Global, bytes: &str, left: Files) -> Result<bool, Fail> {
+    ends_by_a_change(alloc, bytes, &tree_of(alloc, Base::Root, left)?)
 }
 
 #[test]
 fn a_file_that_changes_ends_the_run(rt: HostRuntime) -> Result<(), Fail> {
     for (bytes, left) in CHANGED {
-        assert!(rt; ends_by_a_change(rt.alloc(), bytes, left)?, "{bytes}");
+        let is_left = leaves_by_a_change(rt.alloc(), bytes, left)?;
+        assert!(rt; is_left, "{bytes}");
     }
     Ok(())
 }

@@ -9,15 +9,15 @@ use pt_texts::store;
 use std::alloc::Global;
 use std::test::Fail;
 
-// A run to its end, step by step: its report, the most records held between two turns, and its lines.
-fn told(alloc: Global, asked: Asked, entries: &str) -> Result<(Report, u128, String), Fail> {
+// A run to its end, step by step: its report, the most records held between two turns, and its log.
+fn told(alloc: Global, asked: Asked, entries: &str) -> Result<(Report, u128, MemLog), Fail> {
+    let job = job(alloc, asked)?;
     let mut source = store(alloc, entries)?;
     let mut dest = MemDest::new(alloc);
     let mut log = MemLog::new(alloc);
-    let mut mover = Mover::start(alloc, job(alloc, asked)?);
+    let mut mover = Mover::start(alloc, job);
     let (_, most) = go_on(&mut mover, &mut source, &mut dest, &mut log, 100_000);
-    let lines = String::from_str(alloc, str::from_utf8(log.bytes())?)?;
-    Ok((mover.report(), most, lines))
+    Ok((mover.report(), most, log))
 }
 
 // The turns of a run and the most records, where these are its lines.
@@ -27,8 +27,8 @@ fn by_lines(
     entries: &str,
     lines: &str,
 ) -> Result<Option<(u64, u128)>, Fail> {
-    let (report, most, told) = told(alloc, asked, entries)?;
-    Ok((told.as_str() == lines).then_some((report.turns, most)))
+    let (report, most, log) = told(alloc, asked, entries)?;
+    Ok((log.bytes() == lines.as_bytes()).then_some((report.turns, most)))
 }
 
 // The turns alone.
@@ -422,13 +422,16 @@ fn without_tuples_one_place_is_reserved(rt: HostRuntime) -> Result<(), Fail> {
     Ok(())
 }
 
-// How many objects, turns and limits are told where so many directories, one in the other, lead to an object.
+fn tells_limit(log: &MemLog) -> Result<bool, Fail> {
+    Ok(str::from_utf8(log.bytes())?.contains("\"cause\":\"limit\""))
+}
+
+// How many objects and turns are told, and whether the limit is, where so many directories, one in the other, lead to an object.
 fn of_depth(alloc: Global, count: usize) -> Result<(u64, u64, bool), Fail> {
     let mut entry = "ab/".repeat(alloc, count)?;
     entry.push_str("obj/f=")?;
-    let (report, _, told) = told(alloc, Asked::Usual, entry.as_str())?;
-    let is_limit = told.contains("\"cause\":\"limit\"");
-    Ok((report.done, report.turns, is_limit))
+    let (report, _, log) = told(alloc, Asked::Usual, entry.as_str())?;
+    Ok((report.done, report.turns, tells_limit(&log)?))
 }
 
 // The number of directories, one in the other, whose innermost holds an object; how many are carried, the turns, and whether
@@ -453,12 +456,16 @@ const LONG_DIGEST: &str = "d026b9af8545d3b965fb83ab5f10d5072c902affb8dc2629ef670
 
 // How many such objects are carried, present and passed over; none where the first line is another.
 fn of_long_names(alloc: Global) -> Result<Option<(u64, u64, u64)>, Fail> {
-    let name = "n".repeat(alloc, 255)?;
-    let entries = format!(in alloc; "pairtree_prefix*1000 ab/obj/{name}*100000")?;
-    let (report, _, told) = told(alloc, Asked::Usual, entries.as_str())?;
     let line = long_line(alloc)?;
-    let is_first = told.starts_with(line.as_str());
+    let entries = long_entries(alloc)?;
+    let (report, _, log) = told(alloc, Asked::Usual, entries.as_str())?;
+    let is_first = log.bytes().starts_with(line.as_bytes());
     Ok(is_first.then_some((report.done, report.present, report.skipped)))
+}
+
+fn long_entries(alloc: Global) -> Result<String, Fail> {
+    let name = "n".repeat(alloc, 255)?;
+    Ok(format!(in alloc; "pairtree_prefix*1000 ab/obj/{name}*100000")?)
 }
 
 fn long_line(alloc: Global) -> Result<String, Fail> {

@@ -19,27 +19,35 @@ pub enum Base {
     Object(Frame),
 }
 
-/// The files of an object beside its contents: where it lies, its inventory, the word of its algorithm, and the digest of
-/// the inventory.
+/// The files of an object beside its contents: where it lies, its inventory, and the name and the text of its sidecar.
 #[derive(Clone, Copy)]
 pub struct Frame {
     pub place: &'static str,
     pub inventory: &'static str,
-    pub word: &'static str,
+    pub sidecar: &'static str,
     pub digest: &'static str,
 }
 
 /// The tree of these files beside the base.
 pub fn tree_of(alloc: Global, base: Base, files: Files) -> Result<MemDest, Fail> {
-    let mut dest = match base {
-        Base::Nothing => MemDest::new(alloc),
-        Base::Root => tree(alloc, &ROOT)?,
-        Base::Object(frame) => framed(alloc, &frame)?,
-    };
-    for (at, text) in files {
-        add_file(alloc, &mut dest, at, text)?;
-    }
+    let mut dest = base_of(alloc, base)?;
+    add_files(alloc, &mut dest, files)?;
     Ok(dest)
+}
+
+fn base_of(alloc: Global, base: Base) -> Result<MemDest, Fail> {
+    match base {
+        Base::Nothing => Ok(MemDest::new(alloc)),
+        Base::Root => Ok(tree(alloc, &ROOT)?),
+        Base::Object(frame) => framed(alloc, &frame),
+    }
+}
+
+fn add_files(alloc: Global, dest: &mut MemDest, files: Files) -> Result<(), Fail> {
+    for (at, text) in files {
+        add_file(alloc, dest, at, text)?;
+    }
+    Ok(())
 }
 
 fn add_file(alloc: Global, dest: &mut MemDest, at: &str, text: &str) -> Result<(), Fail> {
@@ -53,24 +61,21 @@ fn add_file(alloc: Global, dest: &mut MemDest, at: &str, text: &str) -> Result<(
 // The root with the object, without its contents.
 fn framed(alloc: Global, frame: &Frame) -> Result<MemDest, Fail> {
     let mut dest = tree(alloc, &ROOT)?;
-    let place = frame.place;
-    add_in(
-        alloc,
-        &mut dest,
-        place,
-        ("0=ocfl_object_1.1", "ocfl_object_1.1\n"),
-    )?;
-    for version in ["", "v1/"] {
-        add_inventory(alloc, &mut dest, frame, version)?;
-    }
+    add_frame(alloc, &mut dest, frame)?;
     Ok(dest)
 }
 
-// Adds a file to what stands at a place.
-fn add_in(alloc: Global, dest: &mut MemDest, place: &str, file: (&str, &str)) -> Result<(), Fail> {
-    let (name, text) = file;
-    let at = format!(in alloc; "{place}/{name}")?;
-    Ok(add(alloc, dest, &[(at.as_str(), text)])?)
+fn add_frame(alloc: Global, dest: &mut MemDest, frame: &Frame) -> Result<(), Fail> {
+    add_in(
+        alloc,
+        dest,
+        frame.place,
+        ("0=ocfl_object_1.1", "ocfl_object_1.1\n"),
+    )?;
+    for version in ["", "/v1"] {
+        add_inventory(alloc, dest, frame, version)?;
+    }
+    Ok(())
 }
 
 // Adds the inventory and its sidecar at the top of the object, or in its version.
@@ -80,12 +85,27 @@ fn add_inventory(
     frame: &Frame,
     version: &str,
 ) -> Result<(), Fail> {
-    let (word, digest) = (frame.word, frame.digest);
-    let name = format!(in alloc; "{version}inventory.json")?;
-    add_in(alloc, dest, frame.place, (name.as_str(), frame.inventory))?;
-    let name = format!(in alloc; "{version}inventory.json.{word}")?;
-    let line = format!(in alloc; "{digest} inventory.json\n")?;
-    add_in(alloc, dest, frame.place, (name.as_str(), line.as_str()))
+    let place = frame.place;
+    let at = format!(in alloc; "{place}{version}")?;
+    add_in(
+        alloc,
+        dest,
+        at.as_str(),
+        ("inventory.json", frame.inventory),
+    )?;
+    add_in(alloc, dest, at.as_str(), (frame.sidecar, frame.digest))
+}
+
+// Adds a file to what stands at a place.
+fn add_in(alloc: Global, dest: &mut MemDest, place: &str, file: (&str, &str)) -> Result<(), Fail> {
+    let (name, text) = file;
+    let at = format!(in alloc; "{place}/{name}")?;
+    Ok(add(alloc, dest, &[(at.as_str(), text)])?)
+}
+
+/// The destination of the store of one object.
+pub fn one_object(alloc: Global) -> Result<MemDest, Fail> {
+    tree_of(alloc, Base::Object(ONE), ABC)
 }
 
 // Where a storage root says its layout.
@@ -104,32 +124,33 @@ pub const ROOT: [(&str, &str); 3] = [
     ("ocfl/0=ocfl_1.1", "ocfl_1.1\n"),
 ];
 
-// The inventory of the store of one object, and its digest.
+// The inventory of the store of one object, and its digest, as a sidecar has it.
 const INVENTORY: &str =
     r#"{"digestAlgorithm":"sha512","head":"v1","id":"abc","manifest":{"ddaf35a193617abacc417349ae20413112e6fa4e89a97ea20a9eeee64b55d39a2192992a274fc1a836ba3c23a3feebbd454d4423643ce80e2a9ac94fa54ca49f":["v1/content/a.txt"]},"type":"https://ocfl.io/1.1/spec/#inventory","versions":{"v1":{"created":"2024-05-01T12:00:00Z","message":"Migrated from Pairtree","state":{"ddaf35a193617abacc417349ae20413112e6fa4e89a97ea20a9eeee64b55d39a2192992a274fc1a836ba3c23a3feebbd454d4423643ce80e2a9ac94fa54ca49f":["a.txt"]},"user":{"name":"Ada"}}}}"#;
 
 const DIGEST: &str =
-    "1eb21c66539478d2c419e0d996719da1e26c4c3d1ae2836137bbb99f412ba2fa2877b301344d7d7303197c96be4dbc6520706609ea235ea04f41f4f087a2d28c";
+    "1eb21c66539478d2c419e0d996719da1e26c4c3d1ae2836137bbb99f412ba2fa2877b301344d7d7303197c96be4dbc6520706609ea235ea04f41f4f087a2d28c inventory.json\n";
 
 // Those of the object of equal contents.
 const EQUAL_INVENTORY: &str =
     r#"{"digestAlgorithm":"sha512","head":"v1","id":"abcd","manifest":{"cf83e1357eefb8bdf1542850d66d8007d620e4050b5715dc83f4a921d36ce9ce47d0d13c5d85f2b0ff8318d2877eec2f63b931bd47417a81a538327af927da3e":["v1/content/c"],"ddaf35a193617abacc417349ae20413112e6fa4e89a97ea20a9eeee64b55d39a2192992a274fc1a836ba3c23a3feebbd454d4423643ce80e2a9ac94fa54ca49f":["v1/content/a/x"]},"type":"https://ocfl.io/1.1/spec/#inventory","versions":{"v1":{"created":"2024-05-01T12:00:00Z","message":"Migrated from Pairtree","state":{"cf83e1357eefb8bdf1542850d66d8007d620e4050b5715dc83f4a921d36ce9ce47d0d13c5d85f2b0ff8318d2877eec2f63b931bd47417a81a538327af927da3e":["c"],"ddaf35a193617abacc417349ae20413112e6fa4e89a97ea20a9eeee64b55d39a2192992a274fc1a836ba3c23a3feebbd454d4423643ce80e2a9ac94fa54ca49f":["a/x","a.txt"]},"user":{"name":"Ada"}}}}"#;
 
 const EQUAL_DIGEST: &str =
-    "e83814330b8747531178c3d0e092e6d118cd7af78e96f1ad72688205ed89e61f0d3dbb168749b0ee0ff0fc5f256780e6357c34bd2efeb67a7a42ef7ba4c309e6";
+    "e83814330b8747531178c3d0e092e6d118cd7af78e96f1ad72688205ed89e61f0d3dbb168749b0ee0ff0fc5f256780e6357c34bd2efeb67a7a42ef7ba4c309e6 inventory.json\n";
 
 // Those of an object without files.
 const NO_INVENTORY: &str =
     r#"{"digestAlgorithm":"sha512","head":"v1","id":"abc","manifest":{},"type":"https://ocfl.io/1.1/spec/#inventory","versions":{"v1":{"created":"2024-05-01T12:00:00Z","message":"Migrated from Pairtree","state":{},"user":{"name":"Ada"}}}}"#;
 
 const NO_DIGEST: &str =
-    "863bfdf36eb28e187ea16e82985c39e85cb7b8cd9d9fd94717859a2468d12d9ec2eb1abe926be18c0013cd5edd7bd9311c0df46f1dde9c15ccbf6ea7c8d224e5";
+    "863bfdf36eb28e187ea16e82985c39e85cb7b8cd9d9fd94717859a2468d12d9ec2eb1abe926be18c0013cd5edd7bd9311c0df46f1dde9c15ccbf6ea7c8d224e5 inventory.json\n";
 
 // Those of an object with a quotation mark in a name, in SHA-256.
 const QUOTED_INVENTORY: &str =
     r#"{"digestAlgorithm":"sha256","head":"v1","id":"abc","manifest":{"ba7816bf8f01cfea414140de5dae2223b00361a396177a9cb410ff61f20015ad":["v1/content/q\"x"]},"type":"https://ocfl.io/1.1/spec/#inventory","versions":{"v1":{"created":"2024-05-01T12:00:00Z","message":"Migrated from Pairtree","state":{"ba7816bf8f01cfea414140de5dae2223b00361a396177a9cb410ff61f20015ad":["q\"x"]},"user":{"name":"Ada"}}}}"#;
 
-const QUOTED_DIGEST: &str = "71a47b66e207d18a83f4ecab45bedf840e0aef244dba30f877d152aa2628459a";
+const QUOTED_DIGEST: &str =
+    "71a47b66e207d18a83f4ecab45bedf840e0aef244dba30f877d152aa2628459a inventory.json\n";
 
 /// The store of one object of one file, and the lines of a run that carries it.
 pub const STORE: &str = "ab/c/obj/a.txt=abc";
@@ -143,7 +164,7 @@ pub const TOLD: &str =
 pub const ONE: Frame = Frame {
     place: "ocfl/ba7/816/bf8/abc",
     inventory: INVENTORY,
-    word: "sha512",
+    sidecar: "inventory.json.sha512",
     digest: DIGEST,
 };
 
@@ -153,27 +174,27 @@ pub const ABC: Files = &[("ocfl/ba7/816/bf8/abc/v1/content/a.txt", "abc")];
 pub const STAGED: Frame = Frame {
     place: "staging",
     inventory: INVENTORY,
-    word: "sha512",
+    sidecar: "inventory.json.sha512",
     digest: DIGEST,
 };
 
 pub const EQUAL: Frame = Frame {
     place: "ocfl/88d/426/6fd/abcd",
     inventory: EQUAL_INVENTORY,
-    word: "sha512",
+    sidecar: "inventory.json.sha512",
     digest: EQUAL_DIGEST,
 };
 
 pub const NO_FILES: Frame = Frame {
     place: "ocfl/ba7/816/bf8/abc",
     inventory: NO_INVENTORY,
-    word: "sha512",
+    sidecar: "inventory.json.sha512",
     digest: NO_DIGEST,
 };
 
 pub const QUOTED: Frame = Frame {
     place: "ocfl/ba7/816/bf8/abc",
     inventory: QUOTED_INVENTORY,
-    word: "sha256",
+    sidecar: "inventory.json.sha256",
     digest: QUOTED_DIGEST,
 };

@@ -3,8 +3,8 @@
 
 use crate::objects::{ABC, Base, CONFIG, ONE, ROOT, STAGED, STORE};
 use crate::steps::{Ends, Step, wrong};
-use crate::stores::{Asked, job, outcome};
-use pt_memory::MemDest;
+use crate::stores::{Asked, run};
+use pt_memory::{MemDest, MemLog};
 use pt_move::{Fault, Report};
 use pt_texts::{add, path, store, tree};
 use std::alloc::Global;
@@ -130,11 +130,16 @@ fn other_root(alloc: Global, taken: &str, at: &str, bytes: &str) -> Result<MemDe
 
 // Whether a run over it is refused, writes no line and changes nothing.
 fn is_refused(alloc: Global, taken: &str, at: &str, bytes: &str) -> Result<bool, Fail> {
+    let same = other_root(alloc, taken, at, bytes)?;
     let mut dest = other_root(alloc, taken, at, bytes)?;
+    Ok(is_target_refused(alloc, &mut dest)? && dest.same(&same))
+}
+
+fn is_target_refused(alloc: Global, dest: &mut MemDest) -> Result<bool, Fail> {
     let mut source = store(alloc, STORE)?;
-    let (answer, lines) = outcome(alloc, &mut source, &mut dest, job(alloc, Asked::Usual)?)?;
-    let is_same = dest.same(&other_root(alloc, taken, at, bytes)?);
-    Ok(answer == Err(Fault::Target) && lines.is_empty() && is_same)
+    let mut log = MemLog::new(alloc);
+    let answer = run(alloc, &mut source, dest, &mut log, Asked::Usual)?;
+    Ok(answer == Err(Fault::Target) && log.bytes().is_empty())
 }
 
 #[test]

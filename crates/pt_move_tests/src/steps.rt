@@ -2,8 +2,8 @@
 #![tactic(auto)]
 
 use crate::objects::{Base, Files, tree_of};
-use crate::stores::{Asked, job, outcome};
-use pt_memory::{MemDest, MemSource};
+use crate::stores::{Asked, run};
+use pt_memory::{MemDest, MemLog, MemSource};
 use pt_move::{Fault, Report};
 use pt_texts::{add, path, plant, store};
 use std::alloc::Global;
@@ -47,12 +47,20 @@ pub enum Ends {
     In(Fault),
 }
 
-/// The first of these steps that goes otherwise, with an empty store and an empty destination before them.
+/// The first of these steps, counted from 0, that goes otherwise, with an empty store and an empty destination before them.
 pub fn wrong(alloc: Global, steps: &[Step]) -> Result<Option<usize>, Fail> {
-    let mut source = MemSource::new(alloc);
     let mut dest = MemDest::new(alloc);
+    wrong_by(alloc, &mut MemSource::new(alloc), &mut dest, steps)
+}
+
+fn wrong_by(
+    alloc: Global,
+    source: &mut MemSource,
+    dest: &mut MemDest,
+    steps: &[Step],
+) -> Result<Option<usize>, Fail> {
     for (i, step) in steps.iter().enumerate() {
-        if !goes(alloc, &mut source, &mut dest, *step)? {
+        if !goes(alloc, source, dest, *step)? {
             return Ok(Some(i));
         }
     }
@@ -76,10 +84,7 @@ fn goes(
         Step::Run(asked, ends, lines) => {
             return is_run(alloc, source, dest, asked, (ends, lines));
         }
-        Step::Carry(asked) => {
-            let (answer, _) = outcome(alloc, source, dest, job(alloc, asked)?)?;
-            return Ok(answer.is_ok());
-        }
+        Step::Carry(asked) => return carries(alloc, source, dest, asked),
         Step::IsUnbroken => return is_unbroken(alloc, source, dest),
         _ => return is_found(alloc, dest, step),
     }
@@ -94,9 +99,21 @@ fn is_run(
     asked: Asked,
     wanted: (Ends, &str),
 ) -> Result<bool, Fail> {
-    let (answer, lines) = outcome(alloc, source, dest, job(alloc, asked)?)?;
-    let (ends, text) = wanted;
-    Ok(is_end(answer, ends) && lines.as_str() == text)
+    let mut log = MemLog::new(alloc);
+    let answer = run(alloc, source, dest, &mut log, asked)?;
+    let (ends, lines) = wanted;
+    Ok(is_end(answer, ends) && log.bytes() == lines.as_bytes())
+}
+
+// Whether a run ends well.
+fn carries(
+    alloc: Global,
+    source: &mut MemSource,
+    dest: &mut MemDest,
+    asked: Asked,
+) -> Result<bool, Fail> {
+    let mut log = MemLog::new(alloc);
+    Ok(run(alloc, source, dest, &mut log, asked)?.is_ok())
 }
 
 fn is_end(answer: Result<Report, Fault>, ends: Ends) -> bool {
@@ -109,8 +126,8 @@ fn is_end(answer: Result<Report, Fault>, ends: Ends) -> bool {
 
 fn is_unbroken(alloc: Global, source: &mut MemSource, dest: &MemDest) -> Result<bool, Fail> {
     let mut whole = MemDest::new(alloc);
-    let (answer, _) = outcome(alloc, source, &mut whole, job(alloc, Asked::Usual)?)?;
-    Ok(answer.is_ok() && dest.same(&whole))
+    let is_well = carries(alloc, source, &mut whole, Asked::Usual)?;
+    Ok(is_well && dest.same(&whole))
 }
 
 fn is_found(alloc: Global, dest: &MemDest, step: Step) -> Result<bool, Fail> {

@@ -103,15 +103,13 @@ pub fn go_on<S: Source, D: Dest, L: Log>(
     (steps, most)
 }
 
-// What a run into this destination answers, and its lines.
-pub fn outcome(
+// What a run answers.
+pub fn run(
     alloc: Global,
     source: &mut MemSource,
     dest: &mut MemDest,
-    job: Job,
-) -> Result<(Result<Report, Fault>, String), Fail> {
-    let mut log = MemLog::new(alloc);
-    let answer = migrate(alloc, source, dest, &mut log, job);
-    let lines = String::from_str(alloc, str::from_utf8(log.bytes())?)?;
-    Ok((answer, lines))
+    log: &mut MemLog,
+    asked: Asked,
+) -> Result<Result<Report, Fault>, Fail> {
+    Ok(migrate(alloc, source, dest, log, job(alloc, asked)?))
 }
