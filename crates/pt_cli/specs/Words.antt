@@ -15,7 +15,7 @@ use Rattle.pt_object.specs.declared.meta.MetaFault.{MetaFault}
 use Rattle.pt_object.specs.declared.meta.MetaFault.TheVariants as meta_fault
 use Rattle.pt_cli.specs.Grammar.{Spelled, program}
 use Rattle.pt_tree.specs.Name.{is_name}
-use Rattle.pt_cli.specs.Options.{AuditOptions, Request, Options, asked_in, audit_in, number_of, options_in}
+use Rattle.pt_cli.specs.Options.{AuditOptions, Request, Options, ◌>>=◌, asked_in, audit_in, number_of, options_in}
 use Rattle.pt_cli.specs.declared.command.Command.{Command}
 use Rattle.pt_cli.specs.declared.command.Command.TheVariants.{Audit, Names, Migrate}
 use Rattle.pt_cli.specs.declared.words.WordsFault.{WordsFault}
