@@ -1,5 +1,5 @@
 //! An object of a store, held against what stands at its place in a storage root.
-ghost use Rattle.std.specs.Prelude.{◌≡◌, ◌≤◌, ◌++◌, IfOk, length, map, true, All, IfErr, None, OnOk};
+ghost use Rattle.std.specs.Prelude.{◌≡◌, ◌++◌, IfOk, map, true, All, IfErr, None, OnOk};
 ghost use Rattle.std.specs.Option.{ForSome};
 ghost use Rattle.pt_compare.specs.Beside.{AreAlike, IsKnown, IsKnownToStand};
 ghost use Rattle.pt_compare.specs.Found.{HaltsAs, IsFound, IsLeft, MeetsInventories, MeetsObject, sought_of, texts_of_object};

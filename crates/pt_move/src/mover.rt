@@ -3,7 +3,6 @@
 ghost use Rattle.std.specs.Prelude.{◌≡◌, ◌+◌, length};
 ghost use Rattle.pt_begun.specs.Begun.{IsWorld, Start, start_of};
 ghost use Rattle.pt_plan.specs.World.{World};
-ghost use Rattle.pt_plan.specs.declared.phase.Phase.TheVariants as phase;
 ghost use Rattle.pt_state.specs.Counting.{AtMostCalls};
 ghost use Rattle.pt_state.specs.Outside.{world};
 ghost use Rattle.pt_walk.specs.Trail.{entries_held};

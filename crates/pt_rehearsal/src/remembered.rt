@@ -1,8 +1,7 @@
 //! What a rehearsal remembers of what it would have made: a text for each directory and each object, and no more.
-ghost use Rattle.std.specs.Prelude.{◌≡◌, ◌||◌, nat_lt, length, IfOk, OnErr, OnOk, true};
+ghost use Rattle.std.specs.Prelude.{◌≡◌, ◌||◌, IfOk, OnErr, OnOk, true};
 ghost use Rattle.std.specs.Option.{option_map};
 ghost use Rattle.pt_tree.specs.Name.{AreNames};
-ghost use Rattle.pt_tree.specs.Path.{joined};
 ghost use Rattle.pt_rehearsal.specs.Seeing.{Becomes, inner_of, is_inside, is_itself, is_met, made_dir, made_file, made_inside, made_known, met_in, moved_known, moved_to, nothing, renamed_to, seen_at, view, with_folder, with_met};
 
 use crate::texts::put;

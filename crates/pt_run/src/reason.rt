@@ -3,7 +3,7 @@
 use crate::shown::escaped;
 use pt_folder::{Failure, HostDest, HostSource, System};
 use pt_move::Fault;
-use std::alloc::{AllocGlobal, Global};
+use std::alloc::AllocGlobal;
 use std::io;
 use std::io::ErrorKind;
 

@@ -1,10 +1,9 @@
 //! The paths of a run, in the source and in the destination.
-ghost use Rattle.std.specs.Prelude.{◌≡◌, ◌++◌, IfOk, map, take, length, ◌≤◌};
+ghost use Rattle.std.specs.Prelude.{◌≡◌, ◌++◌, IfOk, take, length, ◌≤◌};
 ghost use Rattle.std.specs.String.{string_bytes};
 ghost use Rattle.pt_plan.specs.TurnMake.{in_content, path_of_source};
 ghost use Rattle.pt_object.specs.Scripts.{staging};
 ghost use Rattle.pt_plan.specs.TurnWalk.{in_pairtree as in_pairtree_of, in_root};
-ghost use Rattle.pt_tree.specs.Known.{known_text};
 ghost use Rattle.pt_tree.specs.Path.{joined};
 ghost use Rattle.pt_walk.specs.Trail.{names_to};
 

@@ -1,6 +1,5 @@
 use crate::{Job, Report};
 use pt_object::{Contents, Hasher, Rows};
-use pt_plan::Phase;
 use pt_tree::Block;
 use pt_walk::Trail;
 use std::alloc::Global;

@@ -1,5 +1,4 @@
 //! What a survey has in place of a destination, and of a log for what it doesn't tell.
-ghost use Rattle.std.proofs.Common.{refl};
 ghost use Rattle.std.specs.Prelude.{None, Some, ⊤};
 ghost use Rattle.pt_survey.specs.Bare.{bare, bare_is_tree, no_log};
 
