@@ -90,6 +90,48 @@ fn a_path_joins_its_names_with_slashes(rt: HostRuntime) -> Result<(), Fail> {
     Ok(())
 }
 
+// A text is the path of so many names, whose text it is again.
+fn is_text_of(alloc: Global, text: &str, names: usize) -> bool {
+    match NamePath::of_text(alloc, text.as_bytes()) {
+        Ok(path) => path.len() == names && is_path(&path, text),
+        Err(_) => false,
+    }
+}
+
+#[test]
+fn a_path_is_cut_out_of_its_text(rt: HostRuntime) {
+    for (text, names) in [
+        ("", 0),
+        ("a", 1),
+        ("pairtree_root/a\u{308}/b c", 3),
+        ("a/.../b", 3),
+    ] {
+        assert!(rt; is_text_of(rt.alloc(), text, names), "{text}");
+    }
+}
+
+#[test]
+fn a_text_with_a_piece_that_is_no_name_is_no_path(rt: HostRuntime) {
+    let long = [b'a'; 256];
+    for (text, fault) in [
+        (b"/".as_slice(), NameFault::Empty),
+        (b"/a", NameFault::Empty),
+        (b"a/", NameFault::Empty),
+        (b"a//b", NameFault::Empty),
+        (b"a/../b", NameFault::Forbidden),
+        (b"a/b\0", NameFault::Forbidden),
+        (b"a/\xff", NameFault::NotUtf8),
+        (long.as_slice(), NameFault::TooLong),
+        (b"..//a", NameFault::Forbidden),
+        (b"/..", NameFault::Empty),
+    ] {
+        assert!(rt;
+            refuses(NamePath::of_text(rt.alloc(), text), fault),
+            "{text:?}"
+        );
+    }
+}
+
 // Adding an entry of this name is answered so.
 fn is_added(
     listing: &mut Listing,

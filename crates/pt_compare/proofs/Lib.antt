@@ -2,7 +2,6 @@ pub mod Alike
 mod Beside
 pub mod Compared
 pub mod Contents
-pub mod Cut
 pub mod Described
 pub mod Entering
 pub mod Findings

@@ -11,7 +11,7 @@ use Rattle.pt_object.specs.Script.{Item, MakeFolder, MakeFile, done, item_entry,
 use Rattle.pt_tree.specs.Path.{Path, last_name, parent, same_path, split_path}
 use Rattle.pt_tree.specs.Tree.{CanMake, Entry, Bytes, Folder, IsTree, Tree, kind_of_entry, put}
 use Rattle.pt_tree.specs.declared.kind.Kind.{Kind}
-use Rattle.pt_compare.proofs.Roots.{parent-push}
+use Rattle.pt_tree.proofs.Paths.{parent-push, split_path-push}
 
 -- ---- options and paths
 
@@ -31,12 +31,8 @@ last-push [] n = refl
 last-push (x ∷ []) n = refl
 last-push (x ∷ y ∷ p) n = last-push (y ∷ p) n
 
-pub split-push : (p : Path) (n : List ℕ) → split_path (p ++ n ∷ []) ≡ Some (p, n)
-split-push [] n = refl
-split-push (x ∷ p) n = λ i. Some (parent-push (x ∷ p) n i, last-push (x ∷ p) n i)
-
 pub entry_of_folder : (p : Path) (n : List ℕ) → is_entry_of p (split_path (p ++ n ∷ [])) ≡ true
-entry_of_folder p n = ap (is_entry_of p) (split-push p n) ∙ path_itself p
+entry_of_folder p n = ap (is_entry_of p) (split_path-push p n) ∙ path_itself p
 
 -- an entry of a folder is its path with a name
 pub entry_is : (p q : Path) → is_entry_of p (split_path q) ≡ true → q ≡ p ++ last_name q ∷ []
@@ -162,7 +158,7 @@ module _ (t : Tree) where
 
   -- a folder of another path has other entries
   not_both : (p r : Path) (n : List ℕ) → (r ≡ p → ⊥) → is_entry_of p (split_path (r ++ n ∷ [])) ≡ true → ⊥
-  not_both p r n differs entry = differs (is_same r p (sym (ap (is_entry_of p) (split-push r n)) ∙ entry))
+  not_both p r n differs entry = differs (is_same r p (sym (ap (is_entry_of p) (split_path-push r n)) ∙ entry))
 
   met_folder : (u : Tree) (marks : Marks) (p : Path) → CanMake u p → Noting u marks → Noting (put u p Folder) (met t (MakeFolder p) marks)
   met_folder u marks p can is = record {

@@ -16,8 +16,9 @@ use Rattle.pt_tree.proofs.AtPaths.{same_from}
 use Rattle.pt_tree.proofs.Names.{name_itself, same_name}
 use Rattle.pt_tree.specs.Path.{Path, joined, same_path}
 use Rattle.pt_tree.specs.declared.kind.Kind.{Kind}
-use Rattle.pt_compare.specs.Entries.{Noted, is_text_of, kind_if, kind_noted, names_in, noted_of, onto, pieces, with_entry}
-use Rattle.pt_compare.proofs.Cut.{names_back}
+use Rattle.pt_compare.specs.Entries.{Noted, is_text_of, kind_if, kind_noted, noted_of, with_entry}
+use Rattle.pt_tree.specs.Pieces.{names_in, onto, pieces}
+use Rattle.pt_tree.proofs.Cut.{names_back}
 use Rattle.pt_compare.specs.Marks.{marks_of}
 
 -- the entry of the first text comes first

@@ -9,11 +9,7 @@ use Rattle.pt_tree.specs.declared.kind.Kind.{Kind}
 use Rattle.pt_tree.specs.declared.kind.Kind.TheVariants as kind
 use Rattle.pt_compare.specs.Root.{CanLook, IsSeen, Stands, is_dir, kind_at, same_kind}
 use Rattle.pt_compare.proofs.Listed.{itself}
-
-pub parent-push : (p : Path) (n : List ℕ) → parent (p ++ n ∷ []) ≡ p
-parent-push [] n = refl
-parent-push (x ∷ []) n = refl
-parent-push (x ∷ y ∷ p) n = ap (λ q. x ∷ q) (parent-push (y ∷ p) n)
+use Rattle.pt_tree.proofs.Paths.{parent-push}
 
 -- the top is a directory
 pub top_seen : (tree : Option Forest) → IsSeen tree [] (Some kind.Dir)

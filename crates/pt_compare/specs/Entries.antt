@@ -1,27 +1,13 @@
 -- The entries of an object that stands which weren't met yet, by the texts of their paths.
-use Rattle.std.specs.Prelude.{ℕ, ◌==◌, Bool, cond, List, [], ◌∷◌, ◌++◌, map, Option, None, Some}
+use Rattle.std.specs.Prelude.{ℕ, Bool, cond, List, [], ◌∷◌, map, Option, None, Some}
 use Rattle.std.specs.BTreeMap.{insert_entry}
 use Rattle.std.specs.Cmp.Lexicographic.{slice_cmp}
 use Rattle.std.specs.Global.{Vec}
 use Rattle.std.specs.Map.{lookup, remove_entry}
 use Rattle.std.specs.Ordering.{is_eq, nat_cmp}
 use Rattle.pt_tree.specs.Path.{Path, joined, same_path}
+use Rattle.pt_tree.specs.Pieces.{names_in}
 use Rattle.pt_tree.specs.declared.kind.Kind.{Kind}
-
--- with more in front of the first piece
-abbrev pub onto : List ℕ → Path → Path
-onto front [] = front ∷ []
-onto front (x ∷ p) = (front ++ x) ∷ p
-
--- a text in pieces, as its slashes cut it
-abbrev pub pieces : List ℕ → Path
-pieces [] = [] ∷ []
-pieces (b ∷ bytes) = cond (b == 47) ([] ∷ pieces bytes) (onto (b ∷ []) (pieces bytes))
-
--- the names of a path's text; the top's is empty
-abbrev pub names_in : List ℕ → Path
-names_in [] = []
-names_in (b ∷ bytes) = pieces (b ∷ bytes)
 
 -- each with its path and kind, in the order of the texts
 abbrev pub Noted : Type 0

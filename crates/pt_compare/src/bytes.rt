@@ -6,11 +6,8 @@ ghost use Rattle.pt_compare.specs.Bytes.{CameNext, IsAllLeft, IsNotNext, TellsEn
 ghost use Rattle.pt_compare.specs.Root.{Reads, tree_in};
 
 use crate::Root;
-use pt_tree::{Block, TreeFault};
+use pt_tree::{BLOCK, Block, TreeFault};
 use std::alloc::Global;
-
-// How many bytes are read at a time.
-const PIECE: usize = 8192;
 
 // How many blocks of a file are read at most: 2^64 bytes, of which memory has to be wanting before.
 const MOST: u64 = 1 << 51;
@@ -28,7 +25,7 @@ pub fn come_next<R: Root>(root: &mut R, block: &mut Block, bytes: &[u8]) -> Resu
 {
     let mut rest = bytes;
     while !rest.is_empty() {
-        let (piece, behind) = rest.split_at(rest.len().min(PIECE));
+        let (piece, behind) = rest.split_at(rest.len().min(BLOCK));
         root.next(block)?;
         if block.as_slice() != piece {
             return Ok(false);

@@ -2,11 +2,11 @@
 ghost use Rattle.std.specs.Prelude.{◌≡◌, ℕ, [], IfOk, IfSome, IsSome, OnErr, OnOk, ◌∷◌, ◌++◌, MatchOption};
 ghost use Rattle.std.specs.Global.{Vec};
 ghost use Rattle.pt_tree.specs.Path.{joined};
+ghost use Rattle.pt_tree.specs.Pieces.{names_in};
 ghost use Rattle.pt_tree.specs.declared.kind.Kind.{Kind};
 ghost use Rattle.pt_compare.specs.Entries.{Noted, kind_noted, with_entry, without};
 ghost use Rattle.pt_compare.specs.Marks.{marks_of, with_listed, with_mark, without_mark};
 
-use crate::names::{names_of, text_of};
 use pt_tree::{Kind, Listing, MemoryFault, Name, NamePath};
 use std::alloc::Global;
 use std::collections::BTreeMap;
@@ -46,7 +46,7 @@ impl Entries {
         ensures marks { OnOk result (marks_of self.new
             ≡ with_mark path.now kind (marks_of self.old)) }
     {
-        let text = text_of(self.alloc, path)?;
+        let text = path.join()?;
         let Ok(_) = self.by_text.insert(text, kind) else {
             return Err(MemoryFault::Memory);
         };
@@ -61,7 +61,7 @@ impl Entries {
         ensures marks { OnOk result (marks_of self.new
             ≡ without_mark path.now (marks_of self.old)) }
     {
-        let text = text_of(self.alloc, path)?;
+        let text = path.join()?;
         Ok(self.by_text.remove(text.as_slice()))
     }
 
@@ -74,10 +74,17 @@ impl Entries {
             (λ path. IsSome (marks_of self.now path))) }
     {
         match self.by_text.first_key_value() {
-            Some((text, _)) => Ok(Some(names_of(self.alloc, text.as_slice())?)),
+            Some((text, _)) => Ok(Some(path_of(self.alloc, text.as_slice())?)),
             None => Ok(None),
         }
     }
+}
+
+// The path of the text of one; no other text is held.
+fn path_of(alloc: Global, text: &[u8]) -> Result<NamePath, MemoryFault>
+    ensures { IfOk result (λ path. path ≡ names_in text.now) }
+{
+    NamePath::of_text(alloc, text).map_err(|_| MemoryFault::Memory)
 }
 
 /// Notes the entries that the directory at a path lists.

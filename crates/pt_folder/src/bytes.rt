@@ -4,11 +4,8 @@ ghost use Rattle.pt_folder.specs.Bytes.{Fills, TakesBlock};
 ghost use Rattle.pt_folder.specs.Runs.{FailsToRead, FailsToWrite, ReadsBlock, WritesAll, on_pairs};
 
 use crate::system::{Input, System};
-use pt_tree::Block;
+use pt_tree::{BLOCK, Block};
 use std::io;
-
-/// How many bytes a block holds.
-pub const BLOCK: usize = 8192;
 
 static ZEROS: [u8; BLOCK] = [0; BLOCK];
 

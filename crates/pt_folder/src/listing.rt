@@ -12,12 +12,11 @@ ghost use Rattle.pt_folder.specs.Calls.{IsDueTo, fault_of as fault_for};
 ghost use Rattle.pt_folder.specs.Listing.{FailsToGet, FailsToList, FailsToLook, GetsNames, IsListedBy, LooksAt, dir_front, most_entries};
 ghost use Rattle.pt_folder.specs.Names.{AddsNames, GivesNames, IsRefusedName, RefusesBytes, is_entry};
 
-use crate::bytes::BLOCK;
 use crate::desk::Desk;
 use crate::failure::{Cause, Last};
 use crate::folder::{Folder, name_text};
 use crate::system::{Input, System};
-use pt_tree::{Kind, Listing, ListingFault, Name, NameFault, NamePath, TreeFault};
+use pt_tree::{BLOCK, Kind, Listing, ListingFault, Name, NameFault, NamePath, TreeFault};
 
 // The greatest number of a directory's entries.
 const MOST: usize = 16_777_216;

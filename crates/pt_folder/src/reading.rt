@@ -4,9 +4,9 @@ ghost use Rattle.std.specs.Prelude.{drop as drop_items};
 ghost use Rattle.std.specs.Option.{option_map};
 ghost use Rattle.pt_folder.specs.Reading.{FailsToGoBack, FailsToReadOn, GoesFirst, IsNext, ReadsNext, Stands, unread_of};
 
-use crate::bytes::{BLOCK, read_block};
+use crate::bytes::read_block;
 use crate::system::{Handle, Input};
-use pt_tree::Block;
+use pt_tree::{BLOCK, Block};
 use std::io;
 
 // Behind this place no whole block can be counted.

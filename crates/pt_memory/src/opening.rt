@@ -5,7 +5,7 @@ ghost use Rattle.pt_memory.specs.Opening.{below as below_name, is_just as is_jus
 ghost use Rattle.pt_memory.specs.Entries.{forest_of, open_of, marked_of, marked_file};
 
 use crate::entries::{Entries, File};
-use pt_tree::{Block, Name};
+use pt_tree::{BLOCK, Block, Name};
 
 /// Makes the file at a path the open one, from its start, and no other.
 pub fn open(entries: &mut Entries, path: &[Name])
@@ -99,6 +99,6 @@ pub fn fill(block: &mut Block, bytes: &[u8])
     ensures { block.new.items ≡ take 8192 bytes.now }
 {
     block.clear();
-    let count = bytes.len().min(8192);
+    let count = bytes.len().min(BLOCK);
     block.try_extend_from_slice(&bytes[..count]).unwrap();
 }

@@ -1,6 +1,6 @@
 mod Changes
 mod Ended
-mod Joined
+mod Fronts
 mod Looks
 mod Places
 mod Taken

@@ -1,4 +1,3 @@
 pub mod Folders
 pub mod Keeping
-pub mod Pieces
 pub mod System

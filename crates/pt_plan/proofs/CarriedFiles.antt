@@ -7,7 +7,7 @@ use Rattle.std.proofs.lemmas.Bool.{and_from, and_parts}
 use Rattle.pt_name.specs.Reading.{reading_of}
 use Rattle.pt_object.specs.FilePaths.{File}
 use Rattle.pt_tree.specs.Forest.{Forest, none, file, other, dir, dir_at, is_proper, listing_of}
-use Rattle.pt_tree.proofs.Finding.{proper_file, proper_other}
+use Rattle.pt_tree.proofs.Finding.{proper_dir, proper_file, proper_other}
 use Rattle.pt_tree.specs.Path.{Path}
 use Rattle.pt_tree.specs.Tree.{Tree}
 use Rattle.pt_walk.proofs.FilePaths.{gathered_proper}
@@ -25,11 +25,6 @@ use Rattle.pt_plan.specs.Items.{Interior, Item, Named, PairtreeObject, Skip, Ver
 use Rattle.pt_plan.specs.Job.{Job, form_of}
 use Rattle.pt_plan.specs.Store.{pairtree_root, prefix_of, sites_in_root, sites_of}
 use Rattle.pt_plan.proofs.FilesInOrder.{files_come_in_order}
-
-dir_parts : (name : List ℕ) (inside after : Forest) → is_proper (dir name inside after) ≡ true → (is_proper inside ≡ true) × (is_proper after ≡ true)
-dir_parts name inside after proper =
-    and_parts _ _
-    (and_parts _ _ (and_parts _ _ proper).1).1
 
 -- ---- a verdict is good whose object, if there is one, holds what is proper
 
@@ -53,14 +48,14 @@ proper_from zero f proper = proper
 proper_from (suc i) none proper = refl
 proper_from (suc i) (file name bytes after) proper = proper_from i after (proper_file name bytes after proper).2
 proper_from (suc i) (other name after) proper = proper_from i after (proper_other name after proper).2
-proper_from (suc i) (dir name inside after) proper = proper_from i after (dir_parts name inside after proper).1
+proper_from (suc i) (dir name inside after) proper = proper_from i after (proper_dir name inside after proper).2
 
 good_candidate : (job : Job) (prefix : List ℕ) (site : Path) (f : Forest) → is_proper f ≡ true → good (verdict_on_candidate job prefix site (encapsulated site f)) ≡ true
 good_candidate job prefix site none proper = refl
 good_candidate job prefix site (file name bytes after) proper = refl
 good_candidate job prefix site (other name after) proper = refl
 good_candidate job prefix site (dir name inside after) proper =
-    good_by_reading job prefix _ (reading_of (concat site)) (dir_parts name inside after proper).0
+    good_by_reading job prefix _ (reading_of (concat site)) (proper_dir name inside after proper).3
 
 good_by_finding : (job : Job) (prefix : List ℕ) (site : Path) (inside : Forest) (what : Finding) → is_proper inside ≡ true → good (verdict_by_finding job prefix site inside what) ≡ true
 good_by_finding _ _ _ _ finding.Interior _ = refl
@@ -113,14 +108,14 @@ good_sites depth path none proper = refl
 good_sites depth path (file name bytes after) proper = good_sites depth path after (proper_file name bytes after proper).2
 good_sites depth path (other name after) proper = good_sites depth path after (proper_other name after proper).2
 good_sites depth path (dir name inside after) proper =
-    let parts = dir_parts name inside after proper in
+    let parts = proper_dir name inside after proper in
     let here = visit_either (is_last (at_of path)) Past (cond (nat_lt depth (length path + 1)) Deep (Listed inside)) refl
-    (visit_either (nat_lt depth (length path + 1)) Deep (Listed inside) refl parts.0) in
-    let below = all_walked (visit_of depth path inside) (sites_in depth (path ++ name ∷ []) inside) (good_sites depth (path ++ name ∷ []) inside parts.0) in
+    (visit_either (nat_lt depth (length path + 1)) Deep (Listed inside) refl parts.3) in
+    let below = all_walked (visit_of depth path inside) (sites_in depth (path ++ name ∷ []) inside) (good_sites depth (path ++ name ∷ []) inside parts.3) in
     all_append good_site (cond (is_short name) ((path ++ name ∷ [], visit_of depth path inside) ∷ walked (visit_of depth path inside) (sites_in depth (path ++ name ∷ []) inside)) []) (sites_in depth path after)
     (all_either (is_short name) ((path ++ name ∷ [], visit_of depth path inside) ∷ walked (visit_of depth path inside) (sites_in depth (path ++ name ∷ []) inside))
     (and_from (good_visit (visit_of depth path inside)) (list_all good_site (walked (visit_of depth path inside) (sites_in depth (path ++ name ∷ []) inside))) here below))
-    (good_sites depth path after parts.1)
+    (good_sites depth path after parts.2)
 
 -- ---- so are the items, marked, and the first of them
 

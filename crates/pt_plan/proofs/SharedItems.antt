@@ -7,7 +7,7 @@ use Rattle.std.proofs.lemmas.Bool.{and_from, and_parts, eqb-true, true≢false}
 use Rattle.std.proofs.lemmas.List.{map-append}
 use Rattle.std.proofs.lemmas.List.Folds.{list_all-append}
 use Rattle.std.proofs.lemmas.List.Sums.{sum_by-append}
-use Rattle.std.proofs.lemmas.Str.{IsUtf8-append, IsUtf8-from_is_utf8, IsUtf8-nil, is_utf8-from_IsUtf8}
+use Rattle.pt_tree.proofs.Texts.{is_utf8-append, is_utf8-empty}
 use Rattle.pt_name.proofs.Shares.{whole_number}
 use Rattle.pt_name.specs.Place.{place_of}
 use Rattle.pt_name.specs.Prefix.{without_line_ends}
@@ -81,20 +81,14 @@ is_text Interior = true
 is_text (Skip why) = true
 is_text (Named id object) = is_utf8 id
 
-both_texts : (a b : List ℕ) → is_utf8 a ≡ true → is_utf8 b ≡ true → is_utf8 (a ++ b) ≡ true
-both_texts a b u v = is_utf8-from_IsUtf8 (a ++ b) (IsUtf8-append a b (IsUtf8-from_is_utf8 a u) (IsUtf8-from_is_utf8 b v))
-
-empty_text : is_utf8 [] ≡ true
-empty_text = is_utf8-from_IsUtf8 [] IsUtf8-nil
-
 prefix_text : (node : Option Node) → is_utf8 (prefix_in node) ≡ true
 prefix_text (Some (File bytes)) = by (nat_lt 1024 (length bytes)) (is_utf8 (without_line_ends bytes)) refl
   where
     by : (long text : Bool) → is_utf8 (without_line_ends bytes) ≡ text → is_utf8 (cond (is_none (cond long (Some fault.TooLong) (cond text None (Some fault.NotUtf8)))) (without_line_ends bytes) []) ≡ true
-    by true text h = empty_text
+    by true text h = is_utf8-empty
     by false true h = h
-    by false false h = empty_text
-prefix_text _ = empty_text
+    by false false h = is_utf8-empty
+prefix_text _ = is_utf8-empty
 
 text_by_reading : (job : Job) (prefix : List ℕ) (object : PairtreeObject) (reading : Option (List ℕ)) → is_utf8 prefix ≡ true → is_text (verdict_by_reading job prefix object reading) ≡ true
 text_by_reading _ _ _ None _ = refl
@@ -103,7 +97,7 @@ text_by_reading job prefix object (Some read) u = by (is_utf8 read) (is_reserved
     by : (t r : Bool) → is_utf8 read ≡ t → is_text (cond t (cond r (Skip cause.Reserved) (Named (prefix ++ read) object)) (Skip cause.Utf8)) ≡ true
     by false r h = refl
     by true true h = refl
-    by true false h = both_texts prefix read u h
+    by true false h = is_utf8-append prefix read u h
 
 text_by_candidate : (job : Job) (prefix : List ℕ) (site : Path) (object : Option PairtreeObject) → is_utf8 prefix ≡ true → is_text (verdict_on_candidate job prefix site object) ≡ true
 text_by_candidate _ _ _ None _ = refl

@@ -6,25 +6,11 @@ use Rattle.std.proofs.lemmas.List.{drop_at, length-append, length-drop, length-t
 use Rattle.std.proofs.lemmas.Bool.{and_parts, eqb-false}
 use Rattle.pt_state.proofs.Words.{Item, Path, current_entry, is_dir_entry, names_to, parent, trail_path, Frame, logical_path, to_site, Object}
 use Rattle.pt_walk.specs.Trail.{are_outer, entry_at, is_frame, is_trail, name_at}
-use Rattle.pt_walk.proofs.TrailSteps.{path_splits}
+use Rattle.pt_walk.proofs.TrailSteps.{outer_names, path_splits}
 use Rattle.pt_plan.specs.TurnScan.{is_in_site, own_listings}
 use Rattle.pt_scan.specs.Scanning.{IsSite}
 
 -- ---- trails
-
-one_name : (o : Option Item) → is_dir_entry o ≡ true → length (option_to_list (option_map (λ (x : Item). x.0) o)) ≡ 1
-one_name None h = absurd (cc)
-one_name (Some item) h = refl
-
-outer_names : (frames : List Frame) → are_outer frames ≡ true → length (names_to frames) ≡ length frames
-outer_names [] is = refl
-outer_names (frame ∷ frames) is =
-    let parts = and_parts (is_frame frame) (is_dir_entry (entry_at frame) && are_outer frames) is in
-    let inner = and_parts (is_dir_entry (entry_at frame)) (are_outer frames) parts.1 in
-    let more = length-append (names_to frames) (name_at frame) in
-    let one = one_name (entry_at frame) inner.0 in
-    let before = outer_names frames inner.1 in
-    omega (arith, more, one, before)
 
 outer_drop : (k : ℕ) (frames : List Frame) → are_outer frames ≡ true → are_outer (drop k frames) ≡ true
 outer_drop zero frames is = is

@@ -5,22 +5,19 @@ use std::alloc::Global;
 
 /// The path of these names, with `/` between. The empty text is the top.
 pub fn path(alloc: Global, text: &str) -> Result<NamePath, TreeFault> {
-    let mut path = NamePath::new(alloc);
-    if text.is_empty() {
-        return Ok(path);
-    }
-    for name in text.split('/') {
-        push(alloc, &mut path, name)?;
-    }
-    Ok(path)
+    NamePath::of_text(alloc, text.as_bytes()).map_err(fault_of)
 }
 
 /// Goes one name down.
 pub(crate) fn push(alloc: Global, path: &mut NamePath, text: &str) -> Result<(), TreeFault> {
-    match Name::of(alloc, text.as_bytes()) {
-        Ok(name) => Ok(path.push(name)?),
-        Err(NameFault::Memory) => Err(TreeFault::Memory),
-        Err(_) => Err(TreeFault::Device),
+    let name = Name::of(alloc, text.as_bytes()).map_err(fault_of)?;
+    Ok(path.push(name)?)
+}
+
+fn fault_of(refusal: NameFault) -> TreeFault {
+    match refusal {
+        NameFault::Memory => TreeFault::Memory,
+        _ => TreeFault::Device,
     }
 }
 

@@ -9,6 +9,7 @@ pub mod KnownNames
 pub mod Leaving
 pub mod Names
 pub mod Paths
+pub mod Cut
 pub mod Placing
 pub mod Proper
 pub mod Renamed

@@ -8,6 +8,7 @@ pub mod Log
 pub mod Name
 pub mod NameText
 pub mod Path
+pub mod Pieces
 pub mod Refusal
 pub mod Source
 pub mod Tree

@@ -9,6 +9,7 @@ mod listing;
 mod log;
 mod name;
 mod name_path;
+mod pieces;
 mod source;
 mod writer_log;
 
@@ -24,5 +25,8 @@ pub use name_path::NamePath;
 pub use source::Source;
 pub use writer_log::{WriterLog, write_out};
 
-/// What is read at a time: up to 8,192 bytes.
-pub type Block = ArrayVec<u8, 8192>;
+/// How many bytes are read at a time, at most.
+pub const BLOCK: usize = 8192;
+
+/// What is read at a time: up to `BLOCK` bytes.
+pub type Block = ArrayVec<u8, BLOCK>;

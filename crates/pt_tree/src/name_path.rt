@@ -1,4 +1,4 @@
-ghost use Rattle.std.specs.Prelude.{◌≡◌, ◌==◌, ◌++◌, [], ◌∷◌, IfOk, IsTrue, is_some, OnOk, OnErr, length, map, slice_get};
+ghost use Rattle.std.specs.Prelude.{◌≡◌, ◌==◌, ◌++◌, [], ◌∷◌, IfErr, IfOk, IsTrue, is_some, OnOk, OnErr, length, map, slice_get};
 ghost use Rattle.std.specs.Str.{is_utf8};
 ghost use Rattle.std.specs.Cmp.{partial_equiv_from_equiv};
 ghost use Rattle.std.specs.Cmp.Lexicographic.{nat_list_eq_equiv, lists_equiv};
@@ -6,9 +6,11 @@ ghost use Rattle.std.specs.Option.{option_copied};
 ghost use Rattle.std.specs.Option.{option_map};
 ghost use Rattle.pt_tree.specs.Known.{known_text};
 ghost use Rattle.pt_tree.specs.Name.{AreNames};
+ghost use Rattle.pt_tree.specs.Pieces.{IsRefusal, names_in};
 ghost use Rattle.pt_tree.specs.Path.{joined, rest_below, same_path, split_path, split_lent};
 
-use crate::{Known, MemoryFault, Name};
+use crate::pieces::add_pieces;
+use crate::{Known, MemoryFault, Name, NameFault};
 use std::alloc::Global;
 use std::marker::Model;
 
@@ -55,6 +57,20 @@ impl NamePath {
         path.reserve(names.len().saturating_add(room))?;
         for name in names {
             path.push(Name::from(*name))?;
+        }
+        Ok(path)
+    }
+
+    /// The path whose names stand in a text with `/` between, as `join` writes it; the empty text is the top.
+    ///
+    /// A piece that is no name is refused as by `Name::of`, the first of them; `Memory` where a growth was refused.
+    pub fn of_text(alloc: Global, text: &[u8]) -> Result<NamePath, NameFault>
+        ensures path { IfOk result (λ path. path ≡ names_in text.now) }
+        ensures refused { IfErr result (λ fault. IsRefusal (names_in text.now) fault) }
+    {
+        let mut path = NamePath::new(alloc);
+        if !text.is_empty() {
+            add_pieces(alloc, &mut path, text)?;
         }
         Ok(path)
     }

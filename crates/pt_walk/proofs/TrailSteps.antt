@@ -95,7 +95,8 @@ one_name : (o : Option Item) → is_dir_entry o ≡ true → length (option_to_l
 one_name None h = absurd (cc)
 one_name (Some item) h = refl
 
-outer_names : (frames : List Frame) → are_outer frames ≡ true → length (names_to frames) ≡ length frames
+-- a name for each of the frames around
+pub outer_names : (frames : List Frame) → are_outer frames ≡ true → length (names_to frames) ≡ length frames
 outer_names [] is = refl
 outer_names (frame ∷ frames) is =
     let parts = and_parts (is_frame frame) (is_dir_entry (entry_at frame) && are_outer frames) is in

@@ -1,11 +1,16 @@
-use Rattle.std.proofs.Common.{sym, ◌∙◌, ap, ◌++◌}
-use Rattle.pt_tree.specs.Path.{Path}
-use Rattle.pt_memory_system.specs.Pieces.{pieces}
-use Rattle.pt_memory_system.proofs.Joined.{path_read, none_read}
+use Rattle.std.proofs.Common.{ap, sym, ◌∙◌, inl, inr}
+use Rattle.pt_tree.specs.Pieces.{first_refusal, names_in}
+use Rattle.pt_tree.proofs.Cut.{names_back, none_refused}
+use Rattle.pt_folder.specs.Folder.{IsAbsent}
+use Rattle.std.proofs.Common.{subst}
 use Rattle.pt_memory_system.proofs.parse.names_of.Goals as goal
 
 pub returns-in-Ok-clause-path : goal.returns-in-Ok-clause-path
-returns-in-Ok-clause-path c = λ p. path_read c.args.text.now c.add_names.new.path p (sym c.is_empty.ensures ∙ c.if-is_empty.false) (c.in-Ok.ensures.added ∙ ap (λ (q : Path). q ++ pieces c.args.text.now) c.new-path.ensures)
+returns-in-Ok-clause-path c = λ p named at. c.in-Ok.ensures.path ∙ ap names_in at ∙ names_back p named
 
 pub returns-in-Err-clause-none : goal.returns-in-Err-clause-none
-returns-in-Err-clause-none c = λ absent p. none_read c.args.text.now p (sym c.is_empty.ensures ∙ c.if-is_empty.false) (c.in-Err.ensures.none absent)
+returns-in-Err-clause-none c = λ absent p named at.
+    elim c.in-Err.ensures.refused [
+      | inl memory ↦ c.kind_of.ensures (subst IsAbsent c.from.ensures absent) memory
+      | inr first ↦ none_refused p c.in-Err.refusal named (ap first_refusal (sym (ap names_in at ∙ names_back p named)) ∙ first)
+    ]

@@ -3,7 +3,7 @@ use Rattle.std.specs.Str.{bytes_eq}
 use Rattle.std.proofs.lemmas.List.{take_rest}
 use Rattle.pt_tree.specs.Path.{joined}
 use Rattle.pt_tree.proofs.Names.{name_itself}
-use Rattle.pt_memory_system.proofs.Joined.{behind, rest_is, other_front}
+use Rattle.pt_memory_system.proofs.Fronts.{behind, rest_is, other_front}
 use Rattle.std.proofs.lemmas.Result.{IfErr-weaker, IfOk-weaker}
 use Rattle.pt_memory_system.proofs.parse.path_of.Goals as goal
 use Rattle.pt_memory_system.proofs.parse.path_of.Goals.{then-ne-via-then-ne, then-ne-via-else-ne+then-rest-ne47}
