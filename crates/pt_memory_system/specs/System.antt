@@ -1,7 +1,9 @@
 -- What a system in memory keeps, and what its calls may answer and leave.
-use Rattle.std.specs.Prelude.{◌≡◌, ℕ, List, [], take, drop, Option, Some, IfOk, Result, MatchResult}
+use Rattle.std.specs.Prelude.{◌≡◌, ◌⊎◌, ℕ, List, [], take, drop, Option, Some, IfOk, Result, MatchResult}
 use Rattle.std.specs.Option.{option_map}
 use Rattle.std.specs.declared.io.Error.{Error}
+use Rattle.std.specs.declared.io.ErrorKind.{ErrorKind}
+use Rattle.std.specs.declared.io.ErrorKind.TheVariants as kind
 use Rattle.pt_tree.specs.declared.kind.Kind.{Kind}
 use Rattle.pt_tree.specs.Forest.{Forest, Dir, dir_at, file_at, kind_of, node_at}
 use Rattle.pt_tree.specs.Path.{Path}
@@ -16,6 +18,10 @@ use Rattle.pt_memory_system.specs.Folders.{told_at}
 use Rattle.pt_memory_system.specs.declared.file.MemFile.{MemFile}
 use Rattle.pt_memory_system.specs.declared.names.MemNames.{MemNames}
 use Rattle.pt_memory_system.specs.declared.system.MemorySystem.{MemorySystem}
+
+-- nothing is found, or memory was wanting
+abbrev pub IsNotFound : ErrorKind → Type 0
+IsNotFound k = (k ≡ kind.NotFound) ⊎ (k ≡ kind.OutOfMemory)
 
 -- the tree of the folder that is read
 abbrev pub forest_in : MemorySystem → List ℕ → Option Forest
