@@ -7,3 +7,4 @@ pub mod Layouts
 pub mod Saying
 mod Pacing
 mod Following
+mod AuditRules

@@ -1,4 +1,3 @@
-#![tactic(auto, using(crate::proofs::Telling::auditing, crate::proofs::Saying::saying))]
 //! A whole audit.
 ghost use Rattle.std.specs.Prelude.{◌≡◌, ℕ, IfErr, IfOk, List, OnOk, Option};
 ghost use Rattle.pt_audit.specs.Auditing.{CanCompare, EndsAs, GoesOn, IsFoundAtHand, IsSeen, IsUnderWay, last_text};

@@ -1,4 +1,3 @@
-#![tactic(auto, using(crate::proofs::Pacing::pacing))]
 //! The files of the root that are read beside those of an object, while these are read for their digests: so what is alike needn't
 //! be read again when the object is compared.
 ghost use Rattle.std.specs.Prelude.{◌≡◌, ◌++◌, IfOk, OnOk, Option, is_some};

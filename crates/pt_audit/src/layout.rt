@@ -1,4 +1,3 @@
-#![tactic(auto, using(pt_compare::proofs::Reading::calls, crate::proofs::Layouts::layouts))]
 //! The storage root that stands has to be one of this layout, before anything is compared.
 ghost use Rattle.std.specs.Prelude.{◌≡◌, ◌<◌, IfOk, length};
 ghost use Rattle.std.specs.Option.{ForSome};

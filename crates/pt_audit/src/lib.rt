@@ -1,5 +1,5 @@
 //! An audit: the objects of a store are held against the storage root that stands.
-#![tactic(auto)]
+#![tactic(auto, using(crate::proofs::AuditRules::audit_rules))]
 
 mod auditing;
 mod beside;

@@ -1,4 +1,3 @@
-#![tactic(auto, using(crate::proofs::LineTexts::texts))]
 //! The lines of an audit's log: each one compact JSON object with its keys in byte order, and LF.
 ghost use Rattle.std.specs.Prelude.{◌≡◌, ◌++◌, ◌∷◌, [], false, IfOk};
 ghost use Rattle.std.specs.String.{string_bytes};

@@ -5,3 +5,4 @@ pub mod Places
 pub mod Standing
 pub mod Tells
 pub mod Texts
+mod MakeRules

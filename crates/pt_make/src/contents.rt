@@ -1,4 +1,3 @@
-#![tactic(auto, using(crate::proofs::NextParts::next_parts, pt_state::proofs::Turns::turns))]
 //! The turns that make an object's contents: a row whose content is stored is passed; of any other the folders on the
 //! way are made, one a turn, and then its file, for which the source's is opened.
 ghost use Rattle.std.specs.Prelude.{◌≡◌, ◌<◌, [], IfOk, length};

@@ -1,4 +1,3 @@
-#![tactic(auto, using(crate::proofs::Texts::files, pt_state::proofs::Together::together))]
 //! The turns that make an object's inventory and its sidecar, in the version's folder and at the top: the turn that
 //! makes the inventory in the version's folder feeds its text to the hasher, whose digest stands in both sidecars.
 ghost use Rattle.std.specs.Prelude.{◌≡◌, ◌∷◌, [], IfOk};
@@ -33,7 +32,6 @@ pub(crate) enum Folder {
 
 /// Makes the inventory in a folder (OCFL 1.1, "Inventory"). The hasher is fed the text of the version's, which is that of
 /// the one at the top too.
-#[tactic(auto, using(crate::proofs::Texts::inventories, pt_state::proofs::Turns::turns))]
 pub(crate) fn make_inventory<O: Outside>(
     state: &mut State,
     object: Object,
@@ -83,7 +81,6 @@ fn inventory_of(state: &State, object: &Object) -> Result<String, MemoryFault>
 }
 
 /// Makes the sidecar of the inventory in a folder. After the one at the top the object is whole.
-#[tactic(auto, using(crate::proofs::Texts::inventories, pt_state::proofs::Turns::turns))]
 pub(crate) fn make_sidecar<O: Outside>(
     state: &mut State,
     object: Object,
@@ -137,7 +134,6 @@ fn put_sidecar<O: Outside>(
 }
 
 // The digest of the inventory whose text the hasher has been fed.
-#[tactic(auto, using(crate::proofs::Texts::files))]
 fn inventory_digest(state: &State, object: &Object) -> Result<Digest, MemoryFault>
     requires { HasFedInventory state.now object.now }
     ensures { IfOk result (λ digest. digest

@@ -1,5 +1,5 @@
 //! The turns that make an object in `staging` and bring it to its place, and those that tell of it and of the end.
-#![tactic(auto)]
+#![tactic(auto, using(crate::proofs::MakeRules::make_rules))]
 
 mod contents;
 pub mod copying;

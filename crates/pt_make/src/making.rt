@@ -1,4 +1,3 @@
-#![tactic(auto, using(crate::proofs::Parts::parts, pt_state::proofs::Turns::turns))]
 //! The turns that make an object in `staging`, one part each.
 ghost use Rattle.std.specs.Prelude.{◌++◌, ◌∷◌, []};
 ghost use Rattle.pt_object.specs.Object.{object_declaration_name};

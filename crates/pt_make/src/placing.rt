@@ -1,4 +1,3 @@
-#![tactic(auto, using(crate::proofs::Places::placing, pt_state::proofs::Turns::turns))]
 //! The turns that bring an object from `staging` to its place in the storage root.
 ghost use Rattle.std.specs.Prelude.{◌≡◌, ◌<◌};
 ghost use Rattle.pt_object.specs.Scripts.{staging};

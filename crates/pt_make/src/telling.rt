@@ -1,4 +1,3 @@
-#![tactic(auto, using(crate::proofs::Tells::telling, pt_state::proofs::Turns::turns))]
 //! The turns that tell of an object that was carried, and of the end.
 ghost use Rattle.std.specs.Prelude.{◌≡◌, ◌<◌, ◌^◌};
 ghost use Rattle.pt_plan.specs.TurnPlace.{bytes_in_rows as bytes_in_rows_of};

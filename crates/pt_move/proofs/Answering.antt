@@ -142,9 +142,9 @@ left_at None (Some now) at tells = absurd tells
 left_at (Some start) None at tells = absurd tells
 left_at {job} (Some start) (Some now) {past} {here} {held} at tells = kept_now job past start here held now at tells
 
-left_in : (job : Job) (start : Start) (world : World) (run : Run) → Begun job start world run → TellsAsBefore start.dest world.dest (IsLeftBehind job)
+left_in : (job : Job) (start : Start) (world : World) (r : Run) → Begun job start world r → TellsAsBefore start.dest world.dest (IsLeftBehind job)
 unfolding Begun
-left_in job start world run (past, is) = left_at start.dest world.dest is.held is.dest
+left_in job start world r (past, is) = left_at start.dest world.dest is.held is.dest
 
 pub leaves_behind : (start : Start) (world : World) (r : Running) → IsBegun start world r → LeavesBehind r.state.job start.dest world.dest
 unfolding IsBegun LeavesBehind

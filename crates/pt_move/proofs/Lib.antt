@@ -13,3 +13,4 @@ pub mod Standing
 pub mod WholeLog
 pub mod Ran
 pub mod Told
+mod MoveRules

@@ -1,5 +1,5 @@
 //! The run: a store is walked, and each object is carried, turn by turn.
-#![tactic(auto)]
+#![tactic(auto, using(crate::proofs::MoveRules::move_rules))]
 
 mod carried;
 mod migration;

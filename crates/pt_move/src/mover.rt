@@ -1,4 +1,3 @@
-#![tactic(auto, using(crate::proofs::Answering::stepping, crate::proofs::Keeping::answered))]
 // A run under way, made turn by turn.
 ghost use Rattle.std.specs.Prelude.{◌≡◌, ◌+◌, length};
 ghost use Rattle.pt_begun.specs.Begun.{IsWorld, Start, start_of};
@@ -48,7 +47,6 @@ impl Model for Mover {
 impl Mover {
     /// A run that is to begin. It calls nothing and takes no memory. Over any devices it is then in progress, from what
     /// they hold as they stand.
-    #[tactic(auto, using(crate::proofs::Ending::starting))]
     pub fn start(alloc: Global, job: Job) -> Mover
         ensures new { IsNew job result }
         ensures begun { (world : World) → HasBegun world result }
@@ -172,7 +170,6 @@ impl Mover {
 }
 
 // Makes the turn of a phase, and gives the next one.
-#[tactic(auto, using(crate::proofs::Answering::making_turn, crate::proofs::Keeping::outcomes))]
 fn made_turn<O: Outside>(state: &mut State, here: Phase, out: &mut O) -> Result<Phase, Fault>
     requires { IsReady (O.world out.old) (record { phase = here; state = state.old }) }
     ensures keeps { (start : Start)

@@ -1,4 +1,3 @@
-#![tactic(auto, using(crate::proofs::Needs::standing))]
 //! One turn: what is done at each phase.
 ghost use Rattle.std.specs.Prelude.{◌<◌, []};
 ghost use Rattle.pt_plan.specs.declared.phase.Phase.TheVariants as phase;

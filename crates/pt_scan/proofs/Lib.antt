@@ -7,3 +7,4 @@ pub mod Leaving
 pub mod ObjectPaths
 pub mod SiteTurns
 pub mod ScanTurns
+mod ScanRules

@@ -1,4 +1,3 @@
-#![tactic(auto, using(crate::proofs::Judged::judging, pt_state::proofs::Turns::turns))]
 //! The turn that judges a site: what it is, and whether its object may be carried.
 ghost use Rattle.std.specs.Prelude.{◌≡◌, ◌<◌, ◌++◌, ◌^◌, ◌∷◌, [], codes, cond, IfOk, IfSome, IsTrue, length};
 ghost use Rattle.std.specs.List.{concat};

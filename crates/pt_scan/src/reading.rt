@@ -1,4 +1,3 @@
-#![tactic(auto, using(crate::proofs::FileTurns::reading, crate::proofs::ObjectPaths::paths, pt_state::proofs::Turns::turns))]
 //! The turns that read a file of an object, for its digest and its length.
 ghost use Rattle.std.specs.Prelude.{◌≡◌, ◌<◌, ◌+◌, IfOk, [], length};
 ghost use Rattle.pt_plan.specs.Turn.{Did};

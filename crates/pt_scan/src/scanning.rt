@@ -1,4 +1,3 @@
-#![tactic(auto, using(crate::proofs::ScanTurns::scanning, crate::proofs::ObjectPaths::paths, crate::proofs::Leaving::leaving, pt_state::proofs::Turns::turns))]
 //! The turns that scan an object: its directories are listed and entered, its files opened.
 ghost use Rattle.std.specs.Prelude.{◌≡◌, ◌<◌, ◌+◌, ◌-◌, ◌==◌, ◌&&◌, ◌^◌, IfOk, IsTrue, None, Ok, cond, drop, false, length, nat_lt, not};
 ghost use Rattle.pt_plan.specs.Permits.{MayEnter, MayOpen};

@@ -1,4 +1,3 @@
-#![tactic(auto, using(crate::proofs::SiteTurns::walking, pt_state::proofs::Turns::turns))]
 //! The turns of the walk through the sites of a pairtree.
 ghost use Rattle.std.specs.Prelude.{◌≡◌, ◌<◌, ◌==◌, ◌^◌, cond, [], IfOk, length};
 ghost use Rattle.pt_plan.specs.Permits.{MayEnter};

@@ -1,4 +1,3 @@
-#![tactic(auto, using(crate::proofs::Starting::starting))]
 //! The destination has to hold a storage root of this program and layout, or none, which is then made.
 ghost use Rattle.std.specs.Prelude.{◌≡◌, ◌<◌, IfOk};
 ghost use Rattle.pt_name.specs.Tuples.{Tuples};
@@ -23,7 +22,6 @@ use std::alloc::Global;
 
 // The layout of the storage root (extension 0003).
 /// Asks whether `staging` is there.
-#[tactic(auto, using(crate::proofs::Starting::staging_rows))]
 pub fn staging<O: Outside>(state: &State, out: &mut O) -> Result<Phase, Fault>
     ensures turn { TakesTurn O.world (O.within 0) phase.Staging state.now state.now
         out.old out.new result }

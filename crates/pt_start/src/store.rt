@@ -1,4 +1,3 @@
-#![tactic(auto, using(crate::proofs::Starting::starting))]
 //! The source has to be a Pairtree store with a good prefix.
 ghost use Rattle.std.specs.Prelude.{◌≡◌, [], None, IfOk, IfErr, slice_get};
 ghost use Rattle.std.specs.String.{string_bytes};
@@ -52,7 +51,6 @@ fn is_dir(kind: Option<Kind>) -> bool
 }
 
 // The kind of the entry of this name.
-#[tactic(auto, using(crate::proofs::Starting::finding_kind))]
 fn kind_in(listing: &Listing, name: &str) -> Option<Kind>
     ensures { result ≡ kind_in_of listing.now name.now }
 {

@@ -3,3 +3,4 @@ pub mod Together
 pub mod Turns
 pub mod LineTexts
 pub mod Words
+mod StateRules

@@ -1,5 +1,5 @@
 //! What a run holds, the calls that it makes of its devices, and the lines that it tells.
-#![tactic(auto)]
+#![tactic(auto, using(crate::proofs::StateRules::state_rules))]
 
 pub mod files;
 mod job;

@@ -1,4 +1,3 @@
-#![tactic(auto, using(crate::proofs::LineTexts::texts))]
 //! The lines of a run's log: each one compact JSON object with its keys in byte order, and LF. A line is counted where it
 //! was put whole.
 ghost use Rattle.std.specs.Prelude.{◌<◌, ◌^◌, IfErr, IfOk, OnOk};

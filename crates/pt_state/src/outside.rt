@@ -1,4 +1,3 @@
-#![tactic(auto, using(crate::proofs::Asking::answering, crate::proofs::Asking::counting))]
 //! What stands outside a run: its three devices as one, each call of which answers why the run halts.
 ghost use Rattle.std.proofs.Common.{◌∙◌, refl};
 ghost use Rattle.std.specs.Prelude.{◌≡◌, ◌+◌, ◌≤◌, ℕ, true, Some, IfErr, OnOk};

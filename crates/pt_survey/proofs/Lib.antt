@@ -4,3 +4,4 @@ pub mod Seen
 pub mod Stepping
 pub mod Working
 pub mod Steps
+mod SurveyRules

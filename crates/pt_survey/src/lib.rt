@@ -1,5 +1,5 @@
 //! A survey of a store: its sites and objects are looked at as a run does, and nothing is made of them.
-#![tactic(auto)]
+#![tactic(auto, using(crate::proofs::SurveyRules::survey_rules))]
 
 mod bare;
 mod survey;

@@ -1,4 +1,3 @@
-#![tactic(auto, using(crate::proofs::Stepping::steps))]
 // A survey under way, made step by step.
 ghost use Rattle.std.specs.Option.{ForSome};
 ghost use Rattle.std.specs.Prelude.{◌≡◌, ◌≢◌, ℕ, true, length, Option, Some, None, IfErr, OnOk, IfOk};
