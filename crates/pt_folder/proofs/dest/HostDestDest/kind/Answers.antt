@@ -1,7 +1,24 @@
-use Rattle.std.proofs.Common.{◌∙◌, sym}
-use Rattle.pt_folder.proofs.DestTold.{kind_tells}
-use Rattle.pt_folder.proofs.StuckTold.{none_stuck}
+use Rattle.std.proofs.Common.{◌∙◌, ap, subst, sym}
+use Rattle.pt_folder.specs.Calls.{LeadsToKind}
+use Rattle.pt_folder.specs.DestHeld.{IsPlaced, told_with}
+use Rattle.pt_folder.proofs.DestTold.{kind_keeps, kind_tells}
+use Rattle.pt_folder.proofs.StuckTold.{none_back, none_risen, none_stuck}
 use Rattle.pt_folder.proofs.dest.HostDestDest.kind.Goals as goal
+
+pub invariant_of-self : goal.invariant_of-self
+invariant_of-self g c =
+    let self = c.args.self.now in
+    let kept = g.S.System.kept in
+    let folder = self.folder.path.now in
+    let none = none_stuck self.stuck (sym c.is_some.ensures ∙ c.if-is_some.false) in
+    let kind = c.kind_at-kind in
+    let same = kind_keeps kept folder g.S.System.looks g.met.S.System.kind_law LeadsToKind self.desk.system kind.new.self.system c.args.path.now kind.result kind.ensures.asked in
+    record {
+      placed = λ free. subst (λ k. IsPlaced k self.writing) (sym same) (self.placed none);
+      wanted = self.wanted;
+      back = ∣ none_back (kept kind.new.self.system folder) self.stuck none ∣₁;
+      risen = none_risen c.counted.new.failures self.stuck none;
+    }
 
 pub returns-clause-kind : goal.returns-clause-kind
 returns-clause-kind g c =
@@ -10,3 +27,11 @@ returns-clause-kind g c =
     let folder = self.folder.path.now in
     let none = none_stuck self.stuck (sym c.is_some.ensures ∙ c.if-is_some.false) in
     rw (c.counted.ensures.same, none) (kind_tells kept folder g.S.System.looks g.met.S.System.kind_law self.desk.system c.kind_at-kind.new.self.system c.args.path.now c.kind_at-kind.result self.writing c.kind_at-kind.ensures.asked)
+
+pub returns-clause-same : goal.returns-clause-same
+returns-clause-same g c =
+    let self = c.args.self.now in
+    let kept = g.S.System.kept in
+    let folder = self.folder.path.now in
+    let kind = c.kind_at-kind in
+    ap (λ k. told_with k self.stuck self.writing) (kind_keeps kept folder g.S.System.looks g.met.S.System.kind_law LeadsToKind self.desk.system kind.new.self.system c.args.path.now kind.result kind.ensures.asked)

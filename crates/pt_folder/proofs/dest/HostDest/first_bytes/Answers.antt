@@ -1,0 +1,20 @@
+use Rattle.std.proofs.Common.{◌∙◌, subst, sym}
+use Rattle.pt_folder.specs.DestHeld.{IsPlaced}
+use Rattle.pt_folder.proofs.PeekTold.{peek_keeps}
+use Rattle.pt_folder.proofs.StuckTold.{none_back, none_risen, none_stuck}
+use Rattle.pt_folder.proofs.dest.HostDest.first_bytes.Goals as goal
+
+pub invariant_of-self : goal.invariant_of-self
+invariant_of-self g c =
+    let self = c.args.self.now in
+    let kept = g.S.System.kept in
+    let folder = self.folder.path.now in
+    let none = none_stuck self.stuck (sym c.is_some.ensures ∙ c.if-is_some.false) in
+    let peeked = c.peek-peeked in
+    let same = peek_keeps kept folder g.S.File.Input.left g.S.File.Input.reads g.S.System.opens g.met.S.System.peek_law self.desk.system peeked.new.self.system c.args.path.now peeked.new.block.items peeked.result peeked.ensures.asked in
+    record {
+      placed = λ free. subst (λ k. IsPlaced k self.writing) (sym same) (self.placed none);
+      wanted = self.wanted;
+      back = ∣ none_back (kept peeked.new.self.system folder) self.stuck none ∣₁;
+      risen = none_risen c.counted.new.failures self.stuck none;
+    }
