@@ -3,6 +3,7 @@ mod Blocks
 pub mod DestTold
 mod Forward
 mod Kept
+mod Listed
 mod Listings
 mod Looking
 mod LookTold

@@ -1,9 +1,21 @@
 use Rattle.std.proofs.Common.{◌≡◌, ◌∙◌, ◌++◌, ap, inl, inr, lit<, string_bytes}
 use Rattle.pt_folder.specs.Folder.{entry_text}
 use Rattle.pt_folder.specs.Listing.{GetsNames, dir_front}
+use Rattle.pt_folder.proofs.Listed.{entry_fails, listed_by, names_fail}
 use Rattle.pt_folder.proofs.Listings.{front_is, list_same, list_told, names_given, names_same}
+use Rattle.pt_folder.proofs.Names.{err_due}
 use Rattle.pt_folder.proofs.listing.list.Goals as goal
-use Rattle.pt_folder.proofs.listing.list.Goals.{then-not-is_empty+in_ok-push, else-not-is_empty}
+use Rattle.pt_folder.proofs.listing.list.Given.{Over}
+use Rattle.pt_folder.proofs.listing.list.Goals.{After-with_kinds, then-not-is_empty+in_ok-push, else-not-is_empty}
+
+-- the text that each entry's path begins with
+begins : (g : Over) (c : After-with_kinds g) → string_bytes c.if-not-is_empty.text ≡ dir_front c.args.folder.now.path.now c.args.path.now
+begins g c =
+    front_is c.args.folder.now.path.now c.args.path.now (string_bytes c.in_ok-text.text) (string_bytes c.if-not-is_empty.text) c.is_empty.result c.is_empty.ensures c.in_ok-text.ensures.text
+    (elim c.if-not-is_empty.branch [
+      | then-not-is_empty+in_ok-push w ↦ inl (w.if-not-is_empty.true, ap string_bytes w.text-is ∙ w.in_ok-push.ensures.bytes ∙ ap (λ l. string_bytes c.in_ok-text.text ++ l) (w.in_ok-push.ensures.ascii (lit< tt)))
+      | else-not-is_empty w ↦ inr (w.if-not-is_empty.false, ap string_bytes w.text-is)
+    ])
 
 pub returns-clause-same : goal.returns-clause-same
 returns-clause-same g c =
@@ -11,15 +23,8 @@ returns-clause-same g c =
     let p = c.args.path.now in
     let kept = g.S.System.forest in
     let text : c.as_str.result.now ≡ entry_text folder p = c.as_str.ensures.value ∙ c.in_ok-text.ensures.text in
-    let begins : string_bytes c.if-not-is_empty.text ≡ dir_front folder p =
-    front_is folder p (string_bytes c.in_ok-text.text) (string_bytes c.if-not-is_empty.text) c.is_empty.result c.is_empty.ensures c.in_ok-text.ensures.text
-    (elim c.if-not-is_empty.branch [
-      | then-not-is_empty+in_ok-push w ↦ inl (w.if-not-is_empty.true, ap string_bytes w.text-is ∙ w.in_ok-push.ensures.bytes ∙ ap (λ l. string_bytes c.in_ok-text.text ++ l) (w.in_ok-push.ensures.ascii (lit< tt)))
-      | else-not-is_empty w ↦ inr (w.if-not-is_empty.false, ap string_bytes w.text-is)
-    ])
-    in
     let same = names_same kept g.S.Dir.Input.left g.S.System.opens_dir g.met.S.System.names_law folder p c.args.desk.now.system c.names_in.new.desk.system c.as_str.result.now c.in_ok-text.ensures.named text c.requires _ c.names_in.ensures.asked in
-    list_same kept folder p c.args.desk.now.system c.names_in.new.desk.system c.with_kinds.new.desk.system (string_bytes c.if-not-is_empty.text) c.in_ok-text.ensures.named begins same c.requires c.with_kinds.result c.with_kinds.ensures.seen c.with_kinds.ensures.same
+    list_same kept folder p c.args.desk.now.system c.names_in.new.desk.system c.with_kinds.new.desk.system (string_bytes c.if-not-is_empty.text) c.in_ok-text.ensures.named (begins g c) same c.requires c.with_kinds.result c.with_kinds.ensures.seen c.with_kinds.ensures.same
 
 pub returns-clause-told : goal.returns-clause-told
 returns-clause-told g c =
@@ -27,14 +32,30 @@ returns-clause-told g c =
     let p = c.args.path.now in
     let kept = g.S.System.forest in
     let text : c.as_str.result.now ≡ entry_text folder p = c.as_str.ensures.value ∙ c.in_ok-text.ensures.text in
-    let begins : string_bytes c.if-not-is_empty.text ≡ dir_front folder p =
-    front_is folder p (string_bytes c.in_ok-text.text) (string_bytes c.if-not-is_empty.text) c.is_empty.result c.is_empty.ensures c.in_ok-text.ensures.text
-    (elim c.if-not-is_empty.branch [
-      | then-not-is_empty+in_ok-push w ↦ inl (w.if-not-is_empty.true, ap string_bytes w.text-is ∙ w.in_ok-push.ensures.bytes ∙ ap (λ l. string_bytes c.in_ok-text.text ++ l) (w.in_ok-push.ensures.ascii (lit< tt)))
-      | else-not-is_empty w ↦ inr (w.if-not-is_empty.false, ap string_bytes w.text-is)
-    ])
-    in
     let same = names_same kept g.S.Dir.Input.left g.S.System.opens_dir g.met.S.System.names_law folder p c.args.desk.now.system c.names_in.new.desk.system c.as_str.result.now c.in_ok-text.ensures.named text c.requires _ c.names_in.ensures.asked in
     let given = names_given kept g.S.Dir.Input.left g.S.System.opens_dir g.met.S.System.names_law folder p c.args.desk.now.system c.names_in.new.desk.system c.as_str.result.now c.in_ok-text.ensures.named text c.requires c.in_ok-names.names c.in_ok-names.names.items (λ dir after. GetsNames g.S.Dir.Input.reads dir c.in_ok-names.names.items after) c.in_ok-names.ensures.asked in
-    list_told kept folder p c.args.desk.now.system c.names_in.new.desk.system c.with_kinds.new.desk.system (string_bytes c.if-not-is_empty.text) c.in_ok-text.ensures.named begins same c.requires c.in_ok-names.names.items c.sort_unstable.new.self.items c.with_kinds.result (g.met.S.System.proper_law c.args.desk.now.system folder) given c.sort_unstable.ensures.permutation
+    list_told kept folder p c.args.desk.now.system c.names_in.new.desk.system c.with_kinds.new.desk.system (string_bytes c.if-not-is_empty.text) c.in_ok-text.ensures.named (begins g c) same c.requires c.in_ok-names.names.items c.sort_unstable.new.self.items c.with_kinds.result (g.met.S.System.proper_law c.args.desk.now.system folder) given c.sort_unstable.ensures.permutation
     c.with_kinds.ensures.names c.with_kinds.ensures.seen c.with_kinds.ensures.rise
+
+pub returns-clause-listed : goal.returns-clause-listed
+returns-clause-listed g c =
+    let folder = c.args.folder.now.path.now in
+    let p = c.args.path.now in
+    let text : c.as_str.result.now ≡ entry_text folder p = c.as_str.ensures.value ∙ c.in_ok-text.ensures.text in
+    listed_by g.S.System.opens_dir g.S.System.looks g.S.Dir.Input.reads g.S.Dir.Input.left folder p c.args.desk.now.system c.names_in.new.desk.system c.as_str.result.now text (λ names. names.items) c.in_ok-names.names c.sort_unstable.new.self.items c.sort_unstable.ensures.permutation (string_bytes c.if-not-is_empty.text) (begins g c)
+    c.with_kinds.new.desk.system c.with_kinds.result c.in_ok-names.ensures.asked c.with_kinds.ensures.names c.with_kinds.ensures.looked
+
+pub returns-clause-fault : goal.returns-clause-fault
+returns-clause-fault g c =
+    let folder = c.args.folder.now.path.now in
+    let p = c.args.path.now in
+    let text : c.as_str.result.now ≡ entry_text folder p = c.as_str.ensures.value ∙ c.in_ok-text.ensures.text in
+    entry_fails g.S.System.opens_dir g.S.System.looks g.S.Dir.Input.reads g.S.Dir.Input.left folder p c.args.desk.now.system c.names_in.new.desk.system c.as_str.result.now text (λ names. names.items) c.in_ok-names.names c.sort_unstable.new.self.items c.sort_unstable.ensures.permutation (string_bytes c.if-not-is_empty.text) (begins g c)
+    c.with_kinds.new.desk.system c.with_kinds.result c.in_ok-names.ensures.asked c.sort_unstable.ensures.sorted c.with_kinds.ensures.fault
+
+pub returns-in_err-names-clause-fault : goal.returns-in_err-names-clause-fault
+returns-in_err-names-clause-fault g c =
+    let folder = c.args.folder.now.path.now in
+    let p = c.args.path.now in
+    let text : c.as_str.result.now ≡ entry_text folder p = c.as_str.ensures.value ∙ c.in_ok-text.ensures.text in
+    err_due c.from_residual-in_err-names.result c.in_err-names.field-0.0 _ c.from_residual-in_err-names.ensures.1 (names_fail g.S.System.opens_dir g.S.System.looks g.S.Dir.Input.reads g.S.Dir.Input.left folder p c.args.desk.now.system c.names_in.new.desk.system c.as_str.result.now text (λ names. names.items) c.in_err-names.field-0.0 c.in_err-names.ensures.asked)
