@@ -12,15 +12,26 @@ use Rattle.pt_tree.specs.declared.faults.TreeFault.TheVariants.{Device, Memory}
 use Rattle.pt_folder.specs.Calls.{IsDueTo}
 use Rattle.pt_folder.specs.Failure.{FailsLook, IsOfCall, IsOfEntry, OnDevice}
 use Rattle.pt_folder.specs.declared.failure.Failure.{Failure}
-use Rattle.pt_folder.specs.Listing.{FailsToLook, LeadsToOwnKind, LooksAt}
+use Rattle.pt_folder.specs.Listing.{FailsToLook, LeadsToOwnKind, LooksAt, LooksIn}
+
+-- a look at the path of an entry, and its answer handed on
+pub looks_in : {S : Type 0} (looks : S → List ℕ → Result Kind Error → S → Type 0) (front : List ℕ) (old new : S) (name text : List ℕ) (result : Result Kind TreeFault) → text ≡ front ++ name
+    → ((reply : Result Kind Error) × looks old text reply new × LeadsToOwnKind reply result) → LooksIn looks front name old new result
+looks_in looks front old new name text result is (reply, asked, leads) = inr (reply, subst (λ t. looks old t reply new) is asked, leads)
+
+pub looks_err : {S : Type 0} (looks : S → List ℕ → Result Kind Error → S → Type 0) (front : List ℕ) (old new : S) (name : List ℕ) (r : Result Kind TreeFault) (fault : TreeFault) → IsErrAnd r (λ y. y ≡ fault)
+    → LooksIn looks front name old new (Err fault) → LooksIn looks front name old new r
+looks_err looks front old new name (Ok x) fault bad asked = absurd bad
+looks_err looks front old new name (Err y) fault same asked = subst (λ f. LooksIn looks front name old new (Err f)) (sym same) asked
 
 -- a look that gave a kind
-pub looked_one : {S : Type 0} (looks : S → List ℕ → Result Kind Error → S → Type 0) (front : List ℕ) (old new : S) (name text : List ℕ) (kind : Kind) → text ≡ front ++ name
-    → ((reply : Result Kind Error) × looks old text reply new × LeadsToOwnKind reply (Ok kind)) → LooksAt looks front old (name, kind) new
-looked_one looks front old new name text kind is (Ok m, asked, leads) =
+pub looked_one : {S : Type 0} (looks : S → List ℕ → Result Kind Error → S → Type 0) (front : List ℕ) (old new : S) (name : List ℕ) (kind : Kind)
+    → LooksIn looks front name old new (Ok kind) → LooksAt looks front old (name, kind) new
+looked_one looks front old new name kind (inl none) = let other = none.1 in absurd (cc)
+looked_one looks front old new name kind (inr (Ok m, asked, leads)) =
     let own : m ≡ kind = cc in
-    subst (λ k. looks old (front ++ name) (Ok k) new) own (subst (λ t. looks old t (Ok m) new) is asked)
-looked_one looks front old new name text kind is (Err e, asked, leads) = absurd leads
+    subst (λ k. looks old (front ++ name) (Ok k) new) own asked
+looked_one looks front old new name kind (inr (Err e, asked, leads)) = absurd leads
 
 -- a look that failed is kept as one at an entry
 pub kept_entry : {S T : Type 0} (looks : S → List ℕ → Result Kind Error → S → Type 0) (front name text : List ℕ) (r : Result T TreeFault) (fault : TreeFault) (last : Option Failure)
@@ -62,18 +73,18 @@ module _ {S : Type 0} (looks : S → List ℕ → Result Kind Error → S → Ty
   next_is = here ∙ ap (λ (l : List (List ℕ)). l ++ name ∷ rest) (sym same)
 
   -- looking at the next entry fails
-  pub looks_fail : (text : List ℕ) (fault : TreeFault) → text ≡ front ++ name → ((reply : Result Kind Error) × looks mid text reply new × LeadsToOwnKind reply (Err fault))
-      → IsDueTo fault (FailsToLook looks front names old new)
-  looks_fail text Memory is asked = tt
-  looks_fail text Device is (Ok m, asked, leads) = absurd (cc)
-  looks_fail text Device is (Err e, asked, leads) = record {
+  pub looks_fail : (fault : TreeFault) → LooksIn looks front name mid new (Err fault) → IsDueTo fault (FailsToLook looks front names old new)
+  looks_fail Memory asked = tt
+  looks_fail Device (inl none) = let other = none.1 in absurd (cc)
+  looks_fail Device (inr (Ok m, asked, leads)) = absurd (cc)
+  looks_fail Device (inr (Err e, asked, leads)) = record {
     listing = listing;
     name = name;
     rest = rest;
     mid = mid;
     here = next_is;
     looked = looked;
-    failed = inl (e, subst (λ t. looks mid t (Err e) new) is asked, sym leads);
+    failed = inl (e, asked, sym leads);
   }
 
   -- its name doesn't come after the last

@@ -6,7 +6,7 @@ use Rattle.std.specs.Cmp.Lexicographic.{slice_cmp}
 use Rattle.std.specs.Ordering.{nat_cmp}
 use Rattle.std.specs.declared.io.Error.{Error}
 use Rattle.pt_tree.specs.declared.faults.TreeFault.{TreeFault}
-use Rattle.pt_tree.specs.declared.faults.TreeFault.TheVariants.{Device}
+use Rattle.pt_tree.specs.declared.faults.TreeFault.TheVariants.{Device, Memory}
 use Rattle.pt_tree.specs.declared.kind.Kind.{Kind}
 use Rattle.pt_tree.specs.Listing.{Item, can_follow}
 use Rattle.pt_tree.specs.Path.{Path}
@@ -34,6 +34,12 @@ LeadsToOwnKind (Err e) (Err fault) = fault ≡ fault_of e
 abbrev pub LooksAt : {S : Type 0} → (S → List ℕ → Result Kind Error → S → Type 0) → List ℕ → S
     → Item → S → Type 0
 LooksAt looks front old item new = looks old (front ++ item.0) (Ok item.1) new
+
+-- the same, whatever its kind or the answer; nothing is asked where memory for its path was wanting
+abbrev pub LooksIn : {S : Type 0} → (S → List ℕ → Result Kind Error → S → Type 0) → List ℕ
+    → List ℕ → S → S → Result Kind TreeFault → Type 0
+LooksIn looks front name old new result = ((new ≡ old) × (result ≡ Err Memory))
+    ⊎ ((reply : Result Kind Error) × looks old (front ++ name) reply new × LeadsToOwnKind reply result)
 
 -- a read gave a piece, whose names stand behind those before
 abbrev pub ReadsNames : {D : Type 0} → (D → List ℕ → Result ℕ Error → D → Type 0)

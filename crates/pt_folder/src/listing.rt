@@ -1,15 +1,16 @@
 //! Listing a directory of a folder.
-ghost use Rattle.std.specs.Prelude.{◌≡◌, ◌==◌, ◌≤◌, ◌++◌, ◌∷◌, [], false, if◌then◌else◌, map, position, IfErr, IfOk, IfSome, IsSome, IsTrue, OnErr, OnOk, Some, Err, MatchResult, length, string_bytes, vec_len};
+ghost use Rattle.std.specs.Prelude.{◌≡◌, ◌==◌, ◌≤◌, ◌++◌, ◌∷◌, [], true, false, if◌then◌else◌, map, position, IfErr, IfOk, IfSome, IsSome, IsTrue, OnErr, OnOk, Some, Err, MatchResult, length, string_bytes, vec_len};
 ghost use Rattle.std.specs.Option.{ForSome};
 ghost use Rattle.pt_tree.specs.Forest.{dir_at, listing_at};
 ghost use Rattle.pt_tree.specs.Listing.{names_rise};
+ghost use Rattle.pt_tree.specs.Name.{is_name};
 ghost use Rattle.pt_folder.specs.Seeing.{SeesAt};
 ghost use Rattle.std.specs.List.{FoldsTo};
 ghost use Rattle.pt_folder.specs.Failure.{IsAt, IsOfEntry, IsOfName, IsOfNames, KeepsListing, OnDevice};
 ghost use Rattle.pt_folder.specs.Folder.{entry_text};
 ghost use Rattle.pt_tree.specs.Listing.{can_follow};
 ghost use Rattle.pt_folder.specs.Calls.{IsDueTo, fault_of as fault_for};
-ghost use Rattle.pt_folder.specs.Listing.{FailsToGet, FailsToList, FailsToLook, GetsNames, IsListedBy, LooksAt, dir_front, most_entries};
+ghost use Rattle.pt_folder.specs.Listing.{FailsToGet, FailsToList, FailsToLook, GetsNames, IsListedBy, LooksAt, LooksIn, dir_front, most_entries};
 ghost use Rattle.pt_folder.specs.Names.{AddsNames, GivesNames, IsRefusedName, RefusesBytes, is_entry};
 
 use crate::desk::Desk;
@@ -206,17 +207,34 @@ fn with_kinds<S: System>(
         (IfSome desk.new.last.failure (IsOfEntry S.looks (string_bytes text))) }
 {
     let mut text = text;
-    let end = text.len();
     text.reserve(LONGEST_NAME)?;
     let mut listing = Listing::new(desk.last.alloc);
     for name in names {
-        text.push_str(name_text(&name))?;
-        let kind = desk.own_kind(text.as_str())?;
-        text.truncate(end);
+        let kind = kind_in(desk, &mut text, &name)?;
         add_entry(&mut listing, name, kind, text.as_str(), &mut desk.last)?;
     }
     let _count = listing.len();
     Ok(listing)
+}
+
+// The kind of an entry in the directory whose path, with `/` behind, is the text; links aren't followed.
+fn kind_in<S: System>(
+    desk: &mut Desk<S>,
+    text: &mut String,
+    name: &Name,
+) -> Result<Kind, TreeFault>
+    ensures text { OnOk result (string_bytes text.new ≡ string_bytes text.old) }
+    ensures named { is_name name.now ≡ true }
+    ensures asked { LooksIn S.looks (string_bytes text.old) name.now
+        desk.old.system desk.new.system result }
+    ensures kept { OnDevice result
+        (IfSome desk.new.last.failure (IsOfEntry S.looks (string_bytes text.old))) }
+{
+    let end = text.len();
+    text.push_str(name_text(name))?;
+    let kind = desk.own_kind(text.as_str())?;
+    text.truncate(end);
+    Ok(kind)
 }
 
 // Adds an entry to the listing of the directory whose path, with `/` behind, is the text.
