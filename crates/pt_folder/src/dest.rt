@@ -6,20 +6,19 @@ ghost use Rattle.pt_folder.specs.Desk.{new_desk};
 ghost use Rattle.pt_folder.specs.Folder.{entry_text};
 ghost use Rattle.pt_folder.specs.Calls.{CannotMake, IsThere, LeadsToKind};
 ghost use Rattle.pt_folder.specs.Failure.{OnDevice};
-ghost use Rattle.pt_folder.specs.Moving.{IsOfMove, MovesOnce, holder_text};
 ghost use Rattle.pt_folder.specs.DestHeld.{IsBack, IsPlaced};
 ghost use Rattle.pt_folder.specs.Settings.{greatest_length};
-ghost use Rattle.pt_folder.specs.Stuck.{move_to_sync};
 ghost use Rattle.pt_folder.specs.Writing.{IsMadeAt, open_unless_within};
 
 use crate::desk::Desk;
 use crate::failure::Failure;
 use crate::folder::{Folder, counted};
+use crate::moving::{Move, moved};
 use crate::stuck::Stuck;
 use crate::system::System;
 use crate::writing::{Writing, add, close, close_moved, create};
-use pt_tree::{Block, Dest, Kind, MemoryFault, NamePath, TreeFault};
-use std::alloc::{AllocError, Global};
+use pt_tree::{Block, Dest, Kind, NamePath, TreeFault};
+use std::alloc::Global;
 
 /// A folder of the system as a destination. It tells the tree that the system keeps there, where it keeps one.
 ///
@@ -330,65 +329,10 @@ impl<'a, S: System> Dest for HostDest<'a, S> {
         if self.stuck.is_some() {
             return self.refuse();
         }
-        let moved = moved(
-            &mut self.desk,
-            &self.folder,
-            from,
-            to,
-            self.synced,
-            &mut self.stuck,
-        );
+        let synced = self.synced;
+        let asked = Move { from, to, synced };
+        let moved = moved(&mut self.desk, &self.folder, &asked, &mut self.stuck);
         close_moved(&mut self.writing, from, &moved);
         counted(&mut self.failures, moved)
     }
-}
-
-// Moves what stands at the first path to the second. The move is stuck where its directory couldn't be put onto the disk.
-fn moved<S: System>(
-    desk: &mut Desk<S>,
-    folder: &Folder<'_>,
-    from: &NamePath,
-    to: &NamePath,
-    synced: bool,
-    stuck: &mut Option<Stuck>,
-) -> Result<(), TreeFault>
-    requires free { stuck.old ≡ None }
-    ensures asked { MovesOnce S.renames S.opens S.File.Handle.syncs synced folder.now.path.now
-        from.now to.now desk.old.system desk.new.system stuck.new result }
-    ensures kept { OnDevice result (IfSome desk.new.last.failure
-        (IsOfMove S.renames S.opens S.File.Handle.syncs folder.now.path.now from.now to.now
-        desk.old.system desk.new.system)) }
-{
-    let old = folder.text(from, &mut desk.last)?;
-    let new = folder.text(to, &mut desk.last)?;
-    let above = holder(desk.last.alloc, new.as_str())?;
-    let to_sync = move_to_sync(synced, from, to)?;
-    if let Err(error) = desk.system.move_to(old.as_str(), new.as_str()) {
-        return Err(desk.last.heard(new.as_str(), error));
-    }
-    if synced {
-        *stuck = to_sync;
-        desk.sync_dir(above.as_str())?;
-        *stuck = None;
-    }
-    Ok(())
-}
-
-// What a move is whose directory isn't put onto the disk yet; None where that isn't asked for.
-fn move_to_sync(synced: bool, from: &NamePath, to: &NamePath) -> Result<Option<Stuck>, MemoryFault>
-    ensures { IfOk result (λ stuck. stuck ≡ move_to_sync synced from.now to.now) }
-{
-    if !synced {
-        return Ok(None);
-    }
-    Ok(Some(Stuck::Moved(from.copy()?, to.copy()?)))
-}
-
-// The path of the directory that holds an entry, by the entry's own path.
-fn holder(alloc: Global, path: &str) -> Result<String, AllocError>
-    ensures { IfOk result (λ text. string_bytes text ≡ holder_text path.now) }
-{
-    let mut text = String::from_str(alloc, path)?;
-    text.push_str("/..")?;
-    Ok(text)
 }

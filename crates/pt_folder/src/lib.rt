@@ -7,6 +7,7 @@ mod dest;
 mod failure;
 mod folder;
 mod listing;
+mod moving;
 mod reading;
 mod runtime;
 mod source;

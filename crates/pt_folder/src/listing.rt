@@ -218,11 +218,7 @@ fn with_kinds<S: System>(
 }
 
 // The kind of an entry in the directory whose path, with `/` behind, is the text; links aren't followed.
-fn kind_in<S: System>(
-    desk: &mut Desk<S>,
-    text: &mut String,
-    name: &Name,
-) -> Result<Kind, TreeFault>
+fn kind_in<S: System>(desk: &mut Desk<S>, text: &mut String, name: &Name) -> Result<Kind, TreeFault>
     ensures text { OnOk result (string_bytes text.new ≡ string_bytes text.old) }
     ensures named { is_name name.now ≡ true }
     ensures asked { LooksIn S.looks (string_bytes text.old) name.now

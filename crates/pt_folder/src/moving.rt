@@ -1,0 +1,118 @@
+// How something is moved in a folder: what is made ready before anything is asked, the move, and what comes after it.
+ghost use Rattle.std.specs.Prelude.{◌≡◌, None, IfErr, IfOk, IfSome, length, string_bytes};
+ghost use Rattle.pt_folder.specs.Calls.{IsDueTo};
+ghost use Rattle.pt_folder.specs.Failure.{IsUnasked, OnDevice};
+ghost use Rattle.pt_folder.specs.Moving.{IsGone, IsOfGoing, IsOfMove, IsReady, MovesOnce, holder_text};
+ghost use Rattle.pt_folder.specs.Stuck.{move_to_sync};
+
+use crate::desk::Desk;
+use crate::failure::Last;
+use crate::folder::Folder;
+use crate::stuck::Stuck;
+use crate::system::System;
+use pt_tree::{MemoryFault, NamePath, TreeFault};
+use std::alloc::{AllocError, Global};
+
+/// A move within a folder, and whether the directory that then holds what was moved is put onto the disk.
+#[derive(Drop)]
+pub struct Move<'a> {
+    pub from: &'a NamePath,
+    pub to: &'a NamePath,
+    pub synced: bool,
+}
+
+/// A move that is ready: the system's paths of its ends, and of the directory that holds the second, and what it is while that
+/// directory isn't put onto the disk yet.
+#[derive(Drop)]
+pub struct Ready {
+    pub from: String,
+    pub to: String,
+    pub holder: String,
+    pub left: Option<Stuck>,
+}
+
+impl<'a> Move<'a> {
+    // Makes it ready; nothing is asked.
+    fn ready(&self, folder: &Folder<'_>, last: &mut Last) -> Result<Ready, TreeFault>
+        ensures ready { IfOk result
+            (IsReady self.now.synced folder.now.path.now self.now.from.now self.now.to.now) }
+        ensures refused { IfErr result (λ fault. IsDueTo fault (length folder.now.path.now ≡ 0)) }
+        ensures kept { OnDevice result (IfSome last.new.failure (IsUnasked folder.now.path.now)) }
+    {
+        let from = folder.text(self.from, last)?;
+        let to = folder.text(self.to, last)?;
+        let holder = holder(last.alloc, to.as_str())?;
+        let left = self.to_sync()?;
+        Ok(Ready {
+            from,
+            to,
+            holder,
+            left,
+        })
+    }
+
+    // What the move is while its directory isn't put onto the disk yet; None where that isn't asked for.
+    fn to_sync(&self) -> Result<Option<Stuck>, MemoryFault>
+        ensures { IfOk result (λ stuck. stuck
+            ≡ move_to_sync self.now.synced self.now.from.now self.now.to.now) }
+    {
+        if !self.synced {
+            return Ok(None);
+        }
+        Ok(Some(Stuck::Moved(self.from.copy()?, self.to.copy()?)))
+    }
+}
+
+impl Ready {
+    // Moves what stands at the first path to the second. The move is stuck where its directory couldn't be put onto the disk.
+    fn go<S: System>(
+        &mut self,
+        desk: &mut Desk<S>,
+        stuck: &mut Option<Stuck>,
+    ) -> Result<(), TreeFault>
+        ensures gone { IsGone S.renames S.opens S.File.Handle.syncs self.old
+            desk.old.system desk.new.system stuck.old stuck.new result }
+        ensures kept { OnDevice result (IfSome desk.new.last.failure
+            (IsOfGoing S.renames S.opens S.File.Handle.syncs self.old
+            desk.old.system desk.new.system)) }
+    {
+        if let Err(error) = desk.system.move_to(self.from.as_str(), self.to.as_str()) {
+            return Err(desk.last.heard(self.to.as_str(), error));
+        }
+        *stuck = self.left.take();
+        if stuck.is_none() {
+            return Ok(());
+        }
+        desk.sync_dir(self.holder.as_str())?;
+        *stuck = None;
+        Ok(())
+    }
+}
+
+/// Moves what stands at one path to another. Nothing is asked where a growth was refused or the folder's path is empty.
+pub(crate) fn moved<S: System>(
+    desk: &mut Desk<S>,
+    folder: &Folder<'_>,
+    asked: &Move<'_>,
+    stuck: &mut Option<Stuck>,
+) -> Result<(), TreeFault>
+    requires free { stuck.old ≡ None }
+    ensures asked { MovesOnce S.renames S.opens S.File.Handle.syncs asked.now.synced
+        folder.now.path.now asked.now.from.now asked.now.to.now
+        desk.old.system desk.new.system stuck.new result }
+    ensures kept { OnDevice result (IfSome desk.new.last.failure
+        (IsOfMove S.renames S.opens S.File.Handle.syncs folder.now.path.now
+        asked.now.from.now asked.now.to.now desk.old.system desk.new.system)) }
+{
+    let mut ready = asked.ready(folder, &mut desk.last)?;
+    ready.go(desk, stuck)
+}
+
+// The path of the directory that holds an entry, by the entry's own path.
+fn holder(alloc: Global, path: &str) -> Result<String, AllocError>
+    ensures { IfOk result (λ text. string_bytes text ≡ holder_text path.now) }
+{
+    let mut text = String::from_str(alloc, path)?;
+    text.push_str("/..")?;
+    Ok(text)
+}
