@@ -1,7 +1,8 @@
--- What is kept of a directory whose names aren't had.
-use Rattle.std.proofs.Common.{ℕ, List, sym, subst}
+-- What is kept of a failure, and of a directory whose names aren't had.
+use Rattle.std.proofs.Common.{◌≡◌, ℕ, List, sym, subst}
 use Rattle.std.specs.Prelude.{Option, Some, None, IfSome}
 use Rattle.std.specs.Prelude.{Result, Ok, Err}
+use Rattle.std.specs.Result.{IsErrAnd}
 use Rattle.std.specs.declared.io.Error.{Error}
 use Rattle.pt_tree.specs.declared.faults.TreeFault.{TreeFault}
 use Rattle.pt_tree.specs.declared.faults.TreeFault.TheVariants.{Device, Memory}
@@ -10,9 +11,20 @@ use Rattle.pt_folder.specs.declared.failure.Cause.TheVariants as cause
 use Rattle.pt_folder.specs.declared.failure.Cause.{Cause}
 use Rattle.pt_folder.specs.declared.failure.Failure.{Failure}
 
+-- what is kept of a fault that is handed on
+pub kept_on : {T : Type 0} (U : Type 0) (r : Result T TreeFault) (fault : TreeFault) (P : Type 0) → IsErrAnd r (λ y. y ≡ fault) → OnDevice {T = U} (Err fault) P → OnDevice r P
+kept_on U (Ok x) fault P bad kept = tt
+kept_on U (Err Memory) fault P same kept = tt
+kept_on U (Err Device) fault P same kept = subst (λ f. OnDevice {T = U} (Err f) P) (sym same) kept
+
 pub kept_names : (last : Option Failure) (text : List ℕ) (why : Cause) → IfSome last (IsAt text why) → IsNamesCause why → IfSome last (IsOfNames text)
 kept_names None text why kept is = tt
 kept_names (Some f) text why kept is = (kept.0, subst IsNamesCause (sym kept.1) is)
+
+pub names_heard : {T : Type 0} (r : Result T TreeFault) (last : Option Failure) (text : List ℕ) (why : Cause) → IfSome last (IsAt text why) → IsNamesCause why → OnDevice r (IfSome last (IsOfNames text))
+names_heard (Ok x) last text why kept is = tt
+names_heard (Err Memory) last text why kept is = tt
+names_heard (Err Device) last text why kept is = kept_names last text why kept is
 
 pub kept_name : (last : Option Failure) (text : List ℕ) (why : Cause) (most : ℕ) (names : List (List ℕ)) (name : List ℕ) → IfSome last (IsAt text why)
     → IsOfName most names name why → IfSome last (λ f. IsOfName most names name f.cause)

@@ -61,7 +61,6 @@ pub fn list<S: System>(
     with_kinds(desk, text, names)
 }
 
-#[tactic(auto, using(crate::proofs::Kept::kept_names))]
 fn names_in<S: System>(desk: &mut Desk<S>, text: &str) -> Result<Vec<Name>, TreeFault>
     ensures most { IfOk result (λ names. vec_len names ≤ most_entries) }
     ensures asked { (reply : _) × S.opens_dir desk.old.system text.now reply desk.new.system
@@ -87,7 +86,6 @@ fn most() -> usize
 
 /// All names that a directory gives, in its order, but for `.` and `..`; `Device` where there are more than `most`.
 /// What fails is kept at the directory's path.
-#[tactic(auto, using(crate::proofs::Kept::kept_names))]
 pub fn read_names<D: Input>(
     dir: &mut D,
     most: usize,
@@ -116,7 +114,6 @@ pub fn read_names<D: Input>(
 }
 
 // Adds the names of a piece of a directory, each ended by a NUL.
-#[tactic(auto, using(crate::proofs::Kept::kept_names))]
 fn add_names(
     names: &mut Vec<Name>,
     piece: &[u8],
@@ -152,7 +149,6 @@ fn nul_at(bytes: &[u8]) -> Option<usize>
 }
 
 // Adds a name, unless it is `.` or `..`.
-#[tactic(auto, using(crate::proofs::Kept::kept_names, crate::proofs::Kept::kept_name))]
 fn add_name(
     names: &mut Vec<Name>,
     bytes: &[u8],

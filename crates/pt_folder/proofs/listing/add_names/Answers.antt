@@ -1,6 +1,8 @@
 use Rattle.std.proofs.Common.{◌≡◌, ◌==◌, ◌+◌, ◌∙◌, arith, take, ap, sym, Some, None}
 use Rattle.std.specs.List.{position}
 use Rattle.std.proofs.lemmas.List.{take_rest}
+use Rattle.pt_folder.specs.declared.failure.Cause.TheVariants as cause
+use Rattle.pt_folder.proofs.Kept.{kept_names, kept_on}
 use Rattle.pt_folder.proofs.Names.{adds_one, err_due, refuses_one, refuses_rest}
 use Rattle.pt_folder.proofs.listing.add_names.Goals as goal
 
@@ -25,3 +27,9 @@ returns-else-is_empty-clause-fault c =
     let rest = c.loop-end.rest.now in
     let none : position (λ b. b == 0) rest ≡ None = sym c.nul_at.ensures ∙ c.in_default.is in
     refuses_rest c.args.most c.args.piece.now rest c.args.names.now.items c.loop-end.names.items c.loop-end.invariant.names none (sym (c.if-is_empty.ensures))
+
+pub returns-in_err-add_name-clause-kept : goal.returns-in_err-add_name-clause-kept
+returns-in_err-add_name-clause-kept c = kept_on (Unit {0}) c.from_residual.result c.in_err-add_name.field-0.0 _ c.from_residual.ensures.1 c.in_err-add_name.ensures.kept
+
+pub returns-else-is_empty-clause-kept : goal.returns-else-is_empty-clause-kept
+returns-else-is_empty-clause-kept c = kept_names c.keep.new.self.failure c.args.text.now cause.Endless c.keep.ensures tt

@@ -1,8 +1,10 @@
-use Rattle.std.proofs.Common.{subst, Ok}
+use Rattle.std.proofs.Common.{subst, Ok, Err}
 use Rattle.std.specs.Prelude.{IfErr, IfSome}
 use Rattle.pt_folder.specs.Calls.{IsDueTo}
 use Rattle.pt_folder.specs.Listing.{FailsToGet, GetsNames, most_entries}
 use Rattle.pt_folder.specs.Names.{GivesNames}
+use Rattle.pt_folder.specs.declared.failure.Cause.TheVariants as cause
+use Rattle.pt_folder.proofs.Kept.{names_heard}
 use Rattle.pt_folder.proofs.Names.{each_way}
 use Rattle.pt_folder.proofs.listing.names_in.Goals as goal
 
@@ -20,3 +22,6 @@ returns-in-Ok-clause-asked g c =
             (λ f. IsDueTo f (FailsToGet reads most_entries dir after)) c.read_names.ensures.read c.read_names.ensures.names fault,
       ),
     )
+
+pub returns-in-Err-clause-kept : goal.returns-in-Err-clause-kept
+returns-in-Err-clause-kept g c = names_heard {T = Unit {0}} (Err c.heard.result) c.heard.new.self.failure c.args.text.now (cause.System c.in-Err.error) c.heard.ensures.kept tt

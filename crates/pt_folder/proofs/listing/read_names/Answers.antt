@@ -1,4 +1,6 @@
-use Rattle.std.proofs.Common.{arith, ◌≡◌, ◌∙◌, length, take, ap, subst, Ok}
+use Rattle.std.proofs.Common.{arith, ◌≡◌, ◌∙◌, length, take, ap, subst, Ok, Err}
+use Rattle.pt_folder.specs.declared.failure.Cause.TheVariants as cause
+use Rattle.pt_folder.proofs.Kept.{kept_names, kept_on, names_heard}
 use Rattle.pt_folder.proofs.Names.{err_due, reads_one}
 use Rattle.pt_folder.proofs.Turns.{names_end, names_fail, names_more, names_refused, names_spent}
 use Rattle.pt_folder.proofs.listing.read_names.Goals as goal
@@ -34,3 +36,12 @@ returns-in-Err-clause-fault g c =
 
 pub returns-clause-fault : goal.returns-clause-fault
 returns-clause-fault g c = names_spent g.D.Input.reads c.args.most c.args.dir.now c.loop.dir c.loop.names.items c.loop.counter c.loop.invariant.reads (omega arith)
+
+pub returns-in_err-add_names-in-Ok-clause-kept : goal.returns-in_err-add_names-in-Ok-clause-kept
+returns-in_err-add_names-in-Ok-clause-kept g c = kept_on (Unit {0}) c.from_residual.result c.in_err-add_names-in-Ok.field-0.0 _ c.from_residual.ensures.1 c.in_err-add_names-in-Ok.ensures.kept
+
+pub returns-in-Err-clause-kept : goal.returns-in-Err-clause-kept
+returns-in-Err-clause-kept g c = names_heard {T = Unit {0}} (Err c.heard.result) c.heard.new.self.failure c.args.text.now (cause.System c.in-Err.error) c.heard.ensures.kept tt
+
+pub returns-clause-kept : goal.returns-clause-kept
+returns-clause-kept g c = kept_names c.keep.new.self.failure c.args.text.now cause.Endless c.keep.ensures tt
