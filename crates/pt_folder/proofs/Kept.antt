@@ -12,10 +12,17 @@ use Rattle.pt_folder.specs.declared.failure.Cause.{Cause}
 use Rattle.pt_folder.specs.declared.failure.Failure.{Failure}
 
 -- what is kept of a fault that is handed on
-pub kept_on : {T : Type 0} (U : Type 0) (r : Result T TreeFault) (fault : TreeFault) (P : Type 0) → IsErrAnd r (λ y. y ≡ fault) → OnDevice {T = U} (Err fault) P → OnDevice r P
-kept_on U (Ok x) fault P bad kept = tt
-kept_on U (Err Memory) fault P same kept = tt
-kept_on U (Err Device) fault P same kept = subst (λ f. OnDevice {T = U} (Err f) P) (sym same) kept
+pub kept_on : {T : Type 0} (r : Result T TreeFault) (fault : TreeFault) (P : Type 0) → IsErrAnd r (λ y. y ≡ fault) → OnDevice {T = Unit {0}} (Err fault) P → OnDevice r P
+kept_on (Ok x) fault P bad kept = tt
+kept_on (Err Memory) fault P same kept = tt
+kept_on (Err Device) fault P same kept = subst (λ f. OnDevice {T = Unit {0}} (Err f) P) (sym same) kept
+
+-- less is said of what is kept
+pub kept_weaker : {T : Type 0} (r : Result T TreeFault) (last : Option Failure) (P Q : Failure → Type 0) → ((f : Failure) → P f → Q f) → OnDevice r (IfSome last P) → OnDevice r (IfSome last Q)
+kept_weaker (Ok x) last P Q weaker kept = tt
+kept_weaker (Err Memory) last P Q weaker kept = tt
+kept_weaker (Err Device) None P Q weaker kept = tt
+kept_weaker (Err Device) (Some f) P Q weaker kept = weaker f kept
 
 pub kept_names : (last : Option Failure) (text : List ℕ) (why : Cause) → IfSome last (IsAt text why) → IsNamesCause why → IfSome last (IsOfNames text)
 kept_names None text why kept is = tt

@@ -29,7 +29,7 @@ returns-else-is_empty-clause-fault c =
     refuses_rest c.args.most c.args.piece.now rest c.args.names.now.items c.loop-end.names.items c.loop-end.invariant.names none (sym (c.if-is_empty.ensures))
 
 pub returns-in_err-add_name-clause-kept : goal.returns-in_err-add_name-clause-kept
-returns-in_err-add_name-clause-kept c = kept_on (Unit {0}) c.from_residual.result c.in_err-add_name.field-0.0 _ c.from_residual.ensures.1 c.in_err-add_name.ensures.kept
+returns-in_err-add_name-clause-kept c = kept_on c.from_residual.result c.in_err-add_name.field-0.0 _ c.from_residual.ensures.1 c.in_err-add_name.ensures.kept
 
 pub returns-else-is_empty-clause-kept : goal.returns-else-is_empty-clause-kept
 returns-else-is_empty-clause-kept c = kept_names c.keep.new.self.failure c.args.text.now cause.Endless c.keep.ensures tt

@@ -1,6 +1,9 @@
-use Rattle.std.proofs.Common.{◌≡◌, ◌∙◌, ◌++◌, ap, inl, inr, lit<, string_bytes}
+use Rattle.std.proofs.Common.{◌≡◌, ◌∙◌, ◌++◌, ap, inl, inr, lit<, string_bytes, subst}
+use Rattle.std.specs.Prelude.{IfSome}
 use Rattle.pt_folder.specs.Folder.{entry_text}
 use Rattle.pt_folder.specs.Listing.{GetsNames, dir_front}
+use Rattle.pt_folder.specs.Failure.{IsOfEntry, IsOfNames, IsUnasked}
+use Rattle.pt_folder.proofs.Kept.{kept_on, kept_weaker}
 use Rattle.pt_folder.proofs.Listed.{entry_fails, listed_by, names_fail}
 use Rattle.pt_folder.proofs.Listings.{front_is, list_same, list_told, names_given, names_same}
 use Rattle.pt_folder.proofs.Names.{err_due}
@@ -59,3 +62,33 @@ returns-in_err-names-clause-fault g c =
     let p = c.args.path.now in
     let text : c.as_str.result.now ≡ entry_text folder p = c.as_str.ensures.value ∙ c.in_ok-text.ensures.text in
     err_due c.from_residual-in_err-names.result c.in_err-names.field-0.0 _ c.from_residual-in_err-names.ensures.1 (names_fail g.S.System.opens_dir g.S.System.looks g.S.Dir.Input.reads g.S.Dir.Input.left folder p c.args.desk.now.system c.names_in.new.desk.system c.as_str.result.now text (λ names. names.items) c.in_err-names.field-0.0 c.in_err-names.ensures.asked)
+
+pub returns-in_err-names-clause-same : goal.returns-in_err-names-clause-same
+returns-in_err-names-clause-same g c =
+    names_same g.S.System.forest g.S.Dir.Input.left g.S.System.opens_dir g.met.S.System.names_law c.args.folder.now.path.now c.args.path.now c.args.desk.now.system c.names_in.new.desk.system c.as_str.result.now c.in_ok-text.ensures.named (c.as_str.ensures.value ∙ c.in_ok-text.ensures.text) c.requires _ c.names_in.ensures.asked
+
+pub returns-in_err-push-clause-same : goal.returns-in_err-push-clause-same
+returns-in_err-push-clause-same g c =
+    names_same g.S.System.forest g.S.Dir.Input.left g.S.System.opens_dir g.met.S.System.names_law c.args.folder.now.path.now c.args.path.now c.args.desk.now.system c.names_in.new.desk.system c.as_str.result.now c.in_ok-text.ensures.named (c.as_str.ensures.value ∙ c.in_ok-text.ensures.text) c.requires _ c.names_in.ensures.asked
+
+pub returns-in_err-names-clause-kept : goal.returns-in_err-names-clause-kept
+returns-in_err-names-clause-kept g c =
+    let folder = c.args.folder.now.path.now in
+    let p = c.args.path.now in
+    let text : c.as_str.result.now ≡ entry_text folder p = c.as_str.ensures.value ∙ c.in_ok-text.ensures.text in
+    let r = c.from_residual-in_err-names.result in
+    let last = c.names_in.new.desk.last.failure in
+    let named = IsOfNames c.as_str.result.now in
+    kept_weaker r last named _ (λ f is. inl (inr (subst (λ t. IsOfNames t f) text is))) (kept_on r c.in_err-names.field-0.0 (IfSome last named) c.from_residual-in_err-names.ensures.1 c.in_err-names.ensures.kept)
+
+pub returns-clause-kept : goal.returns-clause-kept
+returns-clause-kept g c =
+    let looks = g.S.System.looks in
+    kept_weaker c.with_kinds.result c.with_kinds.new.desk.last.failure (IsOfEntry looks (string_bytes c.if-not-is_empty.text)) _ (λ f is. inr (subst (λ front. IsOfEntry looks front f) (begins g c) is)) c.with_kinds.ensures.kept
+
+pub returns-in_err-text-clause-kept : goal.returns-in_err-text-clause-kept
+returns-in_err-text-clause-kept g c =
+    let r = c.from_residual.result in
+    let last = c.text.new.last.failure in
+    let unasked = IsUnasked c.args.folder.now.path.now in
+    kept_weaker r last unasked _ (λ f is. inl (inl is)) (kept_on r c.in_err-text.field-0.0 (IfSome last unasked) c.from_residual.ensures.1 c.in_err-text.ensures.kept)

@@ -38,7 +38,7 @@ pub returns-clause-fault : goal.returns-clause-fault
 returns-clause-fault g c = names_spent g.D.Input.reads c.args.most c.args.dir.now c.loop.dir c.loop.names.items c.loop.counter c.loop.invariant.reads (omega arith)
 
 pub returns-in_err-add_names-in-Ok-clause-kept : goal.returns-in_err-add_names-in-Ok-clause-kept
-returns-in_err-add_names-in-Ok-clause-kept g c = kept_on (Unit {0}) c.from_residual.result c.in_err-add_names-in-Ok.field-0.0 _ c.from_residual.ensures.1 c.in_err-add_names-in-Ok.ensures.kept
+returns-in_err-add_names-in-Ok-clause-kept g c = kept_on c.from_residual.result c.in_err-add_names-in-Ok.field-0.0 _ c.from_residual.ensures.1 c.in_err-add_names-in-Ok.ensures.kept
 
 pub returns-in-Err-clause-kept : goal.returns-in-Err-clause-kept
 returns-in-Err-clause-kept g c = names_heard {T = Unit {0}} (Err c.heard.result) c.heard.new.self.failure c.args.text.now (cause.System c.in-Err.error) c.heard.ensures.kept tt

@@ -1,6 +1,9 @@
-use Rattle.std.proofs.Common.{◌∙◌, subst, sym}
-use Rattle.pt_folder.specs.Calls.{IsThere}
+use Rattle.std.proofs.Common.{◌∙◌, inr, subst, sym}
+use Rattle.std.specs.Prelude.{Err}
+use Rattle.pt_folder.specs.Calls.{AsksOnce, IsThere}
 use Rattle.pt_folder.specs.DestHeld.{IsPlaced}
+use Rattle.pt_folder.specs.Failure.{KeepsCall, OnDevice}
+use Rattle.pt_folder.specs.Folder.{entry_text}
 use Rattle.pt_folder.proofs.DestTold.{kind_keeps}
 use Rattle.pt_folder.proofs.StuckTold.{none_back, none_risen, none_stuck}
 use Rattle.pt_folder.proofs.dest.HostDest.look_at_folder.Goals as goal
@@ -19,3 +22,18 @@ invariant_of-self g c =
       back = ∣ none_back (kept there.new.self.system folder) self.stuck none ∣₁;
       risen = none_risen c.counted.new.failures self.stuck none;
     }
+
+pub returns-clause-asked : goal.returns-clause-asked
+returns-clause-asked g c =
+    let self = c.args.self.now in
+    let there = c.is_there-there in
+    let none = none_stuck self.stuck (sym c.is_some.ensures ∙ c.if-is_some.false) in
+    rw c.counted.ensures.same (inr (none, subst (λ p. AsksOnce g.S.System.looks IsThere self.folder.path.now p self.desk.system there.new.self.system there.result) c.new-top.ensures there.ensures.asked))
+
+pub returns-clause-kept : goal.returns-clause-kept
+returns-clause-kept g c =
+    let self = c.args.self.now in
+    let there = c.is_there-there in
+    let folder = self.folder.path.now in
+    let last = there.new.self.last.failure in
+    rw c.counted.ensures.same (subst (λ p. OnDevice there.result (KeepsCall folder p (λ e. g.S.System.looks self.desk.system (entry_text folder p) (Err e) there.new.self.system) last)) c.new-top.ensures there.ensures.kept)
