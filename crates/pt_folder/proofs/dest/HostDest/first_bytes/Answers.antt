@@ -1,4 +1,4 @@
-use Rattle.std.proofs.Common.{◌∙◌, subst, sym}
+use Rattle.std.proofs.Common.{◌∙◌, inr, subst, sym}
 use Rattle.pt_folder.specs.DestHeld.{IsPlaced}
 use Rattle.pt_folder.proofs.PeekTold.{peek_keeps}
 use Rattle.pt_folder.proofs.StuckTold.{none_back, none_risen, none_stuck}
@@ -18,3 +18,11 @@ invariant_of-self g c =
       back = ∣ none_back (kept peeked.new.self.system folder) self.stuck none ∣₁;
       risen = none_risen c.counted.new.failures self.stuck none;
     }
+
+pub returns-clause-asked : goal.returns-clause-asked
+returns-clause-asked g c =
+    let none = none_stuck c.args.self.now.stuck (sym c.is_some.ensures ∙ c.if-is_some.false) in
+    rw c.counted.ensures.same (inr (none, c.peek-peeked.ensures.asked))
+
+pub returns-clause-kept : goal.returns-clause-kept
+returns-clause-kept g c = rw c.counted.ensures.same c.peek-peeked.ensures.kept

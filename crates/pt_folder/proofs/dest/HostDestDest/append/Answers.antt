@@ -1,4 +1,4 @@
-use Rattle.std.proofs.Common.{◌∙◌, sym}
+use Rattle.std.proofs.Common.{◌∙◌, inr, sym}
 use Rattle.pt_folder.proofs.StuckTold.{none_back, none_risen, none_stuck, part_refused, told_same}
 use Rattle.pt_folder.proofs.WriteTold.{append_placed, append_tells, at_err, at_ok}
 use Rattle.pt_folder.proofs.dest.HostDestDest.append.Goals as goal
@@ -41,3 +41,14 @@ returns-clause-part g c =
     let none = none_stuck self.stuck (sym c.is_some.ensures ∙ c.if-is_some.false) in
     let added = c.add-added in
     rw (c.counted.ensures.same, none) (at_err added.result _ _ (append_tells kept folder g.S.System.writes g.met.S.System.write_law self.desk.system added.new.desk.system c.args.piece.now self.writing added.new.writing added.result added.ensures.writes (self.placed none)))
+
+pub returns-clause-closed : goal.returns-clause-closed
+returns-clause-closed g c = rw c.counted.ensures.same c.add-added.ensures.closed
+
+pub returns-clause-writes : goal.returns-clause-writes
+returns-clause-writes g c =
+    let none = none_stuck c.args.self.now.stuck (sym c.is_some.ensures ∙ c.if-is_some.false) in
+    rw c.counted.ensures.same (inr (none, c.add-added.ensures.writes))
+
+pub returns-clause-kept : goal.returns-clause-kept
+returns-clause-kept g c = rw c.counted.ensures.same c.add-added.ensures.kept

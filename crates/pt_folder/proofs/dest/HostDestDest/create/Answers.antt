@@ -1,4 +1,4 @@
-use Rattle.std.proofs.Common.{◌∙◌, sym}
+use Rattle.std.proofs.Common.{◌∙◌, inr, sym}
 use Rattle.pt_folder.proofs.StuckTold.{may_make_free, none_back, none_risen, none_stuck}
 use Rattle.pt_folder.proofs.WriteTold.{create_gives, create_made, create_placed, create_same}
 use Rattle.pt_folder.proofs.dest.HostDestDest.create.Goals as goal
@@ -40,3 +40,14 @@ returns-clause-same g c =
     let can = may_make_free (kept self.desk.system folder) self.stuck self.writing none c.args.path.now c.requires in
     let gives = create_gives kept folder self.desk.system made.new.desk.system c.args.path.now self.writing made.new.writing g.S.System.makes_file g.met.S.System.file_law self.longest made.result can made.ensures.asked made.ensures.same in
     rw (c.counted.ensures.same, none) (create_same kept folder self.desk.system made.new.desk.system c.args.path.now self.writing made.new.writing made.result gives)
+
+pub returns-clause-opened : goal.returns-clause-opened
+returns-clause-opened g c = rw c.counted.ensures.same c.create-made.ensures.opened
+
+pub returns-clause-asked : goal.returns-clause-asked
+returns-clause-asked g c =
+    let none = none_stuck c.args.self.now.stuck (sym c.is_some.ensures ∙ c.if-is_some.false) in
+    rw c.counted.ensures.same (inr (none, c.create-made.ensures.asked))
+
+pub returns-clause-kept : goal.returns-clause-kept
+returns-clause-kept g c = rw c.counted.ensures.same c.create-made.ensures.kept

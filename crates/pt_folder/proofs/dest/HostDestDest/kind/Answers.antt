@@ -1,4 +1,4 @@
-use Rattle.std.proofs.Common.{◌∙◌, ap, subst, sym}
+use Rattle.std.proofs.Common.{◌∙◌, ap, inr, subst, sym}
 use Rattle.pt_folder.specs.Calls.{LeadsToKind}
 use Rattle.pt_folder.specs.DestHeld.{IsPlaced, told_with}
 use Rattle.pt_folder.proofs.DestTold.{kind_keeps, kind_tells}
@@ -35,3 +35,11 @@ returns-clause-same g c =
     let folder = self.folder.path.now in
     let kind = c.kind_at-kind in
     ap (λ k. told_with k self.stuck self.writing) (kind_keeps kept folder g.S.System.looks g.met.S.System.kind_law LeadsToKind self.desk.system kind.new.self.system c.args.path.now kind.result kind.ensures.asked)
+
+pub returns-clause-asked : goal.returns-clause-asked
+returns-clause-asked g c =
+    let none = none_stuck c.args.self.now.stuck (sym c.is_some.ensures ∙ c.if-is_some.false) in
+    rw c.counted.ensures.same (inr (none, c.kind_at-kind.ensures.asked))
+
+pub returns-clause-kept : goal.returns-clause-kept
+returns-clause-kept g c = rw c.counted.ensures.same c.kind_at-kind.ensures.kept

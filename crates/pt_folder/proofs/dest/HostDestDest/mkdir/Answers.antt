@@ -1,4 +1,4 @@
-use Rattle.std.proofs.Common.{◌∙◌, sym}
+use Rattle.std.proofs.Common.{◌∙◌, inr, sym}
 use Rattle.pt_folder.proofs.DestTold.{mkdir_gives, mkdir_made, mkdir_placed, mkdir_same}
 use Rattle.pt_folder.proofs.StuckTold.{may_make_free, none_back, none_risen, none_stuck}
 use Rattle.pt_folder.proofs.dest.HostDestDest.mkdir.Goals as goal
@@ -40,3 +40,11 @@ returns-clause-same g c =
     let can = may_make_free (kept self.desk.system folder) self.stuck self.writing none c.args.path.now c.requires in
     let gives = mkdir_gives kept folder g.S.System.makes_dir g.met.S.System.dir_law self.desk.system made.new.self.system c.args.path.now self.longest made.result can made.ensures.asked in
     rw (c.counted.ensures.same, none) (mkdir_same kept folder self.writing self.desk.system made.new.self.system c.args.path.now made.result gives)
+
+pub returns-clause-asked : goal.returns-clause-asked
+returns-clause-asked g c =
+    let none = none_stuck c.args.self.now.stuck (sym c.is_some.ensures ∙ c.if-is_some.false) in
+    rw c.counted.ensures.same (inr (none, c.make_dir-made.ensures.asked))
+
+pub returns-clause-kept : goal.returns-clause-kept
+returns-clause-kept g c = rw c.counted.ensures.same c.make_dir-made.ensures.kept

@@ -1,4 +1,4 @@
-use Rattle.std.proofs.Common.{◌∙◌, sym}
+use Rattle.std.proofs.Common.{◌∙◌, inr, sym}
 use Rattle.pt_folder.proofs.MoveTold.{rename_back, rename_device, rename_gives, rename_moved, rename_placed, rename_same, rename_wanted}
 use Rattle.pt_folder.proofs.StuckTold.{device_risen, may_move_free, none_stuck}
 use Rattle.pt_folder.proofs.dest.HostDestDest.rename.Goals as goal
@@ -46,3 +46,11 @@ returns-clause-same g c =
     let law = g.met.S.System.tree_law self.desk.system folder in
     let gives = rename_gives kept folder self.desk.system moved.new.desk.system c.args.from.now c.args.to.now self.synced g.S.System.renames g.S.System.opens g.S.File.Handle.syncs g.met.S.System.move_law g.met.S.System.still_law moved.new.stuck moved.result can moved.ensures.asked in
     rw (c.counted.ensures.same, none) (rename_same kept folder self.desk.system moved.new.desk.system c.args.from.now c.args.to.now self.writing closed.new.writing moved.new.stuck law can moved.result gives closed.ensures.same)
+
+pub returns-clause-asked : goal.returns-clause-asked
+returns-clause-asked g c =
+    let none = none_stuck c.args.self.now.stuck (sym c.is_some.ensures ∙ c.if-is_some.false) in
+    rw c.counted.ensures.same (inr (none, c.moved-moved.ensures.asked))
+
+pub returns-clause-kept : goal.returns-clause-kept
+returns-clause-kept g c = rw c.counted.ensures.same c.moved-moved.ensures.kept
