@@ -1,11 +1,11 @@
 -- Folders that are known to stand, and what is opened below them.
-use Rattle.std.proofs.Common.{◌≡◌, ◌<◌, ◌+◌, ℕ, suc, List, [], ◌∷◌, ◌++◌, Bool, true, false, refl, sym, ap, ◌∙◌, subst, drop, take, length, append-nil, append_assoc, get_or}
+use Rattle.std.proofs.Common.{◌≡◌, ◌<◌, ◌≤◌, ◌+◌, ℕ, suc, List, [], ◌∷◌, ◌++◌, Bool, true, false, refl, sym, ap, ◌∙◌, subst, drop, take, length, append-nil, append_assoc, get_or}
 use Rattle.std.specs.Prelude.{Option, None, Some, cond}
 use Rattle.std.specs.Option.{option_map, option_map_or}
 use Rattle.std.specs.Cmp.Lexicographic.{same_text}
 use Rattle.std.specs.Str.{bytes_eq}
 use Rattle.std.proofs.lemmas.Bool.{true≢false}
-use Rattle.std.proofs.lemmas.List.{drop_more, take-append-drop}
+use Rattle.std.proofs.lemmas.List.{drop_all, drop_more, take-append-drop}
 use Rattle.pt_compare.specs.Root.{CanLook, Stands, is_dir, kind_at, same_kind}
 use Rattle.pt_compare.specs.Ways.{common_names}
 use Rattle.pt_compare.proofs.Roots.{below, stands_dir}
@@ -53,6 +53,14 @@ dir_whole tree p folder first n {rest = m ∷ rest} begin back none is stands = 
 pub way_on : (way longer rest above : Path) (n d : List ℕ) (i : ℕ) → way ++ drop i rest ≡ above → i < length rest → n ≡ get_or rest i d → longer ≡ way ++ n ∷ [] → longer ++ drop (i + 1) rest ≡ above
 way_on way longer rest above n d i whole within is long =
     ap (λ (p : Path). p ++ drop (i + 1) rest) long ∙ append_assoc way (n ∷ []) (drop (i + 1) rest) ∙ ap (λ (p : Path). way ++ p) (ap (λ (x : List ℕ). x ∷ drop (i + 1) rest) is ∙ sym (drop_more rest i d within)) ∙ whole
+
+-- a way begins with the first names
+pub way_start : (way start first rest above : Path) (n : ℕ) → way ≡ start ++ first → start ≡ [] → first ≡ take n above → rest ≡ drop n above → way ++ rest ≡ above
+way_start way start first rest above n is none front back = ap (λ (p : Path). p ++ rest) (is ∙ ap (λ (p : Path). p ++ first) none ∙ front) ∙ ap (λ (p : Path). take n above ++ p) back ∙ take-append-drop n above
+
+-- and has all after the last
+pub way_whole : (way rest above : Path) (i : ℕ) → way ++ drop i rest ≡ above → length rest ≤ i → way ≡ above
+way_whole way rest above i whole past = sym (append-nil way) ∙ ap (λ (p : Path). way ++ p) (sym (drop_all i rest past)) ∙ whole
 
 -- the folder of a path may be looked into where it stands
 pub look_in : (tree : Option Forest) (above path : Path) (name : List ℕ) → Stands tree (above, kind.Dir) → Some (above, name) ≡ split_path path → CanLook tree path

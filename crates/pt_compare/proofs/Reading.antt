@@ -69,6 +69,11 @@ pub opens_tree : (old new : Option Reading) (p : Path) → new ≡ option_map (a
 opens_tree None new p is = ap tree_in is
 opens_tree (Some r) new p is = ap tree_in is
 
+-- after a file was asked for, the tree is the same
+pub still_there : (r : Result (Unit {0}) TreeFault) (old new : Option Reading) (p : Path) → OnOk r (new ≡ option_map (after_open p) old) → OnErr r (new ≡ old) → tree_in new ≡ tree_in old
+still_there (Ok x) old new p ok err = opens_tree old new p ok
+still_there (Err e) old new p ok err = ap tree_in err
+
 pub ruleset reading = (can_read, still_reads, still_tree)
 
 pub ruleset calls = (can_read, can_open, can_list, can_list_top, opens_reads, opens_tree, seen_kind)

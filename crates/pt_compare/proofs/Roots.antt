@@ -1,6 +1,6 @@
 -- What stands on the way to a path of a root that tells.
 use Rattle.std.proofs.Common.{◌≡◌, ◌<◌, ◌+◌, ℕ, List, [], ◌∷◌, ◌++◌, true, false, drop, get_or, length, refl, sym, ap, subst, take, ◌∙◌}
-use Rattle.std.proofs.lemmas.List.{drop_more, take-append-drop}
+use Rattle.std.proofs.lemmas.List.{drop_more, take-append-drop, take_more}
 use Rattle.std.specs.Prelude.{Option, None, Some, IsSome}
 use Rattle.std.specs.Option.{option_map, option_map_or, option_and_then, ForSome}
 use Rattle.pt_tree.specs.Forest.{Forest, Node, File, Dir, Other, as_dir, as_file, dir_at, file_at, find, kind_of, node_at}
@@ -8,6 +8,7 @@ use Rattle.pt_tree.specs.Path.{Path, parent}
 use Rattle.pt_tree.specs.declared.kind.Kind.{Kind}
 use Rattle.pt_tree.specs.declared.kind.Kind.TheVariants as kind
 use Rattle.pt_compare.specs.Root.{CanLook, IsSeen, Stands, is_dir, kind_at, same_kind}
+use Rattle.pt_plan.specs.TurnStart.{is_file_kind}
 use Rattle.pt_compare.proofs.Listed.{itself}
 use Rattle.pt_tree.proofs.Paths.{parent-push}
 
@@ -36,6 +37,10 @@ below (Dir d) (m ∷ p) n q other = on (find d m) (λ x. below x p n q) other
     on None deeper other = refl
     on (Some x) deeper other = deeper x other
 
+-- a way has one more of the names
+pub way_more : (way longer path : Path) (n d : List ℕ) (i : ℕ) → way ≡ take i path → i < length path → n ≡ get_or path i d → longer ≡ way ++ n ∷ [] → longer ≡ take (i + 1) path
+way_more way longer path n d i is within item long = long ∙ ap (λ (p : Path). p ++ n ∷ []) is ∙ ap (λ (x : List ℕ). take i path ++ x ∷ []) item ∙ sym (take_more path i d within)
+
 -- below what is no directory nothing stands
 pub none_below : (tree : Option Forest) (path way : Path) (i : ℕ) (n d : List ℕ) (here : Option Kind) → i < length path → n ≡ get_or path i d → way ≡ take i path
     → IsSeen tree way here → is_dir here ≡ false → IsSeen tree path None
@@ -48,7 +53,14 @@ pub seen_dir : (tree : Option Forest) (p : Path) (here : Option Kind) → IsSeen
 seen_dir None p here seen is = refl
 seen_dir (Some f) p here seen is = ap is_dir (seen f refl) ∙ is
 
--- and what stands as one is seen
+-- what is seen as a file stands as one
+pub file_seen : (tree : Option Forest) (p : Path) (here : Option Kind) → IsSeen tree p here → is_file_kind here ≡ true → Stands tree (p, kind.File)
+file_seen tree p None seen is = absurd (cc)
+file_seen tree p (Some kind.File) seen is = seen_stands tree p kind.File seen
+file_seen tree p (Some kind.Dir) seen is = absurd (cc)
+file_seen tree p (Some kind.Other) seen is = absurd (cc)
+
+-- and what stands as a directory is seen
 pub dir_seen : (tree : Option Forest) (p : Path) → Stands tree (p, kind.Dir) → IsSeen tree p (Some kind.Dir)
 dir_seen None p stands = λ f is. absurd (cc)
 dir_seen (Some g) p stands = λ f is. let same : g ≡ f = cc in subst (λ f. kind_at f p ≡ Some kind.Dir) same (by (kind_at g p) stands)

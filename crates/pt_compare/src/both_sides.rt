@@ -1,4 +1,3 @@
-#![tactic(auto, using(crate::proofs::Reading::reading, crate::proofs::Alike::alike))]
 //! The open file of a source, held against that of a root.
 ghost use Rattle.std.specs.Prelude.{IfErr, IfOk};
 ghost use Rattle.pt_compare.specs.Meeting.{FailsAs, IsHalt, TellsAlike, both};

@@ -1,4 +1,3 @@
-#![tactic(auto, using(crate::proofs::Reading::reading, crate::proofs::Passed::passed))]
 //! The bytes of the open file of a root, held against others.
 ghost use Rattle.std.specs.Prelude.{◌≡◌, true, false, IfOk};
 ghost use Rattle.pt_tree.specs.Failures.{IsCounted};

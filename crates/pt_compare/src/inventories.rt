@@ -1,4 +1,3 @@
-#![tactic(auto)]
 //! The inventory that stands, held against those that a run could make of the same files.
 ghost use Rattle.std.specs.Prelude.{◌≡◌, IfOk, IfSome, MatchOption, map};
 ghost use Rattle.std.specs.Option.{option_map, unwrap_or};

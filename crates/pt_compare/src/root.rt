@@ -25,7 +25,6 @@ pub trait Root: Source {
 
 /// The kind of what stands at a path; None where nothing does, also below what is no directory. Each entry on its way is
 /// looked at, from the top on, up to the first that isn't a directory.
-#[tactic(auto, using(crate::proofs::Roots::roots))]
 pub fn standing<R: Root>(
     alloc: Global,
     root: &mut R,
@@ -58,7 +57,6 @@ fn is_dir(here: Option<Kind>) -> bool
 ///
 /// Each folder on its way is looked at, but for those that lead to a folder that is known to stand. The folder of the file is
 /// that one from then on, if it isn't above it.
-#[tactic(auto, using(crate::proofs::Reading::calls, crate::proofs::Opening::opening))]
 pub fn open_standing<R: Root>(
     alloc: Global,
     root: &mut R,
@@ -86,7 +84,6 @@ pub fn open_standing<R: Root>(
 }
 
 // Whether the folder of these names stands. It is the one that is known to stand from then on, unless that is below it.
-#[tactic(auto, using(crate::proofs::Roots::roots, crate::proofs::Opening::opening))]
 fn stand_above<R: Root>(
     alloc: Global,
     root: &mut R,

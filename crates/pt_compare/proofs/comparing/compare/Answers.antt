@@ -44,3 +44,9 @@ at_place-requires g c = c.requires.known.stands
 
 pub meet_object-requires-clause-alike : goal.meet_object-requires-clause-alike
 meet_object-requires-clause-alike g c = rw c.at_place.ensures.same c.requires.known.alike
+
+pub returns-in-Ok-clause-root : goal.returns-in-Ok-clause-root
+returns-in-Ok-clause-root g c = (g.met.R.Source.keeps_on _ _ _ c.at_place.ensures.keeps c.meet_object.ensures.root.0, c.meet_object.ensures.root.1 ∙ ap tree_in c.at_place.ensures.same)
+
+pub returns-in-Err-Differs-clause-root : goal.returns-in-Err-Differs-clause-root
+returns-in-Err-Differs-clause-root g c = (g.met.R.Source.keeps_on _ _ _ c.at_place.ensures.keeps c.meet_object.ensures.root.0, c.meet_object.ensures.root.1 ∙ ap tree_in c.at_place.ensures.same)

@@ -84,3 +84,18 @@ loop-i-preserved g c = record {
 pub returns-clause-met : goal.returns-clause-met
 returns-clause-met g c =
     contents_ended (tree_in (g.S.Source.told c.args.source.now)) (tree_in (g.R.Source.told c.args.root.now)) c.args.object.now.to.now c.args.object.now.from.now c.args.object.now.contents.now c.loop-i.i c.loop-i.last (marks_of c.args.entries.now) (marks_of c.loop-i.entries) _ refl (ended_at c.loop-i.i c.args.object.now.contents.now (omega (arith, c.loop-i-test.false, c.len-i-end.ensures.len))) c.loop-i.invariant.goes
+
+pub returns-in_err-meet_way-clause-root : goal.returns-in_err-meet_way-clause-root
+returns-in_err-meet_way-clause-root g c = (g.met.R.Source.keeps_on _ _ _ c.loop-i.invariant.root_keeps c.meet_way.ensures.root.0, c.meet_way.ensures.root.1 ∙ c.loop-i.invariant.root_tree)
+
+pub returns-in_err-path-clause-root : goal.returns-in_err-path-clause-root
+returns-in_err-path-clause-root g c = (g.met.R.Source.keeps_on _ _ _ c.loop-i.invariant.root_keeps c.meet_way.ensures.root.0, c.meet_way.ensures.root.1 ∙ c.loop-i.invariant.root_tree)
+
+pub returns-in_err-from-clause-root : goal.returns-in_err-from-clause-root
+returns-in_err-from-clause-root g c = (g.met.R.Source.keeps_on _ _ _ c.loop-i.invariant.root_keeps c.meet_way.ensures.root.0, c.meet_way.ensures.root.1 ∙ c.loop-i.invariant.root_tree)
+
+pub returns-in_err-meet_stored-clause-source : goal.returns-in_err-meet_stored-clause-source
+returns-in_err-meet_stored-clause-source g c = (g.met.S.Source.keeps_on _ _ _ c.loop-i.invariant.source_keeps c.meet_stored.ensures.source.0, c.meet_stored.ensures.source.1 ∙ c.loop-i.invariant.source_tree)
+
+pub returns-in_err-meet_stored-clause-root : goal.returns-in_err-meet_stored-clause-root
+returns-in_err-meet_stored-clause-root g c = (g.met.R.Source.keeps_on _ _ _ c.loop-i.invariant.root_keeps (g.met.R.Source.keeps_on _ _ _ c.in_ok-meet_way.ensures.root.0 c.meet_stored.ensures.root.0), c.meet_stored.ensures.root.1 ∙ c.in_ok-meet_way.ensures.root.1 ∙ c.loop-i.invariant.root_tree)

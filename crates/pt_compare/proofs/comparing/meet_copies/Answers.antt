@@ -46,3 +46,12 @@ returns-in_err-path-2-clause-met g c = halts_in _ _ _ _ _ c.from_residual-in_err
 
 pub returns-in_err-path-3-clause-met : goal.returns-in_err-path-3-clause-met
 returns-in_err-path-3-clause-met g c = halts_in _ _ _ _ _ c.from_residual-in_err-path-3.result fault.Memory c.from_residual-in_err-path-3.ensures.1
+
+pub returns-in_err-meet_bytes-2-clause-root : goal.returns-in_err-meet_bytes-2-clause-root
+returns-in_err-meet_bytes-2-clause-root g c = (g.met.R.Source.keeps_on _ _ _ c.in_ok-meet_bytes.ensures.root.0 c.meet_bytes-2.ensures.root.0, c.meet_bytes-2.ensures.root.1 ∙ c.in_ok-meet_bytes.ensures.root.1)
+
+pub returns-in_err-path-3-clause-root : goal.returns-in_err-path-3-clause-root
+returns-in_err-path-3-clause-root g c = (g.met.R.Source.keeps_on _ _ _ c.in_ok-meet_bytes.ensures.root.0 c.in_ok-meet_bytes-2.ensures.root.0, c.in_ok-meet_bytes-2.ensures.root.1 ∙ c.in_ok-meet_bytes.ensures.root.1)
+
+pub returns-clause-root : goal.returns-clause-root
+returns-clause-root g c = (g.met.R.Source.keeps_on _ _ _ c.in_ok-meet_bytes.ensures.root.0 (g.met.R.Source.keeps_on _ _ _ c.in_ok-meet_bytes-2.ensures.root.0 c.meet_bytes-3.ensures.root.0), c.meet_bytes-3.ensures.root.1 ∙ c.in_ok-meet_bytes-2.ensures.root.1 ∙ c.in_ok-meet_bytes.ensures.root.1)

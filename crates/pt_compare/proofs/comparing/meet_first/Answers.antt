@@ -39,3 +39,12 @@ returns-in_err-declaration-clause-met g c = halts_in _ _ _ _ _ c.from_residual-i
 
 pub returns-in_err-version-clause-met : goal.returns-in_err-version-clause-met
 returns-in_err-version-clause-met g c = halts_in _ _ _ _ _ c.from_residual-in_err-version.result fault.Memory c.from_residual-in_err-version.ensures.1
+
+pub returns-in_err-meet_bytes-clause-root : goal.returns-in_err-meet_bytes-clause-root
+returns-in_err-meet_bytes-clause-root g c = (g.met.R.Source.keeps_on _ _ _ c.in_ok-meet_folder.ensures.root.0 c.meet_bytes.ensures.root.0, c.meet_bytes.ensures.root.1 ∙ c.in_ok-meet_folder.ensures.root.1)
+
+pub returns-in_err-version-clause-root : goal.returns-in_err-version-clause-root
+returns-in_err-version-clause-root g c = (g.met.R.Source.keeps_on _ _ _ c.in_ok-meet_folder.ensures.root.0 c.in_ok-meet_bytes.ensures.root.0, c.in_ok-meet_bytes.ensures.root.1 ∙ c.in_ok-meet_folder.ensures.root.1)
+
+pub returns-clause-root : goal.returns-clause-root
+returns-clause-root g c = (g.met.R.Source.keeps_on _ _ _ c.in_ok-meet_folder.ensures.root.0 (g.met.R.Source.keeps_on _ _ _ c.in_ok-meet_bytes.ensures.root.0 c.meet_folder-2.ensures.root.0), c.meet_folder-2.ensures.root.1 ∙ c.in_ok-meet_bytes.ensures.root.1 ∙ c.in_ok-meet_folder.ensures.root.1)

@@ -1,3 +1,4 @@
+use Rattle.std.proofs.Common.{◌∙◌}
 use Rattle.pt_compare.specs.Found.{texts_of_object}
 use Rattle.pt_compare.specs.Marks.{marks_of}
 use Rattle.pt_compare.specs.Root.{tree_in}
@@ -17,3 +18,6 @@ pub returns-clause-met : goal.returns-clause-met
 returns-clause-met g c =
     inventory_then (tree_in (g.R.Source.told c.args.root.now)) (tree_in (g.R.Source.told c.meet_inventory.new.root)) c.args.object.now.to.now c.in_ok-path.path c.args.object.now.algorithm (texts_of_object c.args.object.now) c.as_str.result.now (marks_of c.args.entries.now) (marks_of c.meet_inventory.new.entries) (marks_of c.meet_copies.new.entries) c.in_ok-stands.stands c.meet_copies.result c.in_ok-stands.ensures.root.1
     c.in_ok-path.ensures c.as_str.ensures.value c.in_ok-stands.ensures.met c.meet_copies.ensures.met
+
+pub returns-clause-root : goal.returns-clause-root
+returns-clause-root g c = (g.met.R.Source.keeps_on _ _ _ c.in_ok-stands.ensures.root.0 c.meet_copies.ensures.root.0, c.meet_copies.ensures.root.1 ∙ c.in_ok-stands.ensures.root.1)

@@ -1,4 +1,4 @@
-use Rattle.std.proofs.Common.{◌++◌}
+use Rattle.std.proofs.Common.{◌++◌, ◌∙◌}
 use Rattle.pt_compare.specs.Found.{sought_of}
 use Rattle.pt_compare.specs.Marks.{marks_of}
 use Rattle.pt_compare.specs.Parts.{files_of, first_items}
@@ -32,3 +32,9 @@ returns-clause-met g c =
     inventories_last (tree_in (g.S.Source.told c.args.source.now)) (tree_in (g.R.Source.told c.args.root.now)) c.args.object.now.to.now (λ s. sought_of c.args.object.now s) (marks_of c.args.entries.now)
     (tree_in (g.R.Source.told c.meet_first.new.root)) (λ s. files_of s c.args.object.now.from.now c.args.object.now.contents.now) (λ s. files_are s c.args.object.now.from.now c.args.object.now.rows.now c.args.object.now.contents.now c.requires.contents) (marks_of c.meet_first.new.entries) (marks_of c.meet_contents.new.entries) c.in_ok-meet_first.field-0 c.in_ok-meet_first.ensures.root.1 c.in_ok-meet_first.ensures.met (tree_in (g.R.Source.told c.meet_contents.new.root)) c.in_ok-meet_contents.field-0 (marks_of c.meet_inventories.new.entries) c.meet_inventories.result c.in_ok-meet_contents.ensures.root.1 c.in_ok-meet_contents.ensures.met
     (λ s. c.meet_inventories.ensures.met)
+
+pub returns-in_err-meet_contents-clause-root : goal.returns-in_err-meet_contents-clause-root
+returns-in_err-meet_contents-clause-root g c = (g.met.R.Source.keeps_on _ _ _ c.in_ok-meet_first.ensures.root.0 c.meet_contents.ensures.root.0, c.meet_contents.ensures.root.1 ∙ c.in_ok-meet_first.ensures.root.1)
+
+pub returns-clause-root : goal.returns-clause-root
+returns-clause-root g c = (g.met.R.Source.keeps_on _ _ _ c.in_ok-meet_first.ensures.root.0 (g.met.R.Source.keeps_on _ _ _ c.in_ok-meet_contents.ensures.root.0 c.meet_inventories.ensures.root.0), c.meet_inventories.ensures.root.1 ∙ c.in_ok-meet_contents.ensures.root.1 ∙ c.in_ok-meet_first.ensures.root.1)

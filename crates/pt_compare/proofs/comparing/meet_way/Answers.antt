@@ -53,3 +53,6 @@ loop-names-preserved g c = record {
   goes = way_met (tree_in (g.R.Source.told c.args.root.now)) c.args.place.now c.args.last.now c.args.path.now c.loop-names.names (omega (arith, c.loop-names-test.true, c.len-names-end.ensures)) (marks_of c.args.entries.now) (marks_of c.loop-names.entries) c.loop-names.invariant.goes
       c.in_ok-folder.folder c.in_ok-folder.ensures (tree_in (g.R.Source.told c.loop-names.root)) c.loop-names.invariant.tree (sym (le-ltb _ _ c.if-is_met.false) ∙ sym (on_way c.args.last.now c.in_ok-whole.whole c.args.path.now c.len.result c.folders_met-met.result c.loop-names.names c.in_ok-whole.ensures (omega (arith, c.len.ensures)) c.folders_met-met.ensures (omega (arith, c.loop-names-test.true, c.len-names-end.ensures))) ∙ ap (leads_to_last c.args.last.now) (sym c.in_ok-folder.ensures)) (marks_of c.meet_folder.new.entries) c.in_ok-meet_folder.field-0 c.in_ok-meet_folder.ensures.met;
 }
+
+pub returns-in_err-meet_folder-clause-root : goal.returns-in_err-meet_folder-clause-root
+returns-in_err-meet_folder-clause-root g c = (g.met.R.Source.keeps_on _ _ _ c.loop-names.invariant.keeps c.meet_folder.ensures.root.0, c.meet_folder.ensures.root.1 ∙ c.loop-names.invariant.tree)

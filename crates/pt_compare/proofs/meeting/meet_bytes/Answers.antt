@@ -1,4 +1,4 @@
-use Rattle.std.proofs.Common.{arith, rules, refl, sym}
+use Rattle.std.proofs.Common.{arith, rules, refl, sym, ◌∙◌}
 use Rattle.pt_compare.specs.Bytes.{TellsRest}
 use Rattle.pt_compare.specs.Marks.{marks_of}
 use Rattle.pt_compare.proofs.Going.{halt_is, halted}
@@ -20,3 +20,12 @@ pub returns-else-branch-clause-met : goal.returns-else-branch-clause-met
 returns-else-branch-clause-met g c =
     let rest : TellsRest c.args.bytes.now (g.R.Source.told c.open_file.new.root) c.in_ok-map_err.field-0 = search rules in
     bytes_other (g.R.Source.told c.args.root.now) (g.R.Source.told c.open_file.new.root) c.args.place.now c.args.path c.args.bytes.now (marks_of c.args.entries.now) (marks_of c.open_file.new.entries) c.in_ok-map_err.field-0 c.other_bytes.result _ refl c.other_bytes.ensures c.in_ok-open_file.ensures.opened rest (sym c.if-branch.false)
+
+pub returns-in_err-map_err-clause-root : goal.returns-in_err-map_err-clause-root
+returns-in_err-map_err-clause-root g c = (g.met.R.Source.keeps_on _ _ _ c.in_ok-open_file.ensures.root.0 c.are_the_rest.ensures.keeps, c.are_the_rest.ensures.tree ∙ c.in_ok-open_file.ensures.root.1)
+
+pub returns-then-branch-clause-root : goal.returns-then-branch-clause-root
+returns-then-branch-clause-root g c = (g.met.R.Source.keeps_on _ _ _ c.in_ok-open_file.ensures.root.0 c.are_the_rest.ensures.keeps, c.are_the_rest.ensures.tree ∙ c.in_ok-open_file.ensures.root.1)
+
+pub returns-else-branch-clause-root : goal.returns-else-branch-clause-root
+returns-else-branch-clause-root g c = (g.met.R.Source.keeps_on _ _ _ c.in_ok-open_file.ensures.root.0 c.are_the_rest.ensures.keeps, c.are_the_rest.ensures.tree ∙ c.in_ok-open_file.ensures.root.1)

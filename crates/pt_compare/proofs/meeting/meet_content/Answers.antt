@@ -1,4 +1,5 @@
-use Rattle.std.proofs.Common.{arith, rules, refl, sym, ◌≡◌}
+use Rattle.pt_compare.proofs.Reading.{still_there}
+use Rattle.std.proofs.Common.{arith, rules, refl, sym, ◌≡◌, ◌∙◌}
 use Rattle.std.specs.Option.{option_map}
 use Rattle.pt_compare.specs.Marks.{marks_of}
 use Rattle.pt_plan.specs.declared.fault.Fault.TheVariants as fault
@@ -33,3 +34,27 @@ pub returns-in_ok-copy-clause-met : goal.returns-in_ok-copy-clause-met
 returns-in_ok-copy-clause-met g c =
     let opened : g.S.Source.told c.open.new.self ≡ option_map (after_open c.args.from.now) (g.S.Source.told c.args.source.now) = search rules in
     alike_other (g.S.Source.told c.args.source.now) (g.S.Source.told c.open.new.self) (g.R.Source.told c.args.root.now) (g.R.Source.told c.open_file.new.root) c.args.place.now c.args.path.now c.args.from.now c.in_ok-copy.field-0 (marks_of c.args.entries.now) (marks_of c.open_file.new.entries) c.in_ok-are_alike.field-0 c.other_bytes.result _ refl c.other_bytes.ensures c.in_ok-copy.ensures c.in_ok-open_file.ensures.opened c.requires.file opened c.in_ok-are_alike.ensures.alike (sym c.if-branch.false)
+
+pub returns-in_err-are_alike-clause-source : goal.returns-in_err-are_alike-clause-source
+returns-in_err-are_alike-clause-source g c = (g.met.S.Source.keeps_on _ _ _ c.open.ensures.keeps c.are_alike.ensures.source.0, c.are_alike.ensures.source.1 ∙ still_there c.open.result (g.S.Source.told c.args.source.now) (g.S.Source.told c.open.new.self) c.args.from.now c.open.ensures.opened c.open.ensures.same)
+
+pub returns-in_err-are_alike-clause-root : goal.returns-in_err-are_alike-clause-root
+returns-in_err-are_alike-clause-root g c = (g.met.R.Source.keeps_on _ _ _ c.in_ok-open_file.ensures.root.0 c.are_alike.ensures.root.0, c.are_alike.ensures.root.1 ∙ c.in_ok-open_file.ensures.root.1)
+
+pub returns-in_err-copy-clause-source : goal.returns-in_err-copy-clause-source
+returns-in_err-copy-clause-source g c = (g.met.S.Source.keeps_on _ _ _ c.open.ensures.keeps c.are_alike.ensures.source.0, c.are_alike.ensures.source.1 ∙ still_there c.open.result (g.S.Source.told c.args.source.now) (g.S.Source.told c.open.new.self) c.args.from.now c.open.ensures.opened c.open.ensures.same)
+
+pub returns-in_err-copy-clause-root : goal.returns-in_err-copy-clause-root
+returns-in_err-copy-clause-root g c = (g.met.R.Source.keeps_on _ _ _ c.in_ok-open_file.ensures.root.0 c.are_alike.ensures.root.0, c.are_alike.ensures.root.1 ∙ c.in_ok-open_file.ensures.root.1)
+
+pub returns-then-branch-clause-source : goal.returns-then-branch-clause-source
+returns-then-branch-clause-source g c = (g.met.S.Source.keeps_on _ _ _ c.open.ensures.keeps c.are_alike.ensures.source.0, c.are_alike.ensures.source.1 ∙ still_there c.open.result (g.S.Source.told c.args.source.now) (g.S.Source.told c.open.new.self) c.args.from.now c.open.ensures.opened c.open.ensures.same)
+
+pub returns-then-branch-clause-root : goal.returns-then-branch-clause-root
+returns-then-branch-clause-root g c = (g.met.R.Source.keeps_on _ _ _ c.in_ok-open_file.ensures.root.0 c.are_alike.ensures.root.0, c.are_alike.ensures.root.1 ∙ c.in_ok-open_file.ensures.root.1)
+
+pub returns-in_ok-copy-clause-source : goal.returns-in_ok-copy-clause-source
+returns-in_ok-copy-clause-source g c = (g.met.S.Source.keeps_on _ _ _ c.open.ensures.keeps c.are_alike.ensures.source.0, c.are_alike.ensures.source.1 ∙ still_there c.open.result (g.S.Source.told c.args.source.now) (g.S.Source.told c.open.new.self) c.args.from.now c.open.ensures.opened c.open.ensures.same)
+
+pub returns-in_ok-copy-clause-root : goal.returns-in_ok-copy-clause-root
+returns-in_ok-copy-clause-root g c = (g.met.R.Source.keeps_on _ _ _ c.in_ok-open_file.ensures.root.0 c.are_alike.ensures.root.0, c.are_alike.ensures.root.1 ∙ c.in_ok-open_file.ensures.root.1)

@@ -1,4 +1,5 @@
-use Rattle.std.proofs.Common.{arith, rules, refl, subst, ◌∙◌}
+use Rattle.pt_tree.specs.Failures.{IsCounted}
+use Rattle.std.proofs.Common.{arith, rules, refl, subst, ◌∙◌, ◌≡◌}
 use Rattle.std.specs.Prelude.{IfOk}
 use Rattle.pt_compare.specs.Bytes.{IsAllLeft}
 use Rattle.pt_compare.specs.Found.{texts_of_object}
@@ -33,3 +34,17 @@ returns-in-None-clause-met g c =
 
 pub returns-in-Some-clause-root : goal.returns-in-Some-clause-root
 returns-in-Some-clause-root g c = (g.met.R.Source.keeps_on _ _ _ c.in_ok-open_file.ensures.root.0 c.rest_of.ensures.keeps, c.rest_of.ensures.tree ∙ c.in_ok-open_file.ensures.root.1)
+
+pub returns-in_err-stands-clause-root : goal.returns-in_err-stands-clause-root
+returns-in_err-stands-clause-root g c = (g.met.R.Source.keeps_on _ _ _ c.in_ok-open_file.ensures.root.0 c.rest_of.ensures.keeps, c.rest_of.ensures.tree ∙ c.in_ok-open_file.ensures.root.1)
+
+pub returns-in_err-text-clause-root : goal.returns-in_err-text-clause-root
+returns-in_err-text-clause-root g c = (g.met.R.Source.keeps_on _ _ _ c.in_ok-open_file.ensures.root.0 c.rest_of.ensures.keeps, c.rest_of.ensures.tree ∙ c.in_ok-open_file.ensures.root.1)
+
+pub returns-in-None-clause-root : goal.returns-in-None-clause-root
+returns-in-None-clause-root g c = (g.met.R.Source.keeps_on _ _ _ c.in_ok-open_file.ensures.root.0 c.rest_of.ensures.keeps, c.rest_of.ensures.tree ∙ c.in_ok-open_file.ensures.root.1)
+
+pub returns-in-Some-clause-failures : goal.returns-in-Some-clause-failures
+returns-in-Some-clause-failures g c =
+    let failed : g.R.Source.failed c.rest_of.new.root ≡ g.R.Source.failed c.open_file.new.root = subst (λ r. IsCounted (g.R.Source.failed c.open_file.new.root) (g.R.Source.failed c.rest_of.new.root) r) (was_ok _ _ _ _ c.map_err.ensures.cases c.map_err.ensures.variant c.in_ok-stands.was) c.rest_of.ensures.failures in
+    failed ∙ c.in_ok-open_file.ensures.failures

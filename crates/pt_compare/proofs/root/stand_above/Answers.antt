@@ -1,7 +1,8 @@
-use Rattle.std.proofs.Common.{rules, sym, subst, ◌∙◌, ◌++◌, ◌∷◌, []}
+use Rattle.pt_tree.specs.declared.kind.Kind.TheVariants as kind
+use Rattle.std.proofs.Common.{rules, sym, subst, ◌∙◌, ◌++◌, ◌∷◌, [], refl, ap, arith}
 use Rattle.pt_tree.specs.Path.{Path}
-use Rattle.pt_compare.specs.Root.{CanLook, IsSeen, tree_in}
-use Rattle.pt_compare.proofs.Opening.{dir_whole, way_on}
+use Rattle.pt_compare.specs.Root.{CanLook, IsSeen, tree_in, Stands}
+use Rattle.pt_compare.proofs.Opening.{dir_alike, dir_whole, way_on, way_start, way_whole}
 use Rattle.pt_compare.proofs.Roots.{can_look, seen_dir}
 use Rattle.pt_compare.proofs.root.stand_above.Goals as goal
 
@@ -26,3 +27,26 @@ loop-name-preserved g c =
       g.met.R.Source.keeps_on _ _ _ at.4 c.in_ok-kind.ensures.keeps,
       at.5,
     )
+
+pub returns-clause-stands : goal.returns-clause-stands
+returns-clause-stands g c = λ is.
+    let at = c.loop-name.invariant in
+    subst (λ (p : Path). Stands (tree_in (g.R.Source.told c.args.root.now)) (p, kind.Dir)) (way_whole c.loop-name.way c.split_at.result.1.now c.args.above.now c.loop-name.name-index at.0 (omega (arith, c.loop-name-test.false))) at.3
+
+pub loop-name-init : goal.loop-name-init
+loop-name-init g c =
+    let tree = tree_in (g.R.Source.told c.args.root.now) in
+    let known : Stands tree (c.names.result.now, kind.Dir) = subst (λ (p : Path). Stands tree (p, kind.Dir)) (sym c.names.ensures) c.requires in (
+      way_start c.in_ok-way.way c.new.result c.split_at.result.0.now c.split_at.result.1.now c.args.above.now c.alike_names-alike.result c.in_ok-way.ensures c.new.ensures c.split_at.ensures.front c.split_at.ensures.back,
+      refl,
+      refl,
+      subst (λ (p : Path). Stands tree (p, kind.Dir)) (sym (c.in_ok-way.ensures ∙ ap (λ (p : Path). p ++ c.split_at.result.0.now) c.new.ensures)) (dir_alike tree c.args.above.now c.names.result.now c.split_at.result.0.now c.alike_names-alike.result known c.alike_names-alike.ensures.alike c.split_at.ensures.front),
+      g.met.R.Source.is_kept c.args.root.now,
+      c.requires,
+    )
+
+pub returns-in_err-kind-clause-keeps : goal.returns-in_err-kind-clause-keeps
+returns-in_err-kind-clause-keeps g c = g.met.R.Source.keeps_on _ _ _ c.loop-name.invariant.4 c.kind.ensures.keeps
+
+pub returns-then-not-is_dir-clause-keeps : goal.returns-then-not-is_dir-clause-keeps
+returns-then-not-is_dir-clause-keeps g c = g.met.R.Source.keeps_on _ _ _ c.loop-name.invariant.4 c.kind.ensures.keeps
