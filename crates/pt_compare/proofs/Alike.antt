@@ -72,5 +72,3 @@ so_far_end s r now_s now_r block other so_far read_s read_r alike ends = λ x is
     none_left : (l : List ℕ) → true ≡ (length l == 0) → l ≡ []
     none_left [] test = refl
     none_left (x ∷ l) test = absurd (true≢false (test ∙ not_zero (length l)))
-
-pub ruleset alike = (so_far_start)

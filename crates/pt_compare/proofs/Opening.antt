@@ -69,5 +69,3 @@ look_in tree above [] name stands is = absurd (cc)
 look_in tree above (n ∷ p) name stands is = λ f told.
     let same : above ≡ parent (n ∷ p) = ap (λ o. option_map_or (λ (s : Path × List ℕ). s.0) o []) is in
     stands_dir tree (parent (n ∷ p)) (rw same at stands) f told
-
-pub ruleset opening = (dir_alike, look_in)

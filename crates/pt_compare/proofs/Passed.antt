@@ -184,5 +184,3 @@ told_same x block piece test is = on (bytes_eq x piece) refl test
     on : (b : Bool) → bytes_eq x piece ≡ b → false ≡ not b → block ≡ piece
     on false e t = absurd (cc)
     on true e t = sym is ∙ same_text x piece (sym e)
-
-pub ruleset passed = (none_passed, all_passed, end_told, no_rest, rest_told, none_came)

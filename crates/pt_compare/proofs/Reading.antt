@@ -74,6 +74,4 @@ pub still_there : (r : Result (Unit {0}) TreeFault) (old new : Option Reading) (
 still_there (Ok x) old new p ok err = opens_tree old new p ok
 still_there (Err e) old new p ok err = ap tree_in err
 
-pub ruleset reading = (can_read, still_reads, still_tree)
-
 pub ruleset calls = (can_read, can_open, can_list, can_list_top, opens_reads, opens_tree, seen_kind)

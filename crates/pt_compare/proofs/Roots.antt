@@ -12,10 +12,6 @@ use Rattle.pt_plan.specs.TurnStart.{is_file_kind}
 use Rattle.pt_compare.proofs.Listed.{itself}
 use Rattle.pt_tree.proofs.Paths.{parent-push}
 
--- the top is a directory
-pub top_seen : (tree : Option Forest) → IsSeen tree [] (Some kind.Dir)
-top_seen tree = λ f is. refl
-
 -- what is seen stands
 pub seen_stands : (tree : Option Forest) (p : Path) (k : Kind) → IsSeen tree p (Some k) → Stands tree (p, k)
 seen_stands None p k seen = refl
@@ -103,5 +99,3 @@ can_look tree p n stands = λ f is. subst (λ q. IsSome (dir_at f q)) (sym (pare
 
 pub look_below : (tree : Option Forest) (p : Path) (n : List ℕ) (here : Option Kind) → IsSeen tree p here → is_dir here ≡ true → CanLook tree (p ++ n ∷ [])
 look_below tree p n here seen is = can_look tree p n (seen_dir tree p here seen is)
-
-pub ruleset roots = (top_seen, look_below)

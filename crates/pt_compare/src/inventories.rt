@@ -56,23 +56,23 @@ fn is_made(alloc: Global, stands: &str, object: &Scanned<'_>) -> Result<bool, Me
     ensures { IfOk result (TellsMade (texts_of_object object.now) stands.now) }
 {
     let meta = meta_by_text(alloc, stands)?;
-    if is_text(alloc, object, &meta, stands)? {
+    if is_text(alloc, object, meta, stands)? {
         return Ok(true);
     }
     let meta = meta_by_json(alloc, stands)?;
-    is_text(alloc, object, &meta, stands)
+    is_text(alloc, object, meta, stands)
 }
 
 // Whether this is the text of the object's inventory with a description of its version.
 fn is_text(
     alloc: Global,
     object: &Scanned<'_>,
-    meta: &Option<Meta>,
+    meta: Option<Meta>,
     text: &str,
 ) -> Result<bool, MemoryFault>
     requires { object.now.contents.now ≡ map content_of_row (distinct object.now.rows.now) }
     ensures { IfOk result (λ same. same
-        ≡ is_text_with (texts_of_object object.now) text.now meta.now) }
+        ≡ is_text_with (texts_of_object object.now) text.now meta) }
 {
     let Some(meta) = meta else {
         return Ok(false);
@@ -82,7 +82,7 @@ fn is_text(
         object.id,
         object.rows,
         object.contents,
-        meta,
+        &meta,
         object.algorithm,
     )?;
     Ok(text == made.as_str())
