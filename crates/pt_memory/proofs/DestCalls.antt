@@ -1,6 +1,6 @@
 -- What a call of a destination in memory gives is what the trait says.
 use Rattle.std.proofs.Common.{◌≡◌, ℕ, List, [], ◌∷◌, ◌++◌, true, false, refl, sym, ◌∙◌, ap}
-use Rattle.std.specs.Prelude.{Bool, cond, take, is_some, Option, None, Some}
+use Rattle.std.specs.Prelude.{Bool, cond, take, is_some, Option, None, Some, Result}
 use Rattle.std.specs.Option.{option_map}
 use Rattle.std.proofs.lemmas.List.{append-nil}
 use Rattle.pt_tree.specs.declared.kind.Kind.{Kind}
@@ -8,6 +8,8 @@ use Rattle.pt_memory.specs.declared.planting.PlantFault.TheVariants as fault
 use Rattle.pt_tree.specs.Path.{Path, split_path, same_path}
 use Rattle.pt_tree.specs.Forest.{Forest, file_at}
 use Rattle.pt_tree.specs.Tree.{Entry, Bytes, Folder, Special, Tree, tree_of, bytes_of, edited_by, kind_of_entry, CanMake, CanMove}
+use Rattle.pt_tree.specs.declared.faults.TreeFault.{TreeFault}
+use Rattle.pt_memory.specs.MemDest.{DestState, Passes}
 use Rattle.pt_memory.specs.Planting.{is_folder, plant_refusal}
 use Rattle.pt_tree.specs.Dest.{Writing, IsKindAt, CanPeek, IsPeeked, MayMake, MayMove, LeavesPart, added_to}
 use Rattle.pt_tree.proofs.AtPaths.{bytes_at, same_from}
@@ -64,3 +66,8 @@ added_nothing t (Some p) = λ i q. at q (same_path q p) refl i
 -- where memory runs out, nothing of the piece is left
 pub leaves_nothing : (t s : Tree) (w : Option Path) (piece : List ℕ) → s ≡ t → LeavesPart (Some (record { tree = t; writing = w })) (Some (record { tree = s; writing = w })) piece
 leaves_nothing t s w piece is = record { count = 0; left = λ i. Some (record { tree = (is ∙ added_nothing t w) i; writing = w }) }
+
+-- the call passes the fuse
+pub passes : {T : Type 0} (blown : Bool) (old new : DestState) (r : Result T TreeFault) (P : Type 0) → blown ≡ false → P → Passes blown old new r P
+passes true old new r P passed p = absurd (cc)
+passes false old new r P passed p = p

@@ -19,7 +19,7 @@ pub fn insert(entries: &mut Entries, dir: &[Name], leaf: Entries)
         return insert_here(entries, leaf);
     };
     match entries {
-        Entries::End => {}
+        Entries::End => drop(leaf),
         Entries::File(_, _, after) => insert(after, dir, leaf),
         Entries::Other(_, after) => insert(after, dir, leaf),
         Entries::Dir(first, inside, after) => {
@@ -73,21 +73,14 @@ fn put_first(entries: &mut Entries, leaf: Entries)
     ensures forest { forest_of entries.new ≡ in_front (forest_of leaf) (forest_of entries.old) }
     ensures marked { open_of leaf ≡ None → open_of entries.new ≡ open_of entries.old }
 {
-    match leaf {
-        Entries::End => {}
-        Entries::File(name, file, mut after) => {
-            *after = mem::replace(entries, Entries::End);
-            *entries = Entries::File(name, file, after);
-        }
-        Entries::Other(name, mut after) => {
-            *after = mem::replace(entries, Entries::End);
-            *entries = Entries::Other(name, after);
-        }
-        Entries::Dir(name, inside, mut after) => {
-            *after = mem::replace(entries, Entries::End);
-            *entries = Entries::Dir(name, inside, after);
-        }
+    let mut others = mem::replace(entries, leaf);
+    match entries {
+        Entries::End => mem::swap(entries, &mut others),
+        Entries::File(_, _, after) => mem::swap(&mut **after, &mut others),
+        Entries::Other(_, after) => mem::swap(&mut **after, &mut others),
+        Entries::Dir(_, _, after) => mem::swap(&mut **after, &mut others),
     }
+    drop(others);
 }
 
 /// Takes the entry of a name out of the directory at a path, and gives it alone; nothing where there is none.
@@ -118,45 +111,43 @@ fn remove_here(entries: &mut Entries, name: &Name) -> Entries
     ensures entry { forest_of result ≡ picked name.now (forest_of entries.old) }
 {
     match entries {
-        Entries::End => {}
+        Entries::End => Entries::End,
         Entries::File(first, _, after) => {
-            if *first != *name {
-                return remove_here(after, name);
+            if *first == *name {
+                take_first(entries)
+            } else {
+                remove_here(after, name)
             }
         }
         Entries::Other(first, after) => {
-            if *first != *name {
-                return remove_here(after, name);
+            if *first == *name {
+                take_first(entries)
+            } else {
+                remove_here(after, name)
             }
         }
         Entries::Dir(first, _, after) => {
-            if *first != *name {
-                return remove_here(after, name);
+            if *first == *name {
+                take_first(entries)
+            } else {
+                remove_here(after, name)
             }
         }
     }
-    take_first(entries)
 }
 
 fn take_first(entries: &mut Entries) -> Entries
     ensures forest { forest_of entries.new ≡ without_first (forest_of entries.old) }
     ensures entry { forest_of result ≡ first_alone (forest_of entries.old) }
 {
-    match mem::replace(entries, Entries::End) {
-        Entries::End => Entries::End,
-        Entries::File(name, file, mut after) => {
-            *entries = mem::replace(&mut *after, Entries::End);
-            Entries::File(name, file, after)
-        }
-        Entries::Other(name, mut after) => {
-            *entries = mem::replace(&mut *after, Entries::End);
-            Entries::Other(name, after)
-        }
-        Entries::Dir(name, inside, mut after) => {
-            *entries = mem::replace(&mut *after, Entries::End);
-            Entries::Dir(name, inside, after)
-        }
+    let mut first = mem::replace(entries, Entries::End);
+    match &mut first {
+        Entries::End => {}
+        Entries::File(_, _, after) => mem::swap(entries, &mut **after),
+        Entries::Other(_, after) => mem::swap(entries, &mut **after),
+        Entries::Dir(_, _, after) => mem::swap(entries, &mut **after),
     }
+    first
 }
 
 /// What is done to the bytes of a file.

@@ -254,8 +254,8 @@ impl Dest for MemDest {
         let Some((_, name)) = path.split() else {
             unreachable!()
         };
-        let leaf = file_leaf(self.alloc, name, &[])?;
         let writing = path.copy()?;
+        let leaf = file_leaf(self.alloc, name, &[])?;
         plant(&mut self.entries, path, leaf);
         self.writing = Some(writing);
         Ok(())

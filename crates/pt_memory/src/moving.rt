@@ -20,7 +20,7 @@ pub fn take(entries: &mut Entries, path: &NamePath)
     ensures proper { is_proper (forest_of entries.new) ≡ true }
 {
     if let Some((dir, name)) = path.split() {
-        let _ = remove(entries, dir, name);
+        drop(remove(entries, dir, name));
     }
 }
 
