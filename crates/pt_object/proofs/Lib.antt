@@ -1,3 +1,4 @@
+mod Appended
 mod Grouped
 mod Halving
 mod Indexed

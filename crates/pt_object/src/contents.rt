@@ -60,8 +60,8 @@ impl Contents {
             Ok(_) => return Ok(false),
             Err(place) => place,
         };
-        let path = path.copy()?;
         self.items.reserve(1)?;
+        let path = path.copy()?;
         self.index.insert(place, self.items.len())?;
         self.items
             .push(Content {

@@ -35,16 +35,33 @@ pub fn inventory(
         ≡ Some (inventory_tree id.now rows.now meta.now algorithm)) }
 {
     let mut out = Output::new(alloc)?;
-    put_head(&mut out, id, algorithm)?;
-    put_manifest(&mut out, contents)?;
+    put_inventory(alloc, &mut out, id, rows, contents, meta, algorithm)?;
+    Ok(out.into_text())
+}
+
+// Puts all of it.
+fn put_inventory(
+    alloc: Global,
+    out: &mut Output,
+    id: &str,
+    rows: &Rows,
+    contents: &Contents,
+    meta: &Meta,
+    algorithm: Algorithm,
+) -> Result<(), MemoryFault>
+    requires { contents.now ≡ map content_of_row (distinct rows.now) }
+    ensures { OnOk result (out.new ≡
+        out.old ++ tokens_of (inventory_tree id.now rows.now meta.now algorithm)) }
+{
+    put_head(out, id, algorithm)?;
+    put_manifest(out, contents)?;
     out.member("type", "https://ocfl.io/1.1/spec/#inventory")?;
     out.key("versions")?;
     out.begin_object()?;
     out.key("v1")?;
-    put_version(alloc, &mut out, rows, contents, meta)?;
+    put_version(alloc, out, rows, contents, meta)?;
     out.end_object()?;
-    out.end_object()?;
-    Ok(out.into_text())
+    Ok(out.end_object()?)
 }
 
 // The members before the manifest, and its key.

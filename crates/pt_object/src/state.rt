@@ -46,14 +46,15 @@ pub(crate) fn put_state(
     ensures { OnOk result (out.new ≡ out.old
         ++ tokens_of (object (fold (put_paths rows.now) no_members contents.now))) }
 {
+    out.begin_object()?;
     let groups = grouped(alloc, rows.as_slice(), contents)?;
     let items = contents.as_slice();
     let index = contents.index();
-    out.begin_object()?;
     for place in 0..items.len() {
         let position = index.get(place);
         put_paths(out, &items[position], &groups[position].later)?;
     }
+    drop(groups);
     Ok(out.end_object()?)
 }
 

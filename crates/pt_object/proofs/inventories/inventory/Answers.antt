@@ -1,31 +1,17 @@
-use Rattle.std.proofs.Common.{◌∙◌, ap, fold, List, ◌++◌}
+use Rattle.std.proofs.Common.{◌∙◌, ap, List, ◌++◌}
 use Rattle.json.specs.Print.{print}
 use Rattle.json.specs.Token.{Token}
-use Rattle.serde_json.specs.Data.{no_members, object}
 use Rattle.serde_json.specs.Read.{read}
 use Rattle.serde_json.proofs.Texts.{print-outline}
-use Rattle.pt_object.specs.Inventory.{document_tree, inventory_tree, put_content, put_paths, version_tree}
+use Rattle.pt_object.specs.Inventory.{inventory_tree}
 use Rattle.pt_object.specs.Tokens.{tokens_of}
-use Rattle.pt_object.specs.declared.contents.Content.{Content}
-use Rattle.pt_object.proofs.Documents.{document_tokens, head_tokens}
 use Rattle.pt_object.proofs.InventoryText.{inventory_reads}
 use Rattle.pt_object.proofs.inventories.inventory.Goals as goal
 
 pub returns-clause-text : goal.returns-clause-text
 returns-clause-text c =
-    let id = c.args.id.now in
-    let rows = c.args.rows.now in
-    let meta = c.args.meta.now in
-    let algorithm = c.args.algorithm in
-    let tree = λ (contents : List Content).
-    document_tree id (object (fold put_content no_members contents)) (version_tree meta (object (fold (put_paths rows) no_members contents))) algorithm in
-    let tokens =
-    document_tokens id algorithm (object (fold put_content no_members c.args.contents.now)) (version_tree meta (object (fold (put_paths rows) no_members c.args.contents.now)))
-    c.put_head.new.out c.put_manifest.new.out c.member.new.self c.key.new.self c.begin_object.new.self c.key-2.new.self c.put_version.new.out c.end_object.new.self c.end_object-2.new.self
-    (c.in_ok-put_head.ensures ∙ ap (λ (t : List Token). t ++ head_tokens id algorithm) c.in_ok-out.ensures) c.in_ok-put_manifest.ensures c.in_ok-member.ensures c.in_ok-key.ensures c.in_ok-begin_object.ensures c.in_ok-key-2.ensures c.in_ok-put_version.ensures
-    c.in_ok-end_object.ensures c.in_ok-end_object-2.ensures
-    in
-    c.into_text.ensures ∙ ap print (tokens ∙ ap (λ (l : List Content). tokens_of (tree l)) c.requires) ∙ print-outline (inventory_tree id rows meta algorithm)
+    let tree = inventory_tree c.args.id.now c.args.rows.now c.args.meta.now c.args.algorithm in
+    c.into_text.ensures ∙ ap print (c.in_ok-put_inventory.ensures ∙ ap (λ (t : List Token). t ++ tokens_of tree) c.in_ok-out.ensures) ∙ print-outline tree
 
 pub returns-clause-reads : goal.returns-clause-reads
 returns-clause-reads c = ap read (returns-clause-text c) ∙ inventory_reads c.args.id.now c.args.rows.now c.args.meta.now c.args.algorithm
