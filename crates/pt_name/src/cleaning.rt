@@ -51,7 +51,6 @@ fn push_caret(text: &mut Vec<u8>, byte: u8) -> Result<(), MemoryFault>
 /// two, with `/` between.
 ///
 /// Empty for the empty identifier. `Memory` where a growth was refused.
-#[tactic(auto, using(crate::proofs::Pieces::spaced_whole))]
 pub fn pairpath(alloc: Global, id: &[u8]) -> Result<Vec<u8>, MemoryFault>
     ensures { IfOk result (λ path. path.items ≡ pairpath_of id.now) }
 {
