@@ -40,6 +40,15 @@ same_from_equal x y e = (bytes_decides x y).0 (texts_ties x y ∙ ap is_eq e)
 pub at_from_equal : (items : List Content) (p : ℕ) (digest : List ℕ) → p < length items → digest_cmp (digest_at items p) digest ≡ Equal → IsAt items digest p
 at_from_equal items p digest within e = record { within = within; same = same_from_equal (digest_at items p) digest e }
 
+-- of no items
+pub IsIndex-none : IsIndex [] []
+IsIndex-none = record {
+  as_long = refl;
+  within = λ k h. absurd (omega arith);
+  rises = λ i j below h. absurd (omega arith);
+  complete = λ p h. absurd (omega arith);
+}
+
 pub DigestsDiffer-index : (items : List Content) (index : List ℕ) → IsIndex items index → DigestsDiffer items
 DigestsDiffer-index items index ordered p q in_p in_q same =
     let a = ordered.complete p in_p in

@@ -1,0 +1,10 @@
+use Rattle.std.proofs.Common.{[], ℕ, List, sym, subst}
+use Rattle.pt_object.specs.Index.{IsIndex}
+use Rattle.pt_object.specs.declared.contents.Content.{Content}
+use Rattle.pt_object.proofs.Indexed.{IsIndex-none}
+use Rattle.pt_object.proofs.contents.Contents.clear.Goals as goal
+
+pub invariant_of-self : goal.invariant_of-self
+invariant_of-self c =
+    let index = c.clear-2.new.self in
+    subst (λ (items : List Content). IsIndex items index) (sym c.clear.ensures.items) (subst (λ (l : List ℕ). IsIndex [] l) (sym c.clear-2.ensures) IsIndex-none)
