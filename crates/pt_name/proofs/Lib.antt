@@ -1,4 +1,5 @@
 pub mod Answering
+pub mod ByteByByte
 pub mod Digits
 pub mod NamesJoined
 pub mod LineEnds

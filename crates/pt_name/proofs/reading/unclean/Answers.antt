@@ -26,3 +26,17 @@ returns-clause-refused c =
     let none : length c.loop-rest.rest.now ≡ 0 = eqb-true (length c.loop-rest.rest.now) 0 (sym c.is_empty.ensures ∙ c.loop-rest-test.false) in
     let read = all_read c.args.text.now c.loop-rest.bytes.items c.loop-rest.rest.now c.loop-rest.invariant none in
     (c.loop-rest.bytes.items, Reads_from_reading c.args.text.now c.loop-rest.bytes.items read, λ text. let good = c.in-Err.ensures.succeeds text in cc good)
+
+pub returns-in_default-clause-exact : goal.returns-in_default-clause-exact
+returns-in_default-clause-exact c = sym c.loop-rest.invariant ∙ ap (option_map (λ ys. c.loop-rest.bytes.items ++ ys)) c.in_default.ensures.reading
+
+pub returns-in-Ok-clause-exact : goal.returns-in-Ok-clause-exact
+returns-in-Ok-clause-exact c =
+    let none : length c.loop-rest.rest.now ≡ 0 = eqb-true (length c.loop-rest.rest.now) 0 (sym c.is_empty.ensures ∙ c.loop-rest-test.false) in
+    all_read c.args.text.now c.loop-rest.bytes.items c.loop-rest.rest.now c.loop-rest.invariant none ∙ ap (λ v. Some v.items) (sym c.in-Ok.ensures.ok)
+
+pub returns-clause-exact : goal.returns-clause-exact
+returns-clause-exact c =
+    let none : length c.loop-rest.rest.now ≡ 0 = eqb-true (length c.loop-rest.rest.now) 0 (sym c.is_empty.ensures ∙ c.loop-rest-test.false) in
+    let read = all_read c.args.text.now c.loop-rest.bytes.items c.loop-rest.rest.now c.loop-rest.invariant none in
+    (c.loop-rest.bytes.items, read, λ text. let good = c.in-Err.ensures.succeeds text in cc good)
