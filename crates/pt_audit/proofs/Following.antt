@@ -23,6 +23,7 @@ use Rattle.pt_plan.specs.TurnWalk.{in_pairtree, in_root}
 use Rattle.pt_plan.specs.declared.object.Object.{Object}
 use Rattle.pt_plan.specs.declared.phase.Phase.{Phase}
 use Rattle.pt_plan.specs.declared.phase.Phase.TheVariants as phase
+use Rattle.pt_plan.specs.declared.phase.Stage.TheVariants as stage
 use Rattle.pt_state.specs.declared.state.State.{State}
 use Rattle.pt_survey.specs.Surveying.{sight_at}
 use Rattle.pt_survey.specs.Files.{IsOpened as IsOpenedFile, IsOpenedAt, names_before}
@@ -82,8 +83,8 @@ read_paced source root root' b block r same is reads stays next behind = by r.ph
     kept false next beside = tt
 
     by : (p : Phase) → sight_at p ≡ sight.Block → BehindAt source root b p r.state → PacedAt source root' (record b { reads = same; block = block }) p r.state
-    by (phase.Read object zero) is behind = absurd (cc)
-    by (phase.Read object (suc bytes)) is behind = (
+    by (phase.Carrying object (stage.Read zero)) is behind = absurd (cc)
+    by (phase.Carrying object (stage.Read (suc bytes))) is behind = (
       still_alike source source root root' b r.state.contents refl stays behind.0,
       behind.1,
       kept same next (subst (λ (x : Bool). OnTrue x (ReadBeside source root b object r.state r.state.block.items)) reads behind.2),
@@ -133,13 +134,13 @@ unfolding AreFew
 end_paced source root root' b block r is reads stays ended more behind = by r.phase is behind
   where
     by : (p : Phase) → sight_at p ≡ sight.Scan → BehindAt source root b p r.state → PacedAt source root' (record b { alike = b.alike + 1; reads = false; block = block }) p r.state
-    by (phase.Scan object) is behind = (
+    by (phase.Carrying object stage.Scan) is behind = (
       refl,
       one_more source root root' b block r.state.contents stays ended more behind.0 (subst (λ (x : Bool). OnTrue x (HasEnded source root b r.state.contents)) reads behind.2),
       inl (omega (arith, more)),
     )
-    by (phase.Read object zero) is behind = absurd (cc)
-    by (phase.Read object (suc bytes)) is behind = absurd (cc)
+    by (phase.Carrying object (stage.Read zero)) is behind = absurd (cc)
+    by (phase.Carrying object (stage.Read (suc bytes))) is behind = absurd (cc)
     by _ is behind = absurd (cc)
 
 pub closed_paced : (source root root' : Option Reading) (b : Beside) (block : _) (r : Running) → sight_at r.phase ≡ sight.Scan → tree_in root' ≡ tree_in root → IsBehind source root b r → IsPaced source root' (record b { reads = false; block = block }) r
@@ -147,9 +148,9 @@ unfolding AreAlike AreFew
 closed_paced source root root' b block r is stays behind = by r.phase is behind
   where
     by : (p : Phase) → sight_at p ≡ sight.Scan → BehindAt source root b p r.state → PacedAt source root' (record b { reads = false; block = block }) p r.state
-    by (phase.Scan object) is behind = (refl, still_alike source source root root' b r.state.contents refl stays behind.0, behind.1)
-    by (phase.Read object zero) is behind = absurd (cc)
-    by (phase.Read object (suc bytes)) is behind = absurd (cc)
+    by (phase.Carrying object stage.Scan) is behind = (refl, still_alike source source root root' b r.state.contents refl stays behind.0, behind.1)
+    by (phase.Carrying object (stage.Read zero)) is behind = absurd (cc)
+    by (phase.Carrying object (stage.Read (suc bytes))) is behind = absurd (cc)
     by _ is behind = absurd (cc)
 
 -- ---- any other step
@@ -159,10 +160,10 @@ unfolding AreAlike
 other_paced source root b r what saw scan opened block behind = by r.phase saw behind
   where
     by : (p : Phase) → what ≡ sight_at p → BehindAt source root b p r.state → PacedAt source root (record b { reads = false }) p r.state
-    by (phase.Scan object) is behind = absurd (scan is)
-    by (phase.Read object zero) is behind = absurd (opened is)
-    by (phase.Read object (suc bytes)) is behind = absurd (block is)
-    by (phase.Line object) is behind = (refl, behind)
+    by (phase.Carrying object stage.Scan) is behind = absurd (scan is)
+    by (phase.Carrying object (stage.Read zero)) is behind = absurd (opened is)
+    by (phase.Carrying object (stage.Read (suc bytes))) is behind = absurd (block is)
+    by (phase.Carrying object stage.Line) is behind = (refl, behind)
     by _ is behind = refl
 
 -- ---- a file that was opened
@@ -187,12 +188,12 @@ unfolding AreAlike
 unopened_paced source root b b' r from place m is it least behind = by r.phase is behind
   where
     by : (p : Phase) → sight_at p ≡ sight.Opened → BehindAt source root b p r.state → PacedAt source root (record b' { alike = m }) p r.state
-    by (phase.Read object zero) is behind = (
+    by (phase.Carrying object (stage.Read zero)) is behind = (
       alike_begun source root (record b { reads = false }) b' from place m r.state.contents it least behind.0,
       omega (arith, least),
       subst (λ (x : Bool). OnTrue x (ReadBeside source root (record b' { alike = m }) object r.state [])) (sym it.reads) tt,
     )
-    by (phase.Read object (suc bytes)) is behind = absurd (cc)
+    by (phase.Carrying object (stage.Read (suc bytes))) is behind = absurd (cc)
     by _ is behind = absurd (cc)
 
 -- what stands as a file has its bytes
@@ -224,20 +225,20 @@ was_opened (Some u) root' whole t it is =
 -- the file that the survey opened
 pub record OpenedAt (r : Running) (file : OpenedFile) : Type 0 where
   pub path : file.path ≡ names_to r.state.trail
-  pub places : (object : Object) → r.phase ≡ phase.Read object zero → (file.place.now ≡ object.place) × (file.before ≡ names_before object)
+  pub places : (object : Object) → r.phase ≡ phase.Carrying object (stage.Read zero) → (file.place.now ≡ object.place) × (file.before ≡ names_before object)
 
 pub opened_at : (r : Running) (file : OpenedFile) → sight_at r.phase ≡ sight.Opened → IsOpenedFile r (Some file) → OpenedAt r file
 opened_at r file is there = by r.phase refl is there
   where
-    same_object : (object other : Object) → phase.Read object zero ≡ phase.Read other zero → object ≡ other
+    same_object : (object other : Object) → phase.Carrying object (stage.Read zero) ≡ phase.Carrying other (stage.Read zero) → object ≡ other
     same_object object other is = cc
 
     by : (p : Phase) → r.phase ≡ p → sight_at p ≡ sight.Opened → IsOpenedAt p r.state (Some file) → OpenedAt r file
-    by (phase.Read object zero) here is there = record {
+    by (phase.Carrying object (stage.Read zero)) here is there = record {
       path = there.1;
       places = λ other at. let same = same_object object other (sym here ∙ at) in (there.0 ∙ ap (λ (o : Object). o.place) same, there.2 ∙ ap names_before same);
     }
-    by (phase.Read object (suc bytes)) here is there = absurd (cc)
+    by (phase.Carrying object (stage.Read (suc bytes))) here is there = absurd (cc)
     by _ here is there = absurd (cc)
 
 -- the names of a path, cut in two
@@ -275,17 +276,17 @@ module _ (source root root' : Option Reading) (b b' : Beside) (r : Running) (fro
   opened_now true opens file = both_opened opens file
   opened_now false opens file = tt
 
-pub opened_paced : (source root root' : Option Reading) (b b' : Beside) (r : Running) (from logical place whole : Path) (m before k : ℕ) (folder : Path) (x : Bool) → sight_at r.phase ≡ sight.Opened → ((object : Object) → r.phase ≡ phase.Read object zero → (place ≡ object.place) × (before ≡ names_before object)) → IsAtObject from place (record b { reads = false }) b'
+pub opened_paced : (source root root' : Option Reading) (b b' : Beside) (r : Running) (from logical place whole : Path) (m before k : ℕ) (folder : Path) (x : Bool) → sight_at r.phase ≡ sight.Opened → ((object : Object) → r.phase ≡ phase.Carrying object (stage.Read zero) → (place ≡ object.place) × (before ≡ names_before object)) → IsAtObject from place (record b { reads = false }) b'
     → m ≡ min b'.alike (length r.state.contents) → length r.state.contents ≤ m → Cut (names_to r.state.trail) before k from logical → whole ≡ in_root place ++ in_content logical → tree_in root' ≡ tree_in root → OpensStanding whole root root' x → IsBehind source root b r → IsPaced source root' (record b' { alike = m; reads = x; folder = folder }) r
 unfolding AreAlike
 opened_paced source root root' b b' r from logical place whole m before k folder x is of it least all cut at stays opens behind = by r.phase refl is behind
   where
     by : (p : Phase) → r.phase ≡ p → sight_at p ≡ sight.Opened → BehindAt source root b p r.state → PacedAt source root' (record b' { alike = m; reads = x; folder = folder }) p r.state
-    by (phase.Read object zero) here is behind =
+    by (phase.Carrying object (stage.Read zero)) here is behind =
         let same = of object here in (
           still_alike source source root root' (record b' { alike = m }) r.state.contents refl stays (alike_begun source root (record b { reads = false }) b' from place m r.state.contents it least behind.0),
           omega (arith, least),
           opened_now source root root' b b' r from logical whole m before k folder object (subst (λ (p : Path). IsAtObject from p (record b { reads = false }) b') same.0 it) least all cut same.1 (at ∙ ap (λ (p : Path). in_root p ++ in_content logical) same.0) x opens behind.1,
         )
-    by (phase.Read object (suc bytes)) here is behind = absurd (cc)
+    by (phase.Carrying object (stage.Read (suc bytes))) here is behind = absurd (cc)
     by _ here is behind = absurd (cc)

@@ -29,7 +29,9 @@ use Rattle.pt_plan.specs.TurnWalk.{in_pairtree, in_root}
 use Rattle.pt_plan.specs.World.{Answers, Calls}
 use Rattle.pt_plan.specs.declared.object.Object.{Object}
 use Rattle.pt_plan.specs.declared.phase.Phase.{Phase}
+use Rattle.pt_plan.specs.declared.phase.Opening.TheVariants as opening
 use Rattle.pt_plan.specs.declared.phase.Phase.TheVariants as phase
+use Rattle.pt_plan.specs.declared.phase.Stage.TheVariants as stage
 use Rattle.pt_scan.proofs.ObjectPaths.{logical_is, logical_within}
 use Rattle.pt_scan.specs.Blocks.{IsNextBlock, is_reading}
 use Rattle.pt_state.specs.States.{held_of, job_of}
@@ -51,10 +53,10 @@ use Rattle.pt_walk.specs.declared.frame.Frame.{Frame}
 
 -- ---- a file that was opened
 
-pub opened : {told : Option Reading} {object : Object} {s : State} → Surveys told (record { phase = phase.Read object zero; state = s }) → IsOpened told object s
+pub opened : {told : Option Reading} {object : Object} {s : State} → Surveys told (record { phase = phase.Carrying object (stage.Read zero); state = s }) → IsOpened told object s
 unfolding Surveys
 opened {told} {object} {s} (count, it) =
-    let there = stands_so told (phase.Read object zero) s refl (count, it) in
+    let there = stands_so told (phase.Carrying object (stage.Read zero)) s refl (count, it) in
     let is_one = it.is.held.trail.is_one in
     let names = names_to s.trail in
     let n = names_before object in
@@ -89,9 +91,9 @@ alike_more told told' root b contents contents' more tree same few alike =
 
 -- outside an object nothing is said
 elsewhere : (told root : Option Reading) (b : Beside) (p : Phase) (s : State) → is_of_object p ≡ false → BehindAt told root b p s
-elsewhere told root b (phase.Scan object) s off = absurd (true≢false off)
-elsewhere told root b (phase.Read object bytes) s off = absurd (true≢false off)
-elsewhere told root b (phase.Line object) s off = absurd (true≢false off)
+elsewhere told root b (phase.Carrying object stage.Scan) s off = absurd (true≢false off)
+elsewhere told root b (phase.Carrying object (stage.Read bytes)) s off = absurd (true≢false off)
+elsewhere told root b (phase.Carrying object stage.Line) s off = absurd (true≢false off)
 elsewhere told root b _ s off = tt
 
 closed_behind : (told root : Option Reading) (b : Beside) (contents : List Content) → b.reads ≡ false → OnTrue b.reads (HasEnded told root b contents)
@@ -188,7 +190,7 @@ alike_none told root b contents none =
 
 module _ (told told' root : Option Reading) (b : Beside) (s s' : State) (tree : tree_in told' ≡ tree_in told) where
   scanned : {job : Job} {here next : Phase} {held after : Held} {calls : Calls} (fed later : List ℕ) → Scans job here held after calls (Ok next) → held ≡ held_of s fed → after ≡ held_of s' later → Answers calls.asked told told' → OnTrue (is_reading here) (IsNextBlock told s'.block.items next)
-      → ((object : Object) → here ≡ phase.OpenObject object → s.contents ≡ []) → ((object : Object) → next ≡ phase.Read object zero → IsOpened told' object s') → PacedAt told root b here s → BehindAt told' root b (passed next) s'
+      → ((object : Object) → here ≡ phase.Carrying object stage.Open → s.contents ≡ []) → ((object : Object) → next ≡ phase.Carrying object (stage.Read zero) → IsOpened told' object s') → PacedAt told root b here s → BehindAt told' root b (passed next) s'
   unfolding Answers AreFew
   scanned fed later (StartsInSite h object _) held after answers block none here_opened paced =
       let empty : s'.contents ≡ [] = sym (ap (λ (x : Held). x.contents) after) ∙ ap (λ (x : Held). x.contents) held ∙ none object refl in
@@ -233,7 +235,7 @@ module _ (told told' root : Option Reading) (b : Beside) (s s' : State) (tree : 
       let long : length s'.contents ≡ length s.contents + length more.0 = ap length whole ∙ length-append s.contents more.0 in
       (alike_more told told' root b s.contents s'.contents more.0 tree whole paced.1 paced.0, inl (omega (arith, long, paced.1)), on_true b.reads (ReadBeside told root b object s []) (HasEnded told' root b s'.contents) (ended (digest_of job.algorithm h.fed) answers.1 answers.0 is) paced.2)
 
-none_yet : (told : Option Reading) (r : Running) (object : Object) → r.phase ≡ phase.OpenObject object → Surveys told r → r.state.contents ≡ []
+none_yet : (told : Option Reading) (r : Running) (object : Object) → r.phase ≡ phase.Carrying object stage.Open → Surveys told r → r.state.contents ≡ []
 unfolding Surveys
 none_yet told r object is (count, it) = (subst (λ (p : Phase). RowsAt (job_of r.state.job) it.past.bytes p (held_of r.state it.fed)) is it.is.held.rows).contents
 
@@ -252,7 +254,7 @@ behind told told' root b r r' was now step tree paced = by (is_scanning r.phase)
 
 -- ---- an audit that is to begin
 
-pub follows_first : (source root : Option Reading) (b : Beside) (r : Running) → HasBegun b → r.phase ≡ phase.Begin → Surveys source r → Follows source root b r
+pub follows_first : (source root : Option Reading) (b : Beside) (r : Running) → HasBegun b → r.phase ≡ phase.Opening opening.Begin → Surveys source r → Follows source root b r
 follows_first source root b r new begin under_way = record {
   under_way = under_way;
   paced = subst (λ (p : Phase). PacedAt source root b p r.state) (sym begin) new.1;
@@ -283,11 +285,11 @@ follows_told source source' root root' b r what saw told same stays under_way it
     }
   where
     there : (p : Phase) → is_told (sight_at p) ≡ true → PacedAt source root b p r.state → IsClosed b × PacedAt source' root' b p r.state
-    there phase.OpenRoot is paced = (paced, paced)
-    there (phase.Line object) is paced = (paced.0, (paced.0, still_alike source source' root root' b r.state.contents same stays paced.1))
+    there (phase.Opening opening.OpenRoot) is paced = (paced, paced)
+    there (phase.Carrying object stage.Line) is paced = (paced.0, (paced.0, still_alike source source' root root' b r.state.contents same stays paced.1))
     there phase.End is paced = (paced, paced)
-    there (phase.Read object zero) is paced = absurd (true≢false (sym is))
-    there (phase.Read object (suc bytes)) is paced = absurd (true≢false (sym is))
+    there (phase.Carrying object (stage.Read zero)) is paced = absurd (true≢false (sym is))
+    there (phase.Carrying object (stage.Read (suc bytes))) is paced = absurd (true≢false (sym is))
     there _ is paced = absurd (true≢false (sym is))
 
 -- what a step came to
@@ -313,9 +315,9 @@ alike_at_hand source root b r hand alike is at it so = by r.phase is at it.paced
         (subst (λ f. All (Places f hand.told.to.now) (take b.alike r.state.contents)) from (subst (λ t. All (Places b.from t) (take b.alike r.state.contents)) place alike_is)))
 
     by : (p : Phase) → sight_at p ≡ sight.Object → IsHandAt p r.state (Some hand) → PacedAt source root b p r.state → AreAlikeAtHand (tree_in source) (tree_in root) hand alike
-    by (phase.Line object) is at paced = elim so [ inl zero_is ↦ none zero_is | inr all ↦ same_place at.contents paced.1 all ]
-    by (phase.Read object zero) is at paced = absurd (cc)
-    by (phase.Read object (suc bytes)) is at paced = absurd (cc)
+    by (phase.Carrying object stage.Line) is at paced = elim so [ inl zero_is ↦ none zero_is | inr all ↦ same_place at.contents paced.1 all ]
+    by (phase.Carrying object (stage.Read zero)) is at paced = absurd (cc)
+    by (phase.Carrying object (stage.Read (suc bytes))) is at paced = absurd (cc)
     by _ is at paced = absurd (cc)
 
 -- a folder that is known to stand has those above it

@@ -18,7 +18,9 @@ use Rattle.pt_plan.specs.Turn.{HasFailed}
 use Rattle.pt_plan.specs.World.{Failures, source_tree}
 use Rattle.pt_plan.specs.declared.fault.Fault.TheVariants as fault
 use Rattle.pt_plan.specs.declared.phase.Phase.{Phase}
+use Rattle.pt_plan.specs.declared.phase.Opening.TheVariants as opening
 use Rattle.pt_plan.specs.declared.phase.Phase.TheVariants as phase
+use Rattle.pt_plan.specs.declared.phase.Stage.TheVariants as stage
 use Rattle.pt_state.specs.States.{held_of, job_of}
 use Rattle.pt_state.specs.declared.job.Job as own
 use Rattle.pt_survey.specs.Surveying.{IsSurvey, SurveySays, is_of_dest, Surveys, sight_at}
@@ -61,10 +63,10 @@ unfolding Surveys
 has_layout told what r job same at = subst (λ (j : own.Job). IsLayout j.layout) (sym same) at.under_way.1.is.layout
 
 -- a root of another layout is told only of a store with a good prefix
-store_at : (here : Phase) → sight_at here ≡ sight.Store → here ≡ phase.OpenRoot
-store_at phase.OpenRoot is = refl
-store_at (phase.Read object zero) is = absurd (cc)
-store_at (phase.Read object (suc bytes)) is = absurd (cc)
+store_at : (here : Phase) → sight_at here ≡ sight.Store → here ≡ phase.Opening opening.OpenRoot
+store_at (phase.Opening opening.OpenRoot) is = refl
+store_at (phase.Carrying object (stage.Read zero)) is = absurd (cc)
+store_at (phase.Carrying object (stage.Read (suc bytes))) is = absurd (cc)
 store_at _ is = absurd (cc)
 
 pub says_layout : (told : Option Reading) (root : Option Forest) (r : Running) (why : Fault) (old new : ℕ) → (job : own.Job) → job ≡ r.state.job → IsAt told sight.Store r → ForSome root (TellsLayout {T = Unit {0}} (job_of job) (Err why)) → RootFailsAs {T = Unit {0}} (Err why) old new → AuditSays r.state.job (source_tree told) root why

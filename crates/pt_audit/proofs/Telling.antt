@@ -41,7 +41,9 @@ use Rattle.pt_plan.specs.declared.fault.Fault.{Fault}
 use Rattle.pt_plan.specs.declared.object.Object.{Object}
 use Rattle.pt_plan.specs.declared.phase.Part.TheVariants as part
 use Rattle.pt_plan.specs.declared.phase.Phase.{Phase}
+use Rattle.pt_plan.specs.declared.phase.Opening.TheVariants as opening
 use Rattle.pt_plan.specs.declared.phase.Phase.TheVariants as phase
+use Rattle.pt_plan.specs.declared.phase.Stage.TheVariants as stage
 use Rattle.pt_state.specs.States.{held_of, job_of}
 use Rattle.pt_state.specs.declared.job.Job as own
 use Rattle.pt_state.specs.declared.job.Report.{Report}
@@ -60,23 +62,23 @@ use Rattle.pt_walk.specs.Left.{bytes_at}
 -- ---- where it stands
 
 -- an object is at hand
-object_at_hand : (here : Phase) → sight_at here ≡ sight.Object → (object : Object) × (here ≡ phase.Line object)
-object_at_hand (phase.Line object) is = (object, refl)
-object_at_hand (phase.Read object zero) is = absurd (cc)
-object_at_hand (phase.Read object (suc bytes)) is = absurd (cc)
+object_at_hand : (here : Phase) → sight_at here ≡ sight.Object → (object : Object) × (here ≡ phase.Carrying object stage.Line)
+object_at_hand (phase.Carrying object stage.Line) is = (object, refl)
+object_at_hand (phase.Carrying object (stage.Read zero)) is = absurd (cc)
+object_at_hand (phase.Carrying object (stage.Read (suc bytes))) is = absurd (cc)
 object_at_hand _ is = absurd (cc)
 
 -- where none is at hand, of the items that were seen is told
 told_there : (here : Phase) (count : ℕ) (what : Sight) → sight_at here ≡ what → is_told what ≡ false → told_at here count ≡ count
-told_there (phase.Line object) count what is more = absurd (true≢false (ap is_told is ∙ more))
+told_there (phase.Carrying object stage.Line) count what is more = absurd (true≢false (ap is_told is ∙ more))
 told_there _ count what is more = refl
 
 told_store : (here : Phase) (count : ℕ) → sight_at here ≡ sight.Store → told_at here count ≡ count
-told_store (phase.Line object) count is = absurd (cc)
+told_store (phase.Carrying object stage.Line) count is = absurd (cc)
 told_store _ count is = refl
 
 looking_told : (here : Phase) (count : ℕ) → is_looking here ≡ true → told_at here count ≡ count
-looking_told (phase.Line object) count is = absurd (cc)
+looking_told (phase.Carrying object stage.Line) count is = absurd (cc)
 looking_told _ count is = refl
 
 pub no_hand : (r : Running) → sight_at r.phase ≡ sight.Object → IsHand r None → ⊥
@@ -87,8 +89,8 @@ no_hand r is none =
 -- the survey is at its end
 end_at : (here : Phase) → sight_at here ≡ sight.End → here ≡ phase.End
 end_at phase.End is = refl
-end_at (phase.Read object zero) is = absurd (cc)
-end_at (phase.Read object (suc bytes)) is = absurd (cc)
+end_at (phase.Carrying object (stage.Read zero)) is = absurd (cc)
+end_at (phase.Carrying object (stage.Read (suc bytes))) is = absurd (cc)
 end_at _ is = absurd (cc)
 
 -- ---- what a step tells
@@ -165,9 +167,9 @@ seen_after told told' source root first now new counts before after same order i
 
 -- where it isn't the store that was seen, the sites come after the store
 sites_after : (here : Phase) → (sight_at here ≡ sight.Store → ⊥) → is_before_store here ≡ false → is_before_sites here ≡ false
-sites_after phase.OpenRoot other later = absurd (other refl)
-sites_after phase.Begin other later = later
-sites_after (phase.Prefix _) other later = later
+sites_after (phase.Opening opening.OpenRoot) other later = absurd (other refl)
+sites_after (phase.Opening opening.Begin) other later = later
+sites_after (phase.Opening (opening.Prefix _)) other later = later
 sites_after _ other later = later
 
 -- more is to be seen
@@ -215,14 +217,14 @@ source_again {told} {again} {r} {count} is same it = record {
   stands = it.stands;
 }
   where
-    here : (object : Object) × (r.phase ≡ phase.Line object)
+    here : (object : Object) × (r.phase ≡ phase.Carrying object stage.Line)
     here = object_at_hand r.phase is
 
     PartAt : Phase → Reading → Type 0
     PartAt p s = SourcePart (job_of r.state.job) it.past p (string_bytes r.state.prefix) (held_of r.state it.fed) s
 
-    with_tree : (s had : Reading) → had.tree ≡ s.tree → PartAt (phase.Line here.0) had → PartAt (phase.Line here.0) s
-    with_tree s had same part = subst (λ (t : Forest). PartAt (phase.Line here.0) (record { tree = t; unread = s.unread })) same
+    with_tree : (s had : Reading) → had.tree ≡ s.tree → PartAt (phase.Carrying here.0 stage.Line) had → PartAt (phase.Carrying here.0 stage.Line) s
+    with_tree s had same part = subst (λ (t : Forest). PartAt (phase.Carrying here.0 stage.Line) (record { tree = t; unread = s.unread })) same
         (record { proper = part.proper; at = part.at; bytes = part.bytes; few = part.few })
 
 pub surveys_again : (told again : Option Reading) (r : Running) → sight_at r.phase ≡ sight.Object → source_tree again ≡ source_tree told → Surveys told r → Surveys again r
@@ -241,16 +243,16 @@ can_compare told r at is (count, it) mine = record {
       (may_open_row {here = part.Staging} k {reading = told} source row s e);
 }
   where
-    here : (object : Object) × (r.phase ≡ phase.Line object)
+    here : (object : Object) × (r.phase ≡ phase.Carrying object stage.Line)
     here = object_at_hand r.phase is
 
     of : IsOf here.0 r.state at
     of = subst (λ (p : Phase). IsHandAt p r.state (Some at)) here.1 mine
 
-    held : HeldAt (job_of r.state.job) it.past (phase.Line here.0) (held_of r.state it.fed)
+    held : HeldAt (job_of r.state.job) it.past (phase.Carrying here.0 stage.Line) (held_of r.state it.fed)
     held = subst (λ (p : Phase). HeldAt (job_of r.state.job) it.past p (held_of r.state it.fed)) here.1 it.is.held
 
-    source : ForSome told (SourcePart (job_of r.state.job) it.past (phase.Make here.0 part.Staging) (string_bytes r.state.prefix) (held_of r.state it.fed))
+    source : ForSome told (SourcePart (job_of r.state.job) it.past (phase.Carrying here.0 (stage.Make part.Staging)) (string_bytes r.state.prefix) (held_of r.state it.fed))
     source = λ s e.
         let known = subst (λ (p : Phase). SourcePart (job_of r.state.job) it.past p (string_bytes r.state.prefix) (held_of r.state it.fed) s) here.1 (it.is.source s e) in
         record { proper = known.proper; at = known.at; bytes = known.bytes; few = known.few }
@@ -314,7 +316,7 @@ told_object told again source root first now new counts r at finding text job la
   opened = λ later. it.opened (ap is_before_sites here.1);
 }
   where
-    here : (object : Object) × (r.phase ≡ phase.Line object)
+    here : (object : Object) × (r.phase ≡ phase.Carrying object stage.Line)
     here = object_at_hand r.phase is
 
     is_found : IsFoundAtHand r.state.job at source root finding

@@ -20,6 +20,7 @@ use Rattle.pt_plan.specs.Lines.{Done, Line, Skipped, line_by_verdict, line_text}
 use Rattle.pt_plan.specs.TurnWalk.{in_pairtree, in_root}
 use Rattle.pt_plan.specs.declared.phase.Phase.{Phase}
 use Rattle.pt_plan.specs.declared.phase.Phase.TheVariants as phase
+use Rattle.pt_plan.specs.declared.phase.Stage.TheVariants as stage
 use Rattle.pt_state.specs.States.{job_of}
 use Rattle.pt_state.specs.declared.job.Job as own
 use Rattle.pt_survey.specs.Surveying.{IsSurvey, Surveys, is_before_sites, is_before_store, sight_at}
@@ -97,7 +98,7 @@ counted counts r = record counts { skipped = r.state.counts.skipped }
 
 -- of which items is told between two steps: of the one whose object is at hand too
 abbrev pub told_at : Phase → ℕ → ℕ
-told_at (phase.Line object) count = suc count
+told_at (phase.Carrying object stage.Line) count = suc count
 told_at _ count = count
 
 -- where the root is told, it is one that a run could go on with

@@ -14,6 +14,7 @@ use Rattle.pt_plan.specs.TurnWalk.{in_pairtree, in_root}
 use Rattle.pt_plan.specs.declared.object.Object.{Object}
 use Rattle.pt_plan.specs.declared.phase.Phase.{Phase}
 use Rattle.pt_plan.specs.declared.phase.Phase.TheVariants as phase
+use Rattle.pt_plan.specs.declared.phase.Stage.TheVariants as stage
 use Rattle.pt_state.specs.declared.state.State.{State}
 use Rattle.pt_survey.specs.Files.{names_before}
 use Rattle.pt_survey.specs.Surveying.{Surveys, sight_at}
@@ -73,12 +74,12 @@ abbrev pub IsClosed : Beside → Type 0
 IsClosed b = b.reads ≡ false
 
 abbrev pub PacedAt : Option Reading → Option Reading → Beside → Phase → State → Type 0
-PacedAt source root b (phase.Scan object) s =
+PacedAt source root b (phase.Carrying object stage.Scan) s =
     IsClosed b × AreAlike source root b s.contents × AreFew b s.contents
-PacedAt source root b (phase.Read object bytes) s =
+PacedAt source root b (phase.Carrying object (stage.Read bytes)) s =
     AreAlike source root b s.contents × (b.alike ≤ length s.contents)
     × OnTrue b.reads (ReadBeside source root b object s [])
-PacedAt source root b (phase.Line object) s = IsClosed b × AreAlike source root b s.contents
+PacedAt source root b (phase.Carrying object stage.Line) s = IsClosed b × AreAlike source root b s.contents
 PacedAt source root b _ s = IsClosed b
 
 -- the root is read as far as the survey has seen
@@ -105,11 +106,11 @@ ReadBehind source root b object (suc bytes) s =
     × OnTrue b.reads (ReadBeside source root b object s s.block.items)
 
 abbrev pub BehindAt : Option Reading → Option Reading → Beside → Phase → State → Type 0
-BehindAt source root b (phase.Scan object) s =
+BehindAt source root b (phase.Carrying object stage.Scan) s =
     AreAlike source root b s.contents × AreFew b s.contents
     × OnTrue b.reads (HasEnded source root b s.contents)
-BehindAt source root b (phase.Read object bytes) s = ReadBehind source root b object bytes s
-BehindAt source root b (phase.Line object) s = AreAlike source root b s.contents
+BehindAt source root b (phase.Carrying object (stage.Read bytes)) s = ReadBehind source root b object bytes s
+BehindAt source root b (phase.Carrying object stage.Line) s = AreAlike source root b s.contents
 BehindAt source root b _ s = ⊤
 
 abbrev pub IsBehind : Option Reading → Option Reading → Beside → Running → Type 0

@@ -17,7 +17,9 @@ use Rattle.pt_plan.specs.Roots.{root_in}
 use Rattle.pt_plan.specs.Run.{Counts, Run}
 use Rattle.pt_plan.specs.World.{World, dest_tree}
 use Rattle.pt_plan.specs.declared.phase.Phase.{Phase}
+use Rattle.pt_plan.specs.declared.phase.Opening.TheVariants as opening
 use Rattle.pt_plan.specs.declared.phase.Phase.TheVariants as phase
+use Rattle.pt_plan.specs.declared.phase.Stage.TheVariants as stage
 
 -- what the destination and the log held when the run began, where they told it
 pub record Start : Type 0 where
@@ -50,7 +52,7 @@ TellsStill (Some start) (Some now) P = P start now
 
 -- how many items the objects placed so far are of: one more where the next item's object has just been placed
 abbrev pub items_placed : Phase → ℕ → ℕ
-items_placed (phase.Line object) count = suc count
+items_placed (phase.Carrying object stage.Line) count = suc count
 items_placed _ count = count
 
 -- the place of the next item isn't taken
@@ -60,14 +62,7 @@ IsNextFree job source root count = (item : Item)
 
 -- while an object is under way, its place isn't taken
 abbrev pub IsFreeAt : Phase → Job → Forest → Tree → ℕ → Type 0
-IsFreeAt (phase.OpenObject object) job source root count = IsNextFree job source root count
-IsFreeAt (phase.Scan object) job source root count = IsNextFree job source root count
-IsFreeAt (phase.Read object bytes) job source root count = IsNextFree job source root count
-IsFreeAt (phase.Make object here) job source root count = IsNextFree job source root count
-IsFreeAt (phase.Copy object position left) job source root count = IsNextFree job source root count
-IsFreeAt (phase.Tuples object number) job source root count = IsNextFree job source root count
-IsFreeAt (phase.Rename object) job source root count = IsNextFree job source root count
-IsFreeAt (phase.Line object) job source root count = IsNextFree job source root count
+IsFreeAt (phase.Carrying object _) job source root count = IsNextFree job source root count
 IsFreeAt _ job source root count = ⊤
 
 -- the objects placed so far are those that are carried of the items done, from this source over this root; of a run that has ended nothing is said
@@ -100,14 +95,7 @@ pub record ItemsPart (job : Job) (past : Past) (here : Phase) (counts : Counts) 
 
 -- before the pairtree is opened nothing is told
 abbrev pub IsQuiet : Phase → List ℕ → List ℕ → Type 0
-IsQuiet phase.Begin old now = now ≡ old
-IsQuiet (phase.Prefix here) old now = now ≡ old
-IsQuiet phase.Staging old now = now ≡ old
-IsQuiet phase.Root old now = now ≡ old
-IsQuiet (phase.RootMake number) old now = now ≡ old
-IsQuiet phase.RootRename old now = now ≡ old
-IsQuiet (phase.RootCheck number) old now = now ≡ old
-IsQuiet phase.OpenRoot old now = now ≡ old
+IsQuiet (phase.Opening _) old now = now ≡ old
 IsQuiet _ old now = ⊤
 
 -- of a run that has ended: what is left of the destination and of the log is such as any fault may leave of this source

@@ -19,7 +19,9 @@ use Rattle.pt_plan.specs.TurnMake.{in_content}
 use Rattle.pt_plan.specs.declared.object.Object.{Object}
 use Rattle.pt_plan.specs.declared.phase.Part.TheVariants as part
 use Rattle.pt_plan.specs.declared.phase.Phase.{Phase}
+use Rattle.pt_plan.specs.declared.phase.Opening.TheVariants as opening
 use Rattle.pt_plan.specs.declared.phase.Phase.TheVariants as phase
+use Rattle.pt_plan.specs.declared.phase.Stage.TheVariants as stage
 use Rattle.pt_plan.specs.declared.phase.Position.{Position}
 use Rattle.pt_begun.specs.PartsMade.{made_before, script_of_object}
 use Rattle.pt_begun.specs.Past.{Past}
@@ -114,35 +116,35 @@ pub record IsLeftBehind (job : Job) (start : Tree) (now : Writing) : Type 0 wher
 
 -- what holds at a phase, of the tree at the start and what the destination tells now
 abbrev pub DestAt : Job → Tree → Past → Phase → Held → Writing → Type 0
-DestAt job start past phase.Begin held now = IsUntouched start now
-DestAt job start past (phase.Prefix here) held now = IsUntouched start now
-DestAt job start past phase.Staging held now = IsUntouched start now
-DestAt job start past phase.Root held now = IsUntouched start now × IsFree start staging
-DestAt job start past (phase.RootMake number) held now =
+DestAt job start past (phase.Opening opening.Begin) held now = IsUntouched start now
+DestAt job start past (phase.Opening (opening.Prefix here)) held now = IsUntouched start now
+DestAt job start past (phase.Opening opening.Staging) held now = IsUntouched start now
+DestAt job start past (phase.Opening opening.Root) held now = IsUntouched start now × IsFree start staging
+DestAt job start past (phase.Opening (opening.RootMake number)) held now =
     IsMakingRoot start (take number (root_script job.tuples)) now
-DestAt job start past phase.RootRename held now = IsMakingRoot start (root_script job.tuples) now
-DestAt job start past (phase.RootCheck number) held now = IsCheckingRoot job start number now
-DestAt job start past phase.OpenRoot held now = IsBetweenObjects job start past.placed now
+DestAt job start past (phase.Opening opening.RootRename) held now = IsMakingRoot start (root_script job.tuples) now
+DestAt job start past (phase.Opening (opening.RootCheck number)) held now = IsCheckingRoot job start number now
+DestAt job start past (phase.Opening opening.OpenRoot) held now = IsBetweenObjects job start past.placed now
 DestAt job start past phase.Judge held now = IsBetweenObjects job start past.placed now
-DestAt job start past (phase.OpenObject object) held now =
+DestAt job start past (phase.Carrying object stage.Open) held now =
     IsMakingObject job start past.placed object [] 0 now
-DestAt job start past (phase.Scan object) held now = IsMakingObject job start past.placed object [] 0 now
-DestAt job start past (phase.Read object bytes) held now =
+DestAt job start past (phase.Carrying object stage.Scan) held now = IsMakingObject job start past.placed object [] 0 now
+DestAt job start past (phase.Carrying object (stage.Read bytes)) held now =
     IsMakingObject job start past.placed object [] 0 now
-DestAt job start past (phase.Make object here) held now =
+DestAt job start past (phase.Carrying object (stage.Make here)) held now =
     IsMakingObject job start past.placed object
     (made_before job object held.rows past.bytes here) 0 now
-DestAt job start past (phase.Copy object position left) held now =
+DestAt job start past (phase.Carrying object (stage.Copy position left)) held now =
     IsCopying job start past object held position now
-DestAt job start past (phase.Tuples object number) held now =
+DestAt job start past (phase.Carrying object (stage.Tuples number)) held now =
     IsMakingObject job start past.placed object
     (script_of_object job object held.rows past.bytes) number now
     × HasFoldersTo job start past.placed object.place number
-DestAt job start past (phase.Rename object) held now =
+DestAt job start past (phase.Carrying object stage.Rename) held now =
     IsMakingObject job start past.placed object
     (script_of_object job object held.rows past.bytes) job.tuples.count now
     × HasFoldersTo job start past.placed object.place job.tuples.count
-DestAt job start past (phase.Line object) held now = IsBetweenObjects job start past.placed now
+DestAt job start past (phase.Carrying object stage.Line) held now = IsBetweenObjects job start past.placed now
 DestAt job start past phase.Walk held now = IsBetweenObjects job start past.placed now
 DestAt job start past phase.End held now = IsBetweenObjects job start past.placed now
 DestAt job start past phase.Ended held now = IsLeftBehind job start now

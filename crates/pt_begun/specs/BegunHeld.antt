@@ -17,7 +17,9 @@ use Rattle.pt_plan.specs.declared.object.Object.{Object}
 use Rattle.pt_plan.specs.declared.phase.Part.{Part}
 use Rattle.pt_plan.specs.declared.phase.Part.TheVariants as part
 use Rattle.pt_plan.specs.declared.phase.Phase.{Phase}
+use Rattle.pt_plan.specs.declared.phase.Opening.TheVariants as opening
 use Rattle.pt_plan.specs.declared.phase.Phase.TheVariants as phase
+use Rattle.pt_plan.specs.declared.phase.Stage.TheVariants as stage
 use Rattle.pt_begun.specs.PartsMade.{IsAtRow, IsAtStoredRow}
 use Rattle.pt_begun.specs.Past.{Past}
 
@@ -25,21 +27,14 @@ use Rattle.pt_begun.specs.Past.{Past}
 
 -- before the pairtree's directory is listed there is no trail
 abbrev pub StartsWithNone : Phase → List Frame → Type 0
-StartsWithNone phase.Begin trail = trail ≡ []
-StartsWithNone (phase.Prefix here) trail = trail ≡ []
-StartsWithNone phase.Staging trail = trail ≡ []
-StartsWithNone phase.Root trail = trail ≡ []
-StartsWithNone (phase.RootMake number) trail = trail ≡ []
-StartsWithNone phase.RootRename trail = trail ≡ []
-StartsWithNone (phase.RootCheck number) trail = trail ≡ []
-StartsWithNone phase.OpenRoot trail = trail ≡ []
+StartsWithNone (phase.Opening _) trail = trail ≡ []
 StartsWithNone _ trail = ⊤
 
 -- an object that is encapsulated is entered from its directory's entry, and a file is read at its own
 abbrev pub StandsAtEntry : Phase → List Frame → Type 0
-StandsAtEntry (phase.OpenObject object) trail =
+StandsAtEntry (phase.Carrying object stage.Open) trail =
     object.gathered ≡ false → is_dir_entry (current_entry trail) ≡ true
-StandsAtEntry (phase.Read object bytes) trail = (item : Item) × (current_entry trail ≡ Some item)
+StandsAtEntry (phase.Carrying object (stage.Read bytes)) trail = (item : Item) × (current_entry trail ≡ Some item)
 StandsAtEntry _ trail = ⊤
 
 -- the listings' names rise, and all but the innermost were left for a directory
@@ -62,14 +57,9 @@ pub record EndsInObject (object : Object) (trail : List Frame) : Type 0 where
 
 -- the trail ends at the object's site, but while the object is scanned: then in a listing of the object
 abbrev pub EndsAt : Job → Phase → List Frame → Type 0
-EndsAt job (phase.OpenObject object) trail = IsObject job object × (length trail ≡ object.site)
-EndsAt job (phase.Scan object) trail = IsObject job object × EndsInObject object trail
-EndsAt job (phase.Read object bytes) trail = IsObject job object × EndsInObject object trail
-EndsAt job (phase.Make object here) trail = IsObject job object × (length trail ≡ object.site)
-EndsAt job (phase.Copy object position left) trail = IsObject job object × (length trail ≡ object.site)
-EndsAt job (phase.Tuples object number) trail = IsObject job object × (length trail ≡ object.site)
-EndsAt job (phase.Rename object) trail = IsObject job object × (length trail ≡ object.site)
-EndsAt job (phase.Line object) trail = IsObject job object × (length trail ≡ object.site)
+EndsAt job (phase.Carrying object stage.Scan) trail = IsObject job object × EndsInObject object trail
+EndsAt job (phase.Carrying object (stage.Read bytes)) trail = IsObject job object × EndsInObject object trail
+EndsAt job (phase.Carrying object _) trail = IsObject job object × (length trail ≡ object.site)
 EndsAt job _ trail = ⊤
 
 -- ---- the rows
@@ -87,13 +77,8 @@ pub record HoldsNoRows (held : Held) : Type 0 where
 
 -- while an object is under way they are those of its files, before it is entered and between objects there are none, and of a run that has ended nothing is said
 abbrev pub RowsAt : Job → (Path → List ℕ) → Phase → Held → Type 0
-RowsAt job bytes (phase.Scan object) held = AreRows job bytes held
-RowsAt job bytes (phase.Read object count) held = AreRows job bytes held
-RowsAt job bytes (phase.Make object here) held = AreRows job bytes held
-RowsAt job bytes (phase.Copy object position left) held = AreRows job bytes held
-RowsAt job bytes (phase.Tuples object number) held = AreRows job bytes held
-RowsAt job bytes (phase.Rename object) held = AreRows job bytes held
-RowsAt job bytes (phase.Line object) held = AreRows job bytes held
+RowsAt job bytes (phase.Carrying object stage.Open) held = HoldsNoRows held
+RowsAt job bytes (phase.Carrying object _) held = AreRows job bytes held
 RowsAt job bytes phase.Ended held = ⊤
 RowsAt job bytes _ held = HoldsNoRows held
 
@@ -125,19 +110,19 @@ IsBehindRows object held =
 
 -- while an object is scanned
 abbrev pub ScansInOrder : Phase → Held → Type 0
-ScansInOrder (phase.Scan object) held = IsBehindRows object held
-ScansInOrder (phase.Read object bytes) held = IsBehindRows object held
+ScansInOrder (phase.Carrying object stage.Scan) held = IsBehindRows object held
+ScansInOrder (phase.Carrying object (stage.Read bytes)) held = IsBehindRows object held
 ScansInOrder _ held = ⊤
 
 -- ---- the phase's own numbers
 
 -- each is one of those that there are: items of the root's script, files of the layout, tuples, rows
 abbrev pub NumbersAt : Job → Phase → Held → Type 0
-NumbersAt job (phase.RootMake number) held = number < 6
-NumbersAt job (phase.RootCheck number) held = number < 3
-NumbersAt job (phase.Make object (part.Content position)) held = IsAtRow held.rows position
-NumbersAt job (phase.Copy object position left) held = IsAtStoredRow held position
-NumbersAt job (phase.Tuples object number) held = number < job.tuples.count
+NumbersAt job (phase.Opening (opening.RootMake number)) held = number < 6
+NumbersAt job (phase.Opening (opening.RootCheck number)) held = number < 3
+NumbersAt job (phase.Carrying object (stage.Make (part.Content position))) held = IsAtRow held.rows position
+NumbersAt job (phase.Carrying object (stage.Copy position left)) held = IsAtStoredRow held position
+NumbersAt job (phase.Carrying object (stage.Tuples number)) held = number < job.tuples.count
 NumbersAt job _ held = ⊤
 
 -- ---- the hasher
@@ -150,7 +135,7 @@ IsFedBefore job object part.Sidecar held = held.fed ≡ text_of_inventory job ob
 IsFedBefore job object _ held = ⊤
 
 abbrev pub FedAt : Job → Phase → Held → Type 0
-FedAt job (phase.Make object here) held = IsFedBefore job object here held
+FedAt job (phase.Carrying object (stage.Make here)) held = IsFedBefore job object here held
 FedAt job _ held = ⊤
 
 -- ---- all of it

@@ -22,7 +22,9 @@ use Rattle.pt_plan.specs.TurnMake.{path_of_source}
 use Rattle.pt_plan.specs.TurnScan.{is_beyond, logical_path, own_listings, to_site}
 use Rattle.pt_plan.specs.declared.object.Object.{Object}
 use Rattle.pt_plan.specs.declared.phase.Phase.{Phase}
+use Rattle.pt_plan.specs.declared.phase.Opening.TheVariants as opening
 use Rattle.pt_plan.specs.declared.phase.Phase.TheVariants as phase
+use Rattle.pt_plan.specs.declared.phase.Stage.TheVariants as stage
 use Rattle.pt_plan.specs.declared.phase.Position.{Position}
 use Rattle.pt_begun.specs.Past.{Past}
 
@@ -164,39 +166,26 @@ pub record IsCopyingFile (source : Forest) (object : Object) (held : Held) (posi
 
 -- what holds at a phase where the source tells this, has this prefix and so many items are done
 abbrev pub SourceAt : Job → Reading → List ℕ → ℕ → Phase → Held → Type 0
-SourceAt job s prefix count phase.Begin held = HoldsNothing held × (count ≡ 0) × (prefix ≡ [])
-SourceAt job s prefix count (phase.Prefix here) held =
+SourceAt job s prefix count (phase.Opening opening.Begin) held = HoldsNothing held × (count ≡ 0) × (prefix ≡ [])
+SourceAt job s prefix count (phase.Opening (opening.Prefix here)) held =
     HoldsNothing held × (count ≡ 0) × (is_store s.tree ≡ true)
     × (here ≡ option_map kind_of (find s.tree prefix_file)) × (prefix ≡ [])
-SourceAt job s prefix count phase.Staging held = HoldsNothing held × (count ≡ 0) × HasStarted s.tree prefix
-SourceAt job s prefix count phase.Root held = HoldsNothing held × (count ≡ 0) × HasStarted s.tree prefix
-SourceAt job s prefix count (phase.RootMake item) held =
-    HoldsNothing held × (count ≡ 0) × HasStarted s.tree prefix
-SourceAt job s prefix count phase.RootRename held = HoldsNothing held × (count ≡ 0) × HasStarted s.tree prefix
-SourceAt job s prefix count (phase.RootCheck file) held =
-    HoldsNothing held × (count ≡ 0) × HasStarted s.tree prefix
-SourceAt job s prefix count phase.OpenRoot held = HoldsNothing held × (count ≡ 0) × HasStarted s.tree prefix
+SourceAt job s prefix count (phase.Opening _) held = HoldsNothing held × (count ≡ 0) × HasStarted s.tree prefix
 SourceAt job s prefix count phase.Judge held =
     HoldsNoObject held × HasStarted s.tree prefix × IsToJudge job s.tree held.trail count
-SourceAt job s prefix count (phase.OpenObject object) held =
+SourceAt job s prefix count (phase.Carrying object stage.Open) held =
     HoldsNoObject held × HasStarted s.tree prefix
     × IsInObject job s.tree prefix object held.trail count × (length held.trail ≡ object.site)
     × (object.empty ≡ 0)
-SourceAt job s prefix count (phase.Scan object) held =
+SourceAt job s prefix count (phase.Carrying object stage.Scan) held =
     HasStarted s.tree prefix × IsScanning job s.tree prefix object held count
-SourceAt job s prefix count (phase.Read object bytes) held =
+SourceAt job s prefix count (phase.Carrying object (stage.Read bytes)) held =
     HasStarted s.tree prefix × IsScanning job s.tree prefix object held count
     × IsReadingFile job s.tree object held s.unread bytes
-SourceAt job s prefix count (phase.Make object part) held =
-    HasStarted s.tree prefix × IsScanned job s.tree prefix object held count
-SourceAt job s prefix count (phase.Copy object position left) held =
+SourceAt job s prefix count (phase.Carrying object (stage.Copy position left)) held =
     HasStarted s.tree prefix × IsScanned job s.tree prefix object held count
     × IsCopyingFile s.tree object held position s.unread left
-SourceAt job s prefix count (phase.Tuples object number) held =
-    HasStarted s.tree prefix × IsScanned job s.tree prefix object held count
-SourceAt job s prefix count (phase.Rename object) held =
-    HasStarted s.tree prefix × IsScanned job s.tree prefix object held count
-SourceAt job s prefix count (phase.Line object) held =
+SourceAt job s prefix count (phase.Carrying object _) held =
     HasStarted s.tree prefix × IsScanned job s.tree prefix object held count
 SourceAt job s prefix count phase.Walk held =
     HoldsNoObject held × HasStarted s.tree prefix × IsOnWay job s.tree held.trail count
@@ -215,19 +204,8 @@ AreHeldThere source object site bytes rows =
 
 -- while an object is under way, the bytes of its rows are those that its files hold
 abbrev pub BytesAt : Forest → (Path → List ℕ) → Phase → Held → Type 0
-BytesAt source bytes (phase.Scan object) held =
-    AreHeldThere source object (to_site object held.trail) bytes held.rows
-BytesAt source bytes (phase.Read object count) held =
-    AreHeldThere source object (to_site object held.trail) bytes held.rows
-BytesAt source bytes (phase.Make object here) held =
-    AreHeldThere source object (to_site object held.trail) bytes held.rows
-BytesAt source bytes (phase.Copy object position left) held =
-    AreHeldThere source object (to_site object held.trail) bytes held.rows
-BytesAt source bytes (phase.Tuples object number) held =
-    AreHeldThere source object (to_site object held.trail) bytes held.rows
-BytesAt source bytes (phase.Rename object) held =
-    AreHeldThere source object (to_site object held.trail) bytes held.rows
-BytesAt source bytes (phase.Line object) held =
+BytesAt source bytes (phase.Carrying object stage.Open) held = ⊤
+BytesAt source bytes (phase.Carrying object _) held =
     AreHeldThere source object (to_site object held.trail) bytes held.rows
 BytesAt source bytes _ held = ⊤
 
@@ -248,8 +226,8 @@ HasRoom job source object held =
 
 -- while an object is scanned there is room for its files; of a run that has ended nothing is said
 abbrev pub FewAt : Job → Forest → Phase → Held → Type 0
-FewAt job source (phase.Scan object) held = HasRoom job source object held
-FewAt job source (phase.Read object count) held = HasRoom job source object held
+FewAt job source (phase.Carrying object stage.Scan) held = HasRoom job source object held
+FewAt job source (phase.Carrying object (stage.Read count)) held = HasRoom job source object held
 FewAt job source phase.Ended held = ⊤
 FewAt job source _ held = IsWithinBound job source held
 

@@ -9,17 +9,19 @@ use Rattle.pt_plan.specs.Turn.{Turn}
 use Rattle.pt_plan.specs.World.{World}
 use Rattle.pt_plan.specs.declared.fault.Fault.TheVariants as fault
 use Rattle.pt_plan.specs.declared.phase.Phase.{Phase}
+use Rattle.pt_plan.specs.declared.phase.Opening.TheVariants as opening
 use Rattle.pt_plan.specs.declared.phase.Phase.TheVariants as phase
+use Rattle.pt_plan.specs.declared.phase.Stage.TheVariants as stage
 use Rattle.pt_begun.specs.Begun.{Begun, Start}
 
 -- the phases between what is made: at them alone a line may be told, and nothing is made of an object or of the root
 abbrev pub may_tell : Phase → Bool
-may_tell phase.OpenRoot = true
+may_tell (phase.Opening opening.OpenRoot) = true
 may_tell phase.Judge = true
-may_tell (phase.OpenObject object) = true
-may_tell (phase.Scan object) = true
-may_tell (phase.Read object bytes) = true
-may_tell (phase.Line object) = true
+may_tell (phase.Carrying object stage.Open) = true
+may_tell (phase.Carrying object stage.Scan) = true
+may_tell (phase.Carrying object (stage.Read bytes)) = true
+may_tell (phase.Carrying object stage.Line) = true
 may_tell phase.Walk = true
 may_tell phase.End = true
 may_tell _ = false

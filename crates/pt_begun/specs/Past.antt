@@ -12,7 +12,9 @@ use Rattle.pt_plan.specs.Run.{Held}
 use Rattle.pt_plan.specs.TurnScan.{logical_path}
 use Rattle.pt_plan.specs.declared.object.Object.{Object}
 use Rattle.pt_plan.specs.declared.phase.Phase.{Phase}
+use Rattle.pt_plan.specs.declared.phase.Opening.TheVariants as opening
 use Rattle.pt_plan.specs.declared.phase.Phase.TheVariants as phase
+use Rattle.pt_plan.specs.declared.phase.Stage.TheVariants as stage
 
 -- how many items are done, the objects that were brought to their places, and what the files of the object under way hold, each at its logical path
 pub record Past : Type 0 where
@@ -56,18 +58,18 @@ with_bytes_of (Some row) read bytes = with_bytes row.path read bytes
 
 -- with what was read of the file at the innermost place, if the scan goes on behind it
 abbrev pub bytes_scanned : Object → Phase → Held → (Path → List ℕ) → Path → List ℕ
-bytes_scanned object (phase.Scan next) held bytes = with_bytes (logical_path object held.trail) held.fed bytes
+bytes_scanned object (phase.Carrying next stage.Scan) held bytes = with_bytes (logical_path object held.trail) held.fed bytes
 bytes_scanned object _ held bytes = bytes
 
 -- with what was read of the file that was copied, once it is closed
 abbrev pub bytes_copied : ℕ → Phase → Held → (Path → List ℕ) → Path → List ℕ
-bytes_copied row (phase.Make next part) held bytes = with_bytes_of (slice_get held.rows row) held.fed bytes
+bytes_copied row (phase.Carrying next (stage.Make part)) held bytes = with_bytes_of (slice_get held.rows row) held.fed bytes
 bytes_copied row _ held bytes = bytes
 
 -- after a turn from this phase to that one: what was read of a file to its end
 abbrev pub bytes_after : Phase → Phase → Held → (Path → List ℕ) → Path → List ℕ
-bytes_after (phase.Read object count) next held bytes = bytes_scanned object next held bytes
-bytes_after (phase.Copy object position left) next held bytes = bytes_copied position.row next held bytes
+bytes_after (phase.Carrying object (stage.Read count)) next held bytes = bytes_scanned object next held bytes
+bytes_after (phase.Carrying object (stage.Copy position left)) next held bytes = bytes_copied position.row next held bytes
 bytes_after _ next held bytes = bytes
 
 -- ---- the objects placed
@@ -82,9 +84,9 @@ object_held object rows bytes = record { id = object.id; files = files_held rows
 
 -- with the object that was renamed to its place; none is when the pairtree is opened
 abbrev pub placed_after : Phase → Phase → Held → Past → List Carried
-placed_after (phase.Rename object) next held past =
+placed_after (phase.Carrying object stage.Rename) next held past =
     past.placed ++ object_held object held.rows past.bytes ∷ []
-placed_after _ phase.OpenRoot held past = []
+placed_after _ (phase.Opening opening.OpenRoot) held past = []
 placed_after _ next held past = past.placed
 
 -- ---- a turn

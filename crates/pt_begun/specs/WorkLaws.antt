@@ -22,6 +22,7 @@ use Rattle.pt_plan.specs.World.{Answers, Calls, World}
 use Rattle.pt_plan.specs.declared.fault.Fault.{Fault}
 use Rattle.pt_plan.specs.declared.phase.Phase.{Phase}
 use Rattle.pt_plan.specs.declared.phase.Phase.TheVariants as phase
+use Rattle.pt_plan.specs.declared.phase.Stage.TheVariants as stage
 use Rattle.pt_begun.specs.Begun.{Begun, IsPast, IsWorld, Start, start_of}
 use Rattle.pt_begun.specs.BegunHeld.{HeldAt}
 use Rattle.pt_begun.specs.BegunSource.{SourcePart}
@@ -112,7 +113,7 @@ AreMarked items marks = map (λ m. m.0) marks ≡ items
 
 -- the place of an object that is entered next isn't marked as taken
 abbrev pub EntersFree : Phase → List Marked → ℕ → Type 0
-EntersFree (phase.OpenObject object) marks count =
+EntersFree (phase.Carrying object stage.Open) marks count =
     (item : Item) (taken : Bool) → slice_get marks count ≡ Some (item, taken) → taken ≡ false
 EntersFree _ marks count = ⊤
 

@@ -23,7 +23,9 @@ use Rattle.pt_plan.specs.declared.object.Object.{Object}
 use Rattle.pt_plan.specs.declared.phase.Part.{Part}
 use Rattle.pt_plan.specs.declared.phase.Part.TheVariants as part
 use Rattle.pt_plan.specs.declared.phase.Phase.{Phase}
+use Rattle.pt_plan.specs.declared.phase.Opening.TheVariants as opening
 use Rattle.pt_plan.specs.declared.phase.Phase.TheVariants as phase
+use Rattle.pt_plan.specs.declared.phase.Stage.TheVariants as stage
 use Rattle.pt_begun.specs.BegunSource.{left_of, object_at}
 use Rattle.pt_begun.specs.PartsMade.{made_before, script_of_object}
 
@@ -131,33 +133,33 @@ to_copy_at rows _ = 0
 
 -- so many turns are left at a phase, where so many items are done and this is held
 abbrev pub left : Job → Forest → List Marked → ℕ → Phase → Held → ℕ
-left job source marks count phase.Begin held = 13 + items_left job marks count
-left job source marks count (phase.Prefix here) held = 12 + items_left job marks count
-left job source marks count phase.Staging held = 11 + items_left job marks count
-left job source marks count phase.Root held = 10 + items_left job marks count
-left job source marks count (phase.RootMake number) held = (6 - number) + 3 + items_left job marks count
-left job source marks count phase.RootRename held = 3 + items_left job marks count
-left job source marks count (phase.RootCheck number) held = (3 - number) + 2 + items_left job marks count
-left job source marks count phase.OpenRoot held = 2 + items_left job marks count
+left job source marks count (phase.Opening opening.Begin) held = 13 + items_left job marks count
+left job source marks count (phase.Opening (opening.Prefix here)) held = 12 + items_left job marks count
+left job source marks count (phase.Opening opening.Staging) held = 11 + items_left job marks count
+left job source marks count (phase.Opening opening.Root) held = 10 + items_left job marks count
+left job source marks count (phase.Opening (opening.RootMake number)) held = (6 - number) + 3 + items_left job marks count
+left job source marks count (phase.Opening opening.RootRename) held = 3 + items_left job marks count
+left job source marks count (phase.Opening (opening.RootCheck number)) held = (3 - number) + 2 + items_left job marks count
+left job source marks count (phase.Opening opening.OpenRoot) held = 2 + items_left job marks count
 left job source marks count phase.Judge held =
     still_listed (parent held.trail) + items_left job marks count + 1
-left job source marks count (phase.OpenObject object) held =
+left job source marks count (phase.Carrying object stage.Open) held =
     before_scan job source marks count object (to_site object held.trail)
-left job source marks count (phase.Scan object) held = in_scan job source marks count object held
-left job source marks count (phase.Read object bytes) held = in_file job source marks count object held bytes
-left job source marks count (phase.Make object here) held =
+left job source marks count (phase.Carrying object stage.Scan) held = in_scan job source marks count object held
+left job source marks count (phase.Carrying object (stage.Read bytes)) held = in_file job source marks count object held bytes
+left job source marks count (phase.Carrying object (stage.Make here)) held =
     items_to_make job source object (to_site object held.trail) held.rows here
     + to_copy_at held.rows here + job.tuples.count + 2
     + after_object job marks count (to_site object held.trail)
-left job source marks count (phase.Copy object position bytes) held =
+left job source marks count (phase.Carrying object (stage.Copy position bytes)) held =
     (items_to_make job source object (to_site object held.trail) held.rows (part.Content position)
     - 1) + reads bytes + to_copy_from held.rows (position.row + 1) + job.tuples.count + 2
     + after_object job marks count (to_site object held.trail)
-left job source marks count (phase.Tuples object number) held = (job.tuples.count - number) + 2
+left job source marks count (phase.Carrying object (stage.Tuples number)) held = (job.tuples.count - number) + 2
     + after_object job marks count (to_site object held.trail)
-left job source marks count (phase.Rename object) held =
+left job source marks count (phase.Carrying object stage.Rename) held =
     2 + after_object job marks count (to_site object held.trail)
-left job source marks count (phase.Line object) held =
+left job source marks count (phase.Carrying object stage.Line) held =
     1 + after_object job marks count (to_site object held.trail)
 left job source marks count phase.Walk held = still_listed held.trail + items_left job marks count + 2
 left job source marks count phase.End held = 1

@@ -7,6 +7,7 @@ use Rattle.std.proofs.lemmas.List.{take_all}
 use Rattle.pt_state.proofs.Words.{HasBeenFed, MakeFolder, Row, Writing, MayMake, Path, Reading, CanOpen, after_open, Answer, Did, LeavesSome, Make, Stays, content_at, in_pairtree, Answers, Calls, Changes, Creates, Makes, NewFile, Opens, Puts, World, asks, dest_tree, does, source_tree, Fault, Object, Part, Position, KeepsAll, held_of, Turned}
 use Rattle.pt_state.proofs.Words.part
 use Rattle.pt_state.proofs.Words.phase
+use Rattle.pt_state.proofs.Words.stage
 use Rattle.pt_state.specs.declared.state.State.{State}
 use Rattle.pt_plan.specs.Permits.{MayMakeContent, MayOpenRow}
 use Rattle.pt_plan.specs.TurnMake.{MakesFolder, OpensCopy, PassesRow, behind, in_content, is_stored, path_of_source, with_folder}
@@ -37,7 +38,7 @@ is_next_copy s object position row to from left names at stored long most is sou
 
 -- ---- a row that is passed
 
-pub passed_row : (s : State) (w : World) (object : Object) (position : Position) (next : Part) → IsPassed s position next → Turned (phase.Make object (part.Content position)) s s w w (Ok (phase.Make object next))
+pub passed_row : (s : State) (w : World) (object : Object) (position : Position) (next : Part) → IsPassed s position next → Turned (phase.Carrying object (stage.Make (part.Content position))) s s w w (Ok (phase.Carrying object (stage.Make next)))
 unfolding IsPassed
 passed_row s w object position next (row, (at, other, then)) =
     rw then
@@ -53,7 +54,7 @@ pub may_folder : (s : State) (reading : Option Reading) (writing : Option Writin
 unfolding MayMakeContent IsNextFolder
 may_folder s reading writing object position path may (row, (at, stored, less, few, is)) = rw is ((may row at stored).0 less)
 
-pub made_folder : (s : State) (a b : World) (object : Object) (position : Position) (path : Path) → Did (does (Makes (MakeFolder path))) a b → IsNextFolder s position path → Turned (phase.Make object (part.Content position)) s s a b (Ok (phase.Make object (part.Content (with_folder position))))
+pub made_folder : (s : State) (a b : World) (object : Object) (position : Position) (path : Path) → Did (does (Makes (MakeFolder path))) a b → IsNextFolder s position path → Turned (phase.Carrying object (stage.Make (part.Content position))) s s a b (Ok (phase.Carrying object (stage.Make (part.Content (with_folder position)))))
 unfolding IsNextFolder
 made_folder s a b object position path did (row, (at, stored, less, few, is)) =
     went a b (λ fed. fed) (λ fed _. Make (MakesFolder _ object position row at stored less)) (rw is at did) refl (λ fed was. was) keeps_same
@@ -84,7 +85,7 @@ both_did to from a b c made opened = (
 )
 
 pub copy_opened : (s s' : State) (a b c : World) (object : Object) (position : Position) (copied : Copied) → Did (does (Creates copied.to)) a b → Did (asks (Opens copied.from)) b c → IsNextCopy s object position copied → HasBeenFed s.job.algorithm s'.hasher [] → KeepsAll s s'
-    → Turned (phase.Make object (part.Content position)) s s' a c (Ok (phase.Copy object position copied.length))
+    → Turned (phase.Carrying object (stage.Make (part.Content position))) s s' a c (Ok (phase.Carrying object (stage.Copy position copied.length)))
 unfolding IsNextCopy
 copy_opened s s' a b c object position copied created opened (row, (at, stored, most, there, here, same)) started keeps =
     rw same
@@ -107,7 +108,7 @@ left_new to from f a b c created stays = (
 )
 
 pub copy_unopened : (s s' : State) (a b c : World) (object : Object) (position : Position) (copied : Copied) (f : Fault) (result : Answer) → IsErrAnd result (λ h. h ≡ f) → Did (does (Creates copied.to)) a b → Stays f b c → IsNextCopy s object position copied → KeepsAll s s'
-    → Turned (phase.Make object (part.Content position)) s s' a c result
+    → Turned (phase.Carrying object (stage.Make (part.Content position))) s s' a c result
 unfolding IsNextCopy
 copy_unopened s s' a b c object position copied f result is created stays (row, (at, stored, most, there, here, same)) keeps =
     left_some a c f result is (λ fed. Make (OpensCopy _ object position row at stored most))

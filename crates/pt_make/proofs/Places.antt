@@ -6,6 +6,7 @@ use Rattle.pt_state.proofs.Words.{MakeFolder, staging, Writing, IsKindAt, MayMak
 use Rattle.pt_state.proofs.Words.fault
 use Rattle.pt_state.proofs.Words.kind
 use Rattle.pt_state.proofs.Words.phase
+use Rattle.pt_state.proofs.Words.stage
 use Rattle.pt_state.specs.declared.state.State.{State}
 use Rattle.pt_tree.specs.Dest.{MayMove, after_mkdir}
 use Rattle.pt_tree.specs.Tree.{Entry}
@@ -46,20 +47,20 @@ found_and_made a b c path here found made none = (
 )
 
 module _ (s : State) (a b : World) (path : Path) (here : Option Kind) (object : Object) (number : ℕ) (found : Did (does (Finds path here)) a b) (is : path ≡ tuple_folder object number) where
-  pub made_tuple : (c : World) (next : Phase) → Did (does (Makes (MakeFolder path))) b c → here ≡ None → next ≡ after_tuple (job_of s.job) object number → Turned (phase.Tuples object number) s s a c (Ok next)
+  pub made_tuple : (c : World) (next : Phase) → Did (does (Makes (MakeFolder path))) b c → here ≡ None → next ≡ after_tuple (job_of s.job) object number → Turned (phase.Carrying object (stage.Tuples number)) s s a c (Ok next)
   made_tuple c next made none then =
       rw then
       (placed s a c (λ fed. MakesTuple _ object number) (rw is at (found_and_made a b c path here found made none)))
 
-  pub found_tuple : (next : Phase) → here ≡ Some kind.Dir → next ≡ after_tuple (job_of s.job) object number → Turned (phase.Tuples object number) s s a b (Ok next)
+  pub found_tuple : (next : Phase) → here ≡ Some kind.Dir → next ≡ after_tuple (job_of s.job) object number → Turned (phase.Carrying object (stage.Tuples number)) s s a b (Ok next)
   found_tuple next dir then =
       rw then
       (placed s a b (λ fed. FindsTuple _ object number) (rw (is, dir) at found))
 
-  pub in_the_way : (it : Kind) → here ≡ Some it → is_dir_kind (Some it) ≡ false → Turned (phase.Tuples object number) s s a b (Err fault.Target)
+  pub in_the_way : (it : Kind) → here ≡ Some it → is_dir_kind (Some it) ≡ false → Turned (phase.Carrying object (stage.Tuples number)) s s a b (Err fault.Target)
   in_the_way it some other = refused a b (λ fed was. Place (IsInTheWay _ object number it other)) (rw (is, some) at found) keeps_same
 
-pub renamed_object : (s : State) (a b : World) (from to : Path) (object : Object) → Did (does (Renames from to)) a b → from ≡ staging → to ≡ in_root object.place → Turned (phase.Rename object) s s a b (Ok (phase.Line object))
+pub renamed_object : (s : State) (a b : World) (from to : Path) (object : Object) → Did (does (Renames from to)) a b → from ≡ staging → to ≡ in_root object.place → Turned (phase.Carrying object stage.Rename) s s a b (Ok (phase.Carrying object stage.Line))
 renamed_object s a b from to object did is at =
     placed s a b (λ fed. RenamesObject _ object) (rw (is, (at)) at did)
 

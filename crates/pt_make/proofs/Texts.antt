@@ -4,6 +4,7 @@ use Rattle.std.specs.Prelude.{Ok, IsErrAnd, map}
 use Rattle.pt_state.proofs.Words.{digest_of, HasBeenFed, Algorithm, Hasher, Path, Answer, Did, LeavesSome, Make, World, Fault, Object, Phase, KeepsAll, job_of, Turned}
 use Rattle.pt_state.proofs.Words.part
 use Rattle.pt_state.proofs.Words.phase
+use Rattle.pt_state.proofs.Words.stage
 use Rattle.pt_state.specs.declared.state.State.{State}
 use Rattle.pt_object.specs.Distinct.{content_of_row, distinct}
 use Rattle.pt_object.specs.Files.{sidecar_line, sidecar_text}
@@ -40,13 +41,13 @@ pub ruleset files = (digest_is, contents_of_rows, fed_text, leaves_short, sideca
 -- ---- inventories
 
 pub made_version_inventory : (s s' : State) (a b : World) (object : Object) (here : Folder) (path : Path) (bytes : List ℕ) → here ≡ folder.Version → Did (makes_file path bytes) a b → path ≡ in_folder here (inventory_name ∷ []) → bytes ≡ inventory_held s object → HasBeenFed s.job.algorithm s'.hasher bytes → KeepsAll s s'
-    → Turned (phase.Make object (inventory_part here)) s s' a b (Ok (phase.Make object part.VersionSidecar))
+    → Turned (phase.Carrying object (stage.Make (inventory_part here))) s s' a b (Ok (phase.Carrying object (stage.Make part.VersionSidecar)))
 made_version_inventory s s' a b object here path bytes which did is same fed keeps =
     rw which
     (went a b (λ _. inventory_held s object) (λ fed _. Make (MakesVersionInventory _ object)) (rw (same, is, which) at did) refl (λ _ _. rw same at fed) keeps)
 
 pub made_top_inventory : (s s' : State) (a b : World) (object : Object) (here : Folder) (path : Path) (bytes : List ℕ) → here ≡ folder.Top → IsFedFor here s object → Did (makes_file path bytes) a b → path ≡ in_folder here (inventory_name ∷ []) → bytes ≡ inventory_held s object → s'.hasher ≡ s.hasher → KeepsAll s s'
-    → Turned (phase.Make object (inventory_part here)) s s' a b (Ok (phase.Make object part.Sidecar))
+    → Turned (phase.Carrying object (stage.Make (inventory_part here))) s s' a b (Ok (phase.Carrying object (stage.Make part.Sidecar)))
 unfolding HasFedInventory
 made_top_inventory s s' a b object here path bytes which fed did is same hasher keeps =
     rw which
@@ -56,7 +57,7 @@ made_top_inventory s s' a b object here path bytes which fed did is same hasher 
     was = rw which at fed
 
 pub left_inventory : (s s' : State) (a b : World) (object : Object) (here : Folder) (path : Path) (bytes : List ℕ) (f : Fault) (result : Answer) → IsErrAnd result (λ h. h ≡ f) → LeavesSome (makes_file path bytes) f a b → path ≡ in_folder here (inventory_name ∷ []) → bytes ≡ inventory_held s object → KeepsAll s s'
-    → Turned (phase.Make object (inventory_part here)) s s' a b result
+    → Turned (phase.Carrying object (stage.Make (inventory_part here))) s s' a b result
 left_inventory s s' a b object folder.Version path bytes f result is some at same keeps =
     left_some a b f result is (λ fed. Make (MakesVersionInventory _ object)) (rw (same, (at)) at some) keeps
 left_inventory s s' a b object folder.Top path bytes f result is some at same keeps =
@@ -69,20 +70,20 @@ abbrev sidecar_held : State → Object → List ℕ
 sidecar_held s object = sidecar_text s.job.algorithm (inventory_held s object)
 
 pub made_version_sidecar : (s : State) (a b : World) (object : Object) (here : Folder) (path : Path) → here ≡ folder.Version → HasFedInventory s object → Did (makes_file path (sidecar_held s object)) a b → path ≡ in_folder here (sidecar_name s.job.algorithm ∷ [])
-    → Turned (phase.Make object (sidecar_part here)) s s a b (Ok (phase.Make object part.Inventory))
+    → Turned (phase.Carrying object (stage.Make (sidecar_part here))) s s a b (Ok (phase.Carrying object (stage.Make part.Inventory)))
 unfolding HasFedInventory
 made_version_sidecar s a b object here path which fed did is =
     rw which
     (went a b (λ _. inventory_held s object) (λ fed _. Make (MakesVersionSidecar _ object)) (rw (is, which) at did) refl (λ _ _. fed) keeps_same)
 
 pub made_top_sidecar : (s s' : State) (a b : World) (object : Object) (here : Folder) (path : Path) (next : Phase) → here ≡ folder.Top → Did (makes_file path (sidecar_held s object)) a b → path ≡ in_folder here (sidecar_name s.job.algorithm ∷ []) → next ≡ after_last (job_of s.job) object → HasBeenFed s.job.algorithm s'.hasher [] → KeepsAll s s'
-    → Turned (phase.Make object (sidecar_part here)) s s' a b (Ok next)
+    → Turned (phase.Carrying object (stage.Make (sidecar_part here))) s s' a b (Ok next)
 made_top_sidecar s s' a b object here path next which did is then started keeps =
     rw (then, which)
     (went a b (λ _. []) (λ fed _. Make (MakesSidecar _ object)) (rw (is, which) at did) refl (λ _ _. started) keeps)
 
 pub left_sidecar : (s s' : State) (a b : World) (object : Object) (here : Folder) (path : Path) (f : Fault) (result : Answer) → IsErrAnd result (λ h. h ≡ f) → LeavesSome (makes_file path (sidecar_held s object)) f a b → path ≡ in_folder here (sidecar_name s.job.algorithm ∷ []) → KeepsAll s s'
-    → Turned (phase.Make object (sidecar_part here)) s s' a b result
+    → Turned (phase.Carrying object (stage.Make (sidecar_part here))) s s' a b result
 left_sidecar s s' a b object folder.Version path f result is left at keeps =
     left_some a b f result is (λ fed. Make (MakesVersionSidecar _ object)) (rw (at) at left) keeps
 left_sidecar s s' a b object folder.Top path f result is left at keeps =

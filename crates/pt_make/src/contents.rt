@@ -5,6 +5,7 @@ ghost use Rattle.pt_plan.specs.Permits.{MayMakeContent};
 ghost use Rattle.pt_plan.specs.TurnMake.{content_at, is_stored as is_stored_of};
 ghost use Rattle.pt_plan.specs.declared.phase.Part.TheVariants as part;
 ghost use Rattle.pt_plan.specs.declared.phase.Phase.TheVariants as phase;
+ghost use Rattle.pt_plan.specs.declared.phase.Stage.TheVariants as stage;
 ghost use Rattle.pt_state.specs.States.{held_of};
 ghost use Rattle.pt_state.specs.Outside.{TakesTurn};
 ghost use Rattle.pt_tree.specs.Dest.{MayMake};
@@ -12,7 +13,7 @@ ghost use Rattle.pt_tree.specs.Source.{CanOpen};
 ghost use Rattle.pt_make.specs.Making.{IsNextCopy, IsNextFolder, IsStep};
 
 use pt_object::{Contents, Hasher, Rows};
-use pt_plan::{Fault, Object, Part, Phase, Position};
+use pt_plan::{Fault, Object, Part, Phase, Position, Stage};
 use pt_state::paths::{content_path, source_path};
 use pt_state::{Outside, State};
 use pt_tree::{MemoryFault, NamePath};
@@ -46,11 +47,12 @@ pub(crate) fn make_content<O: Outside>(
     requires row { position.row < length state.old.rows }
     requires may { MayMakeContent (O.world out.old).source (O.world out.old).dest object
         (held_of state.old []) position }
-    ensures turn { TakesTurn O.world (O.within 1) (phase.Make object (part.Content position))
-        state.old state.new out.old out.new result }
+    ensures turn { TakesTurn O.world (O.within 1)
+        (phase.Carrying object (stage.Make (part.Content position))) state.old state.new
+        out.old out.new result }
 {
     match next_step(state, &object, position)? {
-        Step::Pass(next) => Ok(Phase::Make(object, next)),
+        Step::Pass(next) => Ok(Phase::Carrying(object, Stage::Make(next))),
         Step::Folder(path) => make_folder(state, object, position, &path, out),
         Step::File(copied) => open_copy(state, object, position, &copied, out),
     }
@@ -112,8 +114,9 @@ fn make_folder<O: Outside>(
 ) -> Result<Phase, Fault>
     requires next { IsNextFolder state.now position path.now }
     requires may { MayMake (O.world out.old).dest path.now }
-    ensures turn { TakesTurn O.world (O.within 0) (phase.Make object (part.Content position))
-        state.now state.now out.old out.new result }
+    ensures turn { TakesTurn O.world (O.within 0)
+        (phase.Carrying object (stage.Make (part.Content position))) state.now state.now
+        out.old out.new result }
 {
     out.mkdir(path)?;
     let directories = position.directories + 1;
@@ -121,7 +124,7 @@ fn make_folder<O: Outside>(
         directories,
         ..position
     };
-    Ok(Phase::Make(object, Part::Content(next)))
+    Ok(Phase::Carrying(object, Stage::Make(Part::Content(next))))
 }
 
 // Makes the file of a content, and opens the one that it is copied from.
@@ -135,11 +138,12 @@ fn open_copy<O: Outside>(
     requires next { IsNextCopy state.old object position copied.now }
     requires may { MayMake (O.world out.old).dest copied.now.to
         × CanOpen (O.world out.old).source copied.now.from }
-    ensures turn { TakesTurn O.world (O.within 1) (phase.Make object (part.Content position))
-        state.old state.new out.old out.new result }
+    ensures turn { TakesTurn O.world (O.within 1)
+        (phase.Carrying object (stage.Make (part.Content position))) state.old state.new
+        out.old out.new result }
 {
     out.create(&copied.to)?;
     out.open(&copied.from)?;
     state.hasher = Hasher::start(state.job.algorithm);
-    Ok(Phase::Copy(object, position, copied.length))
+    Ok(Phase::Carrying(object, Stage::Copy(position, copied.length)))
 }

@@ -8,6 +8,7 @@ ghost use Rattle.pt_object.specs.Hasher.{HasBeenFed};
 ghost use Rattle.pt_object.specs.Object.{inventory_name, sidecar_name as sidecar_name_of};
 ghost use Rattle.pt_plan.specs.TurnMake.{after_last};
 ghost use Rattle.pt_plan.specs.declared.phase.Phase.TheVariants as phase;
+ghost use Rattle.pt_plan.specs.declared.phase.Stage.TheVariants as stage;
 ghost use Rattle.pt_state.specs.Outside.{TakesTurn, Wrote};
 ghost use Rattle.pt_state.specs.States.{job_of};
 ghost use Rattle.pt_tree.specs.Dest.{MayMake};
@@ -15,7 +16,7 @@ ghost use Rattle.pt_tree.specs.Known.{known_text};
 ghost use Rattle.pt_make.specs.Making.{HasContentsOfRows, HasFedInventory, IsFedFor, in_folder, inventory_held, inventory_part, makes_file, sidecar_part};
 
 use pt_object::{Algorithm, Digest, Hasher, inventory, sidecar_of};
-use pt_plan::{Fault, Object, Part, Phase};
+use pt_plan::{Fault, Object, Part, Phase, Stage};
 use pt_state::files::put_file;
 use pt_state::{Outside, State};
 use pt_tree::{Known, MemoryFault, NamePath};
@@ -41,8 +42,9 @@ pub(crate) fn make_inventory<O: Outside>(
     requires contents { HasContentsOfRows state.old }
     requires fed { IsFedFor folder state.old object }
     requires may { MayMake (O.world out.old).dest (in_folder folder (inventory_name ∷ [])) }
-    ensures turn { TakesTurn O.world (O.within 0) (phase.Make object (inventory_part folder))
-        state.old state.new out.old out.new result }
+    ensures turn { TakesTurn O.world (O.within 0)
+        (phase.Carrying object (stage.Make (inventory_part folder))) state.old state.new
+        out.old out.new result }
 {
     let path = path_in(state.alloc, folder, Known::Inventory)?;
     let text = inventory_of(state, &object)?;
@@ -50,9 +52,9 @@ pub(crate) fn make_inventory<O: Outside>(
     match folder {
         Folder::Version => {
             state.hasher = fed_with(state.job.algorithm, &text);
-            Ok(Phase::Make(object, Part::VersionSidecar))
+            Ok(Phase::Carrying(object, Stage::Make(Part::VersionSidecar)))
         }
-        Folder::Top => Ok(Phase::Make(object, Part::Sidecar)),
+        Folder::Top => Ok(Phase::Carrying(object, Stage::Make(Part::Sidecar))),
     }
 }
 
@@ -90,13 +92,14 @@ pub(crate) fn make_sidecar<O: Outside>(
     requires fed { HasFedInventory state.old object }
     requires may { MayMake (O.world out.old).dest
         (in_folder folder (sidecar_name_of state.old.job.algorithm ∷ [])) }
-    ensures turn { TakesTurn O.world (O.within 0) (phase.Make object (sidecar_part folder))
-        state.old state.new out.old out.new result }
+    ensures turn { TakesTurn O.world (O.within 0)
+        (phase.Carrying object (stage.Make (sidecar_part folder))) state.old state.new
+        out.old out.new result }
 {
     let path = sidecar_path(state.alloc, folder, state.job.algorithm)?;
     put_sidecar(state, &object, &path, out)?;
     match folder {
-        Folder::Version => Ok(Phase::Make(object, Part::Inventory)),
+        Folder::Version => Ok(Phase::Carrying(object, Stage::Make(Part::Inventory))),
         Folder::Top => {
             state.hasher = Hasher::start(state.job.algorithm);
             Ok(after_object(state, object))
@@ -109,9 +112,9 @@ fn after_object(state: &State, object: Object) -> Phase
     ensures { result ≡ after_last (job_of state.now.job) object }
 {
     if state.job.layout.count() == 0 {
-        Phase::Rename(object)
+        Phase::Carrying(object, Stage::Rename)
     } else {
-        Phase::Tuples(object, 0)
+        Phase::Carrying(object, Stage::Tuples(0))
     }
 }
 

@@ -6,6 +6,7 @@ ghost use Rattle.pt_plan.specs.Permits.{MayMakePart};
 ghost use Rattle.pt_plan.specs.TurnMake.{in_version};
 ghost use Rattle.pt_plan.specs.declared.phase.Part.TheVariants as part;
 ghost use Rattle.pt_plan.specs.declared.phase.Phase.TheVariants as phase;
+ghost use Rattle.pt_plan.specs.declared.phase.Stage.TheVariants as stage;
 ghost use Rattle.pt_state.specs.States.{held_of, job_of};
 ghost use Rattle.pt_state.specs.Outside.{TakesTurn};
 ghost use Rattle.pt_tree.specs.Dest.{MayMake};
@@ -14,7 +15,7 @@ ghost use Rattle.pt_make.specs.Making.{IsReadyFor};
 use crate::contents::{make_content, next_content};
 use crate::inventories::{Folder, make_inventory, make_sidecar};
 use pt_object::object_declaration;
-use pt_plan::{Fault, Object, Part, Phase, Position};
+use pt_plan::{Fault, Object, Part, Phase, Position, Stage};
 use pt_state::files::put_file;
 use pt_state::{Outside, State};
 use pt_tree::{Known, NamePath};
@@ -31,8 +32,8 @@ pub fn make<O: Outside>(
     requires may { MayMakePart (job_of state.old.job) object part (held_of state.old [])
         (O.world out.old).source (O.world out.old).dest }
     requires ready { IsReadyFor part object state.old }
-    ensures turn { TakesTurn O.world (O.within 1) (phase.Make object part) state.old state.new
-        out.old out.new result }
+    ensures turn { TakesTurn O.world (O.within 1) (phase.Carrying object (stage.Make part))
+        state.old state.new out.old out.new result }
 {
     match part {
         Part::Staging => make_staging(state, object, out),
@@ -49,29 +50,30 @@ pub fn make<O: Outside>(
 // Makes `staging`.
 fn make_staging<O: Outside>(state: &State, object: Object, out: &mut O) -> Result<Phase, Fault>
     requires may { MayMake (O.world out.old).dest staging }
-    ensures turn { TakesTurn O.world (O.within 0) (phase.Make object part.Staging)
+    ensures turn { TakesTurn O.world (O.within 0) (phase.Carrying object (stage.Make part.Staging))
         state.now state.now out.old out.new result }
 {
     let path = NamePath::of_known(state.alloc, &[Known::Staging])?;
     out.mkdir(&path)?;
-    Ok(Phase::Make(object, Part::Declaration))
+    Ok(Phase::Carrying(object, Stage::Make(Part::Declaration)))
 }
 
 // Makes the object's declaration (OCFL 1.1, "Object Conformance Declaration").
 fn make_declaration<O: Outside>(state: &State, object: Object, out: &mut O) -> Result<Phase, Fault>
     requires may { MayMake (O.world out.old).dest (staging ++ object_declaration_name ∷ []) }
-    ensures turn { TakesTurn O.world (O.within 0) (phase.Make object part.Declaration)
-        state.now state.now out.old out.new result }
+    ensures turn { TakesTurn O.world (O.within 0)
+        (phase.Carrying object (stage.Make part.Declaration)) state.now state.now
+        out.old out.new result }
 {
     let path = NamePath::of_known(state.alloc, &[Known::Staging, Known::Declaration])?;
     put_file(out, &path, object_declaration())?;
-    Ok(Phase::Make(object, Part::Version))
+    Ok(Phase::Carrying(object, Stage::Make(Part::Version)))
 }
 
 // Makes the version's folder (OCFL 1.1, "Version Directories").
 fn make_version<O: Outside>(state: &State, object: Object, out: &mut O) -> Result<Phase, Fault>
     requires may { MayMake (O.world out.old).dest (in_version []) }
-    ensures turn { TakesTurn O.world (O.within 0) (phase.Make object part.Version)
+    ensures turn { TakesTurn O.world (O.within 0) (phase.Carrying object (stage.Make part.Version))
         state.now state.now out.old out.new result }
 {
     let path = NamePath::of_known(state.alloc, &[Known::Staging, Known::Version])?;
@@ -81,5 +83,5 @@ fn make_version<O: Outside>(state: &State, object: Object, out: &mut O) -> Resul
         stored: 0,
         directories: 0,
     };
-    Ok(Phase::Make(object, next_content(&state.rows, first)))
+    Ok(Phase::Carrying(object, Stage::Make(next_content(&state.rows, first))))
 }

@@ -2,6 +2,7 @@
 ghost use Rattle.std.specs.Prelude.{◌≡◌, ◌<◌, ◌^◌};
 ghost use Rattle.pt_plan.specs.TurnPlace.{bytes_in_rows as bytes_in_rows_of};
 ghost use Rattle.pt_plan.specs.declared.phase.Phase.TheVariants as phase;
+ghost use Rattle.pt_plan.specs.declared.phase.Stage.TheVariants as stage;
 ghost use Rattle.pt_state.specs.Outside.{TakesTurn};
 ghost use Rattle.pt_make.specs.Making.{CanTellDone};
 
@@ -15,8 +16,8 @@ use pt_state::{Outside, State};
 /// Tells that an object is done, and walks on from its site.
 pub fn tell_done<O: Outside>(state: &mut State, object: Object, out: &mut O) -> Result<Phase, Fault>
     requires { CanTellDone state.old }
-    ensures turn { TakesTurn O.world (O.within 0) (phase.Line object) state.old state.new
-        out.old out.new result }
+    ensures turn { TakesTurn O.world (O.within 0) (phase.Carrying object stage.Line)
+        state.old state.new out.old out.new result }
 {
     let at = object_path(&object, &state.trail)?;
     let line = Done {

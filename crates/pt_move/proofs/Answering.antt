@@ -5,7 +5,9 @@ use Rattle.std.specs.Prelude.{Option, None, Some, Ok, Err}
 use Rattle.pt_state.proofs.Words.{HasBeenFed, Algorithm, Hasher, Writing, Reading, Answer, phase_after, Job, Held, Run, new_run, Failures, World, source_tree, Fault, Phase, held_of, job_of, kept_of, IsLayout, Tree}
 use Rattle.pt_state.proofs.Words.fault
 use Rattle.pt_state.proofs.Words.part
+use Rattle.pt_state.proofs.Words.opening
 use Rattle.pt_state.proofs.Words.phase
+use Rattle.pt_state.proofs.Words.stage
 use Rattle.pt_state.specs.declared.state.State.{State}
 use Rattle.pt_state.specs.declared.job.Report.{Report}
 use Rattle.pt_plan.specs.Permits.{Permits}
@@ -51,7 +53,8 @@ fed_to_end here a h fed was = OnFalse_from (is_ended here) (HasBeenFed a h fed) 
 -- the hasher has no part in what the calls need
 permits_fed : (job : Job) (here : Phase) (s : State) (fed : List ℕ) (r : Option Reading) (w : Option Writing) → Permits job here (held_of s fed) r w → Permits job here (held_of s []) r w
 unfolding MayMakeContent
-permits_fed job (phase.Make object part.Staging) s fed r w may = may
+permits_fed job (phase.Carrying object (stage.Make part.Staging)) s fed r w may = may
+permits_fed job (phase.Opening opening.Begin) s fed r w may = may
 permits_fed job phase.Ended s fed r w may = tt
 permits_fed _ _ _ _ _ _ may = may
 
@@ -105,11 +108,12 @@ bounded_fed : {job : Job} {here : Phase} (s : State) {fed : List ℕ} (fed' : Li
 bounded_fed {job} {here} s {fed} fed' bounded = record { lines = bounded.lines; turns = bounded.turns; few = record { rows = bounded.few.rows; lengths = bounded.few.lengths }; within = within here bounded.within; prefix = bounded.prefix }
   where
     within : (here : Phase) → IsWithin job here (held_of s fed) s.counts.turns → IsWithin job here (held_of s fed') s.counts.turns
-    within phase.Begin is = is
+    within (phase.Opening opening.Begin) is = is
+    within (phase.Carrying object stage.Open) is = is
     within _ is = is
 
 -- after a turn the run isn't to begin
-not_first : (s s' : State) (fed' : List ℕ) (answer : Answer) → phase_after answer ≡ phase.Begin → IsBounded (job_of s.job) (phase_after answer) (kept_of s' fed') → s'.counts.turns ≡ s.counts.turns + 1 → ⊥
+not_first : (s s' : State) (fed' : List ℕ) (answer : Answer) → phase_after answer ≡ phase.Opening opening.Begin → IsBounded (job_of s.job) (phase_after answer) (kept_of s' fed') → s'.counts.turns ≡ s.counts.turns + 1 → ⊥
 not_first s s' fed' answer begins bounded turns =
     let none : s'.counts.turns ≡ 0 = rw begins at bounded.within in
     omega (arith, none, turns)
@@ -164,7 +168,7 @@ few_calls here s well = by here well.bounded.within
     one = least (s.counts.turns == 1)
 
     by : (here : Phase) → IsWithin (job_of s.job) here (held_of s []) s.counts.turns → most_calls here ≤ most_calls_at (record { phase = here; state = s })
-    by (phase.Prefix here) within = rw within (omega (arith))
+    by (phase.Opening (opening.Prefix here)) within = rw within (omega (arith))
     by _ _ = one
 
 -- ---- by the answer
@@ -216,7 +220,7 @@ err_stays fault.Turns old new own = absurd own
 err_stays fault.Ended old new own = absurd own
 err_stays _ _ _ _ = tt
 
-new_bounded : (job : Job) → IsBounded job phase.Begin fresh_kept
+new_bounded : (job : Job) → IsBounded job (phase.Opening opening.Begin) fresh_kept
 new_bounded job = record { lines = omega (arith); turns = omega (arith); few = record { rows = omega (arith); lengths = omega (arith) }; within = refl; prefix = omega (arith) }
 
 pub is_fresh : {job : own.Job} {r : Running} → IsNew job r → IsFresh r.state
@@ -236,11 +240,11 @@ told_nothing g' c' same counts = (inl same, (ap (λ (k : Report). k.done) counts
 pub ended_well : (r : Running) (s : Running) → IsWell r → s.phase ≡ phase.Ended → s.state ≡ r.state → IsWell s
 ended_well r s well ended same = record {
   bounded = rw (ended, same) (record { lines = well.bounded.lines; turns = well.bounded.turns; few = record { rows = well.bounded.few.rows; lengths = well.bounded.few.lengths }; within = tt; prefix = well.bounded.prefix });
-  fresh = λ begins. absurd (let no : phase.Ended ≡ phase.Begin = sym ended ∙ begins in cc);
+  fresh = λ begins. absurd (let no : phase.Ended ≡ (phase.Opening opening.Begin) = sym ended ∙ begins in cc);
 }
 
 -- one that is to begin began where the devices stand
-pub first_begun : (r : Running) (world : World) → r.phase ≡ phase.Begin → IsFresh r.state → IsLayout r.state.job.layout → IsWorld world → IsBegun (start_of world) world r
+pub first_begun : (r : Running) (world : World) → r.phase ≡ phase.Opening opening.Begin → IsFresh r.state → IsLayout r.state.job.layout → IsWorld world → IsBegun (start_of world) world r
 unfolding IsBegun
 first_begun r world begins fresh layout is = record {
   fed = [];
@@ -279,7 +283,7 @@ goes_on_ended r t world (start, begun) ended same = inr (start, begun_ends start
 pub goes_on_same : (r t : Running) (world : World) → t ≡ r → HasBegun world r → HasBegun world t
 goes_on_same r t world same is = rw same is
 
-pub begins_begun : (r : Running) (world : World) → r.phase ≡ phase.Begin → HasBegun world r
+pub begins_begun : (r : Running) (world : World) → r.phase ≡ phase.Opening opening.Begin → HasBegun world r
 unfolding HasBegun
 begins_begun r world begins = inl begins
 

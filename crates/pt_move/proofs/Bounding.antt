@@ -8,7 +8,9 @@ use Rattle.std.proofs.lemmas.Bool.{ltb-false, leb-false}
 use Rattle.std.proofs.lemmas.List.{length-append}
 use Rattle.std.proofs.lemmas.List.Sums.{sum_by-append}
 use Rattle.pt_state.proofs.Words.{Row, Item, Answer, phase_after, Job, Line, Done, Counts, Held, Kept, turning, Follows, FailsAtFirst, FailsLater, GoesOn, IsHalted, IsRefused, Make, Place, Scan, Start, Turn, Walk, counted, bytes_in_rows, Calls, World, Phase}
+use Rattle.pt_state.proofs.Words.opening
 use Rattle.pt_state.proofs.Words.phase
+use Rattle.pt_state.proofs.Words.stage
 use Rattle.pt_plan.specs.TurnMake as make
 use Rattle.pt_plan.specs.TurnPlace as place
 use Rattle.pt_plan.specs.TurnScan as scan
@@ -74,8 +76,8 @@ either_within job held turns false first second _ within = within
 
 follows_within : {job : Job} {counts : Counts} {here : Phase} {prefix read : List ℕ} {held new : Held} {calls : Calls} {next : Phase} (turns : ℕ) → Follows job counts here prefix held read new calls (Ok next) → IsWithin job here held turns → IsWithin job next new (turns + 1)
 follows_within turns (Start (start.IsStore _ entries is)) within = omega (arith, within)
-follows_within {job} {held} turns (Start (start.MakesRoot _ number _ _)) _ = either_within job held (turns + 1) (number == 5) phase.RootRename (phase.RootMake (number + 1)) tt tt
-follows_within {job} {held} turns (Start (start.IsSame _ number _ _ _)) _ = either_within job held (turns + 1) (number == 2) phase.OpenRoot (phase.RootCheck (number + 1)) tt tt
+follows_within {job} {held} turns (Start (start.MakesRoot _ number _ _)) _ = either_within job held (turns + 1) (number == 5) (phase.Opening opening.RootRename) (phase.Opening (opening.RootMake (number + 1))) tt tt
+follows_within {job} {held} turns (Start (start.IsSame _ number _ _ _)) _ = either_within job held (turns + 1) (number == 2) (phase.Opening opening.OpenRoot) (phase.Opening (opening.RootCheck (number + 1))) tt tt
 follows_within turns (Walk (walk.IsNew _ index id found)) _ = omega (arith)
 follows_within turns (Scan (scan.StartsInSite _ object gathered)) within = omega (arith, within)
 follows_within turns (Scan (scan.EntersObject _ object items apart shallow)) within = let one = none_few items in omega (arith, within, one)
@@ -85,9 +87,9 @@ follows_within {job} {held} turns (Scan (scan.OpensFile _ object name at room)) 
 follows_within turns (Scan (scan.LeavesDirectory _ object at site own)) within = omega (arith, within)
 follows_within {job} turns (Scan (scan.ReadsOn _ object bytes byte block short)) (few, was, room) = let within = ltb-false job.limits.file_bytes (bytes + length (byte ∷ block)) short in (omega (arith, few), omega (arith, within), room)
 follows_within turns (Scan (scan.EndsFile _ object bytes)) (few, was, room) = omega (arith, few)
-follows_within {job} {held} turns (Make (make.MakesSidecar _ object)) _ = either_within job (with_fed held []) (turns + 1) (job.tuples.count == 0) (phase.Rename object) (phase.Tuples object 0) tt tt
-follows_within {job} {held} turns (Place (place.MakesTuple _ object number)) _ = either_within job held (turns + 1) (nat_lt (number + 1) job.tuples.count) (phase.Tuples object (number + 1)) (phase.Rename object) tt tt
-follows_within {job} {held} turns (Place (place.FindsTuple _ object number)) _ = either_within job held (turns + 1) (nat_lt (number + 1) job.tuples.count) (phase.Tuples object (number + 1)) (phase.Rename object) tt tt
+follows_within {job} {held} turns (Make (make.MakesSidecar _ object)) _ = either_within job (with_fed held []) (turns + 1) (job.tuples.count == 0) (phase.Carrying object stage.Rename) (phase.Carrying object (stage.Tuples 0)) tt tt
+follows_within {job} {held} turns (Place (place.MakesTuple _ object number)) _ = either_within job held (turns + 1) (nat_lt (number + 1) job.tuples.count) (phase.Carrying object (stage.Tuples (number + 1))) (phase.Carrying object stage.Rename) tt tt
+follows_within {job} {held} turns (Place (place.FindsTuple _ object number)) _ = either_within job held (turns + 1) (nat_lt (number + 1) job.tuples.count) (phase.Carrying object (stage.Tuples (number + 1))) (phase.Carrying object stage.Rename) tt tt
 follows_within _ _ _ = tt
 
 -- ---- the prefix

@@ -5,7 +5,9 @@ use Rattle.pt_object.specs.Contents.{content_of, is_noted, noted}
 use Rattle.pt_state.proofs.Words.{Content, is_first, Item, Path, advanced, entered, names_to, parent, sought, Cause, Frame, Answer, Job, Line, End, Skipped, Counts, Held, Follows, Make, Place, Scan, Start, Walk, Calls, Fault, Phase}
 use Rattle.pt_state.proofs.Words.cause
 use Rattle.pt_state.proofs.Words.fault
+use Rattle.pt_state.proofs.Words.opening
 use Rattle.pt_state.proofs.Words.phase
+use Rattle.pt_state.proofs.Words.stage
 use Rattle.pt_plan.specs.TurnMake as make
 use Rattle.pt_plan.specs.TurnPlace as place
 use Rattle.pt_plan.specs.TurnScan as scan
@@ -183,12 +185,12 @@ either_end counts true first second ends _ = ends
 either_end counts false first second _ ends = ends
 
 pub follows_end : {job : Job} {counts : Counts} {here : Phase} {prefix read : List ℕ} {held new : Held} {calls : Calls} {next : Phase} → Follows job counts here prefix held read new calls (Ok next) → EndsWith counts next calls.line
-follows_end {counts} (Start (start.MakesRoot _ number _ _)) = either_end counts (number == 5) phase.RootRename (phase.RootMake (number + 1)) tt tt
-follows_end {counts} (Start (start.IsSame _ number _ _ _)) = either_end counts (number == 2) phase.OpenRoot (phase.RootCheck (number + 1)) tt tt
+follows_end {counts} (Start (start.MakesRoot _ number _ _)) = either_end counts (number == 5) (phase.Opening opening.RootRename) (phase.Opening (opening.RootMake (number + 1))) tt tt
+follows_end {counts} (Start (start.IsSame _ number _ _ _)) = either_end counts (number == 2) (phase.Opening opening.OpenRoot) (phase.Opening (opening.RootCheck (number + 1))) tt tt
 follows_end (Walk (walk.OpensRoot _ _)) = tt
 follows_end (Scan (scan.StartsInSite _ _ _)) = tt
-follows_end {job} {counts} (Make (make.MakesSidecar _ object)) = either_end counts (job.tuples.count == 0) (phase.Rename object) (phase.Tuples object 0) tt tt
-follows_end {job} {counts} (Place (place.MakesTuple _ object number)) = either_end counts (nat_lt (number + 1) job.tuples.count) (phase.Tuples object (number + 1)) (phase.Rename object) tt tt
-follows_end {job} {counts} (Place (place.FindsTuple _ object number)) = either_end counts (nat_lt (number + 1) job.tuples.count) (phase.Tuples object (number + 1)) (phase.Rename object) tt tt
+follows_end {job} {counts} (Make (make.MakesSidecar _ object)) = either_end counts (job.tuples.count == 0) (phase.Carrying object stage.Rename) (phase.Carrying object (stage.Tuples 0)) tt tt
+follows_end {job} {counts} (Place (place.MakesTuple _ object number)) = either_end counts (nat_lt (number + 1) job.tuples.count) (phase.Carrying object (stage.Tuples (number + 1))) (phase.Carrying object stage.Rename) tt tt
+follows_end {job} {counts} (Place (place.FindsTuple _ object number)) = either_end counts (nat_lt (number + 1) job.tuples.count) (phase.Carrying object (stage.Tuples (number + 1))) (phase.Carrying object stage.Rename) tt tt
 follows_end (Place (place.TellsEnd _)) = refl
 follows_end _ = tt

@@ -2,6 +2,7 @@
 use Rattle.std.proofs.Common.{◌≡◌, inl, sym, ◌∙◌}
 use Rattle.std.specs.Prelude.{Err, ◌≢◌}
 use Rattle.pt_state.proofs.Words.{IsLayout, World}
+use Rattle.pt_state.proofs.Words.opening
 use Rattle.pt_state.proofs.Words.phase
 use Rattle.pt_begun.specs.Begun.{IsWorld, start_of}
 use Rattle.pt_state.specs.declared.job.Job.{Job}
@@ -13,7 +14,7 @@ use Rattle.pt_plan.specs.declared.fault.Fault.TheVariants as fault
 
 -- a run that is to begin hasn't ended
 pub new_goes_on : (job : Job) (r : Running) → IsNew job r → r.phase ≢ phase.Ended
-new_goes_on job r new ended = let both : phase.Begin ≡ phase.Ended = sym new.phase ∙ ended in absurd (cc)
+new_goes_on job r new ended = let both : (phase.Opening opening.Begin) ≡ phase.Ended = sym new.phase ∙ ended in absurd (cc)
 
 -- a run that goes on isn't told that it has ended
 pub not_ended : (f : Fault) (old new : Running) → old.phase ≢ phase.Ended → EndsAs old new (Err f) → f ≢ fault.Ended

@@ -3,7 +3,9 @@ use Rattle.std.proofs.Common.{◌≡◌, ◌<◌, ◌≤◌, ◌*◌, ◌^◌, �
 use Rattle.std.specs.Prelude.{IfErr, IsTrue, Ok, Err}
 use Rattle.pt_state.proofs.Words.{Answer, Job, Held, turning, Phase, job_of, kept_of, World, Turned}
 use Rattle.pt_state.proofs.Words.part
+use Rattle.pt_state.proofs.Words.opening
 use Rattle.pt_state.proofs.Words.phase
+use Rattle.pt_state.proofs.Words.stage
 use Rattle.pt_state.specs.declared.state.State.{State}
 use Rattle.pt_state.specs.declared.job.Report.{Report}
 use Rattle.pt_walk.specs.Limits.{Bounds, are_limits}
@@ -33,9 +35,9 @@ few_bytes {rows} {each} few most short sum =
     mul_mono a b c le = search rules
 
 adds : (job : Job) (here : Phase) (held : Held) {turns : ℕ} → IsWithin job here held turns → turns < 2 ^ 40 → job.limits.file_bytes ≤ 2 ^ 43 → AddsWithin here
-adds job (phase.OpenObject object) held within less short = omega (arith, within, less)
-adds job (phase.Scan object) held within less short = omega (arith, within, less)
-adds job (phase.Read object bytes) held within less short = let most = within.1 in omega (arith, most, short)
+adds job (phase.Carrying object stage.Open) held within less short = omega (arith, within, less)
+adds job (phase.Carrying object stage.Scan) held within less short = omega (arith, within, less)
+adds job (phase.Carrying object (stage.Read bytes)) held within less short = let most = within.1 in omega (arith, most, short)
 adds _ _ _ _ _ _ = tt
 
 -- what was bounded may be added to
@@ -72,7 +74,8 @@ counted_turn here s t s' old new answer turned job hasher kept = (
 -- counting a turn changes nothing of where a run stands
 pub stands_on : (here : Phase) (s : State) (counts : Report) → Stands here s → Stands here (record s { counts = counts })
 unfolding HasContentsOfRows HasFedInventory
-stands_on (phase.Make object part.Staging) s counts stands = stands
+stands_on (phase.Opening opening.Begin) s counts stands = stands
+stands_on (phase.Carrying object (stage.Make part.Staging)) s counts stands = stands
 stands_on _ _ _ stands = stands
 
 -- a turn answers none of the faults that are the run's own

@@ -5,7 +5,9 @@ use Rattle.std.specs.Option.{option_map_or}
 use Rattle.std.proofs.lemmas.Option.{slice_get_within}
 use Rattle.pt_state.proofs.Words.{Content, same_path, Position, HasBeenFed, Item, Frame, Held, Object, Part, Phase, held_of, job_of}
 use Rattle.pt_state.proofs.Words.part
+use Rattle.pt_state.proofs.Words.opening
 use Rattle.pt_state.proofs.Words.phase
+use Rattle.pt_state.proofs.Words.stage
 use Rattle.pt_state.specs.declared.state.State.{State}
 use Rattle.pt_begun.specs.BegunHeld.{HeldAt}
 use Rattle.pt_begun.specs.Past.{Past}
@@ -27,7 +29,7 @@ in_object : (object : Object) (trail : List Frame) → 0 < object.site → objec
 unfolding IsSite
 in_object object trail some within = (some, within)
 
-ready : (here : Part) {object : Object} (s : State) {fed : List ℕ} {past : Past} → HasBeenFed s.job.algorithm s.hasher fed → HeldAt (job_of s.job) past (phase.Make object here) (held_of s fed) → IsReadyFor here object s
+ready : (here : Part) {object : Object} (s : State) {fed : List ℕ} {past : Past} → HasBeenFed s.job.algorithm s.hasher fed → HeldAt (job_of s.job) past (phase.Carrying object (stage.Make here)) (held_of s fed) → IsReadyFor here object s
 unfolding HasContentsOfRows HasFedInventory
 ready part.Staging s was held = tt
 ready part.Declaration s was held = tt
@@ -47,15 +49,15 @@ stored_there {held} {position} at = by (slice_get held.contents position.stored)
     by (Some content) is there = slice_get_within held.contents position.stored content is
 
 pub stands : (here : Phase) (s : State) {fed : List ℕ} {past : Past} → here ≢ phase.Ended → HasBeenFed s.job.algorithm s.hasher fed → HeldAt (job_of s.job) past here (held_of s fed) → Stands here s
-stands (phase.RootMake item) s going was held = held.numbers
-stands (phase.RootCheck file) s going was held = held.numbers
-stands phase.OpenRoot s going was held = held.trail.none
-stands (phase.OpenObject object) s going was held = (as_site object s.trail held.ends.0.some held.ends.1, held.trail.entry)
-stands (phase.Scan object) s going was held = (in_object object s.trail held.ends.0.some held.ends.1.within, held.ends.1.own)
-stands (phase.Read object bytes) s going was held = (in_object object s.trail held.ends.0.some held.ends.1.within, held.ends.1.own, some_entry {o = _} {item = held.trail.entry.0} held.trail.entry.1)
-stands (phase.Make object here) s {fed} {past} going was held = ready here {object = object} s {fed = fed} {past = past} was held
-stands (phase.Copy object position left) s {fed} going was held = (held.numbers.at.within, stored_there {held = held_of s fed} {position = position} held.numbers)
-stands (phase.Tuples object number) s going was held = held.numbers
-stands (phase.Line object) s going was held = let some = held.ends.0.some in let long = held.ends.1 in omega (arith, some, long)
+stands (phase.Opening (opening.RootMake item)) s going was held = held.numbers
+stands (phase.Opening (opening.RootCheck file)) s going was held = held.numbers
+stands (phase.Opening opening.OpenRoot) s going was held = held.trail.none
+stands (phase.Carrying object stage.Open) s going was held = (as_site object s.trail held.ends.0.some held.ends.1, held.trail.entry)
+stands (phase.Carrying object stage.Scan) s going was held = (in_object object s.trail held.ends.0.some held.ends.1.within, held.ends.1.own)
+stands (phase.Carrying object (stage.Read bytes)) s going was held = (in_object object s.trail held.ends.0.some held.ends.1.within, held.ends.1.own, some_entry {o = _} {item = held.trail.entry.0} held.trail.entry.1)
+stands (phase.Carrying object (stage.Make here)) s {fed} {past} going was held = ready here {object = object} s {fed = fed} {past = past} was held
+stands (phase.Carrying object (stage.Copy position left)) s {fed} going was held = (held.numbers.at.within, stored_there {held = held_of s fed} {position = position} held.numbers)
+stands (phase.Carrying object (stage.Tuples number)) s going was held = held.numbers
+stands (phase.Carrying object stage.Line) s going was held = let some = held.ends.0.some in let long = held.ends.1 in omega (arith, some, long)
 stands phase.Ended s going was held = absurd (going refl)
 stands _ _ _ _ _ = tt

@@ -4,7 +4,9 @@ use Rattle.pt_plan.specs.Job.{Job}
 use Rattle.pt_plan.specs.Run.{Counts, Held, Kept}
 use Rattle.pt_plan.specs.TurnPlace.{bytes_in_rows}
 use Rattle.pt_plan.specs.declared.phase.Phase.{Phase}
+use Rattle.pt_plan.specs.declared.phase.Opening.TheVariants as opening
 use Rattle.pt_plan.specs.declared.phase.Phase.TheVariants as phase
+use Rattle.pt_plan.specs.declared.phase.Stage.TheVariants as stage
 
 -- how many lines were put
 abbrev pub lines_put : Counts → ℕ
@@ -12,11 +14,11 @@ lines_put counts = counts.done + counts.present + counts.skipped
 
 -- after so many turns: the first two turns are those of their phases; each directory without entries that was met in the object took one of them, a file is read within its limit, and there is room for its row
 abbrev pub IsWithin : Job → Phase → Held → ℕ → Type 0
-IsWithin job phase.Begin held turns = turns ≡ 0
-IsWithin job (phase.Prefix here) held turns = turns ≡ 1
-IsWithin job (phase.OpenObject object) held turns = object.empty ≤ turns
-IsWithin job (phase.Scan object) held turns = object.empty ≤ turns
-IsWithin job (phase.Read object bytes) held turns = (object.empty ≤ turns)
+IsWithin job (phase.Opening opening.Begin) held turns = turns ≡ 0
+IsWithin job (phase.Opening (opening.Prefix here)) held turns = turns ≡ 1
+IsWithin job (phase.Carrying object stage.Open) held turns = object.empty ≤ turns
+IsWithin job (phase.Carrying object stage.Scan) held turns = object.empty ≤ turns
+IsWithin job (phase.Carrying object (stage.Read bytes)) held turns = (object.empty ≤ turns)
     × (bytes ≤ job.limits.file_bytes) × (length held.rows < job.limits.files)
 IsWithin job _ held turns = ⊤
 
@@ -35,5 +37,5 @@ pub record IsBounded (job : Job) (here : Phase) (kept : Kept) : Type 0 where
 
 -- how often a turn of this phase calls the source at most
 abbrev pub most_calls : Phase → ℕ
-most_calls (phase.Prefix here) = 2
+most_calls (phase.Opening (opening.Prefix here)) = 2
 most_calls _ = 1

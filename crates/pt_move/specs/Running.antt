@@ -8,6 +8,7 @@ use Rattle.pt_tree.specs.Dest.{Writing}
 use Rattle.pt_tree.specs.Tree.{Tree}
 use Rattle.pt_plan.specs.Run.{Kept, Run}
 use Rattle.pt_plan.specs.declared.phase.Phase.{Phase}
+use Rattle.pt_plan.specs.declared.phase.Opening.TheVariants as opening
 use Rattle.pt_plan.specs.declared.phase.Phase.TheVariants as phase
 use Rattle.pt_begun.specs.Begun.{Start, TellsAsBefore}
 use Rattle.pt_begun.specs.EndLaws.{is_ended}
@@ -39,7 +40,7 @@ fresh_kept = record {
 
 -- a run of this job that is to begin, and holds nothing
 pub record IsNew (job : Job) (r : Running) : Type 0 where
-  pub phase : r.phase ≡ phase.Begin
+  pub phase : r.phase ≡ phase.Opening opening.Begin
   pub job_is : r.state.job ≡ job
   pub kept : kept_of r.state [] ≡ fresh_kept
   pub counts : r.state.counts ≡ no_lines
@@ -53,7 +54,7 @@ pub record IsFresh (s : State) : Type 0 where
 -- what always holds of a run: its numbers are within their bounds, and one that is to begin holds nothing
 pub record IsWell (r : Running) : Type 0 where
   pub bounded : IsBounded (job_of r.state.job) r.phase (kept_of r.state [])
-  pub fresh : r.phase ≡ phase.Begin → IsFresh r.state
+  pub fresh : r.phase ≡ phase.Opening opening.Begin → IsFresh r.state
 
 -- the run as the definitions see it, where the hasher was fed this
 abbrev pub run_of : Running → List ℕ → Run
@@ -82,7 +83,7 @@ IsBegun start world r = InProgress start (as_told world) r
 
 -- it is to begin, or it began at some start
 unfoldable pub HasBegun : World → Running → Type 0
-HasBegun world r = (r.phase ≡ phase.Begin) ⊎ ((start : Start) × IsBegun start world r)
+HasBegun world r = (r.phase ≡ phase.Opening opening.Begin) ⊎ ((start : Start) × IsBegun start world r)
 
 -- it began at some start
 unfoldable pub BeganSomewhere : World → Running → Type 0

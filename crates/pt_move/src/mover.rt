@@ -10,7 +10,7 @@ ghost use Rattle.pt_move.specs.Running.{BeganSomewhere, HasBegun, IsBegun, IsNew
 ghost use Rattle.pt_move.specs.Stepping.{Any, IsReady, Made, Stays, Steps, most_calls_at};
 
 use crate::turning::{new_state, turn};
-use pt_plan::{Fault, Phase};
+use pt_plan::{Fault, Opening, Phase};
 use pt_state::{Devices, Job, Outside, Report, State};
 use pt_tree::{Dest, Log, Source};
 use std::alloc::Global;
@@ -62,7 +62,7 @@ impl Mover {
         ensures { IsNew job result }
     {
         Mover {
-            phase: Phase::Begin,
+            phase: Phase::Opening(Opening::Begin),
             state: new_state(alloc, job),
         }
     }

@@ -1,5 +1,6 @@
 //! One turn: what is done at each phase.
 ghost use Rattle.std.specs.Prelude.{◌<◌, []};
+ghost use Rattle.pt_plan.specs.declared.phase.Opening.TheVariants as opening;
 ghost use Rattle.pt_plan.specs.declared.phase.Phase.TheVariants as phase;
 ghost use Rattle.pt_move.specs.Running.{IsNew};
 ghost use Rattle.pt_plan.specs.Permits.{Permits};
@@ -12,7 +13,7 @@ ghost use Rattle.pt_move.specs.Turning.{HasFed, TakesCounted};
 
 use pt_make::{copying, making, placing, telling};
 use pt_object::{Contents, Hasher, Rows};
-use pt_plan::{Fault, Phase};
+use pt_plan::{Fault, Opening, Phase, Stage};
 use pt_scan::{judging, reading, scanning, walking};
 use pt_start::{root, store};
 use pt_state::{Job, Outside, Report, State};
@@ -22,7 +23,7 @@ use std::alloc::Global;
 
 /// What a run holds that is to begin: nothing, and nothing is counted.
 pub fn new_state(alloc: Global, job: Job) -> State
-    ensures { IsNew job (record { phase = phase.Begin; state = result }) }
+    ensures { IsNew job (record { phase = phase.Opening opening.Begin; state = result }) }
 {
     let hasher = Hasher::start(job.algorithm);
     State {
@@ -72,23 +73,27 @@ fn turn_at<O: Outside>(state: &mut State, phase: Phase, out: &mut O) -> Result<P
     ensures block { ReadsNext phase (O.world out.old).source state.new.block.items result }
 {
     match phase {
-        Phase::Begin => store::begin(state, out),
-        Phase::Prefix(kind) => store::prefix(state, kind, out),
-        Phase::Staging => root::staging(state, out),
-        Phase::Root => root::root(state, out),
-        Phase::RootMake(item) => root::make_root(state, item, out),
-        Phase::RootRename => root::rename_root(state, out),
-        Phase::RootCheck(file) => root::check_root(state, file, out),
-        Phase::OpenRoot => walking::open_root(state, out),
+        Phase::Opening(opening) => match opening {
+            Opening::Begin => store::begin(state, out),
+            Opening::Prefix(kind) => store::prefix(state, kind, out),
+            Opening::Staging => root::staging(state, out),
+            Opening::Root => root::root(state, out),
+            Opening::RootMake(item) => root::make_root(state, item, out),
+            Opening::RootRename => root::rename_root(state, out),
+            Opening::RootCheck(file) => root::check_root(state, file, out),
+            Opening::OpenRoot => walking::open_root(state, out),
+        },
         Phase::Judge => judging::judge(state, out),
-        Phase::OpenObject(object) => scanning::open_object(state, object, out),
-        Phase::Scan(object) => scanning::scan(state, object, out),
-        Phase::Read(object, bytes) => reading::read(state, object, bytes, out),
-        Phase::Make(object, part) => making::make(state, object, part, out),
-        Phase::Copy(object, position, left) => copying::copy(state, object, position, left, out),
-        Phase::Tuples(object, index) => placing::make_tuple(state, object, index, out),
-        Phase::Rename(object) => placing::rename(state, object, out),
-        Phase::Line(object) => telling::tell_done(state, object, out),
+        Phase::Carrying(object, stage) => match stage {
+            Stage::Open => scanning::open_object(state, object, out),
+            Stage::Scan => scanning::scan(state, object, out),
+            Stage::Read(bytes) => reading::read(state, object, bytes, out),
+            Stage::Make(part) => making::make(state, object, part, out),
+            Stage::Copy(position, left) => copying::copy(state, object, position, left, out),
+            Stage::Tuples(index) => placing::make_tuple(state, object, index, out),
+            Stage::Rename => placing::rename(state, object, out),
+            Stage::Line => telling::tell_done(state, object, out),
+        },
         Phase::Walk => walking::walk(state, out),
         Phase::End => telling::tell_end(state, out),
         Phase::Ended => unreachable!(),

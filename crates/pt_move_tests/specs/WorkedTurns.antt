@@ -16,7 +16,9 @@ use Rattle.pt_plan.specs.World.{Calls, Finds, Lists, Makes, Opens, Reads, Rename
 use Rattle.pt_move_tests.specs.WorkedStores.{empty_store, flat_job, worked_job}
 use Rattle.pt_plan.specs.declared.object.Object.{Object}
 use Rattle.pt_plan.specs.declared.phase.Phase.{Phase}
+use Rattle.pt_plan.specs.declared.phase.Opening.TheVariants as opening
 use Rattle.pt_plan.specs.declared.phase.Phase.TheVariants as phase
+use Rattle.pt_plan.specs.declared.phase.Stage.TheVariants as stage
 
 -- a turn from this phase to that one, of a run that read no prefix
 abbrev pub Leads : Job → Phase → Held → Calls → Phase → Held → Type 0
@@ -29,33 +31,33 @@ at_empty_root = with_trail nothing_held (record { listing = []; place = 0 } ∷ 
 -- the 15 turns of the empty store, over no root
 abbrev pub EmptyStoreTurns : Type 0
 EmptyStoreTurns =
-    Leads worked_job phase.Begin nothing_held (asks (Lists [] (listing_of empty_store)))
-    (phase.Prefix None) nothing_held
-    × Leads worked_job (phase.Prefix None) nothing_held no_calls phase.Staging nothing_held
-    × Leads worked_job phase.Staging nothing_held (does (Finds staging None)) phase.Root nothing_held
-    × Leads worked_job phase.Root nothing_held (does (Finds storage_root None))
-    (phase.RootMake 0) nothing_held
-    × Leads worked_job (phase.RootMake 0) nothing_held (does (Makes (MakeFolder staging)))
-    (phase.RootMake 1) nothing_held
-    × Leads worked_job (phase.RootMake 1) nothing_held
-    (does (Makes (MakeFolder (staging ++ codes "extensions" ∷ [])))) (phase.RootMake 2) nothing_held
-    × Leads worked_job (phase.RootMake 2) nothing_held
+    Leads worked_job (phase.Opening opening.Begin) nothing_held (asks (Lists [] (listing_of empty_store)))
+    (phase.Opening (opening.Prefix None)) nothing_held
+    × Leads worked_job (phase.Opening (opening.Prefix None)) nothing_held no_calls (phase.Opening opening.Staging) nothing_held
+    × Leads worked_job (phase.Opening opening.Staging) nothing_held (does (Finds staging None)) (phase.Opening opening.Root) nothing_held
+    × Leads worked_job (phase.Opening opening.Root) nothing_held (does (Finds storage_root None))
+    (phase.Opening (opening.RootMake 0)) nothing_held
+    × Leads worked_job (phase.Opening (opening.RootMake 0)) nothing_held (does (Makes (MakeFolder staging)))
+    (phase.Opening (opening.RootMake 1)) nothing_held
+    × Leads worked_job (phase.Opening (opening.RootMake 1)) nothing_held
+    (does (Makes (MakeFolder (staging ++ codes "extensions" ∷ [])))) (phase.Opening (opening.RootMake 2)) nothing_held
+    × Leads worked_job (phase.Opening (opening.RootMake 2)) nothing_held
     (does (Makes (MakeFolder (staging ++ codes "extensions" ∷ extension_name ∷ []))))
-    (phase.RootMake 3) nothing_held
-    × Leads worked_job (phase.RootMake 3) nothing_held
+    (phase.Opening (opening.RootMake 3)) nothing_held
+    × Leads worked_job (phase.Opening (opening.RootMake 3)) nothing_held
     (does (Makes
     (MakeFile (staging ++ codes "extensions" ∷ extension_name ∷ codes "config.json" ∷ [])
-    (config_text worked_job.tuples)))) (phase.RootMake 4) nothing_held
-    × Leads worked_job (phase.RootMake 4) nothing_held
+    (config_text worked_job.tuples)))) (phase.Opening (opening.RootMake 4)) nothing_held
+    × Leads worked_job (phase.Opening (opening.RootMake 4)) nothing_held
     (does (Makes (MakeFile (staging ++ codes "ocfl_layout.json" ∷ []) layout_text)))
-    (phase.RootMake 5) nothing_held
-    × Leads worked_job (phase.RootMake 5) nothing_held
+    (phase.Opening (opening.RootMake 5)) nothing_held
+    × Leads worked_job (phase.Opening (opening.RootMake 5)) nothing_held
     (does (Makes
     (MakeFile (staging ++ codes "0=ocfl_1.1"
-    ∷ []) root_declaration_bytes))) phase.RootRename nothing_held
-    × Leads worked_job phase.RootRename nothing_held
-    (does (Renames staging storage_root)) phase.OpenRoot nothing_held
-    × Leads worked_job phase.OpenRoot nothing_held
+    ∷ []) root_declaration_bytes))) (phase.Opening opening.RootRename) nothing_held
+    × Leads worked_job (phase.Opening opening.RootRename) nothing_held
+    (does (Renames staging storage_root)) (phase.Opening opening.OpenRoot) nothing_held
+    × Leads worked_job (phase.Opening opening.OpenRoot) nothing_held
     (asks (Lists (codes "pairtree_root" ∷ []) [])) phase.Judge at_empty_root
     × Leads worked_job phase.Judge at_empty_root no_calls phase.Walk at_empty_root
     × Leads worked_job phase.Walk at_empty_root no_calls phase.End at_empty_root
@@ -87,13 +89,13 @@ object_abc_under_way =
 abbrev pub OneObjectTurns : Type 0
 OneObjectTurns =
     Leads flat_job phase.Judge at_site (does (Finds (storage_root ++ codes "abc" ∷ []) None))
-    (phase.OpenObject object_abc_under_way) at_site
-    × Leads flat_job (phase.OpenObject object_abc_under_way) at_site
+    (phase.Carrying object_abc_under_way stage.Open) at_site
+    × Leads flat_job (phase.Carrying object_abc_under_way stage.Open) at_site
     (asks (Lists (codes "pairtree_root" ∷ codes "ab" ∷ codes "c" ∷ codes "obj" ∷ [])
-    ((codes "a.txt", kind.File) ∷ []))) (phase.Scan object_abc_under_way) at_file
-    × Leads flat_job (phase.Scan object_abc_under_way) at_file
+    ((codes "a.txt", kind.File) ∷ []))) (phase.Carrying object_abc_under_way stage.Scan) at_file
+    × Leads flat_job (phase.Carrying object_abc_under_way stage.Scan) at_file
     (asks (Opens
     (codes "pairtree_root" ∷ codes "ab" ∷ codes "c" ∷ codes "obj" ∷ codes "a.txt" ∷ [])))
-    (phase.Read object_abc_under_way 0) at_file
-    × Leads flat_job (phase.Read object_abc_under_way 0) at_file (asks (Reads (codes "abc")))
-    (phase.Read object_abc_under_way 3) (with_fed at_file (codes "abc"))
+    (phase.Carrying object_abc_under_way (stage.Read 0)) at_file
+    × Leads flat_job (phase.Carrying object_abc_under_way (stage.Read 0)) at_file (asks (Reads (codes "abc")))
+    (phase.Carrying object_abc_under_way (stage.Read 3)) (with_fed at_file (codes "abc"))

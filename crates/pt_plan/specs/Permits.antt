@@ -25,7 +25,9 @@ use Rattle.pt_plan.specs.declared.object.Object.{Object}
 use Rattle.pt_plan.specs.declared.phase.Part.{Part}
 use Rattle.pt_plan.specs.declared.phase.Part.TheVariants as part
 use Rattle.pt_plan.specs.declared.phase.Phase.{Phase}
+use Rattle.pt_plan.specs.declared.phase.Opening.TheVariants as opening
 use Rattle.pt_plan.specs.declared.phase.Phase.TheVariants as phase
+use Rattle.pt_plan.specs.declared.phase.Stage.TheVariants as stage
 use Rattle.pt_plan.specs.declared.phase.Position.{Position}
 
 -- ---- the source
@@ -94,25 +96,25 @@ MayMakePart job object part.Sidecar held reading writing =
 
 -- the calls of the turn of this phase may be made
 abbrev pub Permits : Job → Phase → Held → Option Reading → Option Writing → Type 0
-Permits job phase.Begin held reading writing = CanList reading []
-Permits job (phase.Prefix here) held reading writing = MayOpenPrefix reading here
-Permits job phase.Staging held reading writing = ⊤
-Permits job phase.Root held reading writing = ⊤
-Permits job (phase.RootMake item) held reading writing = MayMakeRootItem writing job.tuples item
-Permits job phase.RootRename held reading writing = MayMove writing staging storage_root
-Permits job (phase.RootCheck file) held reading writing = ⊤
-Permits job phase.OpenRoot held reading writing = CanList reading (in_pairtree [])
+Permits job (phase.Opening opening.Begin) held reading writing = CanList reading []
+Permits job (phase.Opening (opening.Prefix here)) held reading writing = MayOpenPrefix reading here
+Permits job (phase.Opening opening.Staging) held reading writing = ⊤
+Permits job (phase.Opening opening.Root) held reading writing = ⊤
+Permits job (phase.Opening (opening.RootMake item)) held reading writing = MayMakeRootItem writing job.tuples item
+Permits job (phase.Opening opening.RootRename) held reading writing = MayMove writing staging storage_root
+Permits job (phase.Opening (opening.RootCheck file)) held reading writing = ⊤
+Permits job (phase.Opening opening.OpenRoot) held reading writing = CanList reading (in_pairtree [])
 Permits job phase.Judge held reading writing = ⊤
-Permits job (phase.OpenObject object) held reading writing =
+Permits job (phase.Carrying object stage.Open) held reading writing =
     object.gathered ≡ false → MayEnter reading held.trail
-Permits job (phase.Scan object) held reading writing =
+Permits job (phase.Carrying object stage.Scan) held reading writing =
     MayEnter reading held.trail × MayOpen reading held.trail
-Permits job (phase.Read object bytes) held reading writing = CanRead reading
-Permits job (phase.Make object here) held reading writing = MayMakePart job object here held reading writing
-Permits job (phase.Copy object position left) held reading writing = CanRead reading × CanWrite writing
-Permits job (phase.Tuples object number) held reading writing = HasParent writing (tuple_folder object number)
-Permits job (phase.Rename object) held reading writing = MayMove writing staging (in_root object.place)
-Permits job (phase.Line object) held reading writing = ⊤
+Permits job (phase.Carrying object (stage.Read bytes)) held reading writing = CanRead reading
+Permits job (phase.Carrying object (stage.Make here)) held reading writing = MayMakePart job object here held reading writing
+Permits job (phase.Carrying object (stage.Copy position left)) held reading writing = CanRead reading × CanWrite writing
+Permits job (phase.Carrying object (stage.Tuples number)) held reading writing = HasParent writing (tuple_folder object number)
+Permits job (phase.Carrying object stage.Rename) held reading writing = MayMove writing staging (in_root object.place)
+Permits job (phase.Carrying object stage.Line) held reading writing = ⊤
 Permits job phase.Walk held reading writing = MayEnter reading held.trail
 Permits job phase.End held reading writing = ⊤
 Permits job phase.Ended held reading writing = ⊤

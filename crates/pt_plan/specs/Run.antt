@@ -3,6 +3,7 @@ use Rattle.std.specs.Prelude.{ℕ, ◌+◌, List, []}
 use Rattle.pt_object.specs.declared.contents.Content.{Content}
 use Rattle.pt_object.specs.declared.rows.Row.{Row}
 use Rattle.pt_plan.specs.declared.phase.Phase.{Phase}
+use Rattle.pt_plan.specs.declared.phase.Opening.TheVariants as opening
 use Rattle.pt_plan.specs.declared.phase.Phase.TheVariants as phase
 use Rattle.pt_walk.specs.declared.frame.Frame.{Frame}
 
@@ -42,7 +43,7 @@ no_counts = record { done = 0; present = 0; skipped = 0; turns = 0 }
 -- a run that is to begin
 abbrev pub new_run : Run
 new_run = record
-    { phase = phase.Begin; kept = record { prefix = []; held = nothing_held; counts = no_counts } }
+    { phase = (phase.Opening opening.Begin); kept = record { prefix = []; held = nothing_held; counts = no_counts } }
 
 -- with another trail
 abbrev pub with_trail : Held → List Frame → Held

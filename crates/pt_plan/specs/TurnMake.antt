@@ -24,6 +24,7 @@ use Rattle.pt_plan.specs.declared.phase.Part.{Part}
 use Rattle.pt_plan.specs.declared.phase.Part.TheVariants as part
 use Rattle.pt_plan.specs.declared.phase.Phase.{Phase}
 use Rattle.pt_plan.specs.declared.phase.Phase.TheVariants as phase
+use Rattle.pt_plan.specs.declared.phase.Stage.TheVariants as stage
 use Rattle.pt_plan.specs.declared.phase.Position.{Position}
 
 -- ---- where the run stands in the contents
@@ -100,7 +101,7 @@ sidecar_file job object rows folder =
 
 -- after the last sidecar: the tuple directories, if the layout has any, else the renaming
 abbrev pub after_last : Job → Object → Phase
-after_last job object = cond (job.tuples.count == 0) (phase.Rename object) (phase.Tuples object 0)
+after_last job object = cond (job.tuples.count == 0) (phase.Carrying object stage.Rename) (phase.Carrying object (stage.Tuples 0))
 
 -- what was read a second time, to its end, is what the row says
 abbrev pub is_as_read : Job → Row → ℕ → List ℕ → Bool
@@ -111,81 +112,79 @@ is_as_read job row left fed = (left == 0) && bytes_eq (digest_of job.algorithm f
 -- from the phase and what is held to what is held after, with the calls and the answer
 pub data Makings (job : Job) : Phase → Held → Held → Calls → Answer → Type 0 where
   MakesStaging : (held : Held) (object : Object)
-      → Makings job (phase.Make object part.Staging) held held (does (Makes (MakeFolder staging)))
-      (Ok (phase.Make object part.Declaration))
+      → Makings job (phase.Carrying object (stage.Make part.Staging)) held held (does (Makes (MakeFolder staging)))
+      (Ok (phase.Carrying object (stage.Make part.Declaration)))
   MakesDeclaration : (held : Held) (object : Object)
-      → Makings job (phase.Make object part.Declaration) held held
+      → Makings job (phase.Carrying object (stage.Make part.Declaration)) held held
       (does (Makes (MakeFile (staging ++ object_declaration_name ∷ []) object_declaration_bytes)))
-      (Ok (phase.Make object part.Version))
+      (Ok (phase.Carrying object (stage.Make part.Version)))
   MakesVersion : (held : Held) (object : Object)
-      → Makings job (phase.Make object part.Version) held held
+      → Makings job (phase.Carrying object (stage.Make part.Version)) held held
       (does (Makes (MakeFolder (in_version []))))
-      (Ok (phase.Make object
-      (content_at held.rows (record { row = 0; stored = 0; directories = 0 }))))
+      (Ok (phase.Carrying object (stage.Make (content_at held.rows (record { row = 0; stored = 0; directories = 0 })))))
   -- a row whose content is stored already is passed
   PassesRow : (held : Held) (object : Object) (position : Position) (row : Row)
       → slice_get held.rows position.row ≡ Some row
       → is_stored held.contents position.stored row.path ≡ false
-      → Makings job (phase.Make object (part.Content position)) held held no_calls
-      (Ok (phase.Make object (content_at held.rows (behind position))))
+      → Makings job (phase.Carrying object (stage.Make (part.Content position))) held held no_calls
+      (Ok (phase.Carrying object (stage.Make (content_at held.rows (behind position)))))
   -- of any other the folders on the way are made
   MakesFolder : (held : Held) (object : Object) (position : Position) (row : Row)
       → slice_get held.rows position.row ≡ Some row
       → is_stored held.contents position.stored row.path ≡ true
       → nat_lt position.directories (length row.path) ≡ true
-      → Makings job (phase.Make object (part.Content position)) held held
+      → Makings job (phase.Carrying object (stage.Make (part.Content position))) held held
       (does (Makes (MakeFolder (in_content (take position.directories row.path)))))
-      (Ok (phase.Make object (part.Content (with_folder position))))
+      (Ok (phase.Carrying object (stage.Make (part.Content (with_folder position)))))
   -- then its file is made, and the source's is opened
   OpensCopy : (held : Held) (object : Object) (position : Position) (row : Row)
       → slice_get held.rows position.row ≡ Some row
       → is_stored held.contents position.stored row.path ≡ true
       → nat_lt position.directories (length row.path) ≡ false
-      → Makings job (phase.Make object (part.Content position)) held (with_fed held [])
+      → Makings job (phase.Carrying object (stage.Make (part.Content position))) held (with_fed held [])
       (record {
         asked = Opens (in_pairtree (path_of_source object held.trail ++ row.path));
         change = Creates (in_content row.path);
         line = None;
-      }) (Ok (phase.Copy object position row.length))
+      }) (Ok (phase.Carrying object (stage.Copy position row.length)))
   -- a block is copied
   CopiesOn : (held : Held) (object : Object) (position : Position) (left byte : ℕ) (block : List ℕ)
       → nat_lt left (length (byte ∷ block)) ≡ false
-      → Makings job (phase.Copy object position left) held (with_fed held (held.fed ++ byte ∷ block))
+      → Makings job (phase.Carrying object (stage.Copy position left)) held (with_fed held (held.fed ++ byte ∷ block))
       (record { asked = Reads (byte ∷ block); change = Adds (byte ∷ block); line = None })
-      (Ok (phase.Copy object position (left - length (byte ∷ block))))
+      (Ok (phase.Carrying object (stage.Copy position (left - length (byte ∷ block)))))
   -- unless there are more bytes than the row says
   ReadsMore : (held : Held) (object : Object) (position : Position) (left byte : ℕ) (block : List ℕ)
       → nat_lt left (length (byte ∷ block)) ≡ true
-      → Makings job (phase.Copy object position left) held held (asks (Reads (byte ∷ block)))
+      → Makings job (phase.Carrying object (stage.Copy position left)) held held (asks (Reads (byte ∷ block)))
       (Err fault.Changed)
   -- at the end the file is closed
   EndsCopy : (held : Held) (object : Object) (position : Position) (row : Row) (left : ℕ)
       → slice_get held.rows position.row ≡ Some row → is_as_read job row left held.fed ≡ true
-      → Makings job (phase.Copy object position left) held (with_fed held [])
+      → Makings job (phase.Carrying object (stage.Copy position left)) held (with_fed held [])
       (record { asked = Reads []; change = Finishes; line = None })
-      (Ok (phase.Make object
-      (content_at held.rows (behind_stored held.contents position row.path))))
+      (Ok (phase.Carrying object (stage.Make (content_at held.rows (behind_stored held.contents position row.path)))))
   -- unless the bytes are fewer, or others
   ReadsOther : (held : Held) (object : Object) (position : Position) (row : Row) (left : ℕ)
       → slice_get held.rows position.row ≡ Some row → is_as_read job row left held.fed ≡ false
-      → Makings job (phase.Copy object position left) held held (asks (Reads [])) (Err fault.Changed)
+      → Makings job (phase.Carrying object (stage.Copy position left)) held held (asks (Reads [])) (Err fault.Changed)
   -- an inventory's text is fed to the hasher as well
   MakesVersionInventory : (held : Held) (object : Object)
-      → Makings job (phase.Make object part.VersionInventory) held
+      → Makings job (phase.Carrying object (stage.Make part.VersionInventory)) held
       (with_fed held (text_of_inventory job object held.rows))
       (does (Makes (inventory_file job object held.rows (in_version []))))
-      (Ok (phase.Make object part.VersionSidecar))
+      (Ok (phase.Carrying object (stage.Make part.VersionSidecar)))
   -- and the hasher's digest is taken for its sidecar; the inventory at the top has the same text, which isn't fed again
   MakesVersionSidecar : (held : Held) (object : Object)
-      → Makings job (phase.Make object part.VersionSidecar) held
+      → Makings job (phase.Carrying object (stage.Make part.VersionSidecar)) held
       (with_fed held (text_of_inventory job object held.rows))
       (does (Makes (sidecar_file job object held.rows (in_version []))))
-      (Ok (phase.Make object part.Inventory))
+      (Ok (phase.Carrying object (stage.Make part.Inventory)))
   MakesInventory : (held : Held) (object : Object)
-      → Makings job (phase.Make object part.Inventory) held
+      → Makings job (phase.Carrying object (stage.Make part.Inventory)) held
       (with_fed held (text_of_inventory job object held.rows))
       (does (Makes (inventory_file job object held.rows staging)))
-      (Ok (phase.Make object part.Sidecar))
+      (Ok (phase.Carrying object (stage.Make part.Sidecar)))
   MakesSidecar : (held : Held) (object : Object)
-      → Makings job (phase.Make object part.Sidecar) held (with_fed held [])
+      → Makings job (phase.Carrying object (stage.Make part.Sidecar)) held (with_fed held [])
       (does (Makes (sidecar_file job object held.rows staging))) (Ok (after_last job object))

@@ -18,6 +18,7 @@ use Rattle.pt_plan.specs.World.{Calls, Finds, FindsNoneAndMakes, Renames, does, 
 use Rattle.pt_plan.specs.declared.object.Object.{Object}
 use Rattle.pt_plan.specs.declared.phase.Phase.{Phase}
 use Rattle.pt_plan.specs.declared.phase.Phase.TheVariants as phase
+use Rattle.pt_plan.specs.declared.phase.Stage.TheVariants as stage
 
 -- the tuple directory of this number on the way to the object's place (extension 0003)
 abbrev pub tuple_folder : Object → ℕ → Path
@@ -26,8 +27,8 @@ tuple_folder object number = in_root (take (number + 1) object.place)
 -- after a tuple directory: the next one, or, after the last, the renaming
 abbrev pub after_tuple : Job → Object → ℕ → Phase
 after_tuple job object number =
-    cond (nat_lt (number + 1) job.tuples.count) (phase.Tuples object (number + 1))
-    (phase.Rename object)
+    cond (nat_lt (number + 1) job.tuples.count) (phase.Carrying object (stage.Tuples (number + 1)))
+    (phase.Carrying object stage.Rename)
 
 -- the lengths of all rows together
 abbrev pub bytes_in_rows : List Row → ℕ
@@ -51,23 +52,23 @@ last_line counts = End counts.done counts.present counts.skipped
 pub data Places (job : Job) (counts : Counts) : Phase → Held → Held → Calls → Answer → Type 0 where
   -- a tuple directory is made, or stands already
   MakesTuple : (held : Held) (object : Object) (number : ℕ)
-      → Places job counts (phase.Tuples object number) held held
+      → Places job counts (phase.Carrying object (stage.Tuples number)) held held
       (does (FindsNoneAndMakes (tuple_folder object number))) (Ok (after_tuple job object number))
   FindsTuple : (held : Held) (object : Object) (number : ℕ)
-      → Places job counts (phase.Tuples object number) held held
+      → Places job counts (phase.Carrying object (stage.Tuples number)) held held
       (does (Finds (tuple_folder object number) (Some kind.Dir)))
       (Ok (after_tuple job object number))
   -- unless its name is taken by something else
   IsInTheWay : (held : Held) (object : Object) (number : ℕ) (here : Kind) → is_dir_kind (Some here) ≡ false
-      → Places job counts (phase.Tuples object number) held held
+      → Places job counts (phase.Carrying object (stage.Tuples number)) held held
       (does (Finds (tuple_folder object number) (Some here))) (Err fault.Target)
   -- `staging` becomes the object at its place
   RenamesObject : (held : Held) (object : Object)
-      → Places job counts (phase.Rename object) held held
-      (does (Renames staging (in_root object.place))) (Ok (phase.Line object))
+      → Places job counts (phase.Carrying object stage.Rename) held held
+      (does (Renames staging (in_root object.place))) (Ok (phase.Carrying object stage.Line))
   -- the object is told, and the walk goes on at its site
   TellsDone : (held : Held) (object : Object)
-      → Places job counts (phase.Line object) held (restarted held) (tells (done_line object held))
+      → Places job counts (phase.Carrying object stage.Line) held (restarted held) (tells (done_line object held))
       (Ok phase.Walk)
   -- the end is told
   TellsEnd : (held : Held)

@@ -28,7 +28,9 @@ use Rattle.pt_plan.specs.Roots.{storage_root}
 use Rattle.pt_plan.specs.World.{AsksNothing, Calls, Finds, Lists, asks, does, no_calls, tells, tells_if}
 use Rattle.pt_plan.specs.declared.object.Object.{Object}
 use Rattle.pt_plan.specs.declared.phase.Phase.{Phase}
+use Rattle.pt_plan.specs.declared.phase.Opening.TheVariants as opening
 use Rattle.pt_plan.specs.declared.phase.Phase.TheVariants as phase
+use Rattle.pt_plan.specs.declared.phase.Stage.TheVariants as stage
 
 -- ---- what a site is found to be
 
@@ -108,7 +110,7 @@ in_pairtree path = pairtree_root ∷ path
 pub data Walks (job : Job) (prefix : List ℕ) : Phase → Held → Held → Calls → Answer → Type 0 where
   -- the pairtree's directory is listed and entered
   OpensRoot : (held : Held) (items : List Item)
-      → Walks job prefix phase.OpenRoot held (with_trail held (entered items held.trail))
+      → Walks job prefix (phase.Opening opening.OpenRoot) held (with_trail held (entered items held.trail))
       (asks (Lists (in_pairtree []) items)) (Ok phase.Judge)
   -- the site only leads on, or is of another share
   LeadsOn : (held : Held) → judged_at job prefix held.trail ≡ Interior
@@ -129,7 +131,7 @@ pub data Walks (job : Job) (prefix : List ℕ) : Phase → Held → Held → Cal
   IsNew : (held : Held) (index : Option ℕ) (id : List ℕ) → judged_at job prefix held.trail ≡ Named id index
       → Walks job prefix phase.Judge held (with_trail held (at_object index held.trail))
       (does (Finds (in_root (place_of job.tuples id)) None))
-      (Ok (phase.OpenObject (new_object job id index held.trail)))
+      (Ok (phase.Carrying (new_object job id index held.trail) stage.Open))
   -- a shorty below a name of one byte, which the first share tells
   IsPast : (held : Held) (name : List ℕ) → current_entry held.trail ≡ Some (name, kind.Dir)
       → is_short name ≡ true → is_last (at_of (trail_path held.trail)) ≡ true

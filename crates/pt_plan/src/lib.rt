@@ -10,4 +10,4 @@ mod phase;
 pub use fault::Fault;
 pub use identifier::Identifier;
 pub use object::Object;
-pub use phase::{Part, Phase, Position};
+pub use phase::{Opening, Part, Phase, Position, Stage};

@@ -5,6 +5,23 @@ use pt_tree::Kind;
 /// and numbers.
 #[derive(Debug, Drop)]
 pub enum Phase {
+    /// Opens the store and the destination.
+    Opening(Opening),
+    /// Judges the site that was entered.
+    Judge,
+    /// Carries an object.
+    Carrying(Object, Stage),
+    /// Looks at the next entry of a site.
+    Walk,
+    /// Tells that the run is done.
+    End,
+    /// Nothing is left to do.
+    Ended,
+}
+
+/// What is done before the first site is judged, in this order: a storage root is made, or else compared.
+#[derive(Clone, Copy, Debug)]
+pub enum Opening {
     /// Lists the top of the source.
     Begin,
     /// Reads the prefix file, which is of this kind, if it is there.
@@ -21,30 +38,27 @@ pub enum Phase {
     RootCheck(usize),
     /// Lists `pairtree_root`.
     OpenRoot,
-    /// Judges the site that was entered.
-    Judge,
+}
+
+/// How far an object is carried.
+#[derive(Clone, Copy, Debug)]
+pub enum Stage {
     /// Enters the object.
-    OpenObject(Object),
+    Open,
     /// Looks at the next entry of the object.
-    Scan(Object),
+    Scan,
     /// Reads on in a file of the object, of which so many bytes were read.
-    Read(Object, u64),
+    Read(u64),
     /// Makes a part of the object in `staging`.
-    Make(Object, Part),
+    Make(Part),
     /// Copies on a file of the object, of which so many bytes are left.
-    Copy(Object, Position, u64),
+    Copy(Position, u64),
     /// Makes the tuple directory of this number, from 0 on, where it is absent.
-    Tuples(Object, usize),
+    Tuples(usize),
     /// Renames `staging`, which is the object, to its place.
-    Rename(Object),
+    Rename,
     /// Tells that the object is done.
-    Line(Object),
-    /// Looks at the next entry of a site.
-    Walk,
-    /// Tells that the run is done.
-    End,
-    /// Nothing is left to do.
-    Ended,
+    Line,
 }
 
 /// A part of an object, in the order in which they are made.

@@ -7,6 +7,7 @@ use Rattle.pt_state.proofs.Words.{digest_of, HasBeenFed, Algorithm, Path, advanc
 use Rattle.pt_state.proofs.Words.cause
 use Rattle.pt_state.proofs.Words.fault
 use Rattle.pt_state.proofs.Words.phase
+use Rattle.pt_state.proofs.Words.stage
 use Rattle.pt_state.specs.declared.state.State.{State}
 use Rattle.pt_object.specs.Contents.{noted}
 use Rattle.pt_object.specs.Rows.{row_of}
@@ -25,7 +26,7 @@ empty (byte ∷ block) none = absurd (omega (arith, none))
 -- ---- a block
 
 pub read_on : (s s' : State) (a b : World) (object : Object) (bytes more : ℕ) (block : List ℕ) → Did (asks (Reads block)) a b → 0 < length block → more ≡ bytes + length block → more ≤ s.job.limits.file_bytes
-    → ((algorithm : Algorithm) (fed : List ℕ) → HasBeenFed algorithm s.hasher fed → HasBeenFed algorithm s'.hasher (fed ++ block)) → KeepsAll s s' → Turned (phase.Read object bytes) s s' a b (Ok (phase.Read object more))
+    → ((algorithm : Algorithm) (fed : List ℕ) → HasBeenFed algorithm s.hasher fed → HasBeenFed algorithm s'.hasher (fed ++ block)) → KeepsAll s s' → Turned (phase.Carrying object (stage.Read bytes)) s s' a b (Ok (phase.Carrying object (stage.Read more)))
 read_on s s' a b object bytes more [] did some is short feeds keeps = absurd (omega (arith, some))
 read_on s s' a b object bytes more (byte ∷ block) did some is short feeds keeps =
     rw is
@@ -36,7 +37,7 @@ read_on s s' a b object bytes more (byte ∷ block) did some is short feeds keep
 -- ---- a file that is too long
 
 pub read_gave_up : (object : Object) (bytes : ℕ) (block : List ℕ) (s s' : State) (a b c : World) → Did (asks (Reads block)) a b → 0 < length block → s.job.limits.file_bytes < bytes + length block
-    → Did (tells (Skipped (trail_path (to_site object s.trail)) cause.Limit)) b c → IsBackAtSite object s s' → Turned (phase.Read object bytes) s s' a c (Ok phase.Walk)
+    → Did (tells (Skipped (trail_path (to_site object s.trail)) cause.Limit)) b c → IsBackAtSite object s s' → Turned (phase.Carrying object (stage.Read bytes)) s s' a c (Ok phase.Walk)
 read_gave_up object bytes [] s s' a b c did some long told back = absurd (omega (arith, some))
 read_gave_up object bytes (byte ∷ block) s s' a b c did some long told back =
     turned_on s s' a c
@@ -44,7 +45,7 @@ read_gave_up object bytes (byte ∷ block) s s' a b c did some long told back =
     (read_told _ _ a b c did told) back.trail back.rows back.contents (ap counts_of back.counts) back.prefix back.hasher back.job
 
 pub read_gave_front : (object : Object) (bytes : ℕ) (block : List ℕ) (s s' : State) (a b c : World) (f : Fault) (result : Answer) → IsErrAnd result (λ h. h ≡ f) → Did (asks (Reads block)) a b → 0 < length block → s.job.limits.file_bytes < bytes + length block
-    → LeavesSome (tells (Skipped (trail_path (to_site object s.trail)) cause.Limit)) f b c → KeepsAll s s' → Turned (phase.Read object bytes) s s' a c result
+    → LeavesSome (tells (Skipped (trail_path (to_site object s.trail)) cause.Limit)) f b c → KeepsAll s s' → Turned (phase.Carrying object (stage.Read bytes)) s s' a c result
 read_gave_front object bytes [] s s' a b c f result is did some long front keeps = absurd (omega (arith, some))
 read_gave_front object bytes (byte ∷ block) s s' a b c f result is did some long front keeps =
     left_some a c f result is
@@ -54,13 +55,13 @@ read_gave_front object bytes (byte ∷ block) s s' a b c f result is did some lo
 -- ---- a file that was read to its end
 
 -- the block that ended it is the empty one
-pub ends_empty : (s s' : State) (a b : World) (object : Object) (bytes : ℕ) (block : List ℕ) (result : Answer) → length block ≡ 0 → ((before after : World) → Did (asks (Reads [])) before after → Turned (phase.Read object bytes) s s' before after result)
-    → Did (asks (Reads block)) a b → Turned (phase.Read object bytes) s s' a b result
+pub ends_empty : (s s' : State) (a b : World) (object : Object) (bytes : ℕ) (block : List ℕ) (result : Answer) → length block ≡ 0 → ((before after : World) → Did (asks (Reads [])) before after → Turned (phase.Carrying object (stage.Read bytes)) s s' before after result)
+    → Did (asks (Reads block)) a b → Turned (phase.Carrying object (stage.Read bytes)) s s' a b result
 ends_empty s s' a b object bytes block result none turn did = turn a b (rw (empty block none) at did)
 
 pub noted_file : (s s' : State) (a b : World) (object : Object) (bytes : ℕ) (path : Path) (digest : List ℕ) → Did (asks (Reads [])) a b → path ≡ logical_path object s.trail
     → ((algorithm : Algorithm) (fed : List ℕ) → HasBeenFed algorithm s.hasher fed → digest ≡ digest_of algorithm fed) → s'.trail ≡ advanced s.trail → s'.rows ≡ s.rows ++ row_of path digest bytes ∷ [] → s'.contents ≡ noted s.contents digest path → HasBeenFed s.job.algorithm s'.hasher []
-    → s'.counts ≡ s.counts → string_bytes s'.prefix ≡ string_bytes s.prefix → s'.job ≡ s.job → Turned (phase.Read object bytes) s s' a b (Ok (phase.Scan object))
+    → s'.counts ≡ s.counts → string_bytes s'.prefix ≡ string_bytes s.prefix → s'.job ≡ s.job → Turned (phase.Carrying object (stage.Read bytes)) s s' a b (Ok (phase.Carrying object stage.Scan))
 unfolding Turned
 noted_file s s' a b object bytes path digest did there digests trail rows contents fresh counts prefix same = (
   same,
@@ -77,7 +78,7 @@ noted_file s s' a b object bytes path digest did there digests trail rows conten
         (
           fresh,
           rw kept_is
-              (GoesOn (asks (Reads [])) (phase.Scan object) (Scan (EndsFile held object bytes)) did refl),
+              (GoesOn (asks (Reads [])) (phase.Carrying object stage.Scan) (Scan (EndsFile held object bytes)) did refl),
         ),
       ),
 )
@@ -93,7 +94,7 @@ none_read a b did = (
 -- its row is held, and memory was short for its content
 pub noted_part : (s s' : State) (a b : World) (object : Object) (bytes : ℕ) (path : Path) (digest : List ℕ) (result : Answer) → IsErrAnd result (λ h. h ≡ fault.Memory) → Did (asks (Reads [])) a b → path ≡ logical_path object s.trail
     → ((algorithm : Algorithm) (fed : List ℕ) → HasBeenFed algorithm s.hasher fed → digest ≡ digest_of algorithm fed) → s'.trail ≡ s.trail → s'.rows ≡ s.rows ++ row_of path digest bytes ∷ [] → s'.contents ≡ s.contents
-    → s'.counts ≡ s.counts → string_bytes s'.prefix ≡ string_bytes s.prefix → s'.job ≡ s.job → Turned (phase.Read object bytes) s s' a b result
+    → s'.counts ≡ s.counts → string_bytes s'.prefix ≡ string_bytes s.prefix → s'.job ≡ s.job → Turned (phase.Carrying object (stage.Read bytes)) s s' a b result
 unfolding Turned
 noted_part s s' a b object bytes path digest (Ok next) is did there digests trail rows contents counts prefix same = absurd is
 noted_part s s' a b object bytes path digest (Err f) is did there digests trail rows contents counts prefix same = (
@@ -109,7 +110,7 @@ noted_part s s' a b object bytes path digest (Err f) is did there digests trail 
         (
           tt,
           rw is
-              (FailsLater (string_bytes s.prefix) new (asks (Reads [])) (Ok (phase.Scan object)) new.rows fault.Memory (Scan (EndsFile held object bytes))
+              (FailsLater (string_bytes s.prefix) new (asks (Reads [])) (Ok (phase.Carrying object stage.Scan)) new.rows fault.Memory (Scan (EndsFile held object bytes))
               read.0 (inr (refl, read.1))
               (record { prefix = prefix; trail = trail; rows_are = rows_are; contents = contents; counts = ap counts_of counts })),
         ),

@@ -16,6 +16,7 @@ use Rattle.pt_state.proofs.Words.{is_first, Item, Path, same_path, Kind, is_dir_
 use Rattle.pt_state.proofs.Words.cause
 use Rattle.pt_state.proofs.Words.fault
 use Rattle.pt_state.proofs.Words.phase
+use Rattle.pt_state.proofs.Words.stage
 use Rattle.pt_state.specs.declared.state.State.{State}
 use Rattle.pt_name.specs.Share.{holds}
 use Rattle.pt_name.specs.declared.reading.UncleanFault.TheVariants as unclean
@@ -274,15 +275,15 @@ module _ (s : State) (index : Option ℕ) (candidate : Candidate) (found : Finds
       → Turned phase.Judge s s' a c result
   told_present_front s' a b c path at here it f result error did is there front place keeps = left_some a c f result error (present_follows it) (looked_left _ _ _ f a b c (rw (is, there) at did) (rw place at front)) keeps
 
-  new_follows : (fed : List ℕ) → Leads phase.Judge s fed (with_trail (held_of s fed) (at_object index s.trail)) (does (Finds (in_root candidate.place) None)) (Ok (phase.OpenObject (record { id = candidate.id; place = candidate.place; gathered = is_none index; site = length s.trail; empty = 0 })))
+  new_follows : (fed : List ℕ) → Leads phase.Judge s fed (with_trail (held_of s fed) (at_object index s.trail)) (does (Finds (in_root candidate.place) None)) (Ok (phase.Carrying (record { id = candidate.id; place = candidate.place; gathered = is_none index; site = length s.trail; empty = 0 }) stage.Open))
   unfolding IsNamed
   new_follows fed = rw named.1 (Walk (IsNew (held_of s fed) index candidate.id named_at))
 
-  pub found_new : (s' : State) (a b : World) (path : Path) (here : Option Kind) (gathered : Bool) (site : ℕ) (next : Phase) → Did (does (Finds path here)) a b → here ≡ None → path ≡ in_root candidate.place → next ≡ phase.OpenObject (record { id = candidate.id; place = candidate.place; gathered = gathered; site = site; empty = 0 }) → gathered ≡ is_none index → site ≡ length s'.trail
+  pub found_new : (s' : State) (a b : World) (path : Path) (here : Option Kind) (gathered : Bool) (site : ℕ) (next : Phase) → Did (does (Finds path here)) a b → here ≡ None → path ≡ in_root candidate.place → next ≡ phase.Carrying (record { id = candidate.id; place = candidate.place; gathered = gathered; site = site; empty = 0 }) stage.Open → gathered ≡ is_none index → site ≡ length s'.trail
       → Moved (at_object index s.trail) s.counts s s' → Turned phase.Judge s s' a b (Ok next)
   found_new s' a b path here gathered site next did is there then gather deep to =
-      let object_is : next ≡ phase.OpenObject (record { id = candidate.id; place = candidate.place; gathered = is_none index; site = length s.trail; empty = 0 }) =
-      then ∙ (λ i. phase.OpenObject (record { id = candidate.id; place = candidate.place; gathered = gather i; site = (deep ∙ ap length to.trail_is ∙ length-object index s.trail) i; empty = 0 })) in
+      let object_is : next ≡ phase.Carrying (record { id = candidate.id; place = candidate.place; gathered = is_none index; site = length s.trail; empty = 0 }) stage.Open =
+      then ∙ (λ i. phase.Carrying (record { id = candidate.id; place = candidate.place; gathered = gather i; site = (deep ∙ ap length to.trail_is ∙ length-object index s.trail) i; empty = 0 }) stage.Open) in
       rw object_is
       (moves a b new_follows (rw (there, is) at did) to refl)
 

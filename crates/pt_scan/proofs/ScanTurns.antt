@@ -10,6 +10,7 @@ use Rattle.pt_state.proofs.Words.fault
 use Rattle.pt_state.proofs.Words.kind
 use Rattle.pt_state.proofs.Words.part
 use Rattle.pt_state.proofs.Words.phase
+use Rattle.pt_state.proofs.Words.stage
 use Rattle.pt_state.specs.declared.state.State.{State}
 use Rattle.pt_walk.specs.Site.{is_shorty}
 use Rattle.pt_walk.specs.Trail.{has_place}
@@ -61,7 +62,7 @@ gave_front here object why s s' a b f result is line front keeps = left_some a b
 
 -- ---- a directory
 
-pub entered_next : (here : Phase) (object object' : Object) (s s' : State) (a b : World) (is_empty : Bool) → EntersNext here object s → Enters s s' a b is_empty → object' ≡ record object { empty = object.empty + cond is_empty 1 0 } → Turned here s s' a b (Ok (phase.Scan object'))
+pub entered_next : (here : Phase) (object object' : Object) (s s' : State) (a b : World) (is_empty : Bool) → EntersNext here object s → Enters s s' a b is_empty → object' ≡ record object { empty = object.empty + cond is_empty 1 0 } → Turned here s s' a b (Ok (phase.Carrying object' stage.Scan))
 unfolding EntersNext
 entered_next here object object' s s' a b is_empty line did is =
     rw (is ∙ ap (λ (e : ℕ). record object { empty = object.empty + e }) (ap (λ (b : Bool). cond b 1 0) did.empty ∙ counted did.items))
@@ -73,11 +74,11 @@ entered_next here object object' s s' a b is_empty line did is =
 
 -- ---- which line of the table it is
 
-pub begun_in_site : (s s' : State) (a : World) (object : Object) → true ≡ object.gathered → Moved (sought 0 s.trail) s.counts s s' → Turned (phase.OpenObject object) s s' a a (Ok (phase.Scan object))
+pub begun_in_site : (s s' : State) (a : World) (object : Object) → true ≡ object.gathered → Moved (sought 0 s.trail) s.counts s s' → Turned (phase.Carrying object stage.Open) s s' a a (Ok (phase.Carrying object stage.Scan))
 begun_in_site s s' a object is to =
     moves a a (λ fed. Scan (StartsInSite _ object (sym is))) (did_nothing a) to refl
 
-pub meets_own : (s : State) (object : Object) → object.gathered ≡ false → MeetsDirectory (phase.OpenObject object) object s
+pub meets_own : (s : State) (object : Object) → object.gathered ≡ false → MeetsDirectory (phase.Carrying object stage.Open) object s
 unfolding GivesUp EntersNext
 meets_own s object is = record {
   deep = λ deep fed. IsTooDeep _ object is (lt-ltb s.job.limits.depth (length s.trail) deep);
@@ -89,7 +90,7 @@ unfolding IsSite
 site_there object [] (some, long) = absurd (omega (arith, some, long))
 site_there object (frame ∷ frames) (some, long) = le-leb 0 (length frame.listing) (omega arith)
 
-pub passed_in_site : (s s' : State) (a : World) (object : Object) (name : List ℕ) (it : Kind) (in_site : Bool) → Some (name, it) ≡ current_entry s.trail → in_site ≡ is_in_site object s.trail → true ≡ (in_site && is_shorty (name, it)) → Moved (advanced s.trail) s.counts s s' → Turned (phase.Scan object) s s' a a (Ok (phase.Scan object))
+pub passed_in_site : (s s' : State) (a : World) (object : Object) (name : List ℕ) (it : Kind) (in_site : Bool) → Some (name, it) ≡ current_entry s.trail → in_site ≡ is_in_site object s.trail → true ≡ (in_site && is_shorty (name, it)) → Moved (advanced s.trail) s.counts s s' → Turned (phase.Carrying object stage.Scan) s s' a a (Ok (phase.Carrying object stage.Scan))
 passed_in_site s s' a object name it in_site at place is to =
     moves a a (λ fed. Scan (PassesShorty _ object (name, it) (sym at) (ap (λ (b : Bool). b && is_shorty (name, it)) (sym place) ∙ sym is))) (did_nothing a) to refl
 
@@ -102,7 +103,7 @@ pub at_file : (trail : List Frame) (name : List ℕ) (it : Kind) → Some (name,
 unfolding IsAtFile
 at_file trail name it at is = (name, sym at ∙ ap (λ (k : Kind). Some (name, k)) is)
 
-pub meets_other : (s : State) (object : Object) (name : List ℕ) (it : Kind) → Some (name, it) ≡ current_entry s.trail → it ≡ kind.Other → GivesUp (phase.Scan object) object cause.Other s
+pub meets_other : (s : State) (object : Object) (name : List ℕ) (it : Kind) → Some (name, it) ≡ current_entry s.trail → it ≡ kind.Other → GivesUp (phase.Carrying object stage.Scan) object cause.Other s
 unfolding GivesUp
 meets_other s object name it at is = λ fed. MeetsOther _ object name (sym at ∙ ap (λ (k : Kind). Some (name, k)) is)
 
@@ -110,7 +111,7 @@ pub directory_is : (object : Object) (trail : List Frame) → IsAtDirectory obje
 unfolding IsAtDirectory
 directory_is object trail (name, (at, not)) = ap is_dir_entry at
 
-pub meets_inner : (s : State) (object : Object) → IsAtDirectory object s.trail → MeetsDirectory (phase.Scan object) object s
+pub meets_inner : (s : State) (object : Object) → IsAtDirectory object s.trail → MeetsDirectory (phase.Carrying object stage.Scan) object s
 unfolding IsAtDirectory GivesUp EntersNext
 meets_inner s object (name, (at, not)) = record {
   deep = λ deep fed. MeetsDeep _ object name at not (lt-ltb s.job.limits.depth (length s.trail) deep);
@@ -126,7 +127,7 @@ pub file_some : (trail : List Frame) → IsAtFile trail → IsSome (current_entr
 unfolding IsAtFile
 file_some trail (name, at) = rw (at) refl
 
-pub one_too_many : (s : State) (object : Object) → IsAtFile s.trail → s.job.limits.files ≤ length s.rows → GivesUp (phase.Scan object) object cause.Limit s
+pub one_too_many : (s : State) (object : Object) → IsAtFile s.trail → s.job.limits.files ≤ length s.rows → GivesUp (phase.Carrying object stage.Scan) object cause.Limit s
 unfolding IsAtFile GivesUp
 one_too_many s object (name, at) many = λ fed. MeetsLimit _ object name at (or_left _ _ (le-leb s.job.limits.files (length s.rows) many))
 
@@ -139,11 +140,11 @@ module _ (s : State) (object : Object) (names : Path) (most : ℕ) (longer : Boo
   long_is : nat_lt s.job.limits.path_bytes (length (joined (logical_path object s.trail))) ≡ longer
   long_is = sym (is ∙ (λ i. nat_lt (limit i) (length (joined (there i)))))
 
-  pub path_too_long : IsAtFile s.trail → longer ≡ true → GivesUp (phase.Scan object) object cause.Limit s
+  pub path_too_long : IsAtFile s.trail → longer ≡ true → GivesUp (phase.Carrying object stage.Scan) object cause.Limit s
   unfolding IsAtFile GivesUp
   path_too_long (name, at) long = λ fed. MeetsLimit _ object name at (or_right (nat_le s.job.limits.files (length s.rows)) _ (long_is ∙ long))
 
-  pub opened_file : (s' : State) (a b : World) (entry path : Path) → IsAtFile s.trail → length s.rows < s.job.limits.files → longer ≡ false → Did (asks (Opens path)) a b → entry ≡ names_to s.trail → path ≡ in_pairtree entry → HasBeenFed s.job.algorithm s'.hasher [] → KeepsAll s s' → Turned (phase.Scan object) s s' a b (Ok (phase.Read object 0))
+  pub opened_file : (s' : State) (a b : World) (entry path : Path) → IsAtFile s.trail → length s.rows < s.job.limits.files → longer ≡ false → Did (asks (Opens path)) a b → entry ≡ names_to s.trail → path ≡ in_pairtree entry → HasBeenFed s.job.algorithm s'.hasher [] → KeepsAll s s' → Turned (phase.Carrying object stage.Scan) s s' a b (Ok (phase.Carrying object (stage.Read 0)))
   unfolding IsAtFile
   opened_file s' a b entry path (name, at) few short did entry_at path_at fed_none keeps =
       went a b (λ fed. [])
@@ -153,18 +154,18 @@ module _ (s : State) (object : Object) (names : Path) (most : ℕ) (longer : Boo
 -- ---- the end of a listing
 
 module _ (s s' : State) (a : World) (object : Object) (in_site : Bool) (at : current_entry s.trail ≡ None) (place : in_site ≡ is_in_site object s.trail) where
-  pub ended_site : in_site ≡ true → Moved s.trail s.counts s s' → Turned (phase.Scan object) s s' a a (Ok (phase.Make object part.Staging))
+  pub ended_site : in_site ≡ true → Moved s.trail s.counts s s' → Turned (phase.Carrying object stage.Scan) s s' a a (Ok (phase.Carrying object (stage.Make part.Staging)))
   ended_site is to = moves a a (λ fed. Scan (EndsSite _ object at (sym place ∙ is))) (did_nothing a) to refl
 
   -- outside of it
   module _ (left : List Frame) (outside : in_site ≡ false) (is : left ≡ parent s.trail) where
-    pub ended_object : true ≡ (not object.gathered && (length left == object.site)) → Moved left s.counts s s' → Turned (phase.Scan object) s s' a a (Ok (phase.Make object part.Staging))
+    pub ended_object : true ≡ (not object.gathered && (length left == object.site)) → Moved left s.counts s s' → Turned (phase.Carrying object stage.Scan) s s' a a (Ok (phase.Carrying object (stage.Make part.Staging)))
     ended_object own to =
         moves a a
         (λ fed. Scan (EndsObject _ object at (sym place ∙ outside) (sym (own ∙ (λ i. not object.gathered && (length (is i) == object.site))))))
         (did_nothing a) (rw is at to) refl
 
-    pub left_directory : false ≡ (not object.gathered && (length left == object.site)) → Moved (advanced left) s.counts s s' → Turned (phase.Scan object) s s' a a (Ok (phase.Scan object))
+    pub left_directory : false ≡ (not object.gathered && (length left == object.site)) → Moved (advanced left) s.counts s s' → Turned (phase.Carrying object stage.Scan) s s' a a (Ok (phase.Carrying object stage.Scan))
     left_directory own to =
         moves a a
         (λ fed. Scan (LeavesDirectory _ object at (sym place ∙ outside) (sym (own ∙ (λ i. not object.gathered && (length (is i) == object.site))))))

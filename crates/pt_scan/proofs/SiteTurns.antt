@@ -5,6 +5,7 @@ use Rattle.std.proofs.lemmas.Bool.{lt-ltb, le-ltb}
 use Rattle.pt_state.proofs.Words.{is_first, Item, Path, Reading, Kind, advanced, current_entry, entered, is_dir_entry, names_to, parent, trail_path, Cause, Frame, Answer, Line, Skipped, Did, LeavesSome, Walk, in_pairtree, Lists, World, asks, no_calls, tells, Fault, with_skipped, Turned, KeepsAll, held_of, with_trail}
 use Rattle.pt_state.proofs.Words.cause
 use Rattle.pt_state.proofs.Words.kind
+use Rattle.pt_state.proofs.Words.opening
 use Rattle.pt_state.proofs.Words.phase
 use Rattle.pt_state.specs.declared.state.State.{State}
 use Rattle.pt_tree.specs.Path.{last_name, parent as parent_of, split_path}
@@ -24,7 +25,7 @@ use Rattle.pt_scan.specs.Walking.{EntersSite, IsAtShorty, PassesShorty}
 
 -- ---- a listing that is entered
 
-pub opened_root : (s s' : State) (a b : World) (path : Path) (items : List Item) → Did (asks (Lists path items)) a b → path ≡ in_pairtree [] → Moved (entered items s.trail) s.counts s s' → Turned phase.OpenRoot s s' a b (Ok phase.Judge)
+pub opened_root : (s s' : State) (a b : World) (path : Path) (items : List Item) → Did (asks (Lists path items)) a b → path ≡ in_pairtree [] → Moved (entered items s.trail) s.counts s s' → Turned (phase.Opening opening.OpenRoot) s s' a b (Ok phase.Judge)
 opened_root s s' a b path items did is to =
     moves a b (λ fed. Walk (OpensRoot _ items)) (rw is at did) to refl
 

@@ -4,11 +4,12 @@ use Rattle.std.specs.Bool.{OnTrue}
 use Rattle.pt_plan.specs.Answer.{Answer}
 use Rattle.pt_plan.specs.declared.phase.Phase.{Phase}
 use Rattle.pt_plan.specs.declared.phase.Phase.TheVariants as phase
+use Rattle.pt_plan.specs.declared.phase.Stage.TheVariants as stage
 use Rattle.pt_tree.specs.Source.{IsRead, Reading}
 
 -- a file is read on
 abbrev pub is_reading : Phase → Bool
-is_reading (phase.Read object bytes) = true
+is_reading (phase.Carrying object (stage.Read bytes)) = true
 is_reading _ = false
 
 -- where the file is read on, the block that is held is the one that was read of a source that told this

@@ -19,6 +19,7 @@ use Rattle.pt_plan.specs.declared.fault.Fault.{Fault}
 use Rattle.pt_plan.specs.declared.object.Object.{Object}
 use Rattle.pt_plan.specs.declared.phase.Phase.{Phase}
 use Rattle.pt_plan.specs.declared.phase.Phase.TheVariants as phase
+use Rattle.pt_plan.specs.declared.phase.Stage.TheVariants as stage
 use Rattle.pt_state.specs.Lines.{with_skipped}
 use Rattle.pt_state.specs.States.{KeepsAll, held_of, job_of}
 use Rattle.pt_state.specs.declared.job.Report.{Report}
@@ -84,7 +85,7 @@ unfoldable pub EntersNext : Phase → Object → State → Type 0
 EntersNext here object s = (fed : List ℕ) (items : List Item)
     → Scans (job_of s.job) here (held_of s fed) (with_trail (held_of s fed) (entered items s.trail))
     (asks (Lists (in_pairtree (names_to s.trail)) items))
-    (Ok (phase.Scan (with_directory object items)))
+    (Ok (phase.Carrying (with_directory object items) stage.Scan))
 
 -- at this phase it is met: where it is too deep the object is passed over for that, and else it is entered
 pub record MeetsDirectory (here : Phase) (object : Object) (s : State) : Type 0 where

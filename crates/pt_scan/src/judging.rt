@@ -4,6 +4,7 @@ ghost use Rattle.std.specs.List.{concat};
 ghost use Rattle.pt_plan.specs.Job.{form_of as form_of_job};
 ghost use Rattle.pt_plan.specs.TurnWalk.{at_object, found_at, path_of_object};
 ghost use Rattle.pt_plan.specs.declared.phase.Phase.TheVariants as phase;
+ghost use Rattle.pt_plan.specs.declared.phase.Stage.TheVariants as stage;
 ghost use Rattle.pt_tree.specs.Path.{same_path};
 ghost use Rattle.pt_walk.specs.Trail.{has_place, trail_path};
 ghost use Rattle.pt_walk.specs.declared.site.Form.TheVariants as form;
@@ -13,7 +14,7 @@ ghost use Rattle.pt_scan.specs.Judging.{CanPass, IsJudging, IsNamed, IsOurs, IsP
 
 use crate::walking::at;
 use pt_name::{Layout, UncleanFault, concatenated, unclean};
-use pt_plan::{Fault, Identifier, Object, Phase};
+use pt_plan::{Fault, Identifier, Object, Phase, Stage};
 use pt_state::lines::{put_present, put_skip};
 use pt_state::paths::in_storage_root;
 use pt_state::{Outside, State};
@@ -179,21 +180,24 @@ fn object_at(trail: &Trail, site: &NamePath, index: Option<usize>) -> Result<Nam
 
 // The turn after the one that found an object whose place is free.
 fn opened(candidate: Candidate, gathered: bool, site: usize) -> Phase
-    ensures { result ≡ phase.OpenObject (record {
+    ensures { result ≡ phase.Carrying (record {
       id = candidate.id;
       place = candidate.place;
       gathered = gathered;
       site = site;
       empty = 0;
-    }) }
+    }) stage.Open }
 {
-    Phase::OpenObject(Object {
-        id: candidate.id,
-        place: candidate.place,
-        gathered,
-        site,
-        empty: 0,
-    })
+    Phase::Carrying(
+        Object {
+            id: candidate.id,
+            place: candidate.place,
+            gathered,
+            site,
+            empty: 0,
+        },
+        Stage::Open,
+    )
 }
 
 // Whether the object at a site can be carried: its identifier is what the names of the site's path read, behind the

@@ -3,6 +3,7 @@ ghost use Rattle.std.specs.Prelude.{◌≡◌, ◌<◌, ◌+◌, IfOk, [], lengt
 ghost use Rattle.pt_plan.specs.Turn.{Did};
 ghost use Rattle.pt_plan.specs.World.{World, Reads, asks};
 ghost use Rattle.pt_plan.specs.declared.phase.Phase.TheVariants as phase;
+ghost use Rattle.pt_plan.specs.declared.phase.Stage.TheVariants as stage;
 ghost use Rattle.pt_tree.specs.Source.{CanRead};
 ghost use Rattle.pt_state.specs.Outside.{EndsTurn, TakesTurn, Turned};
 ghost use Rattle.pt_scan.specs.Blocks.{IsNextBlock, KeepsBlock};
@@ -10,7 +11,7 @@ ghost use Rattle.pt_scan.specs.Scanning.{CanPassOver, CanReadOn};
 
 use crate::scanning::{give_up, logical_names};
 use pt_object::Hasher;
-use pt_plan::{Fault, Object, Phase};
+use pt_plan::{Fault, Object, Phase, Stage};
 use pt_state::paths::entry_path;
 use pt_state::{Outside, State};
 use pt_tree::NamePath;
@@ -32,8 +33,8 @@ pub fn read<O: Outside>(
 ) -> Result<Phase, Fault>
     requires may { CanRead (O.world out.old).source }
     requires reads { CanReadOn object bytes state.old }
-    ensures turn { TakesTurn O.world (O.within 1) (phase.Read object bytes) state.old state.new
-        out.old out.new result }
+    ensures turn { TakesTurn O.world (O.within 1) (phase.Carrying object (stage.Read bytes))
+        state.old state.new out.old out.new result }
     ensures block { IfOk result (IsNextBlock (O.world out.old).source state.new.block.items) }
 {
     out.next(&mut state.block)?;
@@ -49,7 +50,7 @@ fn take_block<O: Outside>(
 ) -> Result<Phase, Fault>
     requires { CanReadOn object bytes state.old }
     ensures turn { EndsTurn O.world (O.within 0) (asks (Reads state.old.block.items))
-        (phase.Read object bytes) state.old state.new out.old out.new result }
+        (phase.Carrying object (stage.Read bytes)) state.old state.new out.old out.new result }
     ensures block { IfOk result (KeepsBlock state.old.block.items state.new.block.items) }
 {
     if state.block.is_empty() {
@@ -60,15 +61,15 @@ fn take_block<O: Outside>(
         return pass_object(state, object, bytes, out);
     }
     state.hasher.feed(&state.block);
-    Ok(Phase::Read(object, more))
+    Ok(Phase::Carrying(object, Stage::Read(more)))
 }
 
 // Notes the row of a file that was read to its end.
 fn end_file(state: &mut State, object: Object, bytes: u64) -> Result<Phase, Fault>
     requires { CanReadOn object bytes state.old }
-    ensures turn { (before after : World) → Did (asks (Reads [])) before after
-        → Turned (phase.Read object bytes) state.old state.new before after result }
-    ensures scans { IfOk result (λ next. next ≡ phase.Scan object) }
+    ensures turn { (before after : World) → Did (asks (Reads [])) before after → Turned
+        (phase.Carrying object (stage.Read bytes)) state.old state.new before after result }
+    ensures scans { IfOk result (λ next. next ≡ phase.Carrying object stage.Scan) }
 {
     let entry = entry_path(&state.trail)?;
     let names = logical_names(&object, &state.trail, &entry);
@@ -78,7 +79,7 @@ fn end_file(state: &mut State, object: Object, bytes: u64) -> Result<Phase, Faul
     state.rows.push(&path, &digest, bytes)?;
     state.contents.note(&digest, &path)?;
     state.trail.advance();
-    Ok(Phase::Scan(object))
+    Ok(Phase::Carrying(object, Stage::Scan))
 }
 
 // Passes over the object, of which a file is too long.
@@ -92,7 +93,7 @@ fn pass_object<O: Outside>(
         × (state.old.job.limits.file_bytes < bytes + length state.old.block.items) }
     requires passes { CanPassOver object state.old }
     ensures turn { EndsTurn O.world (O.within 0) (asks (Reads state.old.block.items))
-        (phase.Read object bytes) state.old state.new out.old out.new result }
+        (phase.Carrying object (stage.Read bytes)) state.old state.new out.old out.new result }
     ensures walks { IfOk result (λ next. next ≡ phase.Walk) }
 {
     give_up(state, &object, Cause::Limit, out)?;

@@ -5,6 +5,7 @@ ghost use Rattle.pt_plan.specs.TurnScan.{is_in_site as is_in_site_of, logical_pa
 ghost use Rattle.pt_plan.specs.World.{World};
 ghost use Rattle.pt_plan.specs.declared.phase.Phase.{Phase};
 ghost use Rattle.pt_plan.specs.declared.phase.Phase.TheVariants as phase;
+ghost use Rattle.pt_plan.specs.declared.phase.Stage.TheVariants as stage;
 ghost use Rattle.pt_tree.specs.Path.{joined};
 ghost use Rattle.pt_walk.specs.Site.{is_shorty as is_shorty_entry};
 ghost use Rattle.pt_walk.specs.Trail.{current_entry, is_dir_entry, names_to, trail_path};
@@ -13,7 +14,7 @@ ghost use Rattle.pt_scan.specs.Scanning.{CanEnter, CanPassOver, CanScan, Entered
 
 use crate::walking::listed_path;
 use pt_object::Hasher;
-use pt_plan::{Fault, Object, Part, Phase};
+use pt_plan::{Fault, Object, Part, Phase, Stage};
 use pt_state::lines::put_skip;
 use pt_state::paths::{entry_path, in_pairtree};
 use pt_state::site::back_to_site;
@@ -38,12 +39,12 @@ pub fn open_object<O: Outside>(
         → IsTrue (is_dir_entry (current_entry state.old.trail)) }
     requires passes { CanPassOver object state.old }
     requires empty { object.empty < 2 ^ 40 }
-    ensures turn { TakesTurn O.world (O.within 1) (phase.OpenObject object) state.old state.new
-        out.old out.new result }
+    ensures turn { TakesTurn O.world (O.within 1) (phase.Carrying object stage.Open)
+        state.old state.new out.old out.new result }
 {
     if object.gathered {
         state.trail.seek(0);
-        return Ok(Phase::Scan(object));
+        return Ok(Phase::Carrying(object, Stage::Scan));
     }
     enter_directory(state, object, out)
 }
@@ -59,15 +60,15 @@ pub fn scan<O: Outside>(state: &mut State, object: Object, out: &mut O) -> Resul
     requires open { MayOpen (O.world out.old).source state.old.trail }
     requires scans { CanScan object state.old }
     requires empty { object.empty < 2 ^ 40 }
-    ensures turn { TakesTurn O.world (O.within 1) (phase.Scan object) state.old state.new
-        out.old out.new result }
+    ensures turn { TakesTurn O.world (O.within 1) (phase.Carrying object stage.Scan)
+        state.old state.new out.old out.new result }
 {
     let in_site = is_in_site(&object, &state.trail);
     match state.trail.current() {
         Some((name, kind)) => {
             if is_passed(in_site, name, kind) {
                 state.trail.advance();
-                return Ok(Phase::Scan(object));
+                return Ok(Phase::Carrying(object, Stage::Scan));
             }
             match kind {
                 Kind::Dir => enter_directory(state, object, out),
@@ -124,7 +125,7 @@ fn enter_directory<O: Outside>(
         return pass_object(state, object, Cause::Limit, out);
     }
     let is_empty = enter(state, out)?;
-    Ok(Phase::Scan(with_directory(object, is_empty)))
+    Ok(Phase::Carrying(with_directory(object, is_empty), Stage::Scan))
 }
 
 // Lists the directory at the trail's place and enters it; gives whether it has no entries.
@@ -155,8 +156,8 @@ fn meet_file<O: Outside>(state: &mut State, object: Object, out: &mut O) -> Resu
     requires file { IsAtFile state.old.trail }
     requires may { MayOpen (O.world out.old).source state.old.trail }
     requires scans { CanScan object state.old }
-    ensures turn { TakesTurn O.world (O.within 1) (phase.Scan object) state.old state.new
-        out.old out.new result }
+    ensures turn { TakesTurn O.world (O.within 1) (phase.Carrying object stage.Scan)
+        state.old state.new out.old out.new result }
 {
     if state.rows.len() as u64 >= state.job.limits.files() {
         return pass_object(state, object, Cause::Limit, out);
@@ -169,7 +170,7 @@ fn meet_file<O: Outside>(state: &mut State, object: Object, out: &mut O) -> Resu
     let path = in_pairtree(entry)?;
     out.open(&path)?;
     state.hasher = Hasher::start(state.job.algorithm);
-    Ok(Phase::Read(object, 0))
+    Ok(Phase::Carrying(object, Stage::Read(0)))
 }
 
 // Of the path of the entry at the trail's place, the names of the logical path: those behind the object's directory.
@@ -213,18 +214,19 @@ fn leave_listing(state: &mut State, object: Object, in_site: bool) -> Phase
     requires none { current_entry state.old.trail ≡ None }
     requires in_site { in_site ≡ is_in_site_of object state.old.trail }
     requires inside { IsInObject object state.old.trail }
-    ensures turn { (w : World) → Turned (phase.Scan object) state.old state.new w w (Ok result) }
+    ensures turn { (w : World) → Turned (phase.Carrying object stage.Scan) state.old state.new w w
+        (Ok result) }
 {
     if in_site {
-        return Phase::Make(object, Part::Staging);
+        return Phase::Carrying(object, Stage::Make(Part::Staging));
     }
     let _listings = state.trail.len();
     state.trail.leave();
     if is_left(&object, &state.trail) {
-        return Phase::Make(object, Part::Staging);
+        return Phase::Carrying(object, Stage::Make(Part::Staging));
     }
     state.trail.advance();
-    Phase::Scan(object)
+    Phase::Carrying(object, Stage::Scan)
 }
 
 // Whether the listing that was left is that of the directory that encapsulates an object.

@@ -2,6 +2,7 @@
 ghost use Rattle.std.specs.Prelude.{◌≡◌, ◌<◌, ◌==◌, ◌^◌, cond, [], IfOk, length};
 ghost use Rattle.pt_plan.specs.Permits.{MayEnter};
 ghost use Rattle.pt_plan.specs.TurnWalk.{in_pairtree as in_pairtree_of};
+ghost use Rattle.pt_plan.specs.declared.phase.Opening.TheVariants as opening;
 ghost use Rattle.pt_plan.specs.declared.phase.Phase.TheVariants as phase;
 ghost use Rattle.pt_tree.specs.Source.{CanList};
 ghost use Rattle.pt_walk.specs.Sites.{at_of, is_last as is_last_of};
@@ -23,8 +24,8 @@ use pt_walk::{At, Cause, is_shorty};
 pub fn open_root<O: Outside>(state: &mut State, out: &mut O) -> Result<Phase, Fault>
     requires may { CanList (O.world out.old).source (in_pairtree_of []) }
     requires trail { state.old.trail ≡ [] }
-    ensures turn { TakesTurn O.world (O.within 1) phase.OpenRoot state.old state.new
-        out.old out.new result }
+    ensures turn { TakesTurn O.world (O.within 1) (phase.Opening opening.OpenRoot)
+        state.old state.new out.old out.new result }
 {
     let path = NamePath::of_known(state.alloc, &[Known::PairtreeRoot])?;
     let listing = out.list(&path)?;

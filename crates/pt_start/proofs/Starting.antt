@@ -11,6 +11,7 @@ use Rattle.pt_state.proofs.Words.{MakeFile, MakeFolder, staging, Answer, Did, Fo
 use Rattle.pt_state.specs.declared.state.State.{State}
 use Rattle.pt_state.proofs.Words.fault
 use Rattle.pt_state.proofs.Words.kind
+use Rattle.pt_state.proofs.Words.opening
 use Rattle.pt_state.proofs.Words.phase
 use Rattle.pt_object.specs.RootFiles.{root_files_of}
 use Rattle.pt_object.specs.Script.{Item}
@@ -80,28 +81,28 @@ module _ (xs : List Entry) (name : List ℕ) (i : ℕ) (so_far : kind_in xs name
 
 pub ruleset finding_kind = (kind_found, kind_passed, kind_past)
 
-pub is_store : (s : State) (w w' : World) (top : Path) (entries : List Entry) (here : Option Kind) → top ≡ [] → Did (asks (Lists top entries)) w w' → true ≡ lists_store entries → here ≡ kind_in entries prefix_file → Turned phase.Begin s s w w' (Ok (phase.Prefix here))
+pub is_store : (s : State) (w w' : World) (top : Path) (entries : List Entry) (here : Option Kind) → top ≡ [] → Did (asks (Lists top entries)) w w' → true ≡ lists_store entries → here ≡ kind_in entries prefix_file → Turned (phase.Opening opening.Begin) s s w w' (Ok (phase.Opening (opening.Prefix here)))
 is_store s w w' top entries here at did is same =
     rw same
     (goes w w' (IsStore _ entries (sym is)) (rw (at) at did) refl keeps_same refl)
 
-pub is_no_store : (s : State) (w w' : World) (top : Path) (entries : List Entry) → top ≡ [] → Did (asks (Lists top entries)) w w' → false ≡ lists_store entries → Turned phase.Begin s s w w' (Err fault.NotPairtree)
+pub is_no_store : (s : State) (w w' : World) (top : Path) (entries : List Entry) → top ≡ [] → Did (asks (Lists top entries)) w w' → false ≡ lists_store entries → Turned (phase.Opening opening.Begin) s s w w' (Err fault.NotPairtree)
 is_no_store s w w' top entries at did is =
     halts w w' (IsNoStore _ entries (sym is)) (rw (at) at did) keeps_same
 
 -- ---- the prefix
 
-pub no_prefix : (s : State) (w : World) → Turned (phase.Prefix None) s s w w (Ok phase.Staging)
+pub no_prefix : (s : State) (w : World) → Turned (phase.Opening (opening.Prefix None)) s s w w (Ok (phase.Opening opening.Staging))
 no_prefix s w = goes w w (HasNoPrefix _) (did_nothing w) refl keeps_same refl
 
-pub no_prefix_dir : (s : State) (w : World) → Turned (phase.Prefix (Some kind.Dir)) s s w w (Err fault.Prefix)
+pub no_prefix_dir : (s : State) (w : World) → Turned (phase.Opening (opening.Prefix (Some kind.Dir))) s s w w (Err fault.Prefix)
 no_prefix_dir s w = halts w w (IsNoPrefixFile _ (Some kind.Dir) (λ e. cc) refl) (did_nothing w) keeps_same
 
-pub no_prefix_other : (s : State) (w : World) → Turned (phase.Prefix (Some kind.Other)) s s w w (Err fault.Prefix)
+pub no_prefix_other : (s : State) (w : World) → Turned (phase.Opening (opening.Prefix (Some kind.Other))) s s w w (Err fault.Prefix)
 no_prefix_other s w = halts w w (IsNoPrefixFile _ (Some kind.Other) (λ e. cc) refl) (did_nothing w) keeps_same
 
 pub has_prefix : (s s' : State) (w w' : World) (path : Path) (block : List ℕ) → path ≡ prefix_file ∷ [] → Did (asks (OpensAndReads path block)) w w' → prefix_refusal block ≡ None → string_bytes s'.prefix ≡ without_line_ends block
-    → s'.job ≡ s.job → s'.trail ≡ s.trail → s'.rows ≡ s.rows → s'.contents ≡ s.contents → s'.counts ≡ s.counts → s'.hasher ≡ s.hasher → Turned (phase.Prefix (Some kind.File)) s s' w w' (Ok phase.Staging)
+    → s'.job ≡ s.job → s'.trail ≡ s.trail → s'.rows ≡ s.rows → s'.contents ≡ s.contents → s'.counts ≡ s.counts → s'.hasher ≡ s.hasher → Turned (phase.Opening (opening.Prefix (Some kind.File))) s s' w w' (Ok (phase.Opening opening.Staging))
 unfolding Turned
 has_prefix s s' w w' path block at did good prefix job trail rows contents counts hasher = (
   job,
@@ -109,7 +110,7 @@ has_prefix s s' w w' path block at did good prefix job trail rows contents count
     fed,
     (
       rw hasher was,
-      GoesOn (asks (OpensAndReads (prefix_file ∷ []) block)) phase.Staging (follows fed) (rw (at) at did) (ap counts_of counts),
+      GoesOn (asks (OpensAndReads (prefix_file ∷ []) block)) (phase.Opening opening.Staging) (follows fed) (rw (at) at did) (ap counts_of counts),
     ),
   ),
 )
@@ -117,17 +118,17 @@ has_prefix s s' w w' path block at did good prefix job trail rows contents count
     same : (fed : List ℕ) → held_of s' fed ≡ held_of s fed
     same fed = λ i. record { trail = trail i; rows = rows i; contents = contents i; fed = fed }
 
-    follows : (fed : List ℕ) → Follows (job_of s.job) (counts_of s.counts) (phase.Prefix (Some kind.File)) (string_bytes s.prefix) (held_of s fed) (string_bytes s'.prefix) (held_of s' fed) (asks (OpensAndReads (prefix_file ∷ []) block)) (Ok phase.Staging)
+    follows : (fed : List ℕ) → Follows (job_of s.job) (counts_of s.counts) (phase.Opening (opening.Prefix (Some kind.File))) (string_bytes s.prefix) (held_of s fed) (string_bytes s'.prefix) (held_of s' fed) (asks (OpensAndReads (prefix_file ∷ []) block)) (Ok (phase.Opening opening.Staging))
     follows fed = rw (same fed, prefix) (Start (HasPrefix (string_bytes s.prefix) block good))
 
-pub bad_prefix : (s s' : State) (w w' : World) (path : Path) (block : List ℕ) (f : Fault) (result : Answer) → IsErrAnd result (λ g. g ≡ f) → path ≡ prefix_file ∷ [] → Did (asks (OpensAndReads path block)) w w' → PrefixFails block f → KeepsAll s s' → Turned (phase.Prefix (Some kind.File)) s s' w w' result
+pub bad_prefix : (s s' : State) (w w' : World) (path : Path) (block : List ℕ) (f : Fault) (result : Answer) → IsErrAnd result (λ g. g ≡ f) → path ≡ prefix_file ∷ [] → Did (asks (OpensAndReads path block)) w w' → PrefixFails block f → KeepsAll s s' → Turned (phase.Opening (opening.Prefix (Some kind.File))) s s' w w' result
 bad_prefix s s' w w' path block f (Ok next) is at did fails keeps = absurd is
 bad_prefix s s' w w' path block f (Err g) is at did fails keeps = rw is (by f fails)
   where
     there : Did (asks (OpensAndReads (prefix_file ∷ []) block)) w w'
     there = rw (at) at did
 
-    by : (f : Fault) → PrefixFails block f → Turned (phase.Prefix (Some kind.File)) s s' w w' (Err f)
+    by : (f : Fault) → PrefixFails block f → Turned (phase.Opening (opening.Prefix (Some kind.File))) s s' w w' (Err f)
     by fault.Prefix fails = halts w w' (IsNoPrefix _ block fails.0 fails.1) there keeps
     by fault.Memory fails = short_asked _ s s' w w' (OpensAndReads (prefix_file ∷ []) block) _ refl there keeps
     by _ fails = absurd fails
@@ -139,19 +140,19 @@ may_open_prefix told here path may is at = rw (at) (may is)
 -- ---- staging and the root
 
 module _ (s : State) (w w' : World) (path : Path) where
-  pub no_staging : path ≡ staging → Did (does (Finds path None)) w w' → Turned phase.Staging s s w w' (Ok phase.Root)
+  pub no_staging : path ≡ staging → Did (does (Finds path None)) w w' → Turned (phase.Opening opening.Staging) s s w w' (Ok (phase.Opening opening.Root))
   no_staging is did = goes w w' (HasNoStaging _) (rw is at did) refl keeps_same refl
 
-  pub staging_left : (here : Kind) → path ≡ staging → Did (does (Finds path (Some here))) w w' → Turned phase.Staging s s w w' (Err fault.StagingLeft)
+  pub staging_left : (here : Kind) → path ≡ staging → Did (does (Finds path (Some here))) w w' → Turned (phase.Opening opening.Staging) s s w w' (Err fault.StagingLeft)
   staging_left here is did = halts w w' (HasStaging _ here) (rw is at did) keeps_same
 
-  pub no_root : path ≡ storage_root → Did (does (Finds path None)) w w' → Turned phase.Root s s w w' (Ok (phase.RootMake 0))
+  pub no_root : path ≡ storage_root → Did (does (Finds path None)) w w' → Turned (phase.Opening opening.Root) s s w w' (Ok (phase.Opening (opening.RootMake 0)))
   no_root is did = goes w w' (HasNoRoot _) (rw is at did) refl keeps_same refl
 
-  pub has_root : path ≡ storage_root → Did (does (Finds path (Some kind.Dir))) w w' → Turned phase.Root s s w w' (Ok (phase.RootCheck 0))
+  pub has_root : path ≡ storage_root → Did (does (Finds path (Some kind.Dir))) w w' → Turned (phase.Opening opening.Root) s s w w' (Ok (phase.Opening (opening.RootCheck 0)))
   has_root is did = goes w w' (HasRoot _) (rw is at did) refl keeps_same refl
 
-  pub is_no_root : (here : Kind) → path ≡ storage_root → is_dir_kind (Some here) ≡ false → Did (does (Finds path (Some here))) w w' → Turned phase.Root s s w w' (Err fault.Target)
+  pub is_no_root : (here : Kind) → path ≡ storage_root → is_dir_kind (Some here) ≡ false → Did (does (Finds path (Some here))) w w' → Turned (phase.Opening opening.Root) s s w w' (Err fault.Target)
   is_no_root here is other did = halts w w' (IsNoRoot _ here other) (rw is at did) keeps_same
 
 -- ---- a new root
@@ -207,18 +208,18 @@ module _ (tuples : Tuples) (files : List (Path × List ℕ)) (item : ℕ) (whole
   unfolding MayMakeRootItem IsRootItem
   may_make_file told may = may (MakeFile whole bytes) root_file
 
-makes_item : (s : State) (item : ℕ) (it : Item) → IsRootItem s.job.layout item it → StartsAt (phase.RootMake item) s (does (Makes it)) (Ok (after_item item))
+makes_item : (s : State) (item : ℕ) (it : Item) → IsRootItem s.job.layout item it → StartsAt (phase.Opening (opening.RootMake item)) s (does (Makes it)) (Ok (after_item item))
 unfolding IsRootItem
 makes_item s item it is = MakesRoot _ item it is
 
-pub made_item : (s : State) (w w' : World) (number : ℕ) (item : Item) (next : Phase) → Did (does (Makes item)) w w' → IsRootItem s.job.layout number item → next ≡ after_item number → Turned (phase.RootMake number) s s w w' (Ok next)
+pub made_item : (s : State) (w w' : World) (number : ℕ) (item : Item) (next : Phase) → Did (does (Makes item)) w w' → IsRootItem s.job.layout number item → next ≡ after_item number → Turned (phase.Opening (opening.RootMake number)) s s w w' (Ok next)
 made_item s w w' number item next did is then =
     rw then (goes w w' (makes_item s number item is) did refl keeps_same refl)
 
-pub left_item : (s : State) (w w' : World) (number : ℕ) (item : Item) (f : Fault) (result : Answer) → IsErrAnd result (λ g. g ≡ f) → LeavesSome (does (Makes item)) f w w' → IsRootItem s.job.layout number item → Turned (phase.RootMake number) s s w w' result
+pub left_item : (s : State) (w w' : World) (number : ℕ) (item : Item) (f : Fault) (result : Answer) → IsErrAnd result (λ g. g ≡ f) → LeavesSome (does (Makes item)) f w w' → IsRootItem s.job.layout number item → Turned (phase.Opening (opening.RootMake number)) s s w w' result
 left_item s w w' number item f result is part it = left_some w w' f result is (λ fed. Start (makes_item s number item it)) part keeps_same
 
-pub renamed_root : (s : State) (w w' : World) (from to : Path) → Did (does (Renames from to)) w w' → from ≡ staging → to ≡ storage_root → Turned phase.RootRename s s w w' (Ok phase.OpenRoot)
+pub renamed_root : (s : State) (w w' : World) (from to : Path) → Did (does (Renames from to)) w w' → from ≡ staging → to ≡ storage_root → Turned (phase.Opening opening.RootRename) s s w w' (Ok (phase.Opening opening.OpenRoot))
 renamed_root s w w' from to did is at =
     goes w w' (RenamesRoot _) (rw (is, (at)) at did) refl keeps_same refl
 
@@ -244,7 +245,7 @@ can_peek_file w w' path here did is = λ s e. by (s.tree path) (did.0.dest.0 s (
     by (Some (Bytes bytes)) at = refl
     by _ at = absurd (cc)
 
-pub no_file : (s : State) (w w' : World) (number : ℕ) (whole : Path) (bytes : List ℕ) (here : Option Kind) → Did (does (Finds whole here)) w w' → IsRootFile s.job.layout number whole bytes → false ≡ is_file_kind here → Turned (phase.RootCheck number) s s w w' (Err fault.Target)
+pub no_file : (s : State) (w w' : World) (number : ℕ) (whole : Path) (bytes : List ℕ) (here : Option Kind) → Did (does (Finds whole here)) w w' → IsRootFile s.job.layout number whole bytes → false ≡ is_file_kind here → Turned (phase.Opening (opening.RootCheck number)) s s w w' (Err fault.Target)
 unfolding IsRootFile
 no_file s w w' number whole bytes here did file is =
     halts w w' (IsNoFile _ number file.0 bytes here file.1.1 (sym is)) (rw file.1.0 at did) keeps_same
@@ -254,14 +255,14 @@ peeked : (a b c : World) (whole : Path) (at : Path) (here : Option Kind) (block 
 peeked a b c whole at here block is found read = rw is at (rw (looked_same whole here a b found) at read)
 
 pub same_file : (s s' : State) (a b c : World) (number : ℕ) (whole : Path) (bytes block : List ℕ) (here : Option Kind) (next : Phase) → Did (does (Finds whole here)) a b → Did (does (Peeks whole block)) b c → IsRootFile s.job.layout number whole bytes → bytes_eq block bytes ≡ true → next ≡ after_file number → KeepsAll s s' → s'.hasher ≡ s.hasher
-    → Turned (phase.RootCheck number) s s' a c (Ok next)
+    → Turned (phase.Opening (opening.RootCheck number)) s s' a c (Ok next)
 unfolding IsRootFile
 same_file s s' a b c number whole bytes block here next found read file eq then keeps same =
     rw then
     (goes a c (IsSame _ number file.0 bytes file.1.1)
     (rw (same_name block bytes eq) at (peeked a b c whole (storage_root ++ file.0) here block file.1.0 found read)) refl keeps same)
 
-pub other_file : (s s' : State) (a b c : World) (number : ℕ) (whole : Path) (bytes block : List ℕ) (here : Option Kind) → Did (does (Finds whole here)) a b → Did (does (Peeks whole block)) b c → IsRootFile s.job.layout number whole bytes → bytes_eq block bytes ≡ false → KeepsAll s s' → Turned (phase.RootCheck number) s s' a c (Err fault.Target)
+pub other_file : (s s' : State) (a b c : World) (number : ℕ) (whole : Path) (bytes block : List ℕ) (here : Option Kind) → Did (does (Finds whole here)) a b → Did (does (Peeks whole block)) b c → IsRootFile s.job.layout number whole bytes → bytes_eq block bytes ≡ false → KeepsAll s s' → Turned (phase.Opening (opening.RootCheck number)) s s' a c (Err fault.Target)
 unfolding IsRootFile
 other_file s s' a b c number whole bytes block here found read file ne keeps =
     halts a c (Differs _ number file.0 bytes block file.1.1 ne) (peeked a b c whole (storage_root ++ file.0) here block file.1.0 found read) keeps

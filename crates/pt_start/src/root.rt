@@ -6,6 +6,7 @@ ghost use Rattle.pt_object.specs.Scripts.{staging as staging_path};
 ghost use Rattle.pt_plan.specs.Permits.{MayMakeRootItem};
 ghost use Rattle.pt_plan.specs.Roots.{storage_root};
 ghost use Rattle.pt_plan.specs.TurnStart.{after_file as after_file_of, after_item as after_item_of};
+ghost use Rattle.pt_plan.specs.declared.phase.Opening.TheVariants as opening;
 ghost use Rattle.pt_plan.specs.declared.phase.Phase.TheVariants as phase;
 ghost use Rattle.pt_tree.specs.Dest.{MayMake, MayMove};
 ghost use Rattle.pt_state.specs.Outside.{TakesTurn};
@@ -13,7 +14,7 @@ ghost use Rattle.pt_start.specs.Starting.{IsFileAt, IsItemAt, IsRootItem};
 
 use crate::store::is_file;
 use pt_object::root_files;
-use pt_plan::{Fault, Phase};
+use pt_plan::{Fault, Opening, Phase};
 use pt_state::files::put_file;
 use pt_state::paths::{in_staging, in_storage_root};
 use pt_state::{Outside, State};
@@ -23,25 +24,25 @@ use std::alloc::Global;
 // The layout of the storage root (extension 0003).
 /// Asks whether `staging` is there.
 pub fn staging<O: Outside>(state: &State, out: &mut O) -> Result<Phase, Fault>
-    ensures turn { TakesTurn O.world (O.within 0) phase.Staging state.now state.now
-        out.old out.new result }
+    ensures turn { TakesTurn O.world (O.within 0) (phase.Opening opening.Staging)
+        state.now state.now out.old out.new result }
 {
     let path = NamePath::of_known(state.alloc, &[Known::Staging])?;
     match out.kind(&path)? {
-        None => Ok(Phase::Root),
+        None => Ok(Phase::Opening(Opening::Root)),
         Some(_) => Err(Fault::StagingLeft),
     }
 }
 
 /// Asks whether the storage root is there.
 pub fn root<O: Outside>(state: &State, out: &mut O) -> Result<Phase, Fault>
-    ensures turn { TakesTurn O.world (O.within 0) phase.Root state.now state.now
+    ensures turn { TakesTurn O.world (O.within 0) (phase.Opening opening.Root) state.now state.now
         out.old out.new result }
 {
     let path = NamePath::of_known(state.alloc, &[Known::StorageRoot])?;
     match out.kind(&path)? {
-        None => Ok(Phase::RootMake(0)),
-        Some(Kind::Dir) => Ok(Phase::RootCheck(0)),
+        None => Ok(Phase::Opening(Opening::RootMake(0))),
+        Some(Kind::Dir) => Ok(Phase::Opening(Opening::RootCheck(0))),
         Some(_) => Err(Fault::Target),
     }
 }
@@ -51,8 +52,8 @@ pub fn root<O: Outside>(state: &State, out: &mut O) -> Result<Phase, Fault>
 pub fn make_root<O: Outside>(state: &State, item: u8, out: &mut O) -> Result<Phase, Fault>
     requires may { MayMakeRootItem (O.world out.old).dest state.now.job.layout item }
     requires item { item < 6 }
-    ensures turn { TakesTurn O.world (O.within 0) (phase.RootMake item) state.now state.now
-        out.old out.new result }
+    ensures turn { TakesTurn O.world (O.within 0) (phase.Opening (opening.RootMake item))
+        state.now state.now out.old out.new result }
 {
     if item < 3 {
         let path = root_folder(state.alloc, item)?;
@@ -74,8 +75,8 @@ fn make_folder<O: Outside>(
 ) -> Result<Phase, Fault>
     requires may { MayMake (O.world out.old).dest path.now }
     requires here { IsItemAt state.now.job.layout item (MakeFolder path.now) }
-    ensures turn { TakesTurn O.world (O.within 0) (phase.RootMake item) state.now state.now
-        out.old out.new result }
+    ensures turn { TakesTurn O.world (O.within 0) (phase.Opening (opening.RootMake item))
+        state.now state.now out.old out.new result }
 {
     out.mkdir(path)?;
     Ok(after_item(item))
@@ -90,8 +91,8 @@ fn make_file<O: Outside>(
 ) -> Result<Phase, Fault>
     requires may { MayMake (O.world out.old).dest path.now }
     requires here { IsItemAt state.now.job.layout item (MakeFile path.now bytes.now) }
-    ensures turn { TakesTurn O.world (O.within 0) (phase.RootMake item) state.now state.now
-        out.old out.new result }
+    ensures turn { TakesTurn O.world (O.within 0) (phase.Opening (opening.RootMake item))
+        state.now state.now out.old out.new result }
 {
     put_file(out, path, bytes)?;
     Ok(after_item(item))
@@ -120,17 +121,17 @@ fn after_item(item: u8) -> Phase
     ensures { result ≡ after_item_of item }
 {
     if item == 5 {
-        Phase::RootRename
+        Phase::Opening(Opening::RootRename)
     } else {
-        Phase::RootMake(item + 1)
+        Phase::Opening(Opening::RootMake(item + 1))
     }
 }
 
 /// Renames `staging` to the storage root.
 pub fn rename_root<O: Outside>(state: &State, out: &mut O) -> Result<Phase, Fault>
     requires { MayMove (O.world out.old).dest staging_path storage_root }
-    ensures turn { TakesTurn O.world (O.within 0) phase.RootRename state.now state.now
-        out.old out.new result }
+    ensures turn { TakesTurn O.world (O.within 0) (phase.Opening opening.RootRename)
+        state.now state.now out.old out.new result }
 {
     let from = NamePath::of_known(state.alloc, &[Known::Staging])?;
     let to = NamePath::of_known(state.alloc, &[Known::StorageRoot])?;
@@ -145,18 +146,18 @@ fn move_root<O: Outside>(
 ) -> Result<Phase, Fault>
     requires may { MayMove (O.world out.old).dest from.now to.now }
     requires paths { (from.now ≡ staging_path) × (to.now ≡ storage_root) }
-    ensures turn { TakesTurn O.world (O.within 0) phase.RootRename state.now state.now
-        out.old out.new result }
+    ensures turn { TakesTurn O.world (O.within 0) (phase.Opening opening.RootRename)
+        state.now state.now out.old out.new result }
 {
     out.rename(from, to)?;
-    Ok(Phase::OpenRoot)
+    Ok(Phase::Opening(Opening::OpenRoot))
 }
 
 /// Compares one of the three files of the storage root that stands with what this program writes.
 pub fn check_root<O: Outside>(state: &mut State, file: usize, out: &mut O) -> Result<Phase, Fault>
     requires { file < 3 }
-    ensures turn { TakesTurn O.world (O.within 0) (phase.RootCheck file) state.old state.new
-        out.old out.new result }
+    ensures turn { TakesTurn O.world (O.within 0) (phase.Opening (opening.RootCheck file))
+        state.old state.new out.old out.new result }
 {
     let files = root_files(state.alloc, state.job.layout)?;
     let Some((path, bytes)) = files.get(file) else {
@@ -174,8 +175,8 @@ fn compare<O: Outside>(
     out: &mut O,
 ) -> Result<Phase, Fault>
     requires here { IsFileAt state.old.job.layout file path.now bytes.now }
-    ensures turn { TakesTurn O.world (O.within 0) (phase.RootCheck file) state.old state.new
-        out.old out.new result }
+    ensures turn { TakesTurn O.world (O.within 0) (phase.Opening (opening.RootCheck file))
+        state.old state.new out.old out.new result }
 {
     let here = out.kind(path)?;
     if !is_file(here) {
@@ -194,8 +195,8 @@ fn after_file(file: usize) -> Phase
     ensures { result ≡ after_file_of file }
 {
     if file == 2 {
-        Phase::OpenRoot
+        Phase::Opening(Opening::OpenRoot)
     } else {
-        Phase::RootCheck(file + 1)
+        Phase::Opening(Opening::RootCheck(file + 1))
     }
 }

@@ -4,13 +4,14 @@ ghost use Rattle.std.specs.String.{string_bytes};
 ghost use Rattle.pt_name.specs.Prefix.{prefix_refusal, without_line_ends};
 ghost use Rattle.pt_plan.specs.Permits.{MayOpenPrefix};
 ghost use Rattle.pt_plan.specs.TurnStart.{is_dir_kind, is_file_kind, kind_in as kind_in_of, lists_store};
+ghost use Rattle.pt_plan.specs.declared.phase.Opening.TheVariants as opening;
 ghost use Rattle.pt_plan.specs.declared.phase.Phase.TheVariants as phase;
 ghost use Rattle.pt_tree.specs.Source.{CanList};
 ghost use Rattle.pt_state.specs.Outside.{TakesTurn};
 ghost use Rattle.pt_start.specs.Starting.{PrefixFails, kind_if_named};
 
 use pt_name::{PrefixFault, read_prefix};
-use pt_plan::{Fault, Phase};
+use pt_plan::{Fault, Opening, Phase};
 use pt_state::files::read_first;
 use pt_state::{Outside, State};
 use pt_tree::{Block, Kind, Known, Listing, NamePath};
@@ -19,7 +20,7 @@ use std::alloc::Global;
 /// Lists the top.
 pub fn begin<O: Outside>(state: &State, out: &mut O) -> Result<Phase, Fault>
     requires { CanList (O.world out.old).source [] }
-    ensures turn { TakesTurn O.world (O.within 1) phase.Begin state.now state.now
+    ensures turn { TakesTurn O.world (O.within 1) (phase.Opening opening.Begin) state.now state.now
         out.old out.new result }
 {
     let top = NamePath::new(state.alloc);
@@ -27,7 +28,7 @@ pub fn begin<O: Outside>(state: &State, out: &mut O) -> Result<Phase, Fault>
     if !is_store(&listing) {
         return Err(Fault::NotPairtree);
     }
-    Ok(Phase::Prefix(kind_in(&listing, Known::PrefixFile.text())))
+    Ok(Phase::Opening(Opening::Prefix(kind_in(&listing, Known::PrefixFile.text()))))
 }
 
 // Whether a top lists what a store has.
@@ -85,18 +86,18 @@ pub fn prefix<O: Outside>(
     out: &mut O,
 ) -> Result<Phase, Fault>
     requires { MayOpenPrefix (O.world out.old).source here }
-    ensures turn { TakesTurn O.world (O.within 2) (phase.Prefix here) state.old state.new
-        out.old out.new result }
+    ensures turn { TakesTurn O.world (O.within 2) (phase.Opening (opening.Prefix here))
+        state.old state.new out.old out.new result }
 {
     match here {
-        None => return Ok(Phase::Staging),
+        None => return Ok(Phase::Opening(Opening::Staging)),
         Some(Kind::File) => {}
         Some(_) => return Err(Fault::Prefix),
     }
     let path = NamePath::of_known(state.alloc, &[Known::PrefixFile])?;
     read_first(out, &path, &mut state.block)?;
     state.prefix = prefix_of(state.alloc, &state.block)?;
-    Ok(Phase::Staging)
+    Ok(Phase::Opening(Opening::Staging))
 }
 
 // The prefix in the prefix file's first block.

@@ -27,7 +27,9 @@ pub use Rattle.pt_plan.specs.declared.object.Object.{Object}
 pub use Rattle.pt_plan.specs.declared.phase.Part.{Part}
 pub use Rattle.pt_plan.specs.declared.phase.Part.TheVariants as part
 pub use Rattle.pt_plan.specs.declared.phase.Phase.{Phase}
+pub use Rattle.pt_plan.specs.declared.phase.Opening.TheVariants as opening
 pub use Rattle.pt_plan.specs.declared.phase.Phase.TheVariants as phase
+pub use Rattle.pt_plan.specs.declared.phase.Stage.TheVariants as stage
 pub use Rattle.pt_plan.specs.declared.phase.Position.{Position}
 pub use Rattle.pt_state.specs.Lines.{with_skipped}
 unfoldable pub use Rattle.pt_state.specs.Outside.{Turned}

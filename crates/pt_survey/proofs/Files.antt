@@ -16,6 +16,7 @@ use Rattle.pt_plan.specs.TurnWalk.{EndsWalk, EntersSite, IsDeep, IsNew, IsPast, 
 use Rattle.pt_plan.specs.World.{Calls, World}
 use Rattle.pt_plan.specs.declared.phase.Phase.{Phase}
 use Rattle.pt_plan.specs.declared.phase.Phase.TheVariants as phase
+use Rattle.pt_plan.specs.declared.phase.Stage.TheVariants as stage
 use Rattle.pt_scan.specs.Blocks.{ReadsNext}
 use Rattle.pt_state.specs.Outside.{world}
 use Rattle.pt_state.specs.States.{job_of, kept_of}
@@ -109,5 +110,5 @@ module _ (here next : Phase) (s s' : State) (told told' : Option Reading) (w v :
       by here hand made.1.1
     where
       by : {before after : Kept} {old new : World} (p : Phase) → is_at_hand p ≡ true → Turn (job_of s.job) p before after old new (Ok next) → MatchBool (is_scanning p) (Scanned told told' Before After) (is_of_object spot ≡ false)
-      by (phase.Line object) hand (GoesOn calls _ follows did _) = ap is_of_object is ∙ ap (λ (q : Phase). is_of_object (passed q)) (line_follows follows).0
+      by (phase.Carrying object stage.Line) hand (GoesOn calls _ follows did _) = ap is_of_object is ∙ ap (λ (q : Phase). is_of_object (passed q)) (line_follows follows).0
       by _ hand turn = absurd (true≢false (sym hand))

@@ -37,6 +37,7 @@ use Rattle.pt_plan.specs.World.{Answers, Calls, Changes}
 use Rattle.pt_plan.specs.declared.object.Object.{Object}
 use Rattle.pt_plan.specs.declared.phase.Phase.{Phase}
 use Rattle.pt_plan.specs.declared.phase.Phase.TheVariants as phase
+use Rattle.pt_plan.specs.declared.phase.Stage.TheVariants as stage
 use Rattle.pt_begun.specs.BegunHeld.{HeldAt}
 use Rattle.pt_begun.specs.BegunSource.{HasScanned, HasStarted, IsInObject, IsSiteOf, SourcePart, object_at}
 use Rattle.pt_begun.specs.Past.{Past, done_after}
@@ -160,7 +161,7 @@ module _ {job : Job} (source : Forest) (object : Object) (site : List Frame) {ro
       ∙ own_stored rows there (in_order_apart (row_paths rows) order)
       ∙ ap (λ (l : List File). stored_files rows (bytes_in l)) (files_are source object site there (pairtree_proper source store proper) it (λ k d h. refl))
 
-pub has_at_hand : {job : Job} {past : Past} {s : Reading} {prefix : List ℕ} {object : Object} {held : Held} → HeldAt job past (phase.Line object) held → SourcePart job past (phase.Line object) prefix held s → HasAtHand job s.tree past.count object held
+pub has_at_hand : {job : Job} {past : Past} {s : Reading} {prefix : List ℕ} {object : Object} {held : Held} → HeldAt job past (phase.Carrying object stage.Line) held → SourcePart job past (phase.Carrying object stage.Line) prefix held s → HasAtHand job s.tree past.count object held
 has_at_hand {job} {past} {s} {object} {held} at part =
     let site = to_site object held.trail in
     let what = object_at s.tree object site in

@@ -23,7 +23,9 @@ use Rattle.pt_plan.specs.declared.fault.Fault.TheVariants as fault
 use Rattle.pt_plan.specs.declared.object.Object.{Object}
 use Rattle.pt_plan.specs.declared.phase.Part.TheVariants as part
 use Rattle.pt_plan.specs.declared.phase.Phase.{Phase}
+use Rattle.pt_plan.specs.declared.phase.Opening.TheVariants as opening
 use Rattle.pt_plan.specs.declared.phase.Phase.TheVariants as phase
+use Rattle.pt_plan.specs.declared.phase.Stage.TheVariants as stage
 use Rattle.pt_begun.specs.Begun.{IsPast}
 use Rattle.pt_begun.specs.Past.{Past, done_after, no_past, past_after}
 use Rattle.pt_begun.specs.WorkLaws.{BegunWithinWork}
@@ -70,15 +72,15 @@ module _ {told : Option Reading} {count : ℕ} {r : Running} (a b c : ℕ) where
 -- ---- what its turn needs
 
 permits_any : (job : Job) (here : Phase) (held : Held) (r : Option Reading) (w v : Option Writing) → is_of_survey here ≡ true → Permits job here held r w → Permits job here held r v
-permits_any job phase.Begin held r w v is may = may
-permits_any job (phase.Prefix _) held r w v is may = may
-permits_any job phase.OpenRoot held r w v is may = may
+permits_any job (phase.Opening opening.Begin) held r w v is may = may
+permits_any job (phase.Opening (opening.Prefix _)) held r w v is may = may
+permits_any job (phase.Opening opening.OpenRoot) held r w v is may = may
 permits_any job phase.Judge held r w v is may = may
-permits_any job (phase.OpenObject _) held r w v is may = may
-permits_any job (phase.Scan _) held r w v is may = may
-permits_any job (phase.Read _ _) held r w v is may = may
+permits_any job (phase.Carrying _ stage.Open) held r w v is may = may
+permits_any job (phase.Carrying _ stage.Scan) held r w v is may = may
+permits_any job (phase.Carrying _ (stage.Read _)) held r w v is may = may
 permits_any job phase.Walk held r w v is may = may
-permits_any job (phase.Line _) held r w v is may = may
+permits_any job (phase.Carrying _ stage.Line) held r w v is may = may
 permits_any job phase.End held r w v is may = may
 permits_any job _ held r w v is may = absurd (true≢false (sym is))
 
@@ -102,7 +104,7 @@ of_survey told r (count, it) = it.stands
 -- ---- where a run would make something it goes on
 
 passed_past : {job : Job} {told : Option Reading} (next : Phase) {kept : Kept} {past : Past} → IsPast job no_start (source_alone told) (record { phase = next; kept = kept }) past → IsPast job no_start (source_alone told) (record { phase = passed next; kept = kept }) past
-passed_past phase.Staging it = record {
+passed_past (phase.Opening opening.Staging) it = record {
   layout = it.layout;
   held = record { trail = record { is_one = it.held.trail.is_one; none = it.held.trail.none; entry = tt }; ends = tt; rows = it.held.rows; behind = tt; numbers = tt; fed = tt };
   source = λ s e. let known = it.source s e in record { proper = known.proper; at = known.at; bytes = tt; few = known.few };
@@ -112,7 +114,7 @@ passed_past phase.Staging it = record {
   quiet = tt;
   left = λ s e old f. absurd (cc);
 }
-passed_past (phase.Make object part.Staging) it = record {
+passed_past (phase.Carrying object (stage.Make part.Staging)) it = record {
   layout = it.layout;
   held = record { trail = record { is_one = it.held.trail.is_one; none = tt; entry = tt }; ends = it.held.ends; rows = it.held.rows; behind = tt; numbers = tt; fed = tt };
   source = λ s e. let known = it.source s e in record { proper = known.proper; at = known.at; bytes = known.bytes; few = known.few };
@@ -125,11 +127,11 @@ passed_past (phase.Make object part.Staging) it = record {
 passed_past _ it = it
 
 passed_well : (next : Phase) {s : State} → IsWell (record { phase = next; state = s }) → IsWell (record { phase = passed next; state = s })
-passed_well phase.Staging well = record {
+passed_well (phase.Opening opening.Staging) well = record {
   bounded = record { lines = well.bounded.lines; turns = well.bounded.turns; few = well.bounded.few; within = tt; prefix = well.bounded.prefix };
   fresh = λ begins. absurd (cc);
 }
-passed_well (phase.Make object part.Staging) well = record {
+passed_well (phase.Carrying object (stage.Make part.Staging)) well = record {
   bounded = record { lines = well.bounded.lines; turns = well.bounded.turns; few = well.bounded.few; within = tt; prefix = well.bounded.prefix };
   fresh = λ begins. absurd (cc);
 }
@@ -208,11 +210,11 @@ looks here next s s' told told' w l l' a b c a' b' c' count looking it counted =
       job = counted.0;
     }
 
-at_hand_seen : {job : Job} {source : Forest} {count : ℕ} {object : Object} {held : Held} → HasAtHand job source count object held → {same : Held} → done_line object held ≡ done_line object same → Sees job source count (phase.Line object) same None (suc count)
+at_hand_seen : {job : Job} {source : Forest} {count : ℕ} {object : Object} {held : Held} → HasAtHand job source count object held → {same : Held} → done_line object held ≡ done_line object same → Sees job source count (phase.Carrying object stage.Line) same None (suc count)
 at_hand_seen it {same} is = WasAtHand (record { item = it.item; is = it.is; lines_are = it.lines_are ∙ ap (λ (l : Line). l ∷ []) is })
 
 -- the turn that passes it
-pub line_follows : {job : Job} {counts : Counts} {object : Object} {next : Phase} {prefix read : List ℕ} {held after : Held} {calls : Calls} → Follows job counts (phase.Line object) prefix held read after calls (Ok next) → (next ≡ phase.Walk) × (calls.line ≡ Some (done_line object held))
+pub line_follows : {job : Job} {counts : Counts} {object : Object} {next : Phase} {prefix read : List ℕ} {held after : Held} {calls : Calls} → Follows job counts (phase.Carrying object stage.Line) prefix held read after calls (Ok next) → (next ≡ phase.Walk) × (calls.line ≡ Some (done_line object held))
 line_follows (Start turn) = elim turn [ ]
 line_follows (Walk turn) = elim turn [ ]
 line_follows (Scan turn) = elim turn [ ]
@@ -220,27 +222,27 @@ line_follows (Make turn) = elim turn [ ]
 line_follows (Place (place.TellsDone _ _)) = (refl, refl)
 
 -- the object at hand is passed
-pub passes : (object : Object) (next : Phase) (s s' : State) (told told' : Option Reading) (w : Option Writing) (l : Option (List ℕ)) (a b c a' b' c' : ℕ) (count : ℕ) → IsSurvey told count (record { phase = phase.Line object; state = s })
-    → CountedTurn (phase.Line object) s s' (world told (Some bare) None a b c) (world told' w None a' b' c') (Ok next) → GoesOn told told' l l count (record { phase = phase.Line object; state = s }) (record { phase = passed next; state = s' })
+pub passes : (object : Object) (next : Phase) (s s' : State) (told told' : Option Reading) (w : Option Writing) (l : Option (List ℕ)) (a b c a' b' c' : ℕ) (count : ℕ) → IsSurvey told count (record { phase = phase.Carrying object stage.Line; state = s })
+    → CountedTurn (phase.Carrying object stage.Line) s s' (world told (Some bare) None a b c) (world told' w None a' b' c') (Ok next) → GoesOn told told' l l count (record { phase = phase.Carrying object stage.Line; state = s }) (record { phase = passed next; state = s' })
 unfolding CountedTurn Did Puts
 passes object next s s' told told' w l a b c a' b' c' count it counted =
-    let made = counted.1 it.fed (fed_going s.job.algorithm s.hasher it.fed (going (phase.Line object) it.stands) it.was) in
+    let made = counted.1 it.fed (fed_going s.job.algorithm s.hasher it.fed (going (phase.Carrying object stage.Line) it.stands) it.was) in
     by made.0 made.1.0 made.1.1
   where
     later : Past
-    later = past_after (phase.Line object) next (held_of s it.fed) it.past
+    later = past_after (phase.Carrying object stage.Line) next (held_of s it.fed) it.past
 
-    by : (fed' : List ℕ) → HasBeenFed s.job.algorithm s'.hasher fed' → Turn (job_of s.job) (phase.Line object) (turning (kept_of s it.fed)) (kept_of s' fed') (world told (Some bare) None a b c) (world told' w None a' b' c') (Ok next)
-        → GoesOn told told' l l count (record { phase = phase.Line object; state = s }) (record { phase = passed next; state = s' })
+    by : (fed' : List ℕ) → HasBeenFed s.job.algorithm s'.hasher fed' → Turn (job_of s.job) (phase.Carrying object stage.Line) (turning (kept_of s it.fed)) (kept_of s' fed') (world told (Some bare) None a b c) (world told' w None a' b' c') (Ok next)
+        → GoesOn told told' l l count (record { phase = phase.Carrying object stage.Line; state = s }) (record { phase = passed next; state = s' })
     by fed' was (TurnGoesOn calls _ follows did kept) =
         let walks = line_follows follows in
         record {
           next = later.count;
-          is = survey_on (phase.Line object) next s s' told told' it fed' counted.0 was (past_on (phase.Line object) next s s' told told' follows did.0.source kept it.is) (within_on (phase.Line object) next s s' told told' follows did.0.source kept it.is it.within) (ap (λ (p : Phase). is_of_survey (passed p)) walks.0);
+          is = survey_on (phase.Carrying object stage.Line) next s s' told told' it fed' counted.0 was (past_on (phase.Carrying object stage.Line) next s s' told told' follows did.0.source kept it.is) (within_on (phase.Carrying object stage.Line) next s s' told told' follows did.0.source kept it.is it.within) (ap (λ (p : Phase). is_of_survey (passed p)) walks.0);
           saw = λ r e. record {
             line = None;
-            sees = subst (λ (n : ℕ). Sees (job_of s.job) r.tree n (phase.Line object) (held_of s []) None later.count) it.seen
-                (subst (λ (n : ℕ). Sees (job_of s.job) r.tree it.past.count (phase.Line object) (held_of s []) None n) (sym (ap (λ (p : Phase). done_after (phase.Line object) s.trail p it.past.count) walks.0))
+            sees = subst (λ (n : ℕ). Sees (job_of s.job) r.tree n (phase.Carrying object stage.Line) (held_of s []) None later.count) it.seen
+                (subst (λ (n : ℕ). Sees (job_of s.job) r.tree it.past.count (phase.Carrying object stage.Line) (held_of s []) None n) (sym (ap (λ (p : Phase). done_after (phase.Carrying object stage.Line) s.trail p it.past.count) walks.0))
                 (at_hand_seen (has_at_hand it.is.held (it.is.source r e)) refl));
             puts = refl;
             skips = ap (λ (k : Counts). k.skipped) kept ∙ ap (λ (line : Option Line). (counted_with line (turning (kept_of s it.fed)).counts).skipped) walks.1 ∙ skips_counted None (turning (kept_of s it.fed)).counts;
@@ -357,8 +359,8 @@ bound_of_turn here s s' told told' w v l l' a b c a' b' c' answer (count, it) co
     (keeps_after here s s' (world told None None a b c) (world told' None None a' b' c') answer (going here it.stands) (counted_alone here s s' told told' w v l l' a b c a' b' c' answer counted) no_start (is_begun a b c it)).bound
 
 -- an object that is at hand
-the_object : (here : Phase) → is_at_hand here ≡ true → (object : Object) × (here ≡ phase.Line object)
-the_object (phase.Line object) is = (object, refl)
+the_object : (here : Phase) → is_at_hand here ≡ true → (object : Object) × (here ≡ phase.Carrying object stage.Line)
+the_object (phase.Carrying object stage.Line) is = (object, refl)
 the_object _ is = absurd (true≢false (sym is))
 
 -- over whatever log
@@ -375,7 +377,7 @@ pub looking_is : (told : Option Reading) (here : Phase) (s : State) → Surveys 
 looking_is told here s it off more = by here (of_survey told (record { phase = here; state = s }) it) off more
   where
     by : (here : Phase) → is_of_survey here ≡ true → is_at_hand here ≡ false → here ≢ phase.End → is_looking here ≡ true
-    by (phase.Line object) is off more = absurd (true≢false off)
+    by (phase.Carrying object stage.Line) is off more = absurd (true≢false off)
     by phase.End is off more = absurd (more refl)
     by _ is off more = is
 

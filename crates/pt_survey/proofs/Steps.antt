@@ -10,6 +10,7 @@ use Rattle.pt_plan.specs.Turn.{Follows, GoesOn as TurnGoesOn, Make, Place, Scan,
 use Rattle.pt_plan.specs.TurnStart as start
 use Rattle.pt_plan.specs.World.{Calls, source_tree}
 use Rattle.pt_plan.specs.declared.phase.Phase.{Phase}
+use Rattle.pt_plan.specs.declared.phase.Opening.TheVariants as opening
 use Rattle.pt_plan.specs.declared.phase.Phase.TheVariants as phase
 use Rattle.pt_state.specs.Outside.{world}
 use Rattle.pt_state.specs.States.{job_of}
@@ -22,17 +23,17 @@ use Rattle.pt_survey.proofs.Stepping.{bound_of_turn, going, leaves_of_turn}
 
 -- the store is seen before its sites
 opens : {job : Job} {counts : Counts} (here : Phase) {next : Phase} {prefix read : List ℕ} {held after : Held} {calls : Calls} → is_before_store here ≡ true → Follows job counts here prefix held read after calls (Ok next) → is_before_sites (passed next) ≡ true
-opens phase.Begin is (Start (start.IsStore _ _ _)) = refl
-opens phase.Begin is (Walk turn) = elim turn [ ]
-opens phase.Begin is (Scan turn) = elim turn [ ]
-opens phase.Begin is (Make turn) = elim turn [ ]
-opens phase.Begin is (Place turn) = elim turn [ ]
-opens (phase.Prefix _) is (Start (start.HasNoPrefix _)) = refl
-opens (phase.Prefix _) is (Start (start.HasPrefix _ _ _)) = refl
-opens (phase.Prefix _) is (Walk turn) = elim turn [ ]
-opens (phase.Prefix _) is (Scan turn) = elim turn [ ]
-opens (phase.Prefix _) is (Make turn) = elim turn [ ]
-opens (phase.Prefix _) is (Place turn) = elim turn [ ]
+opens (phase.Opening opening.Begin) is (Start (start.IsStore _ _ _)) = refl
+opens (phase.Opening opening.Begin) is (Walk turn) = elim turn [ ]
+opens (phase.Opening opening.Begin) is (Scan turn) = elim turn [ ]
+opens (phase.Opening opening.Begin) is (Make turn) = elim turn [ ]
+opens (phase.Opening opening.Begin) is (Place turn) = elim turn [ ]
+opens (phase.Opening (opening.Prefix _)) is (Start (start.HasNoPrefix _)) = refl
+opens (phase.Opening (opening.Prefix _)) is (Start (start.HasPrefix _ _ _)) = refl
+opens (phase.Opening (opening.Prefix _)) is (Walk turn) = elim turn [ ]
+opens (phase.Opening (opening.Prefix _)) is (Scan turn) = elim turn [ ]
+opens (phase.Opening (opening.Prefix _)) is (Make turn) = elim turn [ ]
+opens (phase.Opening (opening.Prefix _)) is (Place turn) = elim turn [ ]
 opens _ is _ = absurd (true≢false (sym is))
 
 module _ (here next : Phase) (s s' : State) (told told' : Option Reading) (w v : Option Writing) (l l' : Option (List ℕ)) (a b c a' b' c' : ℕ) where

@@ -12,7 +12,9 @@ use Rattle.pt_plan.specs.Turn.{Follows, counted as counted_with}
 use Rattle.pt_plan.specs.World.{Answers, Calls, source_tree}
 use Rattle.pt_plan.specs.declared.phase.Part.TheVariants as part
 use Rattle.pt_plan.specs.declared.phase.Phase.{Phase}
+use Rattle.pt_plan.specs.declared.phase.Opening.TheVariants as opening
 use Rattle.pt_plan.specs.declared.phase.Phase.TheVariants as phase
+use Rattle.pt_plan.specs.declared.phase.Stage.TheVariants as stage
 use Rattle.pt_begun.specs.Begun.{IsPast}
 use Rattle.pt_begun.specs.Past.{Past, past_after}
 use Rattle.pt_begun.specs.WorkLaws.{AreMarked, EntersFree}
@@ -41,16 +43,16 @@ none_taken (first ∷ _) zero item taken is = sym (ap (λ (m : Marked). m.1) (so
 none_taken (_ ∷ items) (suc count) item taken is = none_taken items count item taken is
 
 enters_free : (items : List Item) (next : Phase) (count : ℕ) → EntersFree next (all_free items) count
-enters_free items (phase.OpenObject _) count = λ item taken is. none_taken items count item taken is
+enters_free items (phase.Carrying _ stage.Open) count = λ item taken is. none_taken items count item taken is
 enters_free items _ count = tt
 
 -- ---- a step
 
 -- where a run would make something no more is left
 passed_left : (job : Job) (source : Forest) (marks : List Marked) (count : ℕ) (next : Phase) (held : Held) → left job source marks count (passed next) held ≤ left job source marks count next held
-passed_left job source marks count phase.Staging held = omega arith
-passed_left job source marks count (phase.Make object part.Staging) held = omega arith
-passed_left job source marks count (phase.Make object _) held = omega arith
+passed_left job source marks count (phase.Opening opening.Staging) held = omega arith
+passed_left job source marks count (phase.Carrying object (stage.Make part.Staging)) held = omega arith
+passed_left job source marks count (phase.Carrying object (stage.Make _)) held = omega arith
 passed_left job source marks count _ held = omega arith
 
 module _ (here next : Phase) (s s' : State) (told told' : Option Reading) where

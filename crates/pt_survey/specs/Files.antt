@@ -7,6 +7,7 @@ use Rattle.pt_plan.specs.World.{Answers, Calls, source_tree}
 use Rattle.pt_plan.specs.declared.object.Object.{Object}
 use Rattle.pt_plan.specs.declared.phase.Phase.{Phase}
 use Rattle.pt_plan.specs.declared.phase.Phase.TheVariants as phase
+use Rattle.pt_plan.specs.declared.phase.Stage.TheVariants as stage
 use Rattle.pt_scan.specs.Blocks.{IsNextBlock, is_reading}
 use Rattle.pt_state.specs.States.{held_of, job_of}
 use Rattle.pt_state.specs.declared.state.State.{State}
@@ -17,9 +18,9 @@ use Rattle.pt_walk.specs.Trail.{names_to}
 
 -- an object is opened, its entries are looked at, or a file of it is read
 abbrev pub is_scanning : Phase → Bool
-is_scanning (phase.OpenObject object) = true
-is_scanning (phase.Scan object) = true
-is_scanning (phase.Read object bytes) = true
+is_scanning (phase.Carrying object stage.Open) = true
+is_scanning (phase.Carrying object stage.Scan) = true
+is_scanning (phase.Carrying object (stage.Read bytes)) = true
 is_scanning _ = false
 
 -- a turn of a scan was made, with these answers of the source; where a file is read on, the block that is held is its next one
@@ -36,9 +37,9 @@ pub record Scanned (told told' : Option Reading) (before after : Running) : Type
 
 -- something is held of an object that is scanned, or was
 abbrev pub is_of_object : Phase → Bool
-is_of_object (phase.Scan object) = true
-is_of_object (phase.Read object bytes) = true
-is_of_object (phase.Line object) = true
+is_of_object (phase.Carrying object stage.Scan) = true
+is_of_object (phase.Carrying object (stage.Read bytes)) = true
+is_of_object (phase.Carrying object stage.Line) = true
 is_of_object _ = false
 
 -- so it is with a step in an object; and no other step leads into one
@@ -58,9 +59,9 @@ names_before object = cond object.gathered (object.site - 1) object.site
 
 -- it is the file that was just opened, if one was
 abbrev pub IsOpenedAt : Phase → State → Option Opened → Type 0
-IsOpenedAt (phase.Read object zero) s (Some file) =
+IsOpenedAt (phase.Carrying object (stage.Read zero)) s (Some file) =
     (file.place.now ≡ object.place) × (file.path ≡ names_to s.trail) × (file.before ≡ names_before object)
-IsOpenedAt (phase.Read object zero) s None = ⊥
+IsOpenedAt (phase.Carrying object (stage.Read zero)) s None = ⊥
 IsOpenedAt _ s file = file ≡ None
 
 abbrev pub IsOpened : Running → Option Opened → Type 0

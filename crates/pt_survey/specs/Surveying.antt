@@ -23,7 +23,9 @@ use Rattle.pt_plan.specs.declared.object.Object.{Object}
 use Rattle.pt_plan.specs.declared.phase.Part.{Part}
 use Rattle.pt_plan.specs.declared.phase.Part.TheVariants as part
 use Rattle.pt_plan.specs.declared.phase.Phase.{Phase}
+use Rattle.pt_plan.specs.declared.phase.Opening.TheVariants as opening
 use Rattle.pt_plan.specs.declared.phase.Phase.TheVariants as phase
+use Rattle.pt_plan.specs.declared.phase.Stage.TheVariants as stage
 use Rattle.pt_state.specs.Outside.{world}
 use Rattle.pt_state.specs.States.{held_of, job_of}
 use Rattle.pt_state.specs.declared.job.Job as own
@@ -51,44 +53,44 @@ source_alone told = world told None None 0 0 0
 
 -- what stands in the source is looked at
 abbrev pub is_looking : Phase → Bool
-is_looking phase.Begin = true
-is_looking (phase.Prefix here) = true
-is_looking phase.OpenRoot = true
+is_looking (phase.Opening opening.Begin) = true
+is_looking (phase.Opening (opening.Prefix here)) = true
+is_looking (phase.Opening opening.OpenRoot) = true
 is_looking phase.Judge = true
-is_looking (phase.OpenObject object) = true
-is_looking (phase.Scan object) = true
-is_looking (phase.Read object bytes) = true
+is_looking (phase.Carrying object stage.Open) = true
+is_looking (phase.Carrying object stage.Scan) = true
+is_looking (phase.Carrying object (stage.Read bytes)) = true
 is_looking phase.Walk = true
 is_looking _ = false
 
 -- an object is at hand
 abbrev pub is_at_hand : Phase → Bool
-is_at_hand (phase.Line object) = true
+is_at_hand (phase.Carrying object stage.Line) = true
 is_at_hand _ = false
 
 -- or an object is at hand, or all was seen
 abbrev pub is_of_survey : Phase → Bool
-is_of_survey (phase.Line object) = true
+is_of_survey (phase.Carrying object stage.Line) = true
 is_of_survey phase.End = true
 is_of_survey here = is_looking here
 
 -- where a survey goes on that a run would make something: no root is made, and an object that was scanned is at hand
 abbrev pub passed_part : Object → Part → Phase
-passed_part object part.Staging = phase.Line object
-passed_part object here = phase.Make object here
+passed_part object part.Staging = phase.Carrying object stage.Line
+passed_part object here = phase.Carrying object (stage.Make here)
 
 abbrev pub passed : Phase → Phase
-passed phase.Staging = phase.OpenRoot
-passed (phase.Make object here) = passed_part object here
+passed (phase.Opening opening.Staging) = phase.Opening opening.OpenRoot
+passed (phase.Carrying object (stage.Make here)) = passed_part object here
 passed here = here
 
 -- what is seen there
 abbrev pub sight_at : Phase → Sight
-sight_at phase.OpenRoot = sight.Store
-sight_at (phase.Scan object) = sight.Scan
-sight_at (phase.Read object zero) = sight.Opened
-sight_at (phase.Read object (suc bytes)) = sight.Block
-sight_at (phase.Line object) = sight.Object
+sight_at (phase.Opening opening.OpenRoot) = sight.Store
+sight_at (phase.Carrying object stage.Scan) = sight.Scan
+sight_at (phase.Carrying object (stage.Read zero)) = sight.Opened
+sight_at (phase.Carrying object (stage.Read (suc bytes))) = sight.Block
+sight_at (phase.Carrying object stage.Line) = sight.Object
 sight_at phase.End = sight.End
 sight_at _ = sight.More
 
@@ -135,13 +137,13 @@ pub record IsReady (told : Option Reading) (here : Phase) (s : State) : Type 0 w
 
 -- the store wasn't seen yet
 abbrev pub is_before_store : Phase → Bool
-is_before_store phase.Begin = true
-is_before_store (phase.Prefix here) = true
+is_before_store (phase.Opening opening.Begin) = true
+is_before_store (phase.Opening (opening.Prefix here)) = true
 is_before_store _ = false
 
 -- nor its sites
 abbrev pub is_before_sites : Phase → Bool
-is_before_sites phase.OpenRoot = true
+is_before_sites (phase.Opening opening.OpenRoot) = true
 is_before_sites here = is_before_store here
 
 pub record Steps (source : Option Forest) (before after : Running) : Type 0 where
@@ -195,7 +197,7 @@ pub data Sees (job : Job) (source : Forest) (count : ℕ) : Phase → Held → O
       → SeesItem job source count (Skipped at why ∷ [])
       → Sees job source count here held (Some (Skipped at why)) (suc count)
   WasAtHand : {object : Object} {held : Held} → SeesItem job source count (done_line object held ∷ [])
-      → Sees job source count (phase.Line object) held None (suc count)
+      → Sees job source count (phase.Carrying object stage.Line) held None (suc count)
 
 -- and the log got that line, which is counted if it tells of what was passed over
 pub record Saw (source : Forest) (count next : ℕ) (before after : Running) (old new : Option (List ℕ)) : Type 0 where
@@ -242,7 +244,7 @@ IsHandOf object s None = ⊥
 IsHandOf object s (Some hand) = IsOf object s hand
 
 abbrev pub IsHandAt : Phase → State → Option AtHand → Type 0
-IsHandAt (phase.Line object) s hand = IsHandOf object s hand
+IsHandAt (phase.Carrying object stage.Line) s hand = IsHandOf object s hand
 IsHandAt _ s hand = hand ≡ None
 
 abbrev pub IsHand : Running → Option AtHand → Type 0

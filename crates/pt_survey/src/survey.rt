@@ -19,7 +19,7 @@ use crate::bare::{Bare, Unread};
 use pt_move::turning::{new_state, turn};
 use pt_move::{Carried, Job, Report, as_told};
 use pt_object::{Contents, Rows};
-use pt_plan::{Fault, Object, Part, Phase};
+use pt_plan::{Fault, Object, Opening, Part, Phase, Stage};
 use pt_state::paths::entry_path;
 use pt_state::{Devices, State};
 use pt_tree::{Block, Log, MemoryFault, NamePath, Source};
@@ -101,7 +101,7 @@ impl Survey {
         ensures { IsNew job result }
     {
         Survey {
-            phase: Phase::Begin,
+            phase: Phase::Opening(Opening::Begin),
             state: new_state(alloc, job),
         }
     }
@@ -139,7 +139,7 @@ impl Survey {
         ensures { IfOk result (IsHand self.now) }
     {
         match &self.phase {
-            Phase::Line(object) => Ok(Some(AtHand {
+            Phase::Carrying(object, Stage::Line) => Ok(Some(AtHand {
                 told: as_told(object, &self.state)?,
                 rows: &self.state.rows,
                 contents: &self.state.contents,
@@ -153,7 +153,7 @@ impl Survey {
         ensures { IfOk result (IsOpened self.now) }
     {
         match &self.phase {
-            Phase::Read(object, 0) => Ok(Some(Opened {
+            Phase::Carrying(object, Stage::Read(0)) => Ok(Some(Opened {
                 place: &object.place,
                 path: entry_path(&self.state.trail)?,
                 before: names_before(object),
@@ -227,7 +227,7 @@ fn stepped<S: Source, L: Log>(
 fn is_at_hand(here: &Phase) -> bool
     ensures { result ≡ is_at_hand_there here.now }
 {
-    matches!(here, Phase::Line(_))
+    matches!(here, Phase::Carrying(_, Stage::Line))
 }
 
 // Makes a turn that looks.
@@ -284,8 +284,8 @@ fn passed(next: Phase) -> Phase
     ensures { result ≡ passed_phase next }
 {
     match next {
-        Phase::Staging => Phase::OpenRoot,
-        Phase::Make(object, Part::Staging) => Phase::Line(object),
+        Phase::Opening(Opening::Staging) => Phase::Opening(Opening::OpenRoot),
+        Phase::Carrying(object, Stage::Make(Part::Staging)) => Phase::Carrying(object, Stage::Line),
         next => next,
     }
 }
@@ -295,11 +295,11 @@ fn seen_at(here: &Phase) -> Sight
     ensures { result ≡ sight_at here.now }
 {
     match here {
-        Phase::OpenRoot => Sight::Store,
-        Phase::Scan(_) => Sight::Scan,
-        Phase::Read(_, 0) => Sight::Opened,
-        Phase::Read(_, _) => Sight::Block,
-        Phase::Line(_) => Sight::Object,
+        Phase::Opening(Opening::OpenRoot) => Sight::Store,
+        Phase::Carrying(_, Stage::Scan) => Sight::Scan,
+        Phase::Carrying(_, Stage::Read(0)) => Sight::Opened,
+        Phase::Carrying(_, Stage::Read(_)) => Sight::Block,
+        Phase::Carrying(_, Stage::Line) => Sight::Object,
         Phase::End => Sight::End,
         _ => Sight::More,
     }

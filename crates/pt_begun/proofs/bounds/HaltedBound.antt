@@ -23,6 +23,7 @@ use Rattle.pt_plan.specs.World.{Answers, Calls, Reads, asks}
 use Rattle.pt_plan.specs.declared.object.Object.{Object}
 use Rattle.pt_plan.specs.declared.phase.Phase.{Phase}
 use Rattle.pt_plan.specs.declared.phase.Phase.TheVariants as phase
+use Rattle.pt_plan.specs.declared.phase.Stage.TheVariants as stage
 use Rattle.pt_begun.specs.Begun.{Begun}
 use Rattle.pt_begun.specs.BegunHeld.{HeldAt}
 use Rattle.pt_begun.specs.BegunSource.{IsWithinBound, SourcePart}
@@ -51,12 +52,12 @@ no_fewer contents digest path = by (is_noted contents digest)
     by false = let more = length-append contents (content_of digest path ∷ []) in omega (arith, more)
 
 -- the row of a file that was read to its end
-few_with_file : {job : Job} {past : Past} {prefix : List ℕ} {held : Held} {object : Object} {bytes : ℕ} {s : Reading} (new : Option Reading) → HeldAt job past (phase.Read object bytes) held → SourcePart job past (phase.Read object bytes) prefix held s
+few_with_file : {job : Job} {past : Past} {prefix : List ℕ} {held : Held} {object : Object} {bytes : ℕ} {s : Reading} (new : Option Reading) → HeldAt job past (phase.Carrying object (stage.Read bytes)) held → SourcePart job past (phase.Carrying object (stage.Read bytes)) prefix held s
     → Answers (Reads []) (Some s) new → AreFew job s.tree held (with_file job object held bytes).rows
 unfolding Answers
 few_with_file {job} {past} {prefix} {held} {object} {bytes} {s} new at known answers =
-    let here = phase.Read object bytes in
-    let next = phase.Scan object in
+    let here = phase.Carrying object (stage.Read bytes) in
+    let next = phase.Carrying object stage.Scan in
     let after = with_file job object held bytes in
     let calls = asks (Reads []) in
     let v = after_next s in

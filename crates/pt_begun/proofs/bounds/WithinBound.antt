@@ -9,6 +9,7 @@ use Rattle.pt_plan.specs.TurnScan.{to_site}
 use Rattle.pt_plan.specs.declared.object.Object.{Object}
 use Rattle.pt_plan.specs.declared.phase.Phase.{Phase}
 use Rattle.pt_plan.specs.declared.phase.Phase.TheVariants as phase
+use Rattle.pt_plan.specs.declared.phase.Stage.TheVariants as stage
 use Rattle.pt_begun.specs.Begun.{Begun}
 use Rattle.pt_begun.specs.BegunHeld.{AreRows, HeldAt}
 use Rattle.pt_begun.specs.BegunSource.{HasRoom, IsScanning, IsWithinBound, SourcePart, left_of, object_at}
@@ -23,8 +24,8 @@ in_object {job} {source} past {object} {held} rows it room =
     omega (arith, few, room)
 
 pub within : (job : Job) (past : Past) (here : Phase) (prefix : List ℕ) (held : Held) (s : Reading) → HeldAt job past here held → SourcePart job past here prefix held s → is_ended here ≡ false → IsWithinBound job s.tree held
-within _ past (phase.Scan _) _ _ _ has it _ = in_object past has.rows it.at.1 it.few
-within _ past (phase.Read _ _) _ _ _ has it _ = in_object past has.rows it.at.1 it.few
+within _ past (phase.Carrying _ stage.Scan) _ _ _ has it _ = in_object past has.rows it.at.1 it.few
+within _ past (phase.Carrying _ (stage.Read _)) _ _ _ has it _ = in_object past has.rows it.at.1 it.few
 within _ _ phase.Ended _ _ _ _ _ not = absurd (true≢false not)
 within _ _ _ _ _ _ _ it _ = it.few
 

@@ -25,6 +25,7 @@ use Rattle.pt_plan.specs.declared.object.Object.{Object}
 use Rattle.pt_plan.specs.declared.phase.Part.{Part}
 use Rattle.pt_plan.specs.declared.phase.Part.TheVariants as a_part
 use Rattle.pt_plan.specs.declared.phase.Phase.TheVariants as phase
+use Rattle.pt_plan.specs.declared.phase.Stage.TheVariants as stage
 use Rattle.pt_plan.specs.declared.phase.Position.{Position}
 use Rattle.pt_begun.specs.BegunDest.{DestPart, HasFoldersTo, HasRootFiles, IsMakingObject, IsRootOfStart, root_now, root_on_way}
 use Rattle.pt_begun.specs.BegunHeld.{HeldAt}
@@ -75,10 +76,10 @@ said : {job : Job} {start : Tree} {placed : List Carried} {object : Object} {ite
 said {job} {start} {placed} {object} {now} same it = rw same at it
 
 -- a part was made
-part_made : {job : Job} {past : Past} {start : Tree} {object : Object} {here : Part} {held after : Held} {old new : Writing} {item : Item} {next : Part} → HeldAt job past (phase.Make object here) held → after.rows ≡ held.rows → Some new ≡ Some (after_make item old)
+part_made : {job : Job} {past : Past} {start : Tree} {object : Object} {here : Part} {held after : Held} {old new : Writing} {item : Item} {next : Part} → HeldAt job past (phase.Carrying object (stage.Make here)) held → after.rows ≡ held.rows → Some new ≡ Some (after_make item old)
     → IsNext (script_of_object job object held.rows past.bytes) (made_before job object held.rows past.bytes here) item
     → made_before job object held.rows past.bytes here ++ item ∷ [] ≡ made_before job object held.rows past.bytes next
-    → DestPart job past (phase.Make object here) held start old → DestAfter job past (phase.Make object here) (phase.Make object next) held after start new
+    → DestPart job past (phase.Carrying object (stage.Make here)) held start old → DestAfter job past (phase.Carrying object (stage.Make here)) (phase.Carrying object (stage.Make next)) held after start new
 part_made {job} {past} {start} {object} {held} {old} {new} {item} {next} at rows change is more part =
     let tree_is : new.tree ≡ done item old.tree = ap (λ (w : Writing). w.tree) (some_same new (after_make item old) change) ∙ tree_made item old in
     let may = item_may job start past.placed object held.rows past.bytes _ item old part.started at.rows.order is part.at in
@@ -91,10 +92,10 @@ part_made {job} {past} {start} {object} {held} {old} {new} {item} {next} at rows
 
 -- ---- the position
 
-pub is_here : (job : Job) (past : Past) (object : Object) (position : Position) (held : Held) (row : Row) → HeldAt job past (phase.Make object (a_part.Content position)) held → slice_get held.rows position.row ≡ Some row → is_stored held.contents position.stored row.path ≡ true → IsHere held.rows held.contents position row
+pub is_here : (job : Job) (past : Past) (object : Object) (position : Position) (held : Held) (row : Row) → HeldAt job past (phase.Carrying object (stage.Make (a_part.Content position))) held → slice_get held.rows position.row ≡ Some row → is_stored held.contents position.stored row.path ≡ true → IsHere held.rows held.contents position row
 is_here job past object position held row at is stored = record { are = at.rows.contents; order = at.rows.order; is = is; stored = stored; at = at.numbers }
 
-pub copy_here : (job : Job) (past : Past) (object : Object) (position : Position) (left : ℕ) (held : Held) (row : Row) → HeldAt job past (phase.Copy object position left) held → slice_get held.rows position.row ≡ Some row → IsHere held.rows held.contents position row
+pub copy_here : (job : Job) (past : Past) (object : Object) (position : Position) (left : ℕ) (held : Held) (row : Row) → HeldAt job past (phase.Carrying object (stage.Copy position left)) held → slice_get held.rows position.row ≡ Some row → IsHere held.rows held.contents position row
 copy_here job past object position left held row at is = record { are = at.rows.contents; order = at.rows.order; is = is; stored = its_next row is at.numbers; at = at.numbers.at }
 
 pub copy_stands : (held : Held) (position : Position) (row : Row) → slice_get held.rows position.row ≡ Some row → IsAtStoredRow held position → length row.path ≤ position.directories
@@ -104,9 +105,9 @@ copy_stands held position row is it =
 
 -- ---- a file is copied
 
-opened : (job : Job) (past : Past) (start : Tree) (object : Object) (position : Position) (held : Held) (old new : Writing) (row : Row) → HeldAt job past (phase.Make object (a_part.Content position)) held → slice_get held.rows position.row ≡ Some row
-    → is_stored held.contents position.stored row.path ≡ true → nat_lt position.directories (length row.path) ≡ false → new ≡ after_create (in_content row.path) old → DestPart job past (phase.Make object (a_part.Content position)) held start old
-    → DestAfter job past (phase.Make object (a_part.Content position)) (phase.Copy object position row.length) held (with_fed held []) start new
+opened : (job : Job) (past : Past) (start : Tree) (object : Object) (position : Position) (held : Held) (old new : Writing) (row : Row) → HeldAt job past (phase.Carrying object (stage.Make (a_part.Content position))) held → slice_get held.rows position.row ≡ Some row
+    → is_stored held.contents position.stored row.path ≡ true → nat_lt position.directories (length row.path) ≡ false → new ≡ after_create (in_content row.path) old → DestPart job past (phase.Carrying object (stage.Make (a_part.Content position))) held start old
+    → DestAfter job past (phase.Carrying object (stage.Make (a_part.Content position))) (phase.Carrying object (stage.Copy position row.length)) held (with_fed held []) start new
 opened job past start object position held old new row at is stored all change part =
     let front = made_before job object held.rows past.bytes (a_part.Content position) in
     let next = file_next job object held.rows held.contents past.bytes position row (is_here job past object position held row at is stored) (ltb-false position.directories (length row.path) all) in
@@ -121,8 +122,8 @@ opened job past start object position held old new row at is stored all change p
       };
     }
 
-pub copied : (job : Job) (past : Past) (start : Tree) (object : Object) (position : Position) (left more : ℕ) (held : Held) (old new : Writing) (line : Option Line) (piece : List ℕ) → new ≡ after_append piece old → DestPart job past (phase.Copy object position left) held start old
-    → DestAfter job past (phase.Copy object position left) (phase.Copy object position more) held (with_fed held (held.fed ++ piece)) start new
+pub copied : (job : Job) (past : Past) (start : Tree) (object : Object) (position : Position) (left more : ℕ) (held : Held) (old new : Writing) (line : Option Line) (piece : List ℕ) → new ≡ after_append piece old → DestPart job past (phase.Carrying object (stage.Copy position left)) held start old
+    → DestAfter job past (phase.Carrying object (stage.Copy position left)) (phase.Carrying object (stage.Copy position more)) held (with_fed held (held.fed ++ piece)) start new
 copied job past start object position left more held old new line piece change part =
     let row = part.at.writes.row in
     let path = in_content row.path in
@@ -146,9 +147,9 @@ copied job past start object position left more held old new line piece change p
       };
     }
 
-closed : (job : Job) (past : Past) (start : Tree) (object : Object) (position : Position) (left : ℕ) (held : Held) (old new : Writing) (row : Row) → HeldAt job past (phase.Copy object position left) held → slice_get held.rows position.row ≡ Some row
-    → new ≡ after_finish old → DestPart job past (phase.Copy object position left) held start old
-    → DestAfter job past (phase.Copy object position left) (phase.Make object (content_at held.rows (behind_stored held.contents position row.path))) held (with_fed held []) start new
+closed : (job : Job) (past : Past) (start : Tree) (object : Object) (position : Position) (left : ℕ) (held : Held) (old new : Writing) (row : Row) → HeldAt job past (phase.Carrying object (stage.Copy position left)) held → slice_get held.rows position.row ≡ Some row
+    → new ≡ after_finish old → DestPart job past (phase.Carrying object (stage.Copy position left)) held start old
+    → DestAfter job past (phase.Carrying object (stage.Copy position left)) (phase.Carrying object (stage.Make (content_at held.rows (behind_stored held.contents position row.path)))) held (with_fed held []) start new
 closed job past start object position left held old new row at is change part =
     let here = copy_here job past object position left held row at is in
     let next = behind_stored held.contents position row.path in
@@ -186,9 +187,9 @@ no_folders_yet : (job : Job) {start : Tree} (placed : List Carried) (place : Pat
 no_folders_yet job {start} placed place tree root zero within = top_on_way job start placed place 0 tree root
 no_folders_yet job placed place tree root (suc i) within = absurd (omega (arith, within))
 
-finished : (job : Job) (past : Past) (start : Tree) (object : Object) (held : Held) (old new : Writing) → HeldAt job past (phase.Make object a_part.Sidecar) held → Some new ≡ Some (after_make (sidecar_file job object held.rows staging) old)
-    → DestPart job past (phase.Make object a_part.Sidecar) held start old
-    → DestAfter job past (phase.Make object a_part.Sidecar) (cond (job.tuples.count == 0) (phase.Rename object) (phase.Tuples object 0)) held (with_fed held []) start new
+finished : (job : Job) (past : Past) (start : Tree) (object : Object) (held : Held) (old new : Writing) → HeldAt job past (phase.Carrying object (stage.Make a_part.Sidecar)) held → Some new ≡ Some (after_make (sidecar_file job object held.rows staging) old)
+    → DestPart job past (phase.Carrying object (stage.Make a_part.Sidecar)) held start old
+    → DestAfter job past (phase.Carrying object (stage.Make a_part.Sidecar)) (cond (job.tuples.count == 0) (phase.Carrying object stage.Rename) (phase.Carrying object (stage.Tuples 0))) held (with_fed held []) start new
 finished job past start object held old new at change part =
     let item = sidecar_file job object held.rows staging in
     let front = made_before job object held.rows past.bytes a_part.Sidecar in
@@ -197,7 +198,7 @@ finished job past start object held old new at change part =
     let tree = subst IsTree (sym tree_is) (tree_put _ _ (item_entry item) part.tree may) in
     let all = said (sym (after_fourth job object held.rows past.bytes)) (with_item job start past.placed object front item old new tree_is part.at) in
     let folders = no_folders_yet job past.placed object.place part.started part.at.root in
-    after_sidecar (λ p. DestAfter job past (phase.Make object a_part.Sidecar) p held (with_fed held []) start new) job object
+    after_sidecar (λ p. DestAfter job past (phase.Carrying object (stage.Make a_part.Sidecar)) p held (with_fed held []) start new) job object
     (λ flat. record {
       started = part.started;
       tree = tree;

@@ -30,6 +30,7 @@ use Rattle.pt_plan.specs.TurnWalk.{in_root}
 use Rattle.pt_plan.specs.World.{Changes}
 use Rattle.pt_plan.specs.declared.object.Object.{Object}
 use Rattle.pt_plan.specs.declared.phase.Phase.TheVariants as phase
+use Rattle.pt_plan.specs.declared.phase.Stage.TheVariants as stage
 use Rattle.pt_begun.specs.BegunDest.{CameToFreePlaces, DestPart, HasFoldersTo, IsBetweenObjects, IsMakingObject, root_now, root_on_way}
 use Rattle.pt_begun.specs.BegunHeld.{AreRows, HeldAt, IsObject}
 use Rattle.pt_begun.specs.DestLaws.{PlacingKeepsDest}
@@ -74,7 +75,7 @@ parent_in_root : (front : Path) (name : List ℕ) → parent (storage_root ++ (f
 parent_in_root front name = parent-push _ name
 
 -- a folder is above each tuple directory
-pub tuple_parent : (job : Job) (past : Past) (start : Tree) (object : Object) (held : Held) (number : ℕ) (now : Writing) → number < job.tuples.count → HeldAt job past (phase.Tuples object number) held → DestPart job past (phase.Tuples object number) held start now
+pub tuple_parent : (job : Job) (past : Past) (start : Tree) (object : Object) (held : Held) (number : ℕ) (now : Writing) → number < job.tuples.count → HeldAt job past (phase.Carrying object (stage.Tuples number)) held → DestPart job past (phase.Carrying object (stage.Tuples number)) held start now
     → now.tree (parent (tuple_folder object number)) ≡ Some Folder
 tuple_parent job past start object held number now few at part =
     let long = place_long job object at.ends.0 in
@@ -115,19 +116,19 @@ module _ (job : Job) (start : Tree) (placed : List Carried) (place : Path) (n : 
 -- the next phase
 next_tuple : (job : Job) (past : Past) {start : Tree} {object : Object} (held : Held) {number : ℕ} (new : Writing) → number < job.tuples.count → IsTree start → IsTree new.tree
     → IsMakingObject job start past.placed object (script_of_object job object held.rows past.bytes) (suc number) new × HasFoldersTo job start past.placed object.place (suc number)
-    → DestAfter job past (phase.Tuples object number) (after_tuple job object number) held held start new
+    → DestAfter job past (phase.Carrying object (stage.Tuples number)) (after_tuple job object number) held held start new
 next_tuple job past {start} {object} held {number} new few started tree it =
     let stands = λ (n : ℕ). IsMakingObject job start past.placed object (script_of_object job object held.rows past.bytes) n new × HasFoldersTo job start past.placed object.place n in
     let next : suc number ≡ number + 1 = omega arith in
-    after_tuple_folder (λ p. DestAfter job past (phase.Tuples object number) p held held start new) job object number
+    after_tuple_folder (λ p. DestAfter job past (phase.Carrying object (stage.Tuples number)) p held held start new) job object number
     (λ more. record { started = started; tree = tree; at = subst stands next it })
     (λ last.
     let past_it = ltb-false (number + 1) job.tuples.count last in
     let all : suc number ≡ job.tuples.count = omega (arith, past_it, few) in
     record { started = started; tree = tree; at = subst stands all it })
 
-tuple_made : (job : Job) (past : Past) (start : Tree) (object : Object) (held : Held) (number : ℕ) (old new : Writing) → HeldAt job past (phase.Tuples object number) held → old.tree (tuple_folder object number) ≡ None → new ≡ after_mkdir (tuple_folder object number) old
-    → DestPart job past (phase.Tuples object number) held start old → DestAfter job past (phase.Tuples object number) (after_tuple job object number) held held start new
+tuple_made : (job : Job) (past : Past) (start : Tree) (object : Object) (held : Held) (number : ℕ) (old new : Writing) → HeldAt job past (phase.Carrying object (stage.Tuples number)) held → old.tree (tuple_folder object number) ≡ None → new ≡ after_mkdir (tuple_folder object number) old
+    → DestPart job past (phase.Carrying object (stage.Tuples number)) held start old → DestAfter job past (phase.Carrying object (stage.Tuples number)) (after_tuple job object number) held held start new
 tuple_made job past start object held number old new at none change part =
     let few = at.numbers in
     let long = place_long job object at.ends.0 in
@@ -151,8 +152,8 @@ tuple_made job past start object held number old new at none change part =
     next_tuple job past held new few part.started tree
     (record { root = part.at.0.root; came = part.at.0.came; free = part.at.0.free; tree = now }, made_folders job start past.placed place number name.0 name.1 absent part.at.1)
 
-tuple_found : (job : Job) (past : Past) (start : Tree) (object : Object) (held : Held) (number : ℕ) (old new : Writing) → HeldAt job past (phase.Tuples object number) held → old.tree (tuple_folder object number) ≡ Some Folder → new ≡ old
-    → DestPart job past (phase.Tuples object number) held start old → DestAfter job past (phase.Tuples object number) (after_tuple job object number) held held start new
+tuple_found : (job : Job) (past : Past) (start : Tree) (object : Object) (held : Held) (number : ℕ) (old new : Writing) → HeldAt job past (phase.Carrying object (stage.Tuples number)) held → old.tree (tuple_folder object number) ≡ Some Folder → new ≡ old
+    → DestPart job past (phase.Carrying object (stage.Tuples number)) held start old → DestAfter job past (phase.Carrying object (stage.Tuples number)) (after_tuple job object number) held held start new
 tuple_found job past start object held number old new at folder change part =
     let few = at.numbers in
     let long = place_long job object at.ends.0 in
@@ -172,7 +173,7 @@ tuple_found job past start object held number old new at folder change part =
 -- ---- the object comes to its place
 
 -- nothing stands at it
-place_absent : (job : Job) {past : Past} {start : Tree} (object : Object) {held : Held} {now : Writing} → HeldAt job past (phase.Rename object) held → DestPart job past (phase.Rename object) held start now → root_on_way job start past.placed object.place job.tuples.count object.place ≡ None
+place_absent : (job : Job) {past : Past} {start : Tree} (object : Object) {held : Held} {now : Writing} → HeldAt job past (phase.Carrying object stage.Rename) held → DestPart job past (phase.Carrying object stage.Rename) held start now → root_on_way job start past.placed object.place job.tuples.count object.place ≡ None
 place_absent job object at part =
     let long = place_long job object at.ends.0 in
     let name = name_of_place object.place job.tuples.count (omega (arith, long)) in
@@ -182,7 +183,7 @@ place_absent job object at part =
     ap (λ (o : Option Entry). option_or o (folder_where (leads object.place (take job.tuples.count object.place)))) part.at.0.free ∙ ap folder_where off
 
 -- it may be moved there
-pub object_may_move : (job : Job) (past : Past) (start : Tree) (object : Object) (held : Held) (now : Writing) → HeldAt job past (phase.Rename object) held → DestPart job past (phase.Rename object) held start now → CanMove now.tree staging (in_root object.place)
+pub object_may_move : (job : Job) (past : Past) (start : Tree) (object : Object) (held : Held) (now : Writing) → HeldAt job past (phase.Carrying object stage.Rename) held → DestPart job past (phase.Carrying object stage.Rename) held start now → CanMove now.tree staging (in_root object.place)
 object_may_move job past start object held now at part =
     let count = job.tuples.count in
     let long = place_long job object at.ends.0 in
@@ -200,7 +201,7 @@ object_may_move job past start object held now at part =
     }
 
 -- the root has it then
-root_grown : (job : Job) (past : Past) (start : Tree) (object : Object) (held : Held) {now : Writing} → HeldAt job past (phase.Rename object) held → DestPart job past (phase.Rename object) held start now
+root_grown : (job : Job) (past : Past) (start : Tree) (object : Object) (held : Held) {now : Writing} → HeldAt job past (phase.Carrying object stage.Rename) held → DestPart job past (phase.Carrying object stage.Rename) held start now
     → in_place (root_on_way job start past.placed object.place job.tuples.count) object.place (object_made job object held.rows past.bytes) ≡ root_now job start (past.placed ++ object_held object held.rows past.bytes ∷ [])
 root_grown job past start object held at part =
     let count = job.tuples.count in
@@ -224,15 +225,15 @@ root_grown job past start object held at part =
     ∙ ap (λ (t : Tree). in_place (with_folders (tuple_folders job carried) (root_now job start past.placed)) (place_of_carried job carried) t) same.0
     ∙ sym (λ i q. grown_at job past.placed carried bottom (base_top job (root_in start)) free (λ rest. base_gaps job start _ rest part.started none) q i)
 
-came_there : (job : Job) (past : Past) (start : Tree) {object : Object} (held : Held) {now : Writing} → HeldAt job past (phase.Rename object) held → DestPart job past (phase.Rename object) held start now
+came_there : (job : Job) (past : Past) (start : Tree) {object : Object} (held : Held) {now : Writing} → HeldAt job past (phase.Carrying object stage.Rename) held → DestPart job past (phase.Carrying object stage.Rename) held start now
     → CameToFreePlaces job start (past.placed ++ object_held object held.rows past.bytes ∷ [])
 came_there job past start held at part =
     one_comes job past.placed _ _ part.at.0.came
     (ap are_apart (paths_held held.rows past.bytes) ∙ in_order_apart (row_paths held.rows) at.rows.order)
     (ap is_none (ap (root_now job start past.placed) (sym at.ends.0.place) ∙ part.at.0.free))
 
-renamed : (job : Job) (past : Past) (start : Tree) (object : Object) (held : Held) (old new : Writing) → HeldAt job past (phase.Rename object) held → new ≡ after_rename staging (in_root object.place) old
-    → DestPart job past (phase.Rename object) held start old → DestAfter job past (phase.Rename object) (phase.Line object) held held start new
+renamed : (job : Job) (past : Past) (start : Tree) (object : Object) (held : Held) (old new : Writing) → HeldAt job past (phase.Carrying object stage.Rename) held → new ≡ after_rename staging (in_root object.place) old
+    → DestPart job past (phase.Carrying object stage.Rename) held start old → DestAfter job past (phase.Carrying object stage.Rename) (phase.Carrying object stage.Line) held held start new
 renamed job past start object held old new at change part =
     let root = root_on_way job start past.placed object.place job.tuples.count in
     let inside = object_made job object held.rows past.bytes in

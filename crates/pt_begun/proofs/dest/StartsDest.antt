@@ -23,6 +23,7 @@ use Rattle.pt_plan.specs.Roots.{root_in, storage_root, with_root}
 use Rattle.pt_plan.specs.Run.{Held}
 use Rattle.pt_plan.specs.TurnStart.{HasNoStaging, HasNoRoot, HasRoot, MakesRoot, RenamesRoot, IsSame}
 use Rattle.pt_plan.specs.World.{Changes, after_make}
+use Rattle.pt_plan.specs.declared.phase.Opening.TheVariants as opening
 use Rattle.pt_plan.specs.declared.phase.Phase.TheVariants as phase
 use Rattle.pt_begun.specs.BegunDest.{DestPart, HasRootFiles, IsMakingRoot, root_now}
 use Rattle.pt_begun.specs.DestLaws.{StartingKeepsDest}
@@ -103,7 +104,7 @@ own_root job start tree files =
 -- ---- each turn
 
 made_next : (job : Job) (past : Past) (start : Tree) (held : Held) (old new : Writing) (number : ℕ) (item : Item) → Some new ≡ Some (after_make item old) → slice_get (root_script job.tuples) number ≡ Some item
-    → DestPart job past (phase.RootMake number) held start old → DestAfter job past (phase.RootMake number) (cond (number == 5) phase.RootRename (phase.RootMake (number + 1))) held held start new
+    → DestPart job past (phase.Opening (opening.RootMake number)) held start old → DestAfter job past (phase.Opening (opening.RootMake number)) (cond (number == 5) (phase.Opening opening.RootRename) (phase.Opening (opening.RootMake (number + 1)))) held held start new
 made_next job past start held old new number item change item_is part =
     let can = root_item_made job start number item old part.started item_is part.at in
     let tree_is : new.tree ≡ done item old.tree = ap (λ (w : Writing). w.tree) (some_same new (after_make item old) change) ∙ tree_made item old in
@@ -111,7 +112,7 @@ made_next job past start held old new number item change item_is part =
     let now : new.tree ≡ made (take (suc number) (root_script job.tuples)) start =
     tree_is ∙ ap (done item) part.at.tree ∙ sym (made_more (root_script job.tuples) number item start item_is) in
     let next : suc number ≡ number + 1 = omega arith in
-    after_root_item (λ p. DestAfter job past (phase.RootMake number) p held held start new) number
+    after_root_item (λ p. DestAfter job past (phase.Opening (opening.RootMake number)) p held held start new) number
     (λ last. record {
       started = part.started;
       tree = tree;
@@ -120,13 +121,13 @@ made_next job past start held old new number item change item_is part =
     (λ more. record { started = part.started; tree = tree; at = record { free = part.at.free; root = part.at.root; tree = now ∙ ap (λ n. made (take n (root_script job.tuples)) start) next } })
 
 checked_next : (job : Job) (past : Past) (start : Tree) (held : Held) {old : Writing} (number : ℕ) (path : Path) (bytes : List ℕ) → IsLayout job.tuples → slice_get (root_files_of job.tuples) number ≡ Some (path, bytes)
-    → option_map (take 8192) (bytes_of (old.tree (storage_root ++ path))) ≡ Some bytes → DestPart job past (phase.RootCheck number) held start old
-    → DestAfter job past (phase.RootCheck number) (cond (number == 2) phase.OpenRoot (phase.RootCheck (number + 1))) held held start old
+    → option_map (take 8192) (bytes_of (old.tree (storage_root ++ path))) ≡ Some bytes → DestPart job past (phase.Opening (opening.RootCheck number)) held start old
+    → DestAfter job past (phase.Opening (opening.RootCheck number)) (cond (number == 2) (phase.Opening opening.OpenRoot) (phase.Opening (opening.RootCheck (number + 1)))) held held start old
 checked_next job past start held {old} number path bytes layout file read part =
     let stands = peeked_whole _ read (file_short job.tuples number path bytes layout file) in
     let here : root_in start path ≡ Some (Bytes bytes) = sym (ap (λ (t : Tree). t (storage_root ++ path)) part.at.tree) ∙ stands in
     let files = one_more_file job (root_in start) number path bytes file here part.at.files in
-    after_root_file (λ p. DestAfter job past (phase.RootCheck number) p held held start old) number
+    after_root_file (λ p. DestAfter job past (phase.Opening (opening.RootCheck number)) p held held start old) number
     (λ last.
     let all : HasRootFiles job (root_in start) 3 = rw (eqb-true number 2 last) at files in
     record { started = part.started; tree = part.tree; at = record { root = record { free = part.at.free; root = inr all }; came = refl; tree = part.at.tree ∙ own_root job start part.started all } })

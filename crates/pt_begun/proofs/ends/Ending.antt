@@ -29,7 +29,9 @@ use Rattle.pt_plan.specs.TurnStart.{MakesRoot, IsSame}
 use Rattle.pt_plan.specs.TurnWalk.{OpensRoot}
 use Rattle.pt_plan.specs.World.{Calls, Changes, ChangesNothing, Puts, World, tells}
 use Rattle.pt_plan.specs.declared.phase.Phase.{Phase}
+use Rattle.pt_plan.specs.declared.phase.Opening.TheVariants as opening
 use Rattle.pt_plan.specs.declared.phase.Phase.TheVariants as phase
+use Rattle.pt_plan.specs.declared.phase.Stage.TheVariants as stage
 use Rattle.pt_begun.specs.Begun.{Begun, HasTold, IsPast, ItemsPart, Start}
 use Rattle.pt_begun.specs.BegunDest.{DestPart, HasRootFiles, root_now}
 use Rattle.pt_begun.specs.BegunSource.{SourcePart}
@@ -52,13 +54,13 @@ pub record IsLastTurn (counts : Counts) (here : Phase) (held after : Held) (call
   pub held_is : after ≡ held
 
 pub last_turn : {job : Job} {counts : Counts} {here : Phase} {prefix : List ℕ} {held : Held} {read : List ℕ} {after : Held} {calls : Calls} {next : Phase} → Follows job counts here prefix held read after calls (Ok next) → is_ended next ≡ true → IsLastTurn counts here held after calls
-last_turn (a_start (MakesRoot _ number _ _)) ended = absurd (true≢false (sym ended ∙ either_not (number == 5) phase.RootRename (phase.RootMake (number + 1)) refl refl))
-last_turn (a_start (IsSame _ number _ _ _)) ended = absurd (true≢false (sym ended ∙ either_not (number == 2) phase.OpenRoot (phase.RootCheck (number + 1)) refl refl))
+last_turn (a_start (MakesRoot _ number _ _)) ended = absurd (true≢false (sym ended ∙ either_not (number == 5) (phase.Opening opening.RootRename) (phase.Opening (opening.RootMake (number + 1))) refl refl))
+last_turn (a_start (IsSame _ number _ _ _)) ended = absurd (true≢false (sym ended ∙ either_not (number == 2) (phase.Opening opening.OpenRoot) (phase.Opening (opening.RootCheck (number + 1))) refl refl))
 last_turn (Walk (OpensRoot _ _)) ended = absurd (cc)
 last_turn (Scan (StartsInSite _ _ _)) ended = absurd (cc)
-last_turn {job} (Make (MakesSidecar _ object)) ended = absurd (true≢false (sym ended ∙ either_not (job.tuples.count == 0) (phase.Rename object) (phase.Tuples object 0) refl refl))
-last_turn {job} (Place (MakesTuple _ object number)) ended = absurd (true≢false (sym ended ∙ either_not (nat_lt (number + 1) job.tuples.count) (phase.Tuples object (number + 1)) (phase.Rename object) refl refl))
-last_turn {job} (Place (FindsTuple _ object number)) ended = absurd (true≢false (sym ended ∙ either_not (nat_lt (number + 1) job.tuples.count) (phase.Tuples object (number + 1)) (phase.Rename object) refl refl))
+last_turn {job} (Make (MakesSidecar _ object)) ended = absurd (true≢false (sym ended ∙ either_not (job.tuples.count == 0) (phase.Carrying object stage.Rename) (phase.Carrying object (stage.Tuples 0)) refl refl))
+last_turn {job} (Place (MakesTuple _ object number)) ended = absurd (true≢false (sym ended ∙ either_not (nat_lt (number + 1) job.tuples.count) (phase.Carrying object (stage.Tuples (number + 1))) (phase.Carrying object stage.Rename) refl refl))
+last_turn {job} (Place (FindsTuple _ object number)) ended = absurd (true≢false (sym ended ∙ either_not (nat_lt (number + 1) job.tuples.count) (phase.Carrying object (stage.Tuples (number + 1))) (phase.Carrying object stage.Rename) refl refl))
 last_turn (Place (TellsEnd _)) _ = record { phase_is = refl; calls_are = refl; held_is = refl }
 last_turn _ ended = absurd (cc)
 

@@ -17,9 +17,10 @@ use Rattle.pt_plan.specs.Job.{Job}
 use Rattle.pt_begun.specs.Past.{no_past}
 use Rattle.pt_plan.specs.Run.{new_run, nothing_held}
 use Rattle.pt_plan.specs.World.{World, dest_tree}
+use Rattle.pt_plan.specs.declared.phase.Opening.TheVariants as opening
 use Rattle.pt_plan.specs.declared.phase.Phase.TheVariants as phase
 
-held_new : (job : Job) → HeldAt job no_past phase.Begin nothing_held
+held_new : (job : Job) → HeldAt job no_past (phase.Opening opening.Begin) nothing_held
 held_new _ = record {
   trail = record { is_one = refl; none = refl; entry = tt };
   ends = tt;
@@ -29,7 +30,7 @@ held_new _ = record {
   fed = tt;
 }
 
-source_new : (job : Job) {s : Reading} → is_proper s.tree ≡ true → SourcePart job no_past phase.Begin [] nothing_held s
+source_new : (job : Job) {s : Reading} → is_proper s.tree ≡ true → SourcePart job no_past (phase.Opening opening.Begin) [] nothing_held s
 source_new job proper = record {
   proper = proper;
   at = (record { trail = refl; rows = refl; contents = refl }, refl, refl);
@@ -37,15 +38,15 @@ source_new job proper = record {
   few = omega arith;
 }
 
-dest_new : (job : Job) (dest : Option Writing) → ForSome dest (λ now. IsTree now.tree) → TellsAsBefore (dest_tree dest) dest (DestPart job no_past phase.Begin nothing_held)
+dest_new : (job : Job) (dest : Option Writing) → ForSome dest (λ now. IsTree now.tree) → TellsAsBefore (dest_tree dest) dest (DestPart job no_past (phase.Opening opening.Begin) nothing_held)
 dest_new _ None _ = tt
 dest_new _ (Some now) tree = record { started = tree now refl; tree = tree now refl; at = record { tree = refl } }
 
-log_new : (job : Job) (source : Forest) (root : Tree) (log : Option (List ℕ)) → TellsStill log log (HasTold job source root no_past phase.Begin)
+log_new : (job : Job) (source : Forest) (root : Tree) (log : Option (List ℕ)) → TellsStill log log (HasTold job source root no_past (phase.Opening opening.Begin))
 log_new _ _ _ None = tt
 log_new _ _ _ (Some bytes) = sym (append-nil bytes)
 
-quiet_new : (log : Option (List ℕ)) → TellsStill log log (IsQuiet phase.Begin)
+quiet_new : (log : Option (List ℕ)) → TellsStill log log (IsQuiet (phase.Opening opening.Begin))
 quiet_new None = tt
 quiet_new (Some _) = refl
 

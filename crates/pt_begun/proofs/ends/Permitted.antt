@@ -28,7 +28,9 @@ use Rattle.pt_plan.specs.declared.object.Object.{Object}
 use Rattle.pt_plan.specs.declared.phase.Part.{Part}
 use Rattle.pt_plan.specs.declared.phase.Part.TheVariants as a_part
 use Rattle.pt_plan.specs.declared.phase.Phase.{Phase}
+use Rattle.pt_plan.specs.declared.phase.Opening.TheVariants as opening
 use Rattle.pt_plan.specs.declared.phase.Phase.TheVariants as phase
+use Rattle.pt_plan.specs.declared.phase.Stage.TheVariants as stage
 use Rattle.pt_plan.specs.declared.phase.Position.{Position}
 use Rattle.pt_begun.specs.Begun.{Begun, TellsAsBefore}
 use Rattle.pt_begun.specs.BegunDest.{DestPart}
@@ -124,20 +126,20 @@ has_parent _ knows now is = knows now is
 -- ---- an object that is made
 
 -- the next item of its script
-next_item : {job : Job} {past : Past} {object : Object} {here : Part} {held : Held} {item : Item} {writing : Option Writing} → HeldAt job past (phase.Make object here) held → KnowsDest job past (phase.Make object here) held writing
+next_item : {job : Job} {past : Past} {object : Object} {here : Part} {held : Held} {item : Item} {writing : Option Writing} → HeldAt job past (phase.Carrying object (stage.Make here)) held → KnowsDest job past (phase.Carrying object (stage.Make here)) held writing
     → IsNext (script_of_object job object held.rows past.bytes) (made_before job object held.rows past.bytes here) item → MayMake writing (item_path item)
 next_item {job} {past} {object} {here} {held} {item} at dest next =
     may_make
     (λ now is. let known = dest now is in item_may job known.0 past.placed object held.rows past.bytes _ item now known.1.started at.rows.order next known.1.at)
 
-pub may_open_row : {job : Job} {past : Past} {object : Object} {here : Part} {prefix : List ℕ} {held : Held} (n : ℕ) {row : Row} {reading : Option Reading} → KnowsSource job past (phase.Make object here) prefix held reading → slice_get held.rows n ≡ Some row → MayOpenRow reading object held.trail row.path
+pub may_open_row : {job : Job} {past : Past} {object : Object} {here : Part} {prefix : List ℕ} {held : Held} (n : ℕ) {row : Row} {reading : Option Reading} → KnowsSource job past (phase.Carrying object (stage.Make here)) prefix held reading → slice_get held.rows n ≡ Some row → MayOpenRow reading object held.trail row.path
 unfolding MayOpenRow CanOpen
 may_open_row {job} {past} {object} {prefix} {held} n {row} source is s same =
     let known = source s same in
     ap is_some (file_in_pairtree s.tree (path_of_source object held.trail ++ row.path) known.at.0.store ∙ (file_of_row job s prefix object held past.count n row known.proper is known.at).stands)
 
-may_make_content : {job : Job} {past : Past} {object : Object} {position : Position} {prefix : List ℕ} {held : Held} {reading : Option Reading} {writing : Option Writing} → HeldAt job past (phase.Make object (a_part.Content position)) held
-    → KnowsSource job past (phase.Make object (a_part.Content position)) prefix held reading → KnowsDest job past (phase.Make object (a_part.Content position)) held writing → MayMakeContent reading writing object held position
+may_make_content : {job : Job} {past : Past} {object : Object} {position : Position} {prefix : List ℕ} {held : Held} {reading : Option Reading} {writing : Option Writing} → HeldAt job past (phase.Carrying object (stage.Make (a_part.Content position))) held
+    → KnowsSource job past (phase.Carrying object (stage.Make (a_part.Content position))) prefix held reading → KnowsDest job past (phase.Carrying object (stage.Make (a_part.Content position))) held writing → MayMakeContent reading writing object held position
 unfolding MayMakeContent
 may_make_content {job} {past} {object} {position} {held} at source dest row is stored =
     let here = is_here job past object position held row at is stored in (
@@ -150,8 +152,8 @@ may_make_content {job} {past} {object} {position} {held} at source dest row is s
       ),
     )
 
-may_make_part : {job : Job} {past : Past} {object : Object} (here : Part) {prefix : List ℕ} {held : Held} {reading : Option Reading} {writing : Option Writing} → HeldAt job past (phase.Make object here) held
-    → KnowsSource job past (phase.Make object here) prefix held reading → KnowsDest job past (phase.Make object here) held writing → MayMakePart job object here held reading writing
+may_make_part : {job : Job} {past : Past} {object : Object} (here : Part) {prefix : List ℕ} {held : Held} {reading : Option Reading} {writing : Option Writing} → HeldAt job past (phase.Carrying object (stage.Make here)) held
+    → KnowsSource job past (phase.Carrying object (stage.Make here)) prefix held reading → KnowsDest job past (phase.Carrying object (stage.Make here)) held writing → MayMakePart job object here held reading writing
 may_make_part {job} {past} {object} a_part.Staging {held} at _ dest = next_item at dest (next_staging job object held.rows past.bytes)
 may_make_part {job} {past} {object} a_part.Declaration {held} at _ dest =
     next_item at dest (next_declaration job object held.rows past.bytes)
@@ -167,21 +169,21 @@ may_make_part {job} {past} {object} a_part.Sidecar {held} at _ dest = next_item 
 -- ---- by the phase
 
 permits : {job : Job} {past : Past} (here : Phase) {prefix : List ℕ} {held : Held} {reading : Option Reading} {writing : Option Writing} → HeldAt job past here held → KnowsSource job past here prefix held reading → KnowsDest job past here held writing → Permits job here held reading writing
-permits phase.Begin {reading} _ _ _ = top_listed reading
-permits (phase.Prefix _) _ source _ = may_open_prefix (λ s is. (source s is).at.3)
-permits {job} (phase.RootMake number) _ _ dest = may_make_root job number (λ item is now same. let known = dest now same in root_item_made job known.0 number item now known.1.started is known.1.at)
-permits {job} phase.RootRename _ _ dest = may_move (λ now is. let known = dest now is in root_may_move job known.0 now known.1.started known.1.at)
-permits phase.OpenRoot _ source _ = enters_root (λ s is. (source s is).at.2.store)
-permits (phase.OpenObject _) {held} _ source _ = λ apart. may_enter held.trail (λ s is. let known = source s is in (known.at.1.store, known.proper, known.at.2.fits))
-permits (phase.Scan _) {held} _ source _ = (
+permits (phase.Opening opening.Begin) {reading} _ _ _ = top_listed reading
+permits (phase.Opening (opening.Prefix _)) _ source _ = may_open_prefix (λ s is. (source s is).at.3)
+permits {job} (phase.Opening (opening.RootMake number)) _ _ dest = may_make_root job number (λ item is now same. let known = dest now same in root_item_made job known.0 number item now known.1.started is known.1.at)
+permits {job} (phase.Opening opening.RootRename) _ _ dest = may_move (λ now is. let known = dest now is in root_may_move job known.0 now known.1.started known.1.at)
+permits (phase.Opening opening.OpenRoot) _ source _ = enters_root (λ s is. (source s is).at.2.store)
+permits (phase.Carrying _ stage.Open) {held} _ source _ = λ apart. may_enter held.trail (λ s is. let known = source s is in (known.at.1.store, known.proper, known.at.2.fits))
+permits (phase.Carrying _ stage.Scan) {held} _ source _ = (
   may_enter held.trail (λ s is. let known = source s is in (known.at.0.store, known.proper, known.at.1.stands.fits)),
   may_open held.trail (λ s is. let known = source s is in (known.at.0.store, known.proper, known.at.1.stands.fits)),
 )
-permits (phase.Read _ _) _ source _ = may_read (λ s is. (_, (source s is).at.2.read.left))
-permits (phase.Make _ here) at source dest = may_make_part here at source dest
-permits (phase.Copy _ _ _) _ source dest = (may_read (λ s is. (_, (source s is).at.2.read.left)), may_write (λ now is. ap is_some (dest now is).1.at.writes.writing))
-permits {job} {past} (phase.Tuples object number) {held} at _ dest = has_parent (tuple_folder object number) (λ now is. let known = dest now is in tuple_parent job past known.0 object held number now at.numbers at known.1)
-permits {job} {past} (phase.Rename object) {held} at _ dest = may_move (λ now is. let known = dest now is in object_may_move job past known.0 object held now at known.1)
+permits (phase.Carrying _ (stage.Read _)) _ source _ = may_read (λ s is. (_, (source s is).at.2.read.left))
+permits (phase.Carrying _ (stage.Make here)) at source dest = may_make_part here at source dest
+permits (phase.Carrying _ (stage.Copy _ _)) _ source dest = (may_read (λ s is. (_, (source s is).at.2.read.left)), may_write (λ now is. ap is_some (dest now is).1.at.writes.writing))
+permits {job} {past} (phase.Carrying object (stage.Tuples number)) {held} at _ dest = has_parent (tuple_folder object number) (λ now is. let known = dest now is in tuple_parent job past known.0 object held number now at.numbers at known.1)
+permits {job} {past} (phase.Carrying object stage.Rename) {held} at _ dest = may_move (λ now is. let known = dest now is in object_may_move job past known.0 object held now at known.1)
 permits phase.Walk {held} _ source _ = may_enter held.trail (λ s is. let known = source s is in (known.at.1.store, known.proper, known.at.2.fits))
 permits _ _ _ _ = tt
 

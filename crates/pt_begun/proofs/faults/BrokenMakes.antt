@@ -22,7 +22,9 @@ use Rattle.pt_plan.specs.declared.object.Object.{Object}
 use Rattle.pt_plan.specs.declared.phase.Part.{Part}
 use Rattle.pt_plan.specs.declared.phase.Part.TheVariants as a_part
 use Rattle.pt_plan.specs.declared.phase.Phase.{Phase}
+use Rattle.pt_plan.specs.declared.phase.Opening.TheVariants as opening
 use Rattle.pt_plan.specs.declared.phase.Phase.TheVariants as phase
+use Rattle.pt_plan.specs.declared.phase.Stage.TheVariants as stage
 use Rattle.pt_plan.specs.declared.phase.Position.{Position}
 use Rattle.pt_begun.specs.BegunDest.{root_on_way}
 use Rattle.pt_begun.specs.FaultLeft.{IsLeftByFault}
@@ -57,7 +59,7 @@ module _ (job : Job) (past : Past) (s : Reading) (start : Tree) (prefix : List �
 
   -- ---- a new root
 
-  root_broken : {number : ℕ} (item : Item) {held : Held} → Before held (phase.RootMake number) → slice_get (root_script job.tuples) number ≡ Some item → LeavesPart (Some old) (Some new) (Makes item) → Quiet → Left
+  root_broken : {number : ℕ} (item : Item) {held : Held} → Before held (phase.Opening (opening.RootMake number)) → slice_get (root_script job.tuples) number ≡ Some item → LeavesPart (Some old) (Some new) (Makes item) → Quiet → Left
   root_broken (MakeFolder _) before _ left put = left_quiet new before (plain_same refl left) put
   root_broken (MakeFile _ _) before _ (Untouched _ same) put = left_quiet new before (some_same new.tree old.tree same) put
   root_broken {number} (MakeFile path bytes) before is (OfFile _ _ count same) put =
@@ -75,7 +77,7 @@ module _ (job : Job) (past : Past) (s : Reading) (start : Tree) (prefix : List �
 
   -- ---- a part of an object
 
-  part_broken : {object : Object} {here : Part} {path : Path} {bytes : List ℕ} {held : Held} → Before held (phase.Make object here) → IsNext (script_of_object job object held.rows past.bytes) (made_before job object held.rows past.bytes here) (MakeFile path bytes)
+  part_broken : {object : Object} {here : Part} {path : Path} {bytes : List ℕ} {held : Held} → Before held (phase.Carrying object (stage.Make here)) → IsNext (script_of_object job object held.rows past.bytes) (made_before job object held.rows past.bytes here) (MakeFile path bytes)
       → LeavesPart (Some old) (Some new) (Makes (MakeFile path bytes)) → Quiet → Left
   part_broken {object} {here} {held} before _ (Untouched _ same) put = left_quiet new before (some_same new.tree old.tree same) put
   part_broken {object} {here} {path} {bytes} {held} before next (OfFile p b count same) put =
@@ -88,7 +90,7 @@ module _ (job : Job) (past : Past) (s : Reading) (start : Tree) (prefix : List �
       (carried_next past s (root_in start) source.proper source.at.0 source.at.1 source.bytes known.items.places.next)
       (stands_cut count next (tree_is ∙ ap (done (MakeFile path (take count bytes))) known.dest.at.tree)))
 
-  opened_broken : {object : Object} {position : Position} {held : Held} (row : Row) → Before held (phase.Make object (a_part.Content position))
+  opened_broken : {object : Object} {position : Position} {held : Held} (row : Row) → Before held (phase.Carrying object (stage.Make (a_part.Content position)))
       → IsNext (script_of_object job object held.rows past.bytes) (made_before job object held.rows past.bytes (a_part.Content position)) (MakeFile (in_content row.path) (past.bytes row.path)) → LeavesPart (Some old) (Some new) (Creates (in_content row.path)) → Quiet → Left
   opened_broken {object} {position} {held} _ before _ (Untouched _ same) put = left_quiet new before (some_same new.tree old.tree same) put
   opened_broken {object} {position} {held} row before next (NewFile p same) put =
@@ -102,7 +104,7 @@ module _ (job : Job) (past : Past) (s : Reading) (start : Tree) (prefix : List �
       (carried_next past s (root_in start) source.proper source.at.0 source.at.1 source.bytes known.items.places.next)
       (content_stands next (past.bytes row.path, refl) (tree_is ∙ ap (done item) known.dest.at.tree)))
 
-  copied_broken : {object : Object} {position : Position} {left : ℕ} {piece : List ℕ} {held : Held} → Before held (phase.Copy object position left) → IsRead (Some s) piece → LeavesPart (Some old) (Some new) (Adds piece) → Quiet → Left
+  copied_broken : {object : Object} {position : Position} {left : ℕ} {piece : List ℕ} {held : Held} → Before held (phase.Carrying object (stage.Copy position left)) → IsRead (Some s) piece → LeavesPart (Some old) (Some new) (Adds piece) → Quiet → Left
   unfolding IsRead
   copied_broken {object} {position} {left} {held} before _ (Untouched _ same) put = left_quiet new before (some_same new.tree old.tree same) put
   copied_broken {object} {position} {left} {piece} {held} before read (OfPiece p count same) put =

@@ -19,6 +19,7 @@ use Rattle.pt_plan.specs.World.{Calls, LeavesFront, LeavesPart}
 use Rattle.pt_plan.specs.declared.object.Object.{Object}
 use Rattle.pt_plan.specs.declared.phase.Phase.{Phase}
 use Rattle.pt_plan.specs.declared.phase.Phase.TheVariants as phase
+use Rattle.pt_plan.specs.declared.phase.Stage.TheVariants as stage
 use Rattle.pt_begun.specs.FaultLeft.{IsLeftByFault}
 use Rattle.pt_begun.specs.Past.{Past}
 use Rattle.pt_begun.proofs.faults.BrokenMakes.{makes_broken, starts_broken}
@@ -61,7 +62,7 @@ module _ (job : Job) (past : Past) (s : Reading) (start : Tree) (prefix : List �
       }
 
   -- of an object's line
-  done_told : {object : Object} {held : Held} → Before held (phase.Line object) → new.tree ≡ old.tree → LeavesFront (Some (done_line object held)) (Some log) (Some last) → Left
+  done_told : {object : Object} {held : Held} → Before held (phase.Carrying object stage.Line) → new.tree ≡ old.tree → LeavesFront (Some (done_line object held)) (Some log) (Some last) → Left
   done_told {object} {held} before same put =
       let known = before.known in
       let tells = places_tell {counts = counts} (TellsDone held object) known.held_at known.source known.items.places.next in

@@ -23,7 +23,9 @@ use Rattle.pt_plan.specs.declared.object.Object.{Object}
 use Rattle.pt_plan.specs.declared.phase.Part.{Part}
 use Rattle.pt_plan.specs.declared.phase.Part.TheVariants as a_part
 use Rattle.pt_plan.specs.declared.phase.Phase.{Phase}
+use Rattle.pt_plan.specs.declared.phase.Opening.TheVariants as opening
 use Rattle.pt_plan.specs.declared.phase.Phase.TheVariants as phase
+use Rattle.pt_plan.specs.declared.phase.Stage.TheVariants as stage
 use Rattle.pt_plan.specs.declared.phase.Position.{Position}
 use Rattle.pt_begun.specs.BegunDest.{CameToFreePlaces, DestPart, IsLeftBehind, IsMakingObject, IsMakingRoot, IsRootOfStart, root_now, root_on_way}
 use Rattle.pt_begun.specs.BegunHeld.{AreRows, HeldAt, IsObject}
@@ -148,7 +150,7 @@ root_kept {start} {now} making at = kept.MakingRoot now (root_free start making.
 -- ---- by the phase
 
 -- a part of an object is made
-part_kept : {job : Job} {past : Past} {start : Tree} {object : Object} {here : Part} {held : Held} {now : Writing} → HeldAt job past (phase.Make object here) held → DestPart job past (phase.Make object here) held start now → IsKept job start now.tree
+part_kept : {job : Job} {past : Past} {start : Tree} {object : Object} {here : Part} {held : Held} {now : Writing} → HeldAt job past (phase.Carrying object (stage.Make here)) held → DestPart job past (phase.Carrying object (stage.Make here)) held start now → IsKept job start now.tree
 part_kept {job} {past} {start} {object} {here} {held} {now} at dest =
     made_kept job past start object held dest.started at.ends.0 at.rows (omega arith) dest.at
     (front_stands (front_made job object held.rows past.bytes here) dest.at.tree)
@@ -161,7 +163,7 @@ whole_kept {job} past {start} {object} {held} {n} {now} tree it rows few making 
     (front_stands {front = script_of_object job object held.rows past.bytes} {start = with_root start (root_on_way job start past.placed object.place n)} (record { rest = []; is = sym (append-nil (script_of_object job object held.rows past.bytes)) }) making.tree)
 
 -- a file is copied
-copying_kept : {job : Job} {past : Past} {start : Tree} {object : Object} {position : Position} {left : ℕ} {held : Held} {now : Writing} → HeldAt job past (phase.Copy object position left) held → DestPart job past (phase.Copy object position left) held start now → IsKept job start now.tree
+copying_kept : {job : Job} {past : Past} {start : Tree} {object : Object} {position : Position} {left : ℕ} {held : Held} {now : Writing} → HeldAt job past (phase.Carrying object (stage.Copy position left)) held → DestPart job past (phase.Carrying object (stage.Copy position left)) held start now → IsKept job start now.tree
 copying_kept {job} {past} {start} {object} {position} {left} {held} {now} at dest =
     let row = dest.at.writes.row in
     let is = dest.at.writes.is_row in
@@ -175,24 +177,24 @@ as_it_was : (job : Job) {start : Tree} (now : Writing) → now.tree ≡ start �
 as_it_was job {start} _ same = subst (IsKept job start) (sym same) kept.AsItWas
 
 pub kept_now : (job : Job) (past : Past) (start : Tree) (here : Phase) (held : Held) (now : Writing) → HeldAt job past here held → DestPart job past here held start now → IsLeftBehind job start now
-kept_now job _ _ phase.Begin _ now _ dest = record { kept = as_it_was job now dest.at.tree; stood = inr dest.at.tree }
-kept_now job _ _ (phase.Prefix _) _ now _ dest = record { kept = as_it_was job now dest.at.tree; stood = inr dest.at.tree }
-kept_now job _ _ phase.Staging _ now _ dest = record { kept = as_it_was job now dest.at.tree; stood = inr dest.at.tree }
-kept_now job _ _ phase.Root _ now _ dest = record { kept = as_it_was job now dest.at.0.tree; stood = inr dest.at.0.tree }
-kept_now _ _ _ (phase.RootMake number) _ _ _ dest = record {
+kept_now job _ _ (phase.Opening opening.Begin) _ now _ dest = record { kept = as_it_was job now dest.at.tree; stood = inr dest.at.tree }
+kept_now job _ _ (phase.Opening (opening.Prefix _)) _ now _ dest = record { kept = as_it_was job now dest.at.tree; stood = inr dest.at.tree }
+kept_now job _ _ (phase.Opening opening.Staging) _ now _ dest = record { kept = as_it_was job now dest.at.tree; stood = inr dest.at.tree }
+kept_now job _ _ (phase.Opening opening.Root) _ now _ dest = record { kept = as_it_was job now dest.at.0.tree; stood = inr dest.at.0.tree }
+kept_now _ _ _ (phase.Opening (opening.RootMake number)) _ _ _ dest = record {
   kept = root_kept dest.at (stands_whole number dest.at.tree);
   stood = inl (record { free = dest.at.free; root = inl dest.at.root });
 }
-kept_now _ _ _ phase.RootRename _ _ _ dest = record { kept = root_kept dest.at (stands_whole 6 dest.at.tree); stood = inl (record { free = dest.at.free; root = inl dest.at.root }) }
-kept_now job _ _ (phase.RootCheck _) _ now _ dest = record { kept = as_it_was job now dest.at.tree; stood = inr dest.at.tree }
-kept_now job past start (phase.OpenObject object) held _ _ dest = record { kept = not_begun job past start object held dest.at; stood = inl dest.at.root }
-kept_now job past start (phase.Scan object) held _ _ dest = record { kept = not_begun job past start object held dest.at; stood = inl dest.at.root }
-kept_now job past start (phase.Read object _) held _ _ dest = record { kept = not_begun job past start object held dest.at; stood = inl dest.at.root }
-kept_now _ _ _ (phase.Make _ _) _ _ at dest = record { kept = part_kept at dest; stood = inl dest.at.root }
-kept_now _ _ _ (phase.Copy _ _ _) _ _ at dest = record { kept = copying_kept at dest; stood = inl dest.at.making.root }
-kept_now job past start (phase.Tuples object number) held now at dest =
+kept_now _ _ _ (phase.Opening opening.RootRename) _ _ _ dest = record { kept = root_kept dest.at (stands_whole 6 dest.at.tree); stood = inl (record { free = dest.at.free; root = inl dest.at.root }) }
+kept_now job _ _ (phase.Opening (opening.RootCheck _)) _ now _ dest = record { kept = as_it_was job now dest.at.tree; stood = inr dest.at.tree }
+kept_now job past start (phase.Carrying object stage.Open) held _ _ dest = record { kept = not_begun job past start object held dest.at; stood = inl dest.at.root }
+kept_now job past start (phase.Carrying object stage.Scan) held _ _ dest = record { kept = not_begun job past start object held dest.at; stood = inl dest.at.root }
+kept_now job past start (phase.Carrying object (stage.Read _)) held _ _ dest = record { kept = not_begun job past start object held dest.at; stood = inl dest.at.root }
+kept_now _ _ _ (phase.Carrying _ (stage.Make _)) _ _ at dest = record { kept = part_kept at dest; stood = inl dest.at.root }
+kept_now _ _ _ (phase.Carrying _ (stage.Copy _ _)) _ _ at dest = record { kept = copying_kept at dest; stood = inl dest.at.making.root }
+kept_now job past start (phase.Carrying object (stage.Tuples number)) held now at dest =
     let few = at.numbers in
     record { kept = whole_kept past dest.started at.ends.0 at.rows (omega (arith, few)) dest.at.0; stood = inl dest.at.0.root }
-kept_now job past start (phase.Rename object) held now at dest = record { kept = whole_kept past dest.started at.ends.0 at.rows (omega arith) dest.at.0; stood = inl dest.at.0.root }
+kept_now job past start (phase.Carrying object stage.Rename) held now at dest = record { kept = whole_kept past dest.started at.ends.0 at.rows (omega arith) dest.at.0; stood = inl dest.at.0.root }
 kept_now _ _ _ phase.Ended _ _ _ dest = dest.at
 kept_now job past start _ _ now _ dest = record { kept = held_so job start past.placed now dest.at; stood = inl dest.at.root }

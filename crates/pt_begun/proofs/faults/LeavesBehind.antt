@@ -23,7 +23,9 @@ use Rattle.pt_plan.specs.declared.object.Object.{Object}
 use Rattle.pt_plan.specs.declared.phase.Part.{Part}
 use Rattle.pt_plan.specs.declared.phase.Part.TheVariants as a_part
 use Rattle.pt_plan.specs.declared.phase.Phase.{Phase}
+use Rattle.pt_plan.specs.declared.phase.Opening.TheVariants as opening
 use Rattle.pt_plan.specs.declared.phase.Phase.TheVariants as phase
+use Rattle.pt_plan.specs.declared.phase.Stage.TheVariants as stage
 use Rattle.pt_plan.specs.declared.phase.Position.{Position}
 use Rattle.pt_begun.specs.BegunDest.{DestPart, IsLeftBehind, IsRootOfStart}
 use Rattle.pt_begun.specs.BegunHeld.{HeldAt}
@@ -75,10 +77,10 @@ plain_same plain _ = absurd (cc)
 
 -- ---- a new root
 
-root_left : {job : Job} {past : Past} {start : Tree} {number : ℕ} (item : Item) {held : Held} {old new : Writing} → HeldAt job past (phase.RootMake number) held → DestPart job past (phase.RootMake number) held start old → slice_get (root_script job.tuples) number ≡ Some item
+root_left : {job : Job} {past : Past} {start : Tree} {number : ℕ} (item : Item) {held : Held} {old new : Writing} → HeldAt job past (phase.Opening (opening.RootMake number)) held → DestPart job past (phase.Opening (opening.RootMake number)) held start old → slice_get (root_script job.tuples) number ≡ Some item
     → LeavesPart (Some old) (Some new) (Makes item) → IsLeftTree job start new
-root_left {job} {past} {start} {number} (MakeFolder _) {held} {old} {new} at dest _ left = same_left job past start (phase.RootMake number) held old new at dest (plain_same refl left)
-root_left {job} {past} {start} {number} (MakeFile _ _) {held} {old} {new} at dest _ (Untouched _ same) = same_left job past start (phase.RootMake number) held old new at dest (some_same new.tree old.tree same)
+root_left {job} {past} {start} {number} (MakeFolder _) {held} {old} {new} at dest _ left = same_left job past start (phase.Opening (opening.RootMake number)) held old new at dest (plain_same refl left)
+root_left {job} {past} {start} {number} (MakeFile _ _) {held} {old} {new} at dest _ (Untouched _ same) = same_left job past start (phase.Opening (opening.RootMake number)) held old new at dest (some_same new.tree old.tree same)
 root_left {job} {start} {number} (MakeFile path bytes) {old} {new} _ dest is (OfFile _ _ count same) =
     let tree_is = some_same new.tree _ same in
     let next : IsNext (root_script job.tuples) (take number (root_script job.tuples)) (MakeFile path bytes) = record { rest = drop (suc number) (root_script job.tuples); is = split_at number (root_script job.tuples) _ is } in
@@ -93,9 +95,9 @@ root_left {job} {start} {number} (MakeFile path bytes) {old} {new} _ dest is (Of
 
 -- ---- a part of an object
 
-part_left : {job : Job} {past : Past} {start : Tree} {object : Object} {here : Part} {path : Path} {bytes : List ℕ} {held : Held} {old new : Writing} → HeldAt job past (phase.Make object here) held → DestPart job past (phase.Make object here) held start old
+part_left : {job : Job} {past : Past} {start : Tree} {object : Object} {here : Part} {path : Path} {bytes : List ℕ} {held : Held} {old new : Writing} → HeldAt job past (phase.Carrying object (stage.Make here)) held → DestPart job past (phase.Carrying object (stage.Make here)) held start old
     → IsNext (script_of_object job object held.rows past.bytes) (made_before job object held.rows past.bytes here) (MakeFile path bytes) → LeavesPart (Some old) (Some new) (Makes (MakeFile path bytes)) → IsLeftTree job start new
-part_left {job} {past} {start} {object} {here} {held} {old} {new} at dest _ (Untouched _ same) = same_left job past start (phase.Make object here) held old new at dest (some_same new.tree old.tree same)
+part_left {job} {past} {start} {object} {here} {held} {old} {new} at dest _ (Untouched _ same) = same_left job past start (phase.Carrying object (stage.Make here)) held old new at dest (some_same new.tree old.tree same)
 part_left {job} {past} {start} {object} {here} {path} {bytes} {held} {old} {new} at dest next (OfFile p b count same) =
     let front = made_before job object held.rows past.bytes here in
     let tree_is = some_same new.tree _ same in
@@ -109,9 +111,9 @@ part_left {job} {past} {start} {object} {here} {path} {bytes} {held} {old} {new}
       };
     }
 
-opened_left : {job : Job} {past : Past} {start : Tree} {object : Object} {position : Position} {held : Held} (row : Row) {old new : Writing} → HeldAt job past (phase.Make object (a_part.Content position)) held → DestPart job past (phase.Make object (a_part.Content position)) held start old
+opened_left : {job : Job} {past : Past} {start : Tree} {object : Object} {position : Position} {held : Held} (row : Row) {old new : Writing} → HeldAt job past (phase.Carrying object (stage.Make (a_part.Content position))) held → DestPart job past (phase.Carrying object (stage.Make (a_part.Content position))) held start old
     → IsNext (script_of_object job object held.rows past.bytes) (made_before job object held.rows past.bytes (a_part.Content position)) (MakeFile (in_content row.path) (past.bytes row.path)) → LeavesPart (Some old) (Some new) (Creates (in_content row.path)) → IsLeftTree job start new
-opened_left {job} {past} {start} {object} {position} {held} _ {old} {new} at dest _ (Untouched _ same) = same_left job past start (phase.Make object (a_part.Content position)) held old new at dest (some_same new.tree old.tree same)
+opened_left {job} {past} {start} {object} {position} {held} _ {old} {new} at dest _ (Untouched _ same) = same_left job past start (phase.Carrying object (stage.Make (a_part.Content position))) held old new at dest (some_same new.tree old.tree same)
 opened_left {job} {past} {start} {object} {position} {held} row {old} {new} at dest next (NewFile _ same) =
     let front = made_before job object held.rows past.bytes (a_part.Content position) in
     let item = MakeFile (in_content row.path) [] in
@@ -125,7 +127,7 @@ opened_left {job} {past} {start} {object} {position} {held} row {old} {new} at d
       };
     }
 
-fed_held : {job : Job} {past : Past} {object : Object} {position : Position} {left : ℕ} {held : Held} (fed : List ℕ) → HeldAt job past (phase.Copy object position left) held → HeldAt job past (phase.Copy object position left) (with_fed held fed)
+fed_held : {job : Job} {past : Past} {object : Object} {position : Position} {left : ℕ} {held : Held} (fed : List ℕ) → HeldAt job past (phase.Carrying object (stage.Copy position left)) held → HeldAt job past (phase.Carrying object (stage.Copy position left)) (with_fed held fed)
 fed_held {job} {past} {held} fed at = record {
   trail = record { is_one = at.trail.is_one; none = tt; entry = tt };
   ends = at.ends;
@@ -135,9 +137,9 @@ fed_held {job} {past} {held} fed at = record {
   fed = tt;
 }
 
-copied_left : {job : Job} {past : Past} {start : Tree} {object : Object} {position : Position} {left : ℕ} {piece : List ℕ} {held : Held} {old new : Writing} → HeldAt job past (phase.Copy object position left) held → DestPart job past (phase.Copy object position left) held start old
+copied_left : {job : Job} {past : Past} {start : Tree} {object : Object} {position : Position} {left : ℕ} {piece : List ℕ} {held : Held} {old new : Writing} → HeldAt job past (phase.Carrying object (stage.Copy position left)) held → DestPart job past (phase.Carrying object (stage.Copy position left)) held start old
     → LeavesPart (Some old) (Some new) (Adds piece) → IsLeftTree job start new
-copied_left {job} {past} {start} {object} {position} {left} {held} {old} {new} at dest (Untouched _ same) = same_left job past start (phase.Copy object position left) held old new at dest (some_same new.tree old.tree same)
+copied_left {job} {past} {start} {object} {position} {left} {held} {old} {new} at dest (Untouched _ same) = same_left job past start (phase.Carrying object (stage.Copy position left)) held old new at dest (some_same new.tree old.tree same)
 copied_left {job} {past} {start} {object} {position} {left} {piece} {held} {old} {new} at dest (OfPiece _ count same) =
     let part = take count piece in
     let it = copied job past start object position left left held old new None part (some_same new _ same) dest in

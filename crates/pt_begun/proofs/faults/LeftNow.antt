@@ -20,7 +20,9 @@ use Rattle.pt_plan.specs.declared.object.Object.{Object}
 use Rattle.pt_plan.specs.declared.phase.Part.{Part}
 use Rattle.pt_plan.specs.declared.phase.Part.TheVariants as a_part
 use Rattle.pt_plan.specs.declared.phase.Phase.{Phase}
+use Rattle.pt_plan.specs.declared.phase.Opening.TheVariants as opening
 use Rattle.pt_plan.specs.declared.phase.Phase.TheVariants as phase
+use Rattle.pt_plan.specs.declared.phase.Stage.TheVariants as stage
 use Rattle.pt_plan.specs.declared.phase.Position.{Position}
 use Rattle.pt_begun.specs.BegunDest.{IsBetweenObjects, IsMakingObject, IsMakingRoot, root_now, root_on_way}
 use Rattle.pt_begun.specs.EndLaws.{is_ended}
@@ -81,7 +83,7 @@ module _ (job : Job) (past : Past) (s : Reading) (start : Tree) (prefix : List �
   abbrev Left : Type 0
   Left = MayBeLeft job s.tree start now.tree (text job s.tree (root_in start) past.count)
 
-  part_left : {object : Object} {here : Part} → Known (phase.Make object here) → Left
+  part_left : {object : Object} {here : Part} → Known (phase.Carrying object (stage.Make here)) → Left
   part_left {object} {here} known =
       let source = known.source in
       let rows = known.held_at.rows in
@@ -90,7 +92,7 @@ module _ (job : Job) (past : Past) (s : Reading) (start : Tree) (prefix : List �
       (front_stands (front_made job object held.rows past.bytes here) known.dest.at.tree)
 
   -- a content is copied
-  copy_left : {object : Object} {position : Position} {left : ℕ} → Known (phase.Copy object position left) → Left
+  copy_left : {object : Object} {position : Position} {left : ℕ} → Known (phase.Carrying object (stage.Copy position left)) → Left
   copy_left {object} {position} {left} known =
       let source = known.source in
       let at = known.held_at in
@@ -115,7 +117,7 @@ module _ (job : Job) (past : Past) (s : Reading) (start : Tree) (prefix : List �
   script_stands {object} making =
       front_stands {front = script_of_object job object held.rows past.bytes} (record { rest = []; is = sym (append-nil (script_of_object job object held.rows past.bytes)) }) making.tree
 
-  tuples_left : {object : Object} {number : ℕ} → Known (phase.Tuples object number) → Left
+  tuples_left : {object : Object} {number : ℕ} → Known (phase.Carrying object (stage.Tuples number)) → Left
   tuples_left {object} known =
       let source = known.source in
       let few = known.held_at.numbers in
@@ -123,7 +125,7 @@ module _ (job : Job) (past : Past) (s : Reading) (start : Tree) (prefix : List �
       (carried_next past s (root_in start) source.proper source.at.0 source.at.1 source.bytes known.items.places.next)
       (script_stands known.dest.at.0)
 
-  rename_left : {object : Object} → Known (phase.Rename object) → Left
+  rename_left : {object : Object} → Known (phase.Carrying object stage.Rename) → Left
   rename_left {object} known =
       let source = known.source in
       carrying_left job past s start object held known.dest.started known.dest.at.0.root known.held_at.ends.0 known.held_at.rows (omega arith) known.items.places.placed
@@ -131,7 +133,7 @@ module _ (job : Job) (past : Past) (s : Reading) (start : Tree) (prefix : List �
       (script_stands known.dest.at.0)
 
   -- the object is at its place, and its line isn't told yet
-  line_left : {object : Object} → Known (phase.Line object) → Left
+  line_left : {object : Object} → Known (phase.Carrying object stage.Line) → Left
   line_left known =
       let source = known.source in
       let is = carried_next past s (root_in start) source.proper source.at.0 source.at.1 source.bytes known.items.places.next in
@@ -140,21 +142,21 @@ module _ (job : Job) (past : Past) (s : Reading) (start : Tree) (prefix : List �
       (tree_between s.tree (suc past.count) known.items.places.placed known.dest.at)
 
   pub left_now : (here : Phase) → is_ended here ≡ false → Known here → Left
-  left_now phase.Begin _ known = as_it_was job s.tree known.source.at.1 known.dest.at.tree
-  left_now (phase.Prefix _) _ known = as_it_was job s.tree known.source.at.1 known.dest.at.tree
-  left_now phase.Staging _ known = as_it_was job s.tree known.source.at.1 known.dest.at.tree
-  left_now phase.Root _ known = as_it_was job s.tree known.source.at.1 known.dest.at.0.tree
-  left_now (phase.RootMake number) _ known =
+  left_now (phase.Opening opening.Begin) _ known = as_it_was job s.tree known.source.at.1 known.dest.at.tree
+  left_now (phase.Opening (opening.Prefix _)) _ known = as_it_was job s.tree known.source.at.1 known.dest.at.tree
+  left_now (phase.Opening opening.Staging) _ known = as_it_was job s.tree known.source.at.1 known.dest.at.tree
+  left_now (phase.Opening opening.Root) _ known = as_it_was job s.tree known.source.at.1 known.dest.at.0.tree
+  left_now (phase.Opening (opening.RootMake number)) _ known =
       root_left s.tree known.source.at.1 known.dest.at (stands_whole number known.dest.at.tree)
-  left_now phase.RootRename _ known = root_left s.tree known.source.at.1 known.dest.at (stands_whole 6 known.dest.at.tree)
-  left_now (phase.RootCheck _) _ known = as_it_was job s.tree known.source.at.1 known.dest.at.tree
-  left_now (phase.OpenObject _) _ known = counted_left past.count known.dest.at.root.free (tree_entered s.tree past.count known.items.places.placed known.dest.at)
-  left_now (phase.Scan _) _ known = counted_left past.count known.dest.at.root.free (tree_entered s.tree past.count known.items.places.placed known.dest.at)
-  left_now (phase.Read _ _) _ known = counted_left past.count known.dest.at.root.free (tree_entered s.tree past.count known.items.places.placed known.dest.at)
-  left_now (phase.Make _ _) _ known = part_left known
-  left_now (phase.Copy _ _ _) _ known = copy_left known
-  left_now (phase.Tuples _ _) _ known = tuples_left known
-  left_now (phase.Rename _) _ known = rename_left known
-  left_now (phase.Line _) _ known = line_left known
+  left_now (phase.Opening opening.RootRename) _ known = root_left s.tree known.source.at.1 known.dest.at (stands_whole 6 known.dest.at.tree)
+  left_now (phase.Opening (opening.RootCheck _)) _ known = as_it_was job s.tree known.source.at.1 known.dest.at.tree
+  left_now (phase.Carrying _ stage.Open) _ known = counted_left past.count known.dest.at.root.free (tree_entered s.tree past.count known.items.places.placed known.dest.at)
+  left_now (phase.Carrying _ stage.Scan) _ known = counted_left past.count known.dest.at.root.free (tree_entered s.tree past.count known.items.places.placed known.dest.at)
+  left_now (phase.Carrying _ (stage.Read _)) _ known = counted_left past.count known.dest.at.root.free (tree_entered s.tree past.count known.items.places.placed known.dest.at)
+  left_now (phase.Carrying _ (stage.Make _)) _ known = part_left known
+  left_now (phase.Carrying _ (stage.Copy _ _)) _ known = copy_left known
+  left_now (phase.Carrying _ (stage.Tuples _)) _ known = tuples_left known
+  left_now (phase.Carrying _ stage.Rename) _ known = rename_left known
+  left_now (phase.Carrying _ stage.Line) _ known = line_left known
   left_now phase.Ended runs known = absurd (cc)
   left_now _ _ known = counted_left past.count known.dest.at.root.free (tree_between s.tree past.count known.items.places.placed known.dest.at)

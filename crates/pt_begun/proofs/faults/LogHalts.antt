@@ -18,7 +18,9 @@ use Rattle.pt_plan.specs.TurnWalk as walk
 use Rattle.pt_plan.specs.World.{Calls, Change, ChangesNothing, Finds, LeavesPart, Untouched, dest_tree}
 use Rattle.pt_plan.specs.declared.object.Object.{Object}
 use Rattle.pt_plan.specs.declared.phase.Phase.{Phase}
+use Rattle.pt_plan.specs.declared.phase.Opening.TheVariants as opening
 use Rattle.pt_plan.specs.declared.phase.Phase.TheVariants as phase
+use Rattle.pt_plan.specs.declared.phase.Stage.TheVariants as stage
 use Rattle.pt_begun.specs.Begun.{Begun, TellsAsBefore}
 use Rattle.pt_begun.specs.BegunDest.{DestPart, IsBetweenObjects, IsMakingObject}
 use Rattle.pt_begun.specs.LogLaws.{FailedLogLeavesNoStaging, may_tell}
@@ -35,12 +37,12 @@ before_making : {job : Job} {t : Tree} {placed : List Carried} {object : Object}
 before_making at = λ q. ap (λ (x : Tree). x (staging ++ q)) at.tree ∙ at.root.free q
 
 free_there : {job : Job} {past : Past} (here : Phase) {held : Held} {t : Tree} {now : Writing} → may_tell here ≡ true → DestPart job past here held t now → IsFree now.tree staging
-free_there phase.OpenRoot _ dest = between dest.at
+free_there (phase.Opening opening.OpenRoot) _ dest = between dest.at
 free_there phase.Judge _ dest = between dest.at
-free_there (phase.OpenObject _) _ dest = before_making dest.at
-free_there (phase.Scan _) _ dest = before_making dest.at
-free_there (phase.Read _ _) _ dest = before_making dest.at
-free_there (phase.Line _) _ dest = between dest.at
+free_there (phase.Carrying _ stage.Open) _ dest = before_making dest.at
+free_there (phase.Carrying _ stage.Scan) _ dest = before_making dest.at
+free_there (phase.Carrying _ (stage.Read _)) _ dest = before_making dest.at
+free_there (phase.Carrying _ stage.Line) _ dest = between dest.at
 free_there phase.Walk _ dest = between dest.at
 free_there phase.End _ dest = between dest.at
 free_there _ tells dest = absurd (cc)

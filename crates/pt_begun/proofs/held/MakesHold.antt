@@ -14,6 +14,7 @@ use Rattle.pt_plan.specs.declared.object.Object.{Object}
 use Rattle.pt_plan.specs.declared.phase.Phase.{Phase}
 use Rattle.pt_plan.specs.declared.phase.Part.TheVariants as part
 use Rattle.pt_plan.specs.declared.phase.Phase.TheVariants as phase
+use Rattle.pt_plan.specs.declared.phase.Stage.TheVariants as stage
 use Rattle.pt_plan.specs.declared.phase.Position.{Position}
 use Rattle.pt_begun.specs.BegunHeld.{AreRows, HeldAt, NumbersAt}
 use Rattle.pt_begun.specs.HeldLaws.{MakingKeepsHeld}
@@ -38,7 +39,7 @@ rows_copied job bytes held n left row is same rows =
 
 -- ---- from part to part
 
-numbers_at : (job : Job) (object : Object) (held : Held) (position : Position) (more : Bool) → (more ≡ true → IsAtRow held.rows position) → NumbersAt job (phase.Make object (cond more (part.Content position) part.VersionInventory)) held
+numbers_at : (job : Job) (object : Object) (held : Held) (position : Position) (more : Bool) → (more ≡ true → IsAtRow held.rows position) → NumbersAt job (phase.Carrying object (stage.Make (cond more (part.Content position) part.VersionInventory))) held
 numbers_at job object held position true at = at refl
 numbers_at job object held position false at = tt
 

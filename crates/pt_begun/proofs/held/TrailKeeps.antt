@@ -24,6 +24,7 @@ use Rattle.pt_plan.specs.World.{Answers, Calls}
 use Rattle.pt_plan.specs.declared.object.Object.{Object}
 use Rattle.pt_plan.specs.declared.phase.Phase.{Phase}
 use Rattle.pt_plan.specs.declared.phase.Phase.TheVariants as phase
+use Rattle.pt_plan.specs.declared.phase.Stage.TheVariants as stage
 
 -- ---- trails
 
@@ -130,7 +131,7 @@ at_candidate job (frame ∷ frames) i is_one is =
     top_of (f ∷ fs) = f.listing
 
 new_object : (job : Job) (held : Held) (object : Object) (index : Option ℕ) → object.gathered ≡ is_none index → is_trail held.trail ≡ true → found_at (form_of job) held.trail ≡ has_object index
-    → TrailAt (phase.OpenObject object) (record held { trail = at_object index held.trail })
+    → TrailAt (phase.Carrying object stage.Open) (record held { trail = at_object index held.trail })
 new_object job held object None gathered is_one is = record { is_one = is_one; none = tt; entry = λ apart. absurd (let no : true ≡ false = sym gathered ∙ apart in cc) }
 new_object job held object (Some i) gathered is_one is = record { is_one = at_candidate job held.trail i is_one is; none = tt; entry = λ apart. candidate_there job held.trail i is }
 

@@ -22,7 +22,9 @@ use Rattle.pt_plan.specs.World.{Calls, Change, Changes, Finds, FindsNoneAndMakes
 use Rattle.pt_plan.specs.declared.object.Object.{Object}
 use Rattle.pt_plan.specs.declared.phase.Part.TheVariants as part
 use Rattle.pt_plan.specs.declared.phase.Phase.{Phase}
+use Rattle.pt_plan.specs.declared.phase.Opening.TheVariants as opening
 use Rattle.pt_plan.specs.declared.phase.Phase.TheVariants as phase
+use Rattle.pt_plan.specs.declared.phase.Stage.TheVariants as stage
 use Rattle.pt_begun.specs.Begun.{HasTold, IsFreeAt, ItemsPart, PlacesItems}
 use Rattle.pt_begun.specs.ItemLaws.{KeepsItems, KeepsLog, MakingKeepsItems, PlacingKeepsItems, ScanningKeepsItems, StartingKeepsItems, WalkingKeepsItems}
 use Rattle.pt_begun.specs.Past.{Past, done_after, object_held, past_after}
@@ -46,8 +48,8 @@ kept {past} _ _ {here} {next} held _ tells told items places = (
 
 -- ---- the start
 
-makes_root : {job : Job} {past : Past} (s : Reading) (start : Tree) (held : Held) {counts : Counts} {number : ℕ} (change : Change) (last : Bool) → ItemsPart job past (phase.RootMake number) counts s.tree (root_in start)
-    → KeepsItems job past (phase.RootMake number) held counts s start (does change) (cond last phase.RootRename (phase.RootMake (number + 1))) × KeepsLog job past (phase.RootMake number) held s start (does change) (cond last phase.RootRename (phase.RootMake (number + 1)))
+makes_root : {job : Job} {past : Past} (s : Reading) (start : Tree) (held : Held) {counts : Counts} {number : ℕ} (change : Change) (last : Bool) → ItemsPart job past (phase.Opening (opening.RootMake number)) counts s.tree (root_in start)
+    → KeepsItems job past (phase.Opening (opening.RootMake number)) held counts s start (does change) (cond last (phase.Opening opening.RootRename) (phase.Opening (opening.RootMake (number + 1)))) × KeepsLog job past (phase.Opening (opening.RootMake number)) held s start (does change) (cond last (phase.Opening opening.RootRename) (phase.Opening (opening.RootMake (number + 1))))
 makes_root {job} {past} s start held {counts} {number} change true items =
     kept s start held (does change) Nothing (λ log old had. had) items (record { placed = items.places.placed; next = tt })
 makes_root {job} {past} s start held {counts} {number} change false items =
@@ -57,8 +59,8 @@ makes_root {job} {past} s start held {counts} {number} change false items =
 none_placed : (job : Job) (source : Forest) (root : Tree) {count : ℕ} → count ≡ 0 → [] ≡ carried_among job source root count
 none_placed job source root first = sym (ap (carried_among job source root) first)
 
-checks_root : {job : Job} {past : Past} (s : Reading) (start : Tree) (held : Held) {counts : Counts} {number : ℕ} (change : Change) (last : Bool) → past.count ≡ 0 → ItemsPart job past (phase.RootCheck number) counts s.tree (root_in start)
-    → KeepsItems job past (phase.RootCheck number) held counts s start (does change) (cond last phase.OpenRoot (phase.RootCheck (number + 1))) × KeepsLog job past (phase.RootCheck number) held s start (does change) (cond last phase.OpenRoot (phase.RootCheck (number + 1)))
+checks_root : {job : Job} {past : Past} (s : Reading) (start : Tree) (held : Held) {counts : Counts} {number : ℕ} (change : Change) (last : Bool) → past.count ≡ 0 → ItemsPart job past (phase.Opening (opening.RootCheck number)) counts s.tree (root_in start)
+    → KeepsItems job past (phase.Opening (opening.RootCheck number)) held counts s start (does change) (cond last (phase.Opening opening.OpenRoot) (phase.Opening (opening.RootCheck (number + 1)))) × KeepsLog job past (phase.Opening (opening.RootCheck number)) held s start (does change) (cond last (phase.Opening opening.OpenRoot) (phase.Opening (opening.RootCheck (number + 1))))
 checks_root {job} {past} s start held {counts} {number} change true first items =
     kept s start held (does change) Nothing (λ log old had. had) items (record { placed = none_placed job s.tree (root_in start) first; next = tt })
 checks_root {job} {past} s start held {counts} {number} change false _ items =
@@ -109,8 +111,8 @@ scans_items job past s new _ start _ _ _ held _ _ calls turn answers known =
 
 -- ---- an object is made
 
-after_sidecar : {job : Job} {past : Past} (s : Reading) (start : Tree) {object : Object} (held : Held) {counts : Counts} (change : Change) (flat : Bool) → ItemsPart job past (phase.Make object part.Sidecar) counts s.tree (root_in start)
-    → KeepsItems job past (phase.Make object part.Sidecar) held counts s start (does change) (cond flat (phase.Rename object) (phase.Tuples object 0)) × KeepsLog job past (phase.Make object part.Sidecar) held s start (does change) (cond flat (phase.Rename object) (phase.Tuples object 0))
+after_sidecar : {job : Job} {past : Past} (s : Reading) (start : Tree) {object : Object} (held : Held) {counts : Counts} (change : Change) (flat : Bool) → ItemsPart job past (phase.Carrying object (stage.Make part.Sidecar)) counts s.tree (root_in start)
+    → KeepsItems job past (phase.Carrying object (stage.Make part.Sidecar)) held counts s start (does change) (cond flat (phase.Carrying object stage.Rename) (phase.Carrying object (stage.Tuples 0))) × KeepsLog job past (phase.Carrying object (stage.Make part.Sidecar)) held s start (does change) (cond flat (phase.Carrying object stage.Rename) (phase.Carrying object (stage.Tuples 0)))
 after_sidecar s start held change true items =
     kept s start held (does change) Nothing (λ log old had. had) items (record { placed = items.places.placed; next = items.places.next })
 after_sidecar s start held change false items =
@@ -124,8 +126,8 @@ makes_items _ _ s _ start _ _ held _ _ calls next _ known =
 
 -- ---- an object at its place
 
-after_a_tuple : {job : Job} {past : Past} (s : Reading) (start : Tree) {object : Object} (held : Held) {counts : Counts} {number : ℕ} (change : Change) (more : Bool) → ItemsPart job past (phase.Tuples object number) counts s.tree (root_in start)
-    → KeepsItems job past (phase.Tuples object number) held counts s start (does change) (cond more (phase.Tuples object (number + 1)) (phase.Rename object)) × KeepsLog job past (phase.Tuples object number) held s start (does change) (cond more (phase.Tuples object (number + 1)) (phase.Rename object))
+after_a_tuple : {job : Job} {past : Past} (s : Reading) (start : Tree) {object : Object} (held : Held) {counts : Counts} {number : ℕ} (change : Change) (more : Bool) → ItemsPart job past (phase.Carrying object (stage.Tuples number)) counts s.tree (root_in start)
+    → KeepsItems job past (phase.Carrying object (stage.Tuples number)) held counts s start (does change) (cond more (phase.Carrying object (stage.Tuples (number + 1))) (phase.Carrying object stage.Rename)) × KeepsLog job past (phase.Carrying object (stage.Tuples number)) held s start (does change) (cond more (phase.Carrying object (stage.Tuples (number + 1))) (phase.Carrying object stage.Rename))
 after_a_tuple s start held change true items =
     kept s start held (does change) Nothing (λ log old had. had) items (record { placed = items.places.placed; next = items.places.next })
 after_a_tuple s start held change false items =

@@ -31,6 +31,7 @@ use Rattle.pt_plan.specs.World.{Calls}
 use Rattle.pt_plan.specs.declared.object.Object.{Object}
 use Rattle.pt_plan.specs.declared.phase.Phase.{Phase}
 use Rattle.pt_plan.specs.declared.phase.Phase.TheVariants as phase
+use Rattle.pt_plan.specs.declared.phase.Stage.TheVariants as stage
 use Rattle.pt_begun.specs.Begun.{IsFreeAt, IsNextFree}
 use Rattle.pt_begun.specs.BegunHeld.{HeldAt}
 use Rattle.pt_begun.specs.BegunSource.{AreHeldThere, HasScanned, HasStarted, IsScanned, SourcePart, object_at}
@@ -101,7 +102,7 @@ long_from _ _ [] = refl
 long_from job start (file ∷ some) = long_from job (start + length file.1) some
 
 -- it tells the numbers of the rows
-pub done_told : {job : Job} {past : Past} (source : Forest) {object : Object} {held : Held} → HeldAt job past (phase.Line object) held → HasScanned job (object_at source object (to_site object held.trail)) held.rows object.empty []
+pub done_told : {job : Job} {past : Past} (source : Forest) {object : Object} {held : Held} → HeldAt job past (phase.Carrying object stage.Line) held → HasScanned job (object_at source object (to_site object held.trail)) held.rows object.empty []
     → line_by_outcome (trail_path (to_site object held.trail)) object.id (object_at source object (to_site object held.trail)) (place_of job.tuples object.id) (Holds (files (entries (object_at source object (to_site object held.trail)).inside))) ≡ done_line object held
 done_told {job} source {object} {held} at it =
     let what = object_at source object (to_site object held.trail) in
@@ -116,7 +117,7 @@ done_told {job} source {object} {held} at it =
 -- ---- each turn
 
 after_a_tuple : (job : Job) (source : Forest) (root : Tree) (count number : ℕ) (object : Object) (more : Bool)
-    → Tells job source root count (cond more (phase.Tuples object (number + 1)) (phase.Rename object)) None (done_after (phase.Tuples object number) [] (cond more (phase.Tuples object (number + 1)) (phase.Rename object)) count) []
+    → Tells job source root count (cond more (phase.Carrying object (stage.Tuples (number + 1))) (phase.Carrying object stage.Rename)) None (done_after (phase.Carrying object (stage.Tuples number)) [] (cond more (phase.Carrying object (stage.Tuples (number + 1))) (phase.Carrying object stage.Rename)) count) []
 after_a_tuple _ _ _ _ _ _ true = Nothing
 after_a_tuple _ _ _ _ _ _ false = Nothing
 

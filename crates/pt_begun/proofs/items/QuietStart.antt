@@ -12,43 +12,24 @@ use Rattle.pt_plan.specs.TurnStart.{IsStore}
 use Rattle.pt_plan.specs.TurnWalk.{OpensRoot}
 use Rattle.pt_plan.specs.World.{Calls}
 use Rattle.pt_plan.specs.declared.phase.Phase.{Phase}
+use Rattle.pt_plan.specs.declared.phase.Opening.TheVariants as opening
 use Rattle.pt_plan.specs.declared.phase.Phase.TheVariants as phase
+use Rattle.pt_plan.specs.declared.phase.Stage.TheVariants as stage
 use Rattle.pt_begun.specs.Begun.{IsQuiet}
 
 -- ---- the phases of the start
 
 abbrev pub is_start : Phase → Bool
-is_start phase.Begin = true
-is_start (phase.Prefix here) = true
-is_start phase.Staging = true
-is_start phase.Root = true
-is_start (phase.RootMake number) = true
-is_start phase.RootRename = true
-is_start (phase.RootCheck number) = true
-is_start phase.OpenRoot = true
+is_start (phase.Opening _) = true
 is_start _ = false
 
 -- at these the log is as it was, and elsewhere nothing is said
 pub quiet_if : (here : Phase) {old now : List ℕ} → (is_start here ≡ true → now ≡ old) → IsQuiet here old now
-quiet_if phase.Begin same = same refl
-quiet_if (phase.Prefix _) same = same refl
-quiet_if phase.Staging same = same refl
-quiet_if phase.Root same = same refl
-quiet_if (phase.RootMake _) same = same refl
-quiet_if phase.RootRename same = same refl
-quiet_if (phase.RootCheck _) same = same refl
-quiet_if phase.OpenRoot same = same refl
+quiet_if (phase.Opening _) same = same refl
 quiet_if _ _ = tt
 
 pub quiet_is : (here : Phase) {old now : List ℕ} → is_start here ≡ true → IsQuiet here old now → now ≡ old
-quiet_is phase.Begin _ is = is
-quiet_is (phase.Prefix _) _ is = is
-quiet_is phase.Staging _ is = is
-quiet_is phase.Root _ is = is
-quiet_is (phase.RootMake _) _ is = is
-quiet_is phase.RootRename _ is = is
-quiet_is (phase.RootCheck _) _ is = is
-quiet_is phase.OpenRoot _ is = is
+quiet_is (phase.Opening _) _ is = is
 quiet_is _ start is = absurd (cc)
 
 -- ---- a turn that leads to one begins at one, and tells nothing
@@ -66,7 +47,7 @@ follows_quietly (a_start (IsStore _ _ _)) _ = record { start = refl; line = refl
 follows_quietly (a_start _) _ = record { start = refl; line = refl }
 follows_quietly (Walk (OpensRoot _ _)) start = absurd (cc)
 follows_quietly (Scan (StartsInSite _ _ _)) start = absurd (cc)
-follows_quietly {job} (Make (MakesSidecar _ object)) start = absurd (true≢false (sym start ∙ either_later (job.tuples.count == 0) (phase.Rename object) (phase.Tuples object 0) refl refl))
-follows_quietly {job} (Place (MakesTuple _ object number)) start = absurd (true≢false (sym start ∙ either_later (nat_lt (number + 1) job.tuples.count) (phase.Tuples object (number + 1)) (phase.Rename object) refl refl))
-follows_quietly {job} (Place (FindsTuple _ object number)) start = absurd (true≢false (sym start ∙ either_later (nat_lt (number + 1) job.tuples.count) (phase.Tuples object (number + 1)) (phase.Rename object) refl refl))
+follows_quietly {job} (Make (MakesSidecar _ object)) start = absurd (true≢false (sym start ∙ either_later (job.tuples.count == 0) (phase.Carrying object stage.Rename) (phase.Carrying object (stage.Tuples 0)) refl refl))
+follows_quietly {job} (Place (MakesTuple _ object number)) start = absurd (true≢false (sym start ∙ either_later (nat_lt (number + 1) job.tuples.count) (phase.Carrying object (stage.Tuples (number + 1))) (phase.Carrying object stage.Rename) refl refl))
+follows_quietly {job} (Place (FindsTuple _ object number)) start = absurd (true≢false (sym start ∙ either_later (nat_lt (number + 1) job.tuples.count) (phase.Carrying object (stage.Tuples (number + 1))) (phase.Carrying object stage.Rename) refl refl))
 follows_quietly _ start = absurd (cc)

@@ -14,6 +14,7 @@ use Rattle.pt_plan.specs.World.{Calls, Failures}
 use Rattle.pt_plan.specs.declared.fault.Fault.{Fault}
 use Rattle.pt_plan.specs.declared.fault.Fault.TheVariants as fault
 use Rattle.pt_plan.specs.declared.phase.Phase.{Phase}
+use Rattle.pt_plan.specs.declared.phase.Opening.TheVariants as opening
 use Rattle.pt_plan.specs.declared.phase.Phase.TheVariants as phase
 use Rattle.pt_begun.specs.Begun.{Begun, IsQuiet}
 use Rattle.pt_begun.specs.BegunDest.{DestPart}
@@ -29,9 +30,9 @@ use Rattle.pt_begun.proofs.items.Telling.{both_tell, log_tells, none_put}
 
 -- before anything is changed or done
 abbrev is_first : Phase → Bool
-is_first phase.Begin = true
-is_first (phase.Prefix here) = true
-is_first phase.Staging = true
+is_first (phase.Opening opening.Begin) = true
+is_first (phase.Opening (opening.Prefix here)) = true
+is_first (phase.Opening opening.Staging) = true
 is_first _ = false
 
 follows_first : {job : Job} {counts : Counts} {here : Phase} {prefix : List ℕ} {held : Held} {read : List ℕ} {after : Held} {calls : Calls} {why : Fault} → Follows job counts here prefix held read after calls (Err why) → is_early why ≡ true → is_first here ≡ true
@@ -56,15 +57,15 @@ failed_late _ _ _ it = absurd (it)
 -- ---- what holds there
 
 first_tree : {job : Job} {past : Past} (here : Phase) {held : Held} {t : Tree} {now : Writing} → is_first here ≡ true → DestPart job past here held t now → now.tree ≡ t
-first_tree phase.Begin _ dest = dest.at.tree
-first_tree (phase.Prefix _) _ dest = dest.at.tree
-first_tree phase.Staging _ dest = dest.at.tree
+first_tree (phase.Opening opening.Begin) _ dest = dest.at.tree
+first_tree (phase.Opening (opening.Prefix _)) _ dest = dest.at.tree
+first_tree (phase.Opening opening.Staging) _ dest = dest.at.tree
 first_tree _ first dest = absurd (cc)
 
 first_starts : (here : Phase) → is_first here ≡ true → is_start here ≡ true
-first_starts phase.Begin _ = refl
-first_starts (phase.Prefix _) _ = refl
-first_starts phase.Staging _ = refl
+first_starts (phase.Opening opening.Begin) _ = refl
+first_starts (phase.Opening (opening.Prefix _)) _ = refl
+first_starts (phase.Opening opening.Staging) _ = refl
 first_starts _ first = absurd (cc)
 
 -- ---- the laws

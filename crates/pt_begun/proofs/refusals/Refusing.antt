@@ -30,6 +30,7 @@ use Rattle.pt_plan.specs.declared.fault.Fault.TheVariants as fault
 use Rattle.pt_plan.specs.declared.object.Object.{Object}
 use Rattle.pt_plan.specs.declared.phase.Phase.{Phase}
 use Rattle.pt_plan.specs.declared.phase.Phase.TheVariants as phase
+use Rattle.pt_plan.specs.declared.phase.Stage.TheVariants as stage
 use Rattle.pt_plan.specs.declared.phase.Position.{Position}
 use Rattle.pt_begun.specs.Begun.{Begun, IsPast, Start}
 use Rattle.pt_begun.specs.BegunSource.{IsCopyingFile, SourceAt}
@@ -64,7 +65,7 @@ bad_prefix _ is read bad = absurd (cc)
 
 -- ---- the copy
 
-module _ (job : Job) (s : Reading) (prefix : List ℕ) (count : ℕ) (object : Object) (held : Held) (position : Position) (left : ℕ) (proper : is_proper s.tree ≡ true) (at : SourceAt job s prefix count (phase.Copy object position left) held) where
+module _ (job : Job) (s : Reading) (prefix : List ℕ) (count : ℕ) (object : Object) (held : Held) (position : Position) (left : ℕ) (proper : is_proper s.tree ≡ true) (at : SourceAt job s prefix count (phase.Carrying object (stage.Copy position left)) held) where
   abbrev copying : IsCopyingFile s.tree object held position s.unread left
   copying = at.2
 

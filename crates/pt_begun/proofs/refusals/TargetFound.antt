@@ -30,6 +30,7 @@ use Rattle.pt_plan.specs.declared.fault.Fault.TheVariants as fault
 use Rattle.pt_plan.specs.declared.object.Object.{Object}
 use Rattle.pt_plan.specs.declared.phase.Phase.{Phase}
 use Rattle.pt_plan.specs.declared.phase.Phase.TheVariants as phase
+use Rattle.pt_plan.specs.declared.phase.Stage.TheVariants as stage
 use Rattle.pt_begun.specs.Begun.{Begun, IsPast, Start}
 use Rattle.pt_begun.specs.BegunDest.{DestPart, root_now, root_on_way}
 use Rattle.pt_begun.specs.BegunHeld.{HeldAt}
@@ -85,7 +86,7 @@ not_made None false bad = absurd (true≢false bad)
 not_made (Some _) _ bad = bad
 
 -- what is in the way to a place stood in the root
-barred : {job : Job} {past : Past} {start : Tree} {object : Object} {held : Held} {number : ℕ} {old : Writing} {here : Kind} → HeldAt job past (phase.Tuples object number) held → DestPart job past (phase.Tuples object number) held start old
+barred : {job : Job} {past : Past} {start : Tree} {object : Object} {held : Held} {number : ℕ} {old : Writing} {here : Kind} → HeldAt job past (phase.Carrying object (stage.Tuples number)) held → DestPart job past (phase.Carrying object (stage.Tuples number)) held start old
     → option_map kind_of_entry (old.tree (tuple_folder object number)) ≡ Some here → is_dir_kind (Some here) ≡ false → is_way_free job (root_in start) (object_held object held.rows past.bytes) ≡ false
 barred {job} {past} {start} {object} {held} {number} {old} at dest found other =
     let few = at.numbers in
@@ -110,7 +111,7 @@ module _ (job : Job) (past : Past) (t : Tree) (old : Writing) (new : Option Writ
   IsFound = IsFree t staging × IsBadTarget job (root_in t) objects
 
   follows_find : {counts : Counts} {here : Phase} {prefix read : List ℕ} {after : Held} {calls : Calls} → IsLayout job.tuples → Follows job counts here prefix held read after calls (Err fault.Target) → HeldAt job past here held → DestPart job past here held t old → Changes calls.change (Some old) new
-      → ((object : Object) (number : ℕ) → here ≡ phase.Tuples object number → objects (object_held object held.rows past.bytes)) → IsFound
+      → ((object : Object) (number : ℕ) → here ≡ phase.Carrying object (stage.Tuples number) → objects (object_held object held.rows past.bytes)) → IsFound
   unfolding Changes IsKindAt IsPeeked
   follows_find _ (a_start (IsNoRoot _ _ other)) _ dest change _ =
       (dest.at.1, IsNoFolder (ap (λ (tree : Tree). is_folder_or_free (tree storage_root)) (sym dest.at.0.tree) ∙ no_folder (old.tree storage_root) (change.0 old refl) other))
@@ -133,7 +134,7 @@ module _ (job : Job) (past : Past) (t : Tree) (old : Writing) (new : Option Writ
 -- ---- the laws
 
 found : (job : Job) (past : Past) (start : Start) (old new : World) (run : Run) (after : Kept) (t : Tree) (objects : Carried → Type 0) → IsPast job start old run past → Turn job run.phase (turning run.kept) after old new (Err fault.Target) → start.dest ≡ Some t
-    → ((object : Object) (number : ℕ) → run.phase ≡ phase.Tuples object number → objects (object_held object run.kept.held.rows past.bytes)) → IsFree t staging × IsBadTarget job (root_in t) objects
+    → ((object : Object) (number : ℕ) → run.phase ≡ phase.Carrying object (stage.Tuples number) → objects (object_held object run.kept.held.rows past.bytes)) → IsFree t staging × IsBadTarget job (root_in t) objects
 unfolding Did Stays LeavesSome
 found job past start old new run _ t objects is (IsRefused _ _ calls _ turn did _) told some =
     let had = both_tell (DestPart job past run.phase run.kept.held) start.dest old.dest told is.dest in

@@ -17,6 +17,7 @@ use Rattle.pt_plan.specs.declared.object.Object.{Object}
 use Rattle.pt_plan.specs.declared.phase.Part.TheVariants as part
 use Rattle.pt_plan.specs.declared.phase.Phase.{Phase}
 use Rattle.pt_plan.specs.declared.phase.Phase.TheVariants as phase
+use Rattle.pt_plan.specs.declared.phase.Stage.TheVariants as stage
 use Rattle.pt_plan.specs.declared.phase.Position.{Position}
 use Rattle.pt_begun.specs.BegunSource.{HasStarted, IsCopyingFile, IsScanned, SourceAt}
 use Rattle.pt_begun.specs.Past.{done_after}
@@ -96,7 +97,7 @@ makes_keep job s new prefix count proper (MakesVersionInventory was object) at a
 makes_keep job s new prefix count proper (MakesVersionSidecar was object) at answers = fed_stays job prefix object was count answers at
 makes_keep job s new prefix count proper (MakesInventory was object) at answers = fed_stays job prefix object was count answers at
 makes_keep job s new prefix count proper (MakesSidecar was object) at answers =
-    let next = λ (p : Phase). SourceAt job new prefix (done_after (phase.Make object part.Sidecar) was.trail p count) p (with_fed was []) in
+    let next = λ (p : Phase). SourceAt job new prefix (done_after (phase.Carrying object (stage.Make part.Sidecar)) was.trail p count) p (with_fed was []) in
     let it = fed_stays job prefix object was count answers at in
     after_sidecar next job object (λ flat. it) (λ some. it)
 makes_keep job s new prefix count {after} {next} proper turn at answers = stays (λ r. SourceAt job r prefix count next after) answers at

@@ -12,14 +12,15 @@ use Rattle.pt_plan.specs.World.{Answers, Calls}
 use Rattle.pt_plan.specs.declared.object.Object.{Object}
 use Rattle.pt_plan.specs.declared.phase.Phase.{Phase}
 use Rattle.pt_plan.specs.declared.phase.Phase.TheVariants as phase
+use Rattle.pt_plan.specs.declared.phase.Stage.TheVariants as stage
 use Rattle.pt_begun.proofs.held.EitherPhase.{after_tuple_folder}
 use Rattle.pt_begun.proofs.source.InObject.{site_itself}
 use Rattle.pt_begun.proofs.source.InPairtree.{stays}
 
 after_a_tuple : (job : Job) {s new : Reading} {prefix : List ℕ} {object : Object} {held : Held} {count : ℕ} (number : ℕ) → Some new ≡ Some s → HasStarted s.tree prefix × IsScanned job s.tree prefix object held count
-    → SourceAt job new prefix (done_after (phase.Tuples object number) held.trail (after_tuple job object number) count) (after_tuple job object number) held
+    → SourceAt job new prefix (done_after (phase.Carrying object (stage.Tuples number)) held.trail (after_tuple job object number) count) (after_tuple job object number) held
 after_a_tuple job {new} {prefix} {object} {held} {count} number same at =
-    let next = λ (p : Phase). SourceAt job new prefix (done_after (phase.Tuples object number) held.trail p count) p held in
+    let next = λ (p : Phase). SourceAt job new prefix (done_after (phase.Carrying object (stage.Tuples number)) held.trail p count) p held in
     let it = stays (λ r. HasStarted r.tree prefix × IsScanned job r.tree prefix object held count) same at in
     after_tuple_folder next job object number (λ more. it) (λ last. it)
 

@@ -23,6 +23,7 @@ use Rattle.pt_plan.specs.World.{Answers, Calls}
 use Rattle.pt_plan.specs.declared.object.Object.{Object}
 use Rattle.pt_plan.specs.declared.phase.Phase.{Phase}
 use Rattle.pt_plan.specs.declared.phase.Phase.TheVariants as phase
+use Rattle.pt_plan.specs.declared.phase.Stage.TheVariants as stage
 use Rattle.pt_begun.specs.BegunHeld.{HeldAt}
 use Rattle.pt_begun.specs.BegunSource.{AreHeldThere, HasRoom, HasStarted, IsScanning, IsWithinBound, SourcePart, object_at}
 use Rattle.pt_begun.specs.Past.{bytes_after, Past, past_after, with_bytes}
@@ -50,7 +51,7 @@ still_there source object old new bytes rows same there =
     subst (λ (o : PairtreeObject). All (λ row. bytes row.path ≡ bytes_at (pairtree_of source) (o.at ++ row.path)) rows) same there
 
 -- with the file that was read
-one_more_there : {job : Job} (source : Forest) (object : Object) (held : Held) (item : Item) (read : ℕ) (bytes : Path → List ℕ) {past : Past} {count : ℕ} → current_entry held.trail ≡ Some item → HeldAt job past (phase.Read object count) held
+one_more_there : {job : Job} (source : Forest) (object : Object) (held : Held) (item : Item) (read : ℕ) (bytes : Path → List ℕ) {past : Past} {count : ℕ} → current_entry held.trail ≡ Some item → HeldAt job past (phase.Carrying object (stage.Read count)) held
     → held.fed ≡ bytes_at (pairtree_of source) (names_to held.trail) → AreHeldThere source object (to_site object held.trail) bytes held.rows
     → AreHeldThere source object (to_site object held.trail) (with_bytes (logical_path object held.trail) held.fed bytes) (held.rows ++ row_of (logical_path object held.trail) (digest_of job.algorithm held.fed) read ∷ [])
 one_more_there source object held item read bytes e at whole there =
@@ -76,7 +77,7 @@ module _ (job : Job) (source : Forest) (object : Object) (held : Held) where
   early_room few = back_room (length held.rows + length held.contents) (omega (arith, few))
 
 -- all of it was scanned
-made_room : (job : Job) {source : Forest} {prefix : List ℕ} {past : Past} {object : Object} {held : Held} (t : List Frame) {count : ℕ} → HeldAt job past (phase.Scan object) held → IsScanning job source prefix object held count → entries_held t ≤ entries_held held.trail
+made_room : (job : Job) {source : Forest} {prefix : List ℕ} {past : Past} {object : Object} {held : Held} (t : List Frame) {count : ℕ} → HeldAt job past (phase.Carrying object stage.Scan) held → IsScanning job source prefix object held count → entries_held t ≤ entries_held held.trail
     → HasRoom job source object held → IsWithinBound job source (with_trail held t)
 made_room job {object} {held} t at it less room =
     let records = records_held job _ held object.empty _ at.rows.contents it.scanned in
@@ -122,14 +123,14 @@ same_entries t = let one = entries_advanced t in omega (arith, one)
 
 -- the trail moved in the object
 moved_beside : (job : Job) {source : Forest} {bytes : Path → List ℕ} {object : Object} (held : Held) (t : List Frame) → object_at source object (to_site object held.trail) ≡ object_at source object (to_site object t) → entries_held t ≤ entries_held held.trail
-    → AreHeldThere source object (to_site object held.trail) bytes held.rows → HasRoom job source object held → BesideAt job source bytes (phase.Scan object) (with_trail held t)
+    → AreHeldThere source object (to_site object held.trail) bytes held.rows → HasRoom job source object held → BesideAt job source bytes (phase.Carrying object stage.Scan) (with_trail held t)
 moved_beside job {source} {bytes} {object} held t same less there room = record {
   bytes_are = still_there source object (to_site object held.trail) (to_site object t) bytes held.rows same there;
   few = room_moved job source object held (with_trail held t) same less room;
 }
 
 -- where a turn goes on with the scan, what it keeps of the trail and of the object
-in_scan : {job : Job} {past : Past} (s : Reading) {prefix : List ℕ} {here : Phase} {held after : Held} {calls : Calls} {object : Object} → Scans job here held after calls (Ok (phase.Scan object))
+in_scan : {job : Job} {past : Past} (s : Reading) {prefix : List ℕ} {here : Phase} {held after : Held} {calls : Calls} {object : Object} → Scans job here held after calls (Ok (phase.Carrying object stage.Scan))
     → Answers calls.asked (Some s) (Some s) → HeldAt job past here held → SourcePart job past here prefix held s → (is_trail after.trail ≡ true) × IsScanning job s.tree prefix object after past.count
 in_scan {past} s {prefix} turn answers at part =
     ((trail.scans_keep (Some s) (Some s) turn answers at.trail).is_one, (scans_keep s s prefix past.count part.proper at.trail.is_one turn part.at answers).1)

@@ -19,6 +19,7 @@ use Rattle.pt_plan.specs.Store.{is_prefix, is_store, pairtree_root, prefix_file,
 use Rattle.pt_plan.specs.TurnStart.{Starts, IsStore, HasNoPrefix, HasPrefix, MakesRoot, IsSame, is_dir_kind, is_file_kind, kind_in, lists_store}
 use Rattle.pt_plan.specs.World.{Answers, Calls}
 use Rattle.pt_plan.specs.declared.phase.Phase.{Phase}
+use Rattle.pt_plan.specs.declared.phase.Opening.TheVariants as opening
 use Rattle.pt_plan.specs.declared.phase.Phase.TheVariants as phase
 use Rattle.pt_begun.proofs.held.EitherPhase.{after_root_file, after_root_item}
 use Rattle.pt_begun.proofs.source.InPairtree.{some_same, stays}
@@ -106,11 +107,11 @@ starts_keep s new count held (HasPrefix was block good) at answers =
     let it = good_prefix (find s.tree prefix_file) at.3 (answers.0 (after_open (prefix_file ∷ []) s) refl) good in
     stays (Started (without_line_ends block) count held) answers.1 (at.0, at.1, record { store = at.2; good = it.0; read = sym it.1 })
 starts_keep {job} s new {prefix} count held (MakesRoot was number item is) at answers =
-    let next = λ (p : Phase). SourceAt job new prefix (done_after (phase.RootMake number) held.trail p count) p held in
+    let next = λ (p : Phase). SourceAt job new prefix (done_after (phase.Opening (opening.RootMake number)) held.trail p count) p held in
     let it = stays (Started prefix count held) answers at in
     after_root_item next number (λ last. it) (λ more. it)
 starts_keep {job} s new {prefix} count held (IsSame was number path bytes is) at answers =
-    let next = λ (p : Phase). SourceAt job new prefix (done_after (phase.RootCheck number) held.trail p count) p held in
+    let next = λ (p : Phase). SourceAt job new prefix (done_after (phase.Opening (opening.RootCheck number)) held.trail p count) p held in
     let it = stays (Started prefix count held) answers at in
     after_root_file next number (λ last. it) (λ more. it)
 starts_keep s new {prefix} count held turn at answers = stays (Started prefix count held) answers at

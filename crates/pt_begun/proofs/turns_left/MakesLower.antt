@@ -23,6 +23,7 @@ use Rattle.pt_plan.specs.World.{Answers}
 use Rattle.pt_plan.specs.declared.object.Object.{Object}
 use Rattle.pt_plan.specs.declared.phase.Part.TheVariants as part
 use Rattle.pt_plan.specs.declared.phase.Phase.TheVariants as phase
+use Rattle.pt_plan.specs.declared.phase.Stage.TheVariants as stage
 use Rattle.pt_plan.specs.declared.phase.Position.{Position}
 use Rattle.pt_begun.specs.BegunSource.{SourcePart}
 use Rattle.pt_begun.specs.Past.{Past}
@@ -79,7 +80,7 @@ copied_next {rows} {contents} {position} {row} it = copy_next rows position.row 
 -- ---- a copy
 
 -- so many bytes of the file are left
-copy_lowers : {job : Job} {s : Reading} {prefix : List ℕ} {past : Past} {object : Object} {held : Held} {position : Position} {left byte : ℕ} {block : List ℕ} → SourcePart job past (phase.Copy object position left) prefix held s → option_map (take 8192) s.unread ≡ Some (byte ∷ block)
+copy_lowers : {job : Job} {s : Reading} {prefix : List ℕ} {past : Past} {object : Object} {held : Held} {position : Position} {left byte : ℕ} {block : List ℕ} → SourcePart job past (phase.Carrying object (stage.Copy position left)) prefix held s → option_map (take 8192) s.unread ≡ Some (byte ∷ block)
     → reads (left - length (byte ∷ block)) + 1 ≤ reads left
 copy_lowers {job} {s} {prefix} {past} {object} {held} {position} {left} {byte} {block} part read =
     let it = part.at.2 in
@@ -97,7 +98,7 @@ copy_lowers {job} {s} {prefix} {past} {object} {held} {position} {left} {byte} {
 -- ---- each turn
 
 after_sidecar : (job : Job) (source : Forest) (marks : List Marked) (count : ℕ) (object : Object) (held : Held) (flat : Bool) → 0 < items_to_make job source object (to_site object held.trail) held.rows part.Sidecar
-    → Lowers job source marks count (phase.Make object part.Sidecar) held (cond flat (phase.Rename object) (phase.Tuples object 0)) (with_fed held [])
+    → Lowers job source marks count (phase.Carrying object (stage.Make part.Sidecar)) held (cond flat (phase.Carrying object stage.Rename) (phase.Carrying object (stage.Tuples 0))) (with_fed held [])
 after_sidecar job source marks count object held true some = omega (arith, some)
 after_sidecar job source marks count object held false some = omega (arith, some)
 

@@ -10,12 +10,13 @@ use Rattle.pt_plan.specs.Run.{Held}
 use Rattle.pt_plan.specs.TurnPlace.{FindsTuple, MakesTuple, TellsDone}
 use Rattle.pt_plan.specs.declared.object.Object.{Object}
 use Rattle.pt_plan.specs.declared.phase.Phase.TheVariants as phase
+use Rattle.pt_plan.specs.declared.phase.Stage.TheVariants as stage
 use Rattle.pt_begun.proofs.source.InObject.{site_itself}
 use Rattle.pt_begun.specs.WorkLaws.{Lowers, PlacingLowers}
 use Rattle.pt_begun.specs.WorkLeft.{still_listed}
 
 passes_tuple : (job : Job) (source : Forest) (marks : List Marked) (count : ℕ) (held : Held) (object : Object) {number : ℕ} (more : Bool) → number < job.tuples.count
-    → Lowers job source marks count (phase.Tuples object number) held (cond more (phase.Tuples object (number + 1)) (phase.Rename object)) held
+    → Lowers job source marks count (phase.Carrying object (stage.Tuples number)) held (cond more (phase.Carrying object (stage.Tuples (number + 1))) (phase.Carrying object stage.Rename)) held
 passes_tuple job source marks count held object true within = omega (arith, within)
 passes_tuple job source marks count held object false within = omega (arith, within)
 

@@ -22,6 +22,7 @@ use Rattle.pt_plan.specs.Work.{work_on_item, work_on_object}
 use Rattle.pt_plan.specs.World.{Answers}
 use Rattle.pt_plan.specs.declared.object.Object.{Object}
 use Rattle.pt_plan.specs.declared.phase.Phase.TheVariants as phase
+use Rattle.pt_plan.specs.declared.phase.Stage.TheVariants as stage
 use Rattle.pt_begun.specs.BegunSource.{HasStarted, IsInObject, IsToJudge, object_at}
 use Rattle.pt_begun.proofs.held.DistinctRows.{get_map}
 use Rattle.pt_begun.proofs.source.InObject.{site_itself}
@@ -115,7 +116,7 @@ same_parent (Some _) (_ ∷ _) = refl
 
 -- its object is to be scanned
 object_next : {job : Job} {source : Forest} (marks : List Marked) → AreMarked (items job source) marks → {prefix : List ℕ} {object : Object} {trail : List Frame} {outer count : ℕ} (held : Held) → HasStarted source prefix → IsInObject job source prefix object trail count → length trail ≡ object.site → held.trail ≡ trail
-    → still_listed (parent trail) ≡ outer → EntersFree (phase.OpenObject object) marks count → left job source marks count (phase.OpenObject object) held + 1 ≤ outer + items_left job marks count + 1
+    → still_listed (parent trail) ≡ outer → EntersFree (phase.Carrying object stage.Open) marks count → left job source marks count (phase.Carrying object stage.Open) held + 1 ≤ outer + items_left job marks count + 1
 object_next {job} {source} marks are {object} {trail} {outer} {count} held started it at_site is same free =
     let site = to_site object trail in
     let what = object_at source object site in

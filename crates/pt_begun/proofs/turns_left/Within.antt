@@ -14,7 +14,9 @@ use Rattle.pt_plan.specs.Run.{Counts, Held, Run, turning}
 use Rattle.pt_plan.specs.Turn.{Did, FailsAtFirst, FailsLater, Follows, GoesOn, IsRefused, Make, Place, Scan, Start as a_start, Walk, counted}
 use Rattle.pt_plan.specs.World.{Answers, Calls}
 use Rattle.pt_plan.specs.declared.phase.Phase.{Phase}
+use Rattle.pt_plan.specs.declared.phase.Opening.TheVariants as opening
 use Rattle.pt_plan.specs.declared.phase.Phase.TheVariants as phase
+use Rattle.pt_plan.specs.declared.phase.Stage.TheVariants as stage
 use Rattle.pt_begun.specs.Begun.{Begun, IsFreeAt, IsPast}
 use Rattle.pt_begun.specs.BegunHeld.{HeldAt}
 use Rattle.pt_begun.specs.BegunSource.{SourcePart}
@@ -39,7 +41,7 @@ marks_of job root earlier [] = refl
 marks_of job root earlier (item ∷ others) = ap (λ (l : List Item). item ∷ l) (marks_of job root (earlier ++ item ∷ []) others)
 
 enters_free : (job : Job) (source : Forest) (root : Tree) (next : Phase) (count : ℕ) → IsFreeAt next job source root count → EntersFree next (marked job source root) count
-enters_free _ _ _ (phase.OpenObject _) _ (mine, is) = λ item taken found. ap (λ (m : Marked). m.1) (some_same (item, taken) (mine, false) (sym found ∙ is))
+enters_free _ _ _ (phase.Carrying _ stage.Open) _ (mine, is) = λ item taken found. ap (λ (m : Marked). m.1) (some_same (item, taken) (mine, false) (sym found ∙ is))
 enters_free _ _ _ _ _ free = tt
 
 -- ---- a turn lowers what is left
@@ -56,6 +58,8 @@ follows_lower {job} {past} {s} _ marks are {counts} {here} {held} {after} {calls
 -- before the end one turn is left at least
 pub some_left : (job : Job) (source : Forest) (marks : List Marked) (count : ℕ) (here : Phase) (held : Held) → is_ended here ≡ false → 0 < left job source marks count here held
 some_left _ _ _ _ phase.Ended _ not = absurd (true≢false not)
+some_left job source marks count (phase.Opening opening.Begin) held not = omega arith
+some_left job source marks count (phase.Carrying object stage.Open) held not = omega arith
 some_left job source marks count _ held not = omega arith
 
 -- ---- the turns
