@@ -72,7 +72,6 @@ impl<S: Source> Source for Ignoring<S> {
         self.source.failures()
     }
 
-    #[tactic(auto, using(crate::proofs::Told::ignoring))]
     fn list(&mut self, path: &NamePath) -> Result<Listing, TreeFault> {
         let mut listing = self.source.list(path)?;
         let all = listing.len();
@@ -82,12 +81,10 @@ impl<S: Source> Source for Ignoring<S> {
         Ok(listing)
     }
 
-    #[tactic(auto, using(crate::proofs::Told::ignoring))]
     fn open(&mut self, path: &NamePath) -> Result<(), TreeFault> {
         self.source.open(path)
     }
 
-    #[tactic(auto, using(crate::proofs::Told::ignoring))]
     fn next(&mut self, block: &mut Block) -> Result<(), TreeFault> {
         self.source.next(block)
     }

@@ -1,5 +1,5 @@
 //! A source as if the entries with some names weren't there.
-#![tactic(auto)]
+#![tactic(auto, using(crate::proofs::Told::ignoring))]
 
 mod ignored;
 mod ignoring;
