@@ -1,4 +1,4 @@
-//! Tests of what surrounds a run, by public calls. No code of the program stands on this crate.
+//! Tests of what surrounds a run, and of the system in memory, by public calls. No code of the program stands on this crate.
 #![tactic(auto)]
 
 #[cfg(test)]
@@ -11,3 +11,5 @@ mod guarding;
 mod rehearsing;
 #[cfg(test)]
 mod steps;
+#[cfg(test)]
+mod system;
