@@ -1,6 +1,10 @@
 -- The texts of names and of paths.
-use Rattle.std.proofs.Common.{◌≡◌, ℕ, List, [], ◌∷◌, ◌++◌, ◌+◌, ◌<◌, ◌≤◌, ◌⊎◌, inl, inr, length, take, get_or, refl, arith, ◌∙◌, ap, sym, append_assoc, append-nil, true}
+use Rattle.std.proofs.Common.{◌≡◌, ℕ, List, [], ◌∷◌, ◌++◌, ◌+◌, ◌<◌, ◌≤◌, ◌⊎◌, inl, inr, length, take, get_or, refl, arith, ◌∙◌, ap, sym, append_assoc, append-nil, true, false, ◌==◌}
 use Rattle.std.specs.Prelude.{Some, slice_get, Result, Ok, Err, MatchResult, IsOk}
+use Rattle.std.specs.Prelude.{◌↔◌, IsErrOf}
+use Rattle.std.specs.Result.{IsErrAnd}
+use Rattle.pt_tree.specs.declared.faults.TreeFault.{TreeFault}
+use Rattle.pt_tree.specs.declared.faults.TreeFault.TheVariants.{Device, Memory}
 use Rattle.std.specs.Str.{IsUtf8, is_utf8}
 use Rattle.std.specs.Prelude.{slice_index}
 use Rattle.std.specs.String.Boundary.{IsSplitPoint}
@@ -46,3 +50,15 @@ cut_before front (b ∷ name) bytes n text is at within =
     let here : slice_index bytes n ≡ b = rw (is, at) (get_or-append_seam front b name 0) in
     let begins = IsCharBoundary-start (b ∷ name) text in
     (within, λ _ _ high. rw here (begins.1 (omega arith) (rw here at high)))
+
+-- whether a text has no bytes, by the test
+pub zero_is : (n : ℕ) → (n == 0) ≡ true → n ≡ 0
+zero_is n is = grind (arith, is)
+
+pub not_zero : (n : ℕ) → (n == 0) ≡ false → n ≡ 0 → ⊥
+not_zero n some none = grind (arith, some, none)
+
+-- a growth that was refused isn't a failure of the device
+pub never_device : {T : Type 0} (r : Result T TreeFault) (n : ℕ) → IsErrAnd r (λ y. y ≡ Memory) → (n ≡ 0 → ⊥) → IsErrOf r Device ↔ (n ≡ 0)
+never_device (Ok x) n bad some = absurd bad
+never_device (Err y) n is some = (λ device. absurd (cc), λ none. absurd (some none))

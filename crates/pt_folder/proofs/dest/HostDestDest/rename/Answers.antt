@@ -1,4 +1,4 @@
-use Rattle.std.proofs.Common.{◌∙◌, inr, sym}
+use Rattle.std.proofs.Common.{◌∙◌, inr, sym, refl}
 use Rattle.pt_folder.proofs.MoveTold.{rename_back, rename_device, rename_gives, rename_moved, rename_placed, rename_same, rename_wanted}
 use Rattle.pt_folder.proofs.StuckTold.{device_risen, may_move_free, none_stuck}
 use Rattle.pt_folder.proofs.dest.HostDestDest.rename.Goals as goal
@@ -54,3 +54,10 @@ returns-clause-asked g c =
 
 pub returns-clause-kept : goal.returns-clause-kept
 returns-clause-kept g c = rw c.counted.ensures.same c.moved-moved.ensures.kept
+
+pub returns-clause-call : goal.returns-clause-call
+returns-clause-call g c = record {
+  keeps = (refl, (refl, refl));
+  failures = rw c.counted.ensures.same c.counted.ensures.counted;
+  stuck = refl;
+}

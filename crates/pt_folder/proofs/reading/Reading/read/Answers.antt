@@ -1,3 +1,4 @@
+use Rattle.pt_folder.specs.declared.reading.Reading.{Reading}
 use Rattle.std.proofs.Common.{◌∙◌, ◌+◌, ap, subst, drop, List, ℕ}
 use Rattle.std.specs.Prelude.{not, Option}
 use Rattle.std.specs.Option.{option_map}
@@ -29,3 +30,10 @@ returns-in-Ok-clause-moved g c =
     let left = g.F.Input.left in
     let back = unread_same bytes old mid c.go_back.ensures.still c.go_back.ensures.same in
     read_moved bytes left mid c.read_block.new.file c.read_block.new.block.items c.go_back.ensures.stands c.in_ok-go_back.ensures.there c.read_block.ensures.same c.in-Ok.ensures.block (not c.is_full.result) (mid.place + c.len.result) (ap (λ n. mid.place + n) c.len.ensures.value) mid.lost ∙ ap (option_map (drop 8192)) back
+
+pub returns-in-Ok-clause-reads : goal.returns-in-Ok-clause-reads
+returns-in-Ok-clause-reads g c =
+    let old = c.args.self.now in
+    let mid = c.go_back.new.self in
+    let place = ap (λ (r : Reading g.row.F.Denot). r.place + c.len.result) c.go_back.ensures.still ∙ ap (λ n. old.place + n) c.len.ensures.value in
+    rw c.if-self.false (mid.file, c.in_ok-go_back.ensures.gone, c.in-Ok.ensures.reads, place, ap not c.is_full.ensures.value, c.in_ok-go_back.ensures.there)

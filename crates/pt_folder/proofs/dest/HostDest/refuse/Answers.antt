@@ -1,0 +1,22 @@
+use Rattle.pt_tree.specs.Failures.{HasRisen}
+use Rattle.std.proofs.Common.{arith, refl}
+use Rattle.pt_folder.proofs.dest.HostDest.refuse.Goals as goal
+
+pub invariant_of-self : goal.invariant_of-self
+invariant_of-self g c =
+    let self = c.args.self.now in
+    let risen : HasRisen self.failures c.counted.new.failures = c.counted.ensures.counted in
+    record {
+      placed = self.placed;
+      wanted = self.wanted;
+      back = self.back;
+      risen = λ s is. omega (arith, risen);
+    }
+
+pub returns-clause-call : goal.returns-clause-call
+returns-clause-call g c = record {
+  keeps = (refl, (refl, refl));
+  failures = rw c.counted.ensures.same c.counted.ensures.counted;
+  stuck = refl;
+  writing = refl;
+}
