@@ -1,6 +1,6 @@
 -- What is asked for a move that is ready, and what is kept of it.
 use Rattle.std.proofs.Common.{◌≡◌, ◌∙◌, ℕ, List, ap, sym, subst, inl, inr}
-use Rattle.std.specs.Prelude.{◌⊎◌, Bool, true, false, Option, Some, None, IfSome, Result, Ok, Err, MatchOption, MatchResult, string_bytes}
+use Rattle.std.specs.Prelude.{Bool, true, false, Option, Some, None, IfSome, Result, Ok, Err, MatchOption, MatchResult, string_bytes}
 use Rattle.std.specs.Result.{IsErrAnd}
 use Rattle.std.specs.declared.io.Error.{Error}
 use Rattle.pt_tree.specs.Path.{Path}
@@ -9,7 +9,7 @@ use Rattle.pt_tree.specs.declared.faults.TreeFault.TheVariants.{Device, Memory}
 use Rattle.pt_folder.specs.Calls.{fault_of}
 use Rattle.pt_folder.specs.Failure.{IsOfCall, OnDevice}
 use Rattle.pt_folder.specs.Folder.{entry_text}
-use Rattle.pt_folder.specs.Moving.{AfterMove, FailsToSync, IsGone, IsOfGoing, IsOfMove, IsReady, IsSynced, MovesOnce, holder_text}
+use Rattle.pt_folder.specs.Moving.{AfterMove, FailsToSync, IsGone, IsOfGoing, IsOfMove, IsReady, IsSynced, MovesOnce}
 use Rattle.pt_folder.specs.Stuck.{move_to_sync, stuck_after, unless_done}
 use Rattle.pt_folder.specs.declared.failure.Failure.{Failure}
 use Rattle.pt_folder.specs.declared.moving.Ready.{Ready}

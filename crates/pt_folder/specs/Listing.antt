@@ -39,7 +39,8 @@ LooksAt looks front old item new = looks old (front ++ item.0) (Ok item.1) new
 abbrev pub LooksIn : {S : Type 0} → (S → List ℕ → Result Kind Error → S → Type 0) → List ℕ
     → List ℕ → S → S → Result Kind TreeFault → Type 0
 LooksIn looks front name old new result = ((new ≡ old) × (result ≡ Err Memory))
-    ⊎ ((reply : Result Kind Error) × looks old (front ++ name) reply new × LeadsToOwnKind reply result)
+    ⊎ ((reply : Result Kind Error) × looks old (front ++ name) reply new
+    × LeadsToOwnKind reply result)
 
 -- a read gave a piece, whose names stand behind those before
 abbrev pub ReadsNames : {D : Type 0} → (D → List ℕ → Result ℕ Error → D → Type 0)

@@ -1,5 +1,5 @@
 ghost use Rattle.std.proofs.Common.{◌∙◌, refl};
-ghost use Rattle.std.specs.Prelude.{◌≡◌, ◌≤◌, length, [], None, Err, IfOk, IfNone, IfSome, OnOk, OnErr, false, string_bytes, true};
+ghost use Rattle.std.specs.Prelude.{◌≡◌, ◌≤◌, length, [], None, Err, IfOk, IfNone, OnOk, OnErr, false, string_bytes, true};
 ghost use Rattle.std.specs.Option.{ForNone, ForSome, option_map};
 ghost use Rattle.pt_tree.specs.declared.faults.TreeFault.TheVariants.{Device};
 ghost use Rattle.pt_folder.specs.Desk.{new_desk};
