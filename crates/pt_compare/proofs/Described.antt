@@ -54,6 +54,13 @@ pub given_err : (o : Option MetaFault) (texts : MetaParts) (f : MetaFault) (P : 
 given_err None texts f P refused is = absurd (refused is)
 given_err (Some refusal) texts f P refused is = refl
 
+-- neither refusal is a want of memory
+pub not_created : fault.Created ≡ fault.Memory → ⊥
+not_created is = cc
+
+pub not_empty : fault.EmptyName ≡ fault.Memory → ⊥
+not_empty is = cc
+
 -- ---- whether it is made
 
 -- with a description that a run can be given the inventory is made

@@ -50,3 +50,6 @@ returns-in-Ok-clause-root g c = (g.met.R.Source.keeps_on _ _ _ c.at_place.ensure
 
 pub returns-in-Err-Differs-clause-root : goal.returns-in-Err-Differs-clause-root
 returns-in-Err-Differs-clause-root g c = (g.met.R.Source.keeps_on _ _ _ c.at_place.ensures.keeps c.meet_object.ensures.root.0, c.meet_object.ensures.root.1 ∙ ap tree_in c.at_place.ensures.same)
+
+pub returns-in_default-clause-found : goal.returns-in_default-clause-found
+returns-in_default-clause-found g c = search rules
