@@ -22,6 +22,7 @@ use Rattle.pt_plan.specs.TurnScan.{logical_path}
 use Rattle.pt_plan.specs.TurnWalk.{in_pairtree, in_root}
 use Rattle.pt_plan.specs.declared.object.Object.{Object}
 use Rattle.pt_plan.specs.declared.phase.Phase.{Phase}
+use Rattle.pt_plan.specs.declared.phase.Opening.TheVariants as opening
 use Rattle.pt_plan.specs.declared.phase.Phase.TheVariants as phase
 use Rattle.pt_plan.specs.declared.phase.Stage.TheVariants as stage
 use Rattle.pt_state.specs.declared.state.State.{State}
@@ -89,6 +90,7 @@ read_paced source root root' b block r same is reads stays next behind = by r.ph
       behind.1,
       kept same next (subst (λ (x : Bool). OnTrue x (ReadBeside source root b object r.state r.state.block.items)) reads behind.2),
     )
+    by (phase.Opening opening.OpenRoot) is behind = absurd (cc)
     by _ is behind = absurd (cc)
 
 -- ---- the end of a file
@@ -141,6 +143,7 @@ end_paced source root root' b block r is reads stays ended more behind = by r.ph
     )
     by (phase.Carrying object (stage.Read zero)) is behind = absurd (cc)
     by (phase.Carrying object (stage.Read (suc bytes))) is behind = absurd (cc)
+    by (phase.Opening opening.OpenRoot) is behind = absurd (cc)
     by _ is behind = absurd (cc)
 
 pub closed_paced : (source root root' : Option Reading) (b : Beside) (block : _) (r : Running) → sight_at r.phase ≡ sight.Scan → tree_in root' ≡ tree_in root → IsBehind source root b r → IsPaced source root' (record b { reads = false; block = block }) r
@@ -151,6 +154,7 @@ closed_paced source root root' b block r is stays behind = by r.phase is behind
     by (phase.Carrying object stage.Scan) is behind = (refl, still_alike source source root root' b r.state.contents refl stays behind.0, behind.1)
     by (phase.Carrying object (stage.Read zero)) is behind = absurd (cc)
     by (phase.Carrying object (stage.Read (suc bytes))) is behind = absurd (cc)
+    by (phase.Opening opening.OpenRoot) is behind = absurd (cc)
     by _ is behind = absurd (cc)
 
 -- ---- any other step
@@ -194,6 +198,7 @@ unopened_paced source root b b' r from place m is it least behind = by r.phase i
       subst (λ (x : Bool). OnTrue x (ReadBeside source root (record b' { alike = m }) object r.state [])) (sym it.reads) tt,
     )
     by (phase.Carrying object (stage.Read (suc bytes))) is behind = absurd (cc)
+    by (phase.Opening opening.OpenRoot) is behind = absurd (cc)
     by _ is behind = absurd (cc)
 
 -- what stands as a file has its bytes
@@ -289,4 +294,5 @@ opened_paced source root root' b b' r from logical place whole m before k folder
           opened_now source root root' b b' r from logical whole m before k folder object (subst (λ (p : Path). IsAtObject from p (record b { reads = false }) b') same.0 it) least all cut same.1 (at ∙ ap (λ (p : Path). in_root p ++ in_content logical) same.0) x opens behind.1,
         )
     by (phase.Carrying object (stage.Read (suc bytes))) here is behind = absurd (cc)
+    by (phase.Opening opening.OpenRoot) here is behind = absurd (cc)
     by _ here is behind = absurd (cc)

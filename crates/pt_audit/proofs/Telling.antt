@@ -66,6 +66,7 @@ object_at_hand : (here : Phase) → sight_at here ≡ sight.Object → (object :
 object_at_hand (phase.Carrying object stage.Line) is = (object, refl)
 object_at_hand (phase.Carrying object (stage.Read zero)) is = absurd (cc)
 object_at_hand (phase.Carrying object (stage.Read (suc bytes))) is = absurd (cc)
+object_at_hand (phase.Opening opening.OpenRoot) is = absurd (cc)
 object_at_hand _ is = absurd (cc)
 
 -- where none is at hand, of the items that were seen is told
@@ -91,6 +92,7 @@ end_at : (here : Phase) → sight_at here ≡ sight.End → here ≡ phase.End
 end_at phase.End is = refl
 end_at (phase.Carrying object (stage.Read zero)) is = absurd (cc)
 end_at (phase.Carrying object (stage.Read (suc bytes))) is = absurd (cc)
+end_at (phase.Opening opening.OpenRoot) is = absurd (cc)
 end_at _ is = absurd (cc)
 
 -- ---- what a step tells
