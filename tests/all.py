@@ -26,6 +26,9 @@ import system
 WENT_WELL = re.compile(r"^rt: (must-fail .*: refused, as it must be|.* proved$|.* passed$|.*: trying its |.* ran[ ,(])")
 SAID = re.compile(r"^rt: |: error: |^Traceback|^\w*Error: ")
 
+# The memory that a proof takes at most, in bytes.
+PROOF = 4 << 30
+
 # What the program's tests say of what went well.
 PASSED = re.compile(r"\.\.\. (ok|skipped: .*)$|^system: .* sequences, .* calls ")
 
@@ -45,6 +48,16 @@ class Heard:
         self.output.flush()
 
 
+def proofs_at_once():
+    """How many proofs are made side by side: one a processor, as far as memory goes.
+
+    Left alone, the toolchain gives a proof that no other stands beside up to four processes, which is no sooner done
+    over the whole gate and takes a third more of processors."""
+    with open("/proc/meminfo", encoding="utf-8") as file:
+        free = 1024 * int(re.search(r"MemAvailable:\s+(\d+)", file.read())[1])
+    return max(1, min(len(os.sched_getaffinity(0)), free // PROOF))
+
+
 def run_gate(rt):
     """Runs the gate, once more where it ended without a verdict, and gives how many passed and failed, what to say again, and how long each crate took."""
     verdict = run_once(rt)
@@ -60,6 +73,7 @@ def run_once(rt):
     """Runs the gate and shows what it says. Where it gives no counts, those that are given are None."""
     counts, last = None, collections.deque(maxlen=30)
     how = {"stdout": subprocess.PIPE, "stderr": subprocess.STDOUT, "text": True, "errors": "replace"}
+    how["env"] = {"RT_JOBS": str(proofs_at_once()), **os.environ}
     with progress.Progress(progress.read_crates("crates.txt")) as far, subprocess.Popen([rt, "ci"], **how) as gate:
         for line in gate.stdout:
             line = line.rstrip("\n")
