@@ -2,6 +2,8 @@
 use Rattle.std.specs.Prelude.{◌≡◌, ◌≤◌, ◌⊎◌, ℕ, zero, suc, false, All, List, [], ◌∷◌, ◌++◌, drop, length, take, Option, Some, ⊤}
 use Rattle.std.specs.Bool.{OnTrue}
 use Rattle.std.specs.Option.{ForSome}
+use Rattle.pt_audit.specs.Auditing.{IsUnderWay}
+use Rattle.pt_audit.specs.Counting.{no_counts}
 use Rattle.pt_audit.specs.declared.beside.Beside.{Beside}
 use Rattle.pt_compare.specs.Beside.{StandsAlike}
 use Rattle.pt_compare.specs.Marks.{inside}
@@ -144,6 +146,11 @@ pub record Follows (source root : Option Reading) (b : Beside) (r : Running) : T
   pub under_way : Surveys source r
   pub paced : IsPaced source root b r
   pub can : CanFollow root b
+
+-- nothing was seen yet, and nothing is counted
+pub record Begins (source root : Option Reading) (log : Option (List ℕ)) (b : Beside) (r : Running) : Type 0 where
+  pub under_way : IsUnderWay source (tree_in source) (tree_in root) log log no_counts r
+  pub follows : Follows source root b r
 
 -- so it is where a step was made that came to this
 pub record Saw (source root : Option Reading) (b : Beside) (what : Sight) (r : Running) : Type 0 where

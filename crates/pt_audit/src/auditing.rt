@@ -3,7 +3,7 @@ ghost use Rattle.std.specs.Prelude.{◌≡◌, ℕ, IfErr, IfOk, List, OnOk, Opt
 ghost use Rattle.pt_audit.specs.Auditing.{CanCompare, EndsAs, GoesOn, IsFoundAtHand, IsSeen, IsUnderWay, last_text};
 ghost use Rattle.std.specs.Option.{ForSome};
 ghost use Rattle.std.specs.Io.KnownBytes.{Appends};
-ghost use Rattle.pt_audit.specs.Beside.{AreAlikeAtHand, CanFollow, Follows, Saw};
+ghost use Rattle.pt_audit.specs.Beside.{AreAlikeAtHand, Begins, CanFollow, Follows, Saw};
 ghost use Rattle.pt_audit.specs.Failing.{AuditSays, BlamesRightly, FailsAs, TellFails, failures};
 ghost use Rattle.pt_audit.specs.Layout.{IsOfLayout};
 ghost use Rattle.pt_compare.specs.Root.{KeepsRoot, tree_in};
@@ -55,18 +55,38 @@ pub fn audit<S: Source, R: Root, L: Log, C: Counting>(
         (tree_in (R.told root.old))) }
 {
     let mut survey = Survey::start(alloc, job);
-    let mut counts = Counts::none();
     let mut beside = Beside::new(alloc);
+    go_through(alloc, &mut survey, &mut beside, source, root, log, counting)
+}
+
+// Makes the steps of a survey that has just begun, to its end. After each it is told how many lines there are.
+fn go_through<S: Source, R: Root, L: Log, C: Counting>(
+    alloc: Global,
+    survey: &mut Survey,
+    beside: &mut Beside,
+    source: &mut S,
+    root: &mut R,
+    log: &mut L,
+    counting: &C,
+) -> Result<Counts, Fault>
+    requires { Begins (S.told source.old) (R.told root.old) (L.told log.old) beside.old survey.old }
+    ensures ends { IfOk result (EndsAs (job_of survey.old.state.job)
+        (tree_in (S.told source.old)) (tree_in (R.told root.old))
+        (L.told log.old) (L.told log.new)) }
+    ensures layout { OnOk result (ForSome (tree_in (R.told root.old))
+        (IsOfLayout (job_of survey.old.state.job))) }
+    ensures source { KeepsRoot S.told S.keeps source.old source.new }
+    ensures root { KeepsRoot R.told R.keeps root.old root.new }
+    ensures log { KeepsLog L.told L.keeps log.old log.new }
+    ensures blames { BlamesRightly
+        (failures (S.failed source.old) (R.failed root.old) (L.failed log.old))
+        (failures (S.failed source.new) (R.failed root.new) (L.failed log.new)) result }
+    ensures says { IfErr result (AuditSays survey.old.state.job
+        (source_tree (S.told source.old)) (tree_in (R.told root.old))) }
+{
+    let mut counts = Counts::none();
     loop {
-        let more = go_on(
-            alloc,
-            &mut survey,
-            &mut counts,
-            &mut beside,
-            source,
-            root,
-            log,
-        )?;
+        let more = go_on(alloc, survey, &mut counts, beside, source, root, log)?;
         let so_far = counts.with_skipped(survey.report().skipped);
         counting.counted(so_far);
         if !more {

@@ -47,6 +47,11 @@ fn run<O: Outside>(alloc: Global, out: &mut O, job: Job) -> Result<Report, Fault
 {
     job.layout.count();
     let mut mover = Mover::start(alloc, job);
-    while let Turn::More = mover.advance(out)? {}
-    Ok(mover.report())
+    loop {
+        match mover.advance(out) {
+            Ok(Turn::More) => {}
+            Ok(Turn::Finished) => break Ok(mover.report()),
+            Err(fault) => break Err(fault),
+        }
+    }
 }

@@ -1,6 +1,6 @@
 -- What holds of each step of a survey.
 use Rattle.std.proofs.Common.{◌≡◌, ◌≢◌, arith, ℕ, true, false, List, refl, sym, subst}
-use Rattle.std.specs.Prelude.{Option, Ok}
+use Rattle.std.specs.Prelude.{◌<◌, Option, Ok}
 use Rattle.std.proofs.lemmas.Bool.{true≢false}
 use Rattle.pt_tree.specs.Dest.{Writing}
 use Rattle.pt_tree.specs.Source.{Reading}
@@ -37,15 +37,16 @@ opens (phase.Opening (opening.Prefix _)) is (Place turn) = elim turn [ ]
 opens _ is _ = absurd (true≢false (sym is))
 
 module _ (here next : Phase) (s s' : State) (told told' : Option Reading) (w v : Option Writing) (l l' : Option (List ℕ)) (a b c a' b' c' : ℕ) where
-  steps_there : Surveys told (record { phase = here; state = s }) → CountedTurn here s s' (world told w l a b c) (world told' v l' a' b' c') (Ok next)
+  steps_there : Surveys told (record { phase = here; state = s }) → s.counts.turns < s.job.limits.turns → CountedTurn here s s' (world told w l a b c) (world told' v l' a' b' c') (Ok next)
       → Steps (source_tree told) (record { phase = here; state = s }) (record { phase = passed next; state = s' })
   unfolding Surveys CountedTurn
-  steps_there (count, it) counted =
+  steps_there (count, it) more counted =
       let under_way : Surveys told (record { phase = here; state = s }) = (count, it) in
       let one = (leaves_of_turn here s s' told told' w v l l' a b c a' b' c' (Ok next) under_way counted).turns in
       record {
         job = counted.0;
         counted = one;
+        within = omega (arith, more, one);
         work = λ f e. let less = is_left it (going here it.stands) f e in omega (arith, less, one);
         bound = bound_of_turn here s s' told told' w v l l' a b c a' b' c' (Ok next) under_way counted;
         order = by (counted.1 it.fed (fed_going s.job.algorithm s.hasher it.fed (going here it.stands) it.was)).1.1;
@@ -56,4 +57,4 @@ module _ (here next : Phase) (s s' : State) (told told' : Option Reading) (w v :
 
   pub step_steps : (at : Phase) → at ≡ passed next → IsReady told here s → CountedTurn here s s' (world told w l a b c) (world told' v l' a' b' c') (Ok next)
       → Steps (source_tree told) (record { phase = here; state = s }) (record { phase = at; state = s' })
-  step_steps at is ready counted = subst (λ (p : Phase). Steps (source_tree told) (record { phase = here; state = s }) (record { phase = p; state = s' })) (sym is) (steps_there ready.under_way counted)
+  step_steps at is ready counted = subst (λ (p : Phase). Steps (source_tree told) (record { phase = here; state = s }) (record { phase = p; state = s' })) (sym is) (steps_there ready.under_way ready.within counted)

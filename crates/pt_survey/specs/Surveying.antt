@@ -151,6 +151,8 @@ pub record Steps (source : Option Forest) (before after : Running) : Type 0 wher
   pub job : after.state.job ≡ before.state.job
   -- a step more is counted
   pub counted : after.state.counts.turns ≡ before.state.counts.turns + 1
+  -- within the limit
+  pub within : after.state.counts.turns ≤ before.state.job.limits.turns
   -- of no more than its work
   pub work : ForSome source
       (λ s. after.state.counts.turns ≤ work_of_survey (job_of before.state.job) s)

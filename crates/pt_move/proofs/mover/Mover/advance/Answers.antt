@@ -36,3 +36,6 @@ returns-in_default-2 g c = record {
   calls = search rules;
   stays = search (rules, stepping);
 }
+
+pub made_turn-requires : goal.made_turn-requires
+made_turn-requires g c = search rules

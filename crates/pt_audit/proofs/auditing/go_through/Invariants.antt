@@ -4,17 +4,17 @@ use Rattle.pt_audit.specs.Beside.{Follows}
 use Rattle.pt_audit.specs.Failing.{failures}
 use Rattle.pt_compare.specs.Root.{KeepsRoot, tree_in}
 use Rattle.pt_survey.specs.Growing.{KeepsLog}
-use Rattle.pt_audit.proofs.auditing.audit.Given as goal
+use Rattle.pt_audit.proofs.auditing.go_through.Given as goal
 
-abbrev pub invariant-loop-beside : goal.invariant-loop-beside
-invariant-loop-beside g l =
+abbrev pub invariant-loop-more : goal.invariant-loop-more
+invariant-loop-more g l =
     IsUnderWay (g.S.Source.told l.source) (tree_in (g.S.Source.told l.source)) (tree_in (g.R.Source.told l.root)) (g.L.Log.told l.fn.log) (g.L.Log.told l.log) l.counts l.survey
     × Follows (g.S.Source.told l.source) (g.R.Source.told l.root) l.beside l.survey
-    × (l.survey.state.job ≡ l.fn.job)
+    × (l.survey.state.job ≡ l.fn.survey.state.job)
     × KeepsRoot g.S.Source.told g.S.Source.keeps l.fn.source l.source
     × KeepsRoot g.R.Source.told g.R.Source.keeps l.fn.root l.root
     × KeepsLog g.L.Log.told g.L.Log.keeps l.fn.log l.log
     × (failures (g.S.Source.failed l.source) (g.R.Source.failed l.root) (g.L.Log.failed l.log) ≡ failures (g.S.Source.failed l.fn.source) (g.R.Source.failed l.fn.root) (g.L.Log.failed l.fn.log))
 
-abbrev pub decreases-loop-beside : goal.decreases-loop-beside
-decreases-loop-beside g l = l.survey.state.job.limits.turns - l.survey.state.counts.turns
+abbrev pub decreases-loop-more : goal.decreases-loop-more
+decreases-loop-more g l = l.survey.state.job.limits.turns - l.survey.state.counts.turns

@@ -1,0 +1,83 @@
+use Rattle.std.proofs.Common.{arith, refl, rules, sym, ◌∙◌}
+use Rattle.pt_audit.proofs.Telling.{same_end, same_layout, same_trees}
+use Rattle.pt_audit.proofs.Saying.{same_failures}
+use Rattle.pt_survey.specs.Growing.{grows_none, grows_on}
+use Rattle.pt_audit.proofs.auditing.go_through.Goals as goal
+
+pub loop-more-init : goal.loop-more-init
+loop-more-init g c = (
+  rw c.none-counts.ensures c.requires.under_way,
+  c.requires.follows,
+  refl,
+  (g.met.S.Source.is_kept _, refl),
+  (g.met.R.Source.is_kept _, refl),
+  (g.met.L.Log.is_kept _, grows_none _),
+  refl,
+)
+
+pub returns-in_err-more-clause-source : goal.returns-in_err-more-clause-source
+returns-in_err-more-clause-source g c =
+    let was = c.loop-more.invariant in
+    let went = c.in_err-more.ensures in
+    (g.met.S.Source.keeps_on _ _ _ was.3.0 went.source.0, went.source.1 ∙ was.3.1)
+
+pub returns-in_err-more-clause-root : goal.returns-in_err-more-clause-root
+returns-in_err-more-clause-root g c =
+    let was = c.loop-more.invariant in
+    let went = c.in_err-more.ensures in
+    (g.met.R.Source.keeps_on _ _ _ was.4.0 went.root.0, went.root.1 ∙ was.4.1)
+
+pub returns-in_err-more-clause-log : goal.returns-in_err-more-clause-log
+returns-in_err-more-clause-log g c =
+    let was = c.loop-more.invariant in
+    let went = c.in_err-more.ensures in
+    (g.met.L.Log.keeps_on _ _ _ was.5.0 went.log.0, grows_on _ _ _ was.5.1 went.log.1)
+
+pub returns-then-not-more-clause-ends : goal.returns-then-not-more-clause-ends
+returns-then-not-more-clause-ends g c =
+    let was = c.loop-more.invariant in
+    let went = c.in_ok-more.ensures in
+    same_end c.in_ok-more.more c.args.survey.now.state.job _ _ _ _ _ _ _ _ c.with_skipped-so_far.result c.go_on.new.survey (search rules) (went.still.0.job ∙ was.2) (search rules) (sym was.3.1) (sym was.4.1) (went.on _ was.0)
+
+pub returns-then-not-more-clause-layout : goal.returns-then-not-more-clause-layout
+returns-then-not-more-clause-layout g c =
+    let was = c.loop-more.invariant in
+    let went = c.in_ok-more.ensures in
+    same_layout c.in_ok-more.more c.args.survey.now.state.job _ _ _ _ _ _ _ c.go_on.new.survey (search rules) (went.still.0.job ∙ was.2) (sym was.4.1) (went.on _ was.0)
+
+pub returns-then-not-more-clause-source : goal.returns-then-not-more-clause-source
+returns-then-not-more-clause-source g c =
+    let was = c.loop-more.invariant in
+    let went = c.in_ok-more.ensures in
+    (g.met.S.Source.keeps_on _ _ _ was.3.0 went.source.0, went.source.1 ∙ was.3.1)
+
+pub returns-then-not-more-clause-root : goal.returns-then-not-more-clause-root
+returns-then-not-more-clause-root g c =
+    let was = c.loop-more.invariant in
+    let went = c.in_ok-more.ensures in
+    (g.met.R.Source.keeps_on _ _ _ was.4.0 went.root.0, went.root.1 ∙ was.4.1)
+
+pub returns-then-not-more-clause-log : goal.returns-then-not-more-clause-log
+returns-then-not-more-clause-log g c =
+    let was = c.loop-more.invariant in
+    let went = c.in_ok-more.ensures in
+    (g.met.L.Log.keeps_on _ _ _ was.5.0 went.log.0, grows_on _ _ _ was.5.1 went.log.1)
+
+pub loop-more-preserved : goal.loop-more-preserved
+loop-more-preserved g c =
+    let was = c.loop-more.invariant in
+    let went = c.in_ok-more.ensures in (
+      same_trees c.in_ok-more.more _ _ _ _ _ _ _ _ c.go_on.new.survey (search rules) went.source.1 went.root.1 (went.on _ was.0),
+      went.still.1,
+      went.still.0.job ∙ was.2,
+      (g.met.S.Source.keeps_on _ _ _ was.3.0 went.source.0, went.source.1 ∙ was.3.1),
+      (g.met.R.Source.keeps_on _ _ _ was.4.0 went.root.0, went.root.1 ∙ was.4.1),
+      (g.met.L.Log.keeps_on _ _ _ was.5.0 went.log.0, grows_on _ _ _ was.5.1 went.log.1),
+      same_failures went.blames ∙ was.6,
+    )
+
+-- each step is one more within the limit
+pub loop-more-smaller : goal.loop-more-smaller
+loop-more-smaller g c =
+    let went = c.in_ok-more.ensures.still.0 in
+    rw went.job (omega (arith, went.counted, went.within))
