@@ -17,8 +17,8 @@ use Rattle.clap.proofs.ValueTestLemmas.{accepts-Accepts}
 use Rattle.clap.proofs.WalkLemmas.{list_any-map}
 use Rattle.pt_object.specs.declared.algorithm.Algorithm.{Algorithm}
 use Rattle.pt_object.specs.declared.algorithm.Algorithm.TheVariants.{Sha512, Sha256}
-use Rattle.pt_run.specs.declared.watch.Progress.{Progress}
-use Rattle.pt_run.specs.declared.watch.Progress.TheVariants.{Auto, Always, Never}
+use Rattle.pt_notices.specs.declared.watch.Progress.{Progress}
+use Rattle.pt_notices.specs.declared.watch.Progress.TheVariants.{Auto, Always, Never}
 use Rattle.pt_cli.specs.Grammar.{Spelled, SpellsAlgorithms, SpellsTimes, audit_app, migrate_app, names_app, program, u32_parser}
 use Rattle.pt_cli.specs.Options.{algorithm_of, asked_in, audit_in, number_of, options_in, progress_of}
 use Rattle.pt_cli.specs.Words.{OrNone, answer_to, audit_answer, command_answer, migrate_answer, names_answer}

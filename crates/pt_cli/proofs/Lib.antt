@@ -1,5 +1,5 @@
+pub mod Asking
 pub mod Building
-pub mod Comparing
 pub mod Complete
 pub mod Migrating
 pub mod Naming

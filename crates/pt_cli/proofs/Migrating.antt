@@ -1,5 +1,5 @@
--- From what the description of a version and the layout are refused as to what `migrate` is answered.
-use Rattle.std.proofs.Common.{◌≡◌, ◌∙◌, Bool, List, inl, inr, Option, Some, None, Result, Ok, Err, refl, sym, ap, subst}
+-- From what the description of a version and the other options are refused as to what `migrate` is answered.
+use Rattle.std.proofs.Common.{◌≡◌, ◌∙◌, Bool, true, false, inl, inr, Option, Some, None, Result, Ok, Err, sym, ap, subst}
 use Rattle.std.specs.Result.{IsErrAnd}
 use Rattle.clap.specs.Words.{Text}
 use Rattle.pt_tree.specs.Refusal.{Answers}
@@ -11,12 +11,13 @@ use Rattle.pt_object.specs.Meta.{given_address, meta_refusal, parts_of}
 use Rattle.pt_object.specs.MetaParts.{MetaParts}
 use Rattle.pt_object.specs.declared.meta.MetaFault.{MetaFault}
 use Rattle.pt_object.specs.declared.meta.MetaFault.TheVariants as meta_fault
-use Rattle.pt_cli.specs.Options.{Options}
-use Rattle.pt_cli.specs.Words.{AreNamed, OrMemory, are_names, described, migrate_answer, migration, parted, share_asked, words_of_meta}
+use Rattle.pt_cli.specs.Given.{IsAuditOf}
+use Rattle.pt_cli.specs.Options.{AuditOptions, Options}
+use Rattle.pt_cli.specs.Words.{OrMemory, are_names, audit_cut, audit_parted, described, migrate_answer, parted, share_asked, words_of_meta}
+use Rattle.pt_cli.specs.declared.command.Audit.{Audit as Comparison}
 use Rattle.pt_cli.specs.declared.command.Command.{Command}
-use Rattle.pt_cli.specs.declared.command.Command.TheVariants.{Migrate}
+use Rattle.pt_cli.specs.declared.command.Command.TheVariants.{Audit, Migrate}
 use Rattle.pt_cli.specs.declared.words.WordsFault.{WordsFault}
-use Rattle.pt_cli.specs.declared.words.WordsFault.TheVariants as fault
 
 abbrev IsDescription : Options → MetaParts → Type 0
 IsDescription given meta = meta ≡ parts_of given.created given.name (given_address given.address) given.message
@@ -32,110 +33,100 @@ refused given (Some x) layout e same =
     inl (ap (λ f. Err (words_of_meta f)) is_x)
 refused given None layout e memory = inr (ap (λ f. Err (words_of_meta f)) memory)
 
-uncut : (given : Options) (refusal : Option MetaFault) (meta : MetaParts) (layout : Result Tuples LayoutFault) (e : LayoutFault) → Describes given refusal (Ok meta)
-    → Err e ≡ layout → OrMemory (described given refusal layout) (Err fault.Tuples)
-uncut given (Some x) meta layout e same cut = absurd (cc)
-uncut given None meta layout e told cut = subst (λ l. OrMemory (described given None l) (Err fault.Tuples)) cut (inl refl)
-
--- the migration with these parts
-abbrev made : Options → MetaParts → Tuples → Portion → List Text → Option Text → Text → Text → Result Command WordsFault
-made given meta tuples share ignored expected source dest = Ok (Migrate (record {
-  meta = meta;
+-- the options that `audit` has too
+abbrev shared_of : Options → AuditOptions
+shared_of given = record {
   algorithm = given.algorithm;
-  layout = tuples;
+  size = given.size;
+  count = given.count;
   gather = given.gather;
-  share = share;
-  ignored = ignored;
-  sync = given.sync;
-  rehearse = given.rehearse;
+  share = given.share;
+  ignored = given.ignored;
   verbose = given.verbose;
   progress = given.progress;
+  source = given.source;
+  dest = given.dest;
+}
+
+-- the migration with what an audit has too
+abbrev made : Options → MetaParts → Option Text → Comparison → Result Command WordsFault
+made given meta expected audit = Ok (Migrate (record {
+  meta = meta;
+  algorithm = audit.algorithm;
+  layout = audit.layout;
+  gather = audit.gather;
+  share = audit.share;
+  ignored = audit.ignored;
+  sync = given.sync;
+  rehearse = given.rehearse;
+  verbose = audit.verbose;
+  progress = audit.progress;
   interval = given.interval;
   expected = expected;
-  source = source;
-  dest = dest;
+  source = audit.source;
+  dest = audit.dest;
 }))
 
--- a description and a layout: what is left is to name the share and the names
-described_parted : (given : Options) (refusal : Option MetaFault) (meta : MetaParts) (layout : Result Tuples LayoutFault) (tuples : Tuples) (r : Result Command WordsFault)
-    → Describes given refusal (Ok meta) → Ok tuples ≡ layout → OrMemory (parted given tuples (share_asked given.share) (are_names given.ignored)) r
-    → OrMemory (described given refusal layout) r
-described_parted given (Some x) meta layout tuples r same cut is = absurd (cc)
-described_parted given None meta layout tuples r told cut is = subst (λ l. OrMemory (described given None l) r) cut is
+-- what `audit` refuses of these options, `migrate` does
+refused_in : (given : Options) (layout : Tuples) (share : Option Portion) (named : Bool) (e : WordsFault)
+    → audit_parted (shared_of given) layout share named ≡ Err e → parted given layout share named ≡ Err e
+refused_in given layout None named e is = is
+refused_in given layout (Some s) false e is = is
+refused_in given layout (Some s) true e is = absurd (cc)
 
--- there is none where there isn't one
-pub no_some : (share asked : Option Portion) → ((s : Portion) → share ≡ Some s → ⊥) → share ≡ asked → None ≡ asked
-no_some None asked none is = is
-no_some (Some s) asked none is = absurd (none s refl)
+refused_too : (given : Options) (layout : Result Tuples LayoutFault) (e : WordsFault) → audit_cut (shared_of given) layout ≡ Err e → described given None layout ≡ Err e
+refused_too given (Err f) e is = is
+refused_too given (Ok tuples) e is = refused_in given tuples (share_asked given.share) (are_names given.ignored) e is
 
-no_share_in : (given : Options) (tuples : Tuples) (share : Option Portion) (named : Bool) → None ≡ share → OrMemory (parted given tuples share named) (Err fault.Share)
-no_share_in given tuples None named is = inl refl
-no_share_in given tuples (Some s) named is = absurd (cc)
+-- the audit that is asked for
+abbrev audit_or : Comparison → Result Command WordsFault → Comparison
+audit_or other (Ok (Audit audit)) = audit
+audit_or other _ = other
 
--- what the names are answered, where the share is this
-no_names_in : (given : Options) (tuples : Tuples) (share : Option Portion) (s : Portion) (e : WordsFault) → Some s ≡ share
-    → AreNamed given.ignored (Err e) → OrMemory (parted given tuples share (are_names given.ignored)) (Err e)
-no_names_in given tuples share s e is (inl memory) = inr (ap Err memory)
-no_names_in given tuples None s e is (inr none) = absurd (cc)
-no_names_in given tuples (Some t) s e is (inr none) = rw none.0 (inl (ap Err none.1))
+-- and what makes an audit makes a migration
+made_in : (given : Options) (layout : Tuples) (share : Option Portion) (named : Bool) (audit : Comparison)
+    → audit_parted (shared_of given) layout share named ≡ Ok (Audit audit)
+    → parted given layout share named ≡ made given (parts_of given.created given.name (given_address given.address) given.message) given.expected audit
+made_in given layout None named audit is = absurd (cc)
+made_in given layout (Some s) false audit is = absurd (cc)
+made_in given layout (Some s) true audit is =
+    ap (λ r. made given (parts_of given.created given.name (given_address given.address) given.message) given.expected (audit_or audit r)) is
 
-all_in : (given : Options) (tuples : Tuples) (share : Option Portion) (s : Portion) (ignored : List Text) → Some s ≡ share
-    → AreNamed given.ignored (Ok ignored) → parted given tuples share (are_names given.ignored) ≡ Ok (migration given tuples s)
-all_in given tuples None s ignored is told = absurd (cc)
-all_in given tuples (Some t) s ignored is told =
-    let same : t ≡ s = cc in
-    rw told.0 (ap (λ x. Ok (migration given tuples x)) same)
+made_too : (given : Options) (layout : Result Tuples LayoutFault) (audit : Comparison) → audit_cut (shared_of given) layout ≡ Ok (Audit audit)
+    → described given None layout ≡ made given (parts_of given.created given.name (given_address given.address) given.message) given.expected audit
+made_too given (Err f) audit is = absurd (cc)
+made_too given (Ok tuples) audit is = made_in given tuples (share_asked given.share) (are_names given.ignored) audit is
 
-module _ (viewed given : Options) (view_is : viewed ≡ given) where
+module _ (given : Options) where
   -- no description
-  pub no_meta : (e : MetaFault) (r : Result Command WordsFault) → Describes viewed (meta_refusal viewed.created viewed.name) (Err e)
+  pub no_meta : (e : MetaFault) (r : Result Command WordsFault) → Describes given (meta_refusal given.created given.name) (Err e)
       → IsErrAnd r (λ y. y ≡ words_of_meta e) → OrMemory (migrate_answer given) r
   no_meta e (Ok command) told is = absurd is
-  no_meta e (Err y) told is =
-      subst (λ g. OrMemory (migrate_answer g) (Err y)) view_is
-      (subst (λ f. OrMemory (migrate_answer viewed) (Err f)) (sym is) (refused viewed _ (layout_of viewed.size viewed.count) e told))
+  no_meta e (Err y) told is = subst (λ f. OrMemory (migrate_answer given) (Err f)) (sym is) (refused given _ (layout_of given.size given.count) e told)
 
-  -- a description, and no layout
-  pub no_layout : (meta : MetaParts) (e : LayoutFault) (r : Result Command WordsFault) → Describes viewed (meta_refusal viewed.created viewed.name) (Ok meta)
-      → Err e ≡ layout_of viewed.size viewed.count → IsErrAnd r (λ y. y ≡ fault.Tuples) → OrMemory (migrate_answer given) r
-  no_layout meta e (Ok command) told cut is = absurd is
-  no_layout meta e (Err y) told cut is =
-      subst (λ g. OrMemory (migrate_answer g) (Err y)) view_is
-      (subst (λ f. OrMemory (migrate_answer viewed) (Err f)) (sym is) (uncut viewed _ meta _ e told cut))
+  module _ (meta : MetaParts) (told : Describes given (meta_refusal given.created given.name) (Ok meta)) where
+    -- a description: what is left are the other options
+    described_too : (refusal : Option MetaFault) (layout : Result Tuples LayoutFault) (r : Result Command WordsFault) → Describes given refusal (Ok meta)
+        → OrMemory (described given None layout) r → OrMemory (described given refusal layout) r
+    described_too (Some x) layout r same is = absurd (cc)
+    described_too None layout r same is = is
 
-  module _ (meta : MetaParts) (tuples : Tuples) (told : Describes viewed (meta_refusal viewed.created viewed.name) (Ok meta))
-      (cut : Ok tuples ≡ layout_of viewed.size viewed.count) where
-    -- both, and no share
-    pub no_share : None ≡ share_asked viewed.share → OrMemory (migrate_answer given) (Err fault.Share)
-    no_share none =
-        subst (λ g. OrMemory (migrate_answer g) (Err fault.Share)) view_is
-        (described_parted viewed _ meta _ tuples _ told cut (no_share_in viewed tuples _ (are_names viewed.ignored) none))
-
-    -- a share, and names that are none
-    pub no_names : (s : Portion) (e : WordsFault) (r : Result Command WordsFault) → Some s ≡ share_asked viewed.share
-        → AreNamed viewed.ignored (Err e)
-        → IsErrAnd r (λ y. y ≡ e) → OrMemory (migrate_answer given) r
-    no_names s e (Ok command) some named is = absurd is
-    no_names s e (Err y) some named is =
-        subst (λ g. OrMemory (migrate_answer g) (Err y)) view_is
-        (subst (λ f. OrMemory (migrate_answer viewed) (Err f)) (sym is)
-        (described_parted viewed _ meta _ tuples _ told cut (no_names_in viewed tuples _ s e some named)))
-
-    -- all of them
-    pub carried : (held : MetaParts) (s : Portion) (ignored : List Text) (expected : Option Text) (source dest : Text) → Some s ≡ share_asked viewed.share
-        → AreNamed viewed.ignored (Ok ignored)
-        → held ≡ meta → expected ≡ viewed.expected → source ≡ viewed.source → dest ≡ viewed.dest
-        → OrMemory (migrate_answer given) (made viewed held tuples s ignored expected source dest)
-    carried held s ignored expected source dest some named holds awaits from to =
-        let all = all_in viewed tuples (share_asked viewed.share) s ignored some named in
-        let parts : made viewed held tuples s ignored expected source dest ≡ Ok (migration viewed tuples s) =
-        λ i. made viewed ((holds ∙ described_is) i) tuples s (named.1 i) (awaits i) (from i) (to i) in
-        subst (λ g. OrMemory (migrate_answer g) (made viewed held tuples s ignored expected source dest)) view_is
-        (described_parted viewed _ meta _ tuples _ told cut (inl (parts ∙ sym all)))
+    -- which are refused
+    pub no_audit : (e : WordsFault) (r : Result Command WordsFault) → IsAuditOf (shared_of given) (Err e) → IsErrAnd r (λ y. y ≡ e) → OrMemory (migrate_answer given) r
+    no_audit e (Ok command) audited is = absurd is
+    no_audit e (Err y) audited is =
+        subst (λ f. OrMemory (migrate_answer given) (Err f)) (sym is) (described_too _ (layout_of given.size given.count) (Err e) told (go audited))
       where
-        by : (refusal : Option MetaFault) → Describes viewed refusal (Ok meta) → IsDescription viewed meta
+        go : IsAuditOf (shared_of given) (Err e) → OrMemory (described given None (layout_of given.size given.count)) (Err e)
+        go (inl same) = inl (sym (refused_too given _ e (sym same)))
+        go (inr memory) = inr memory
+
+    -- or are those of a migration
+    pub carried : (audit : Comparison) (expected : Option Text) → IsAuditOf (shared_of given) (Ok audit) → expected ≡ given.expected
+        → OrMemory (migrate_answer given) (made given meta expected audit)
+    carried audit expected audited awaits =
+        described_too _ _ _ told (inl ((λ i. made given (by _ told i) (awaits i) audit) ∙ sym (made_too given (layout_of given.size given.count) audit audited)))
+      where
+        by : (refusal : Option MetaFault) → Describes given refusal (Ok meta) → IsDescription given meta
         by (Some x) same = absurd (cc)
         by None is = is
-
-        described_is : IsDescription viewed meta
-        described_is = by _ told

@@ -42,9 +42,6 @@ digest_rule words =
 abbrev pub SpellsAlgorithms : Bor (List (Bor Text)) → Type 0
 SpellsAlgorithms words = texts words.now ≡ codes "sha512" ∷ codes "sha256" ∷ []
 
-abbrev pub IsDigestRule : Rule → Type 0
-IsDigestRule rule = (words : Bor (List (Bor Text))) × SpellsAlgorithms words × (rule ≡ digest_rule words)
-
 -- `--progress WHEN`, one of these words
 abbrev pub progress_rule : Bor (List (Bor Text)) → Rule
 progress_rule words =
@@ -54,9 +51,6 @@ progress_rule words =
 -- the words that say when, wherever they lie in memory
 abbrev pub SpellsTimes : Bor (List (Bor Text)) → Type 0
 SpellsTimes words = texts words.now ≡ codes "auto" ∷ codes "always" ∷ codes "never" ∷ []
-
-abbrev pub IsProgressRule : Rule → Type 0
-IsProgressRule rule = (words : Bor (List (Bor Text))) × SpellsTimes words × (rule ≡ progress_rule words)
 
 -- the words that the parser reads values from
 pub record Spelled : Type 0 where

@@ -8,8 +8,8 @@ use Rattle.clap.specs.ValueTests.{is_numeral}
 use Rattle.pt_object.specs.Algorithm.{algorithm_word}
 use Rattle.pt_object.specs.declared.algorithm.Algorithm.{Algorithm}
 use Rattle.pt_object.specs.declared.algorithm.Algorithm.TheVariants.{Sha512, Sha256}
-use Rattle.pt_run.specs.declared.watch.Progress.{Progress}
-use Rattle.pt_run.specs.declared.watch.Progress.TheVariants.{Auto, Always, Never}
+use Rattle.pt_notices.specs.declared.watch.Progress.{Progress}
+use Rattle.pt_notices.specs.declared.watch.Progress.TheVariants.{Auto, Always, Never}
 
 -- the values of the options, with their defaults, and the two paths
 pub record Options : Type 0 where
@@ -65,6 +65,22 @@ is_set_in id rows = option_map_or (λ text. bytes_eq text (codes "true")) (first
 infixl 10 ◌>>=◌
 abbrev pub ◌>>=◌ : {A B : Type 0} → Option A → (A → Option B) → Option B
 o >>= f = option_and_then f o
+
+-- two values, where both are there
+abbrev pub both_of : {A B : Type 0} → Option A → Option B → Option (A × B)
+both_of first second = do
+  x ← first
+  y ← second
+  Some (x, y)
+
+-- how the places are cut, in what a parser found
+abbrev pub tuples_in : List Row → Option (ℕ × ℕ)
+tuples_in rows = both_of (number_in (codes "tuple-size") rows) (number_in (codes "tuples") rows)
+
+-- the values that are words of a list, in what a parser found
+abbrev pub choices_in : List Row → Option (Algorithm × Progress)
+choices_in rows =
+    both_of (first_of (codes "digest") rows >>= algorithm_of) (first_of (codes "progress") rows >>= progress_of)
 
 -- the options of `migrate` in what its parser found
 abbrev pub options_in : List Row → Option Options

@@ -18,6 +18,19 @@ Refuses code old new status = (status ≡ code) × (new ≡ old)
 abbrev pub IsTold : {H : Type 0} → H → H → ℕ → Type 0
 IsTold old new status = ((status ≡ 0) ⊎ (status ≡ 3)) × (new ≡ old)
 
+-- the status where a text is told, or the words are refused so
+abbrev pub IsStatusOf : WordsFault → ℕ → Type 0
+IsStatusOf (words.Help text) status = (status ≡ 0) ⊎ (status ≡ 3)
+IsStatusOf (words.Version text) status = (status ≡ 0) ⊎ (status ≡ 3)
+IsStatusOf (words.Words text) status = status ≡ 2
+IsStatusOf words.Created status = status ≡ 2
+IsStatusOf words.EmptyName status = status ≡ 2
+IsStatusOf words.EmptyId status = status ≡ 2
+IsStatusOf words.Memory status = status ≡ 3
+IsStatusOf words.Tuples status = status ≡ 2
+IsStatusOf words.Share status = status ≡ 2
+IsStatusOf words.Ignored status = status ≡ 2
+
 -- what is done where the words were answered so: a command's call is made, with what its words ask for, and its status is the program's;
 -- help and the version are told; refused words are 2, and want of memory is 3
 abbrev pub Does : {H : Type 0}

@@ -1,9 +1,11 @@
-ghost use Rattle.std.specs.Prelude.{◌≡◌, false, IfOk};
-ghost use Rattle.clap.specs.Words.{app_of, rule_of};
+ghost use Rattle.std.specs.Prelude.{◌≡◌, false, IfOk, map};
+ghost use Rattle.std.specs.Result.{IsOkAnd};
+ghost use Rattle.clap.specs.Words.{AddsSubcommand, app_of};
 ghost use Rattle.clap.specs.declared.builder.command.Command.TheViews.{out-Command};
-ghost use Rattle.pt_cli.specs.Grammar.{IsAuditApp, IsDigestRule, IsMigrateApp, IsProgram, IsProgressRule, address_rule, count_rule, expect_rule};
-ghost use Rattle.pt_cli.specs.Grammar.{created_rule, dest_rule, gather_rule, id_rule, ignore_rule, interval_rule, message_rule, name_rule, names_app};
-ghost use Rattle.pt_cli.specs.Grammar.{prefix_rule, rehearse_rule, size_rule, source_rule, share_rule, sync_rule, verbose_rule};
+ghost use Rattle.pt_cli.specs.Grammar.{IsAuditApp, IsMigrateApp, IsProgram, names_app, top_app};
+ghost use Rattle.pt_cli.specs.Grammar.{flag_rule, number_rule, option_rule};
+ghost use Rattle.pt_cli.specs.Taken.{IsLocal, IsTaker, TakesToo, defaulted_rule, needed_rule, place_rule};
+ghost use Rattle.pt_cli.specs.Taken.{repeated_rule, rule_of_taken, word_rule};
 
 use clap::{Arg, ArgAction, Command as Parser, value_parser};
 use std::alloc::{AllocError, Global};
@@ -54,9 +56,178 @@ pub(crate) const SOURCE: &str = "SOURCE";
 
 pub(crate) const DEST: &str = "DEST";
 
-static DIGESTS: [&str; 2] = ["sha512", "sha256"];
+// An argument that a command takes: its id, how it is given, and its help.
+pub(crate) struct Taken {
+    id: &'static str,
+    form: Form,
+    help: &'static str,
+}
 
-static TIMES: [&str; 3] = ["auto", "always", "never"];
+// How an argument is given. An option or a flag goes by its id, as `--id`.
+pub(crate) enum Form {
+    // By its place, where it must be.
+    Place,
+    // An option with a value, which help calls so.
+    Value(&'static str),
+    // The same, which must be there.
+    Needed(&'static str),
+    // The same, which may be given again.
+    Repeated(&'static str),
+    // The same, and the value that it has where it isn't given.
+    Default(&'static str, &'static str),
+    // The same, whose value is a number of `u32`.
+    Number(&'static str, &'static str),
+    // The same, whose value is one of these words.
+    Word(&'static str, &'static [&'static str], &'static str),
+    // A flag.
+    Flag,
+    // A flag that goes by this letter too.
+    Letter(char),
+}
+
+const TAKES_TUPLE_SIZE: Taken = Taken {
+    id: TUPLE_SIZE,
+    form: Form::Number("DIGITS", "3"),
+    help: "Digits in the name of each folder above an object",
+};
+
+const TAKES_TUPLES: Taken = Taken {
+    id: TUPLES,
+    form: Form::Number("NUMBER", "3"),
+    help: "Folders above each object",
+};
+
+const TAKES_DIGEST: Taken = Taken {
+    id: DIGEST,
+    form: Form::Word("ALGORITHM", &["sha512", "sha256"], "sha512"),
+    help: "The digest algorithm of the inventories",
+};
+
+const TAKES_GATHER: Taken = Taken {
+    id: GATHER,
+    form: Form::Flag,
+    help: "Carry what lies directly in an identifier's folder too, as one object [default: skip it]",
+};
+
+const TAKES_SHARE: Taken = Taken {
+    id: SHARE,
+    form: Form::Value("K/N"),
+    help: "Carry the objects of share K of N shares alone, as 2/8 [default: all objects]",
+};
+
+const TAKES_IGNORE: Taken = Taken {
+    id: IGNORE,
+    form: Form::Repeated("NAME"),
+    help: "Leave out every file and folder of this name, as .DS_Store; may be given again",
+};
+
+const TAKES_VERBOSE: Taken = Taken {
+    id: VERBOSE,
+    form: Form::Letter('v'),
+    help: "Tell of a fault also the path and the reason, on one more line",
+};
+
+const TAKES_PROGRESS: Taken = Taken {
+    id: PROGRESS,
+    form: Form::Word("WHEN", &["auto", "always", "never"], "auto"),
+    help: "When to show on standard error how far the run is",
+};
+
+const TAKES_SOURCE: Taken = Taken {
+    id: SOURCE,
+    form: Form::Place,
+    help: "The folder that holds pairtree_root",
+};
+
+const TAKES_DEST: Taken = Taken {
+    id: DEST,
+    form: Form::Place,
+    help: "A folder that stands already; ocfl and staging in it are the program's",
+};
+
+// What `names` takes.
+const NAMES_TAKES: &[Taken] = &[
+    Taken {
+        id: PREFIX,
+        form: Form::Value("TEXT"),
+        help: "The prefix of the store, put before the identifier for its place",
+    },
+    TAKES_TUPLE_SIZE,
+    TAKES_TUPLES,
+    Taken {
+        id: ID,
+        form: Form::Place,
+        help: "The identifier",
+    },
+];
+
+// What `migrate` takes.
+const MIGRATE_TAKES: &[Taken] = &[
+    Taken {
+        id: CREATED,
+        form: Form::Needed("MOMENT"),
+        help: "The moment that the inventories give, as 2024-05-01T12:00:00Z",
+    },
+    Taken {
+        id: NAME,
+        form: Form::Needed("NAME"),
+        help: "Who made the migration, as the inventories name them",
+    },
+    Taken {
+        id: ADDRESS,
+        form: Form::Value("ADDRESS"),
+        help: "Where to reach them, as mailto:ada@example.org [default: none]",
+    },
+    Taken {
+        id: MESSAGE,
+        form: Form::Default("TEXT", "Migrated from Pairtree"),
+        help: "What the inventories say of the migration",
+    },
+    TAKES_DIGEST,
+    TAKES_TUPLE_SIZE,
+    TAKES_TUPLES,
+    TAKES_GATHER,
+    TAKES_SHARE,
+    TAKES_IGNORE,
+    Taken {
+        id: SYNC,
+        form: Form::Flag,
+        help: "Have each file, each object's folder and the log put onto the disk",
+    },
+    Taken {
+        id: REHEARSE,
+        form: Form::Letter('n'),
+        help: "Rehearse: read all, write the log, and make or change nothing in DEST",
+    },
+    TAKES_VERBOSE,
+    TAKES_PROGRESS,
+    Taken {
+        id: INTERVAL,
+        form: Form::Number("SECONDS", "10"),
+        help: "Seconds between two such lines, where they don't go to a terminal",
+    },
+    Taken {
+        id: EXPECT,
+        form: Form::Value("LOG"),
+        help: "Show the share done and the time left too, by the log of a rehearsal",
+    },
+    TAKES_SOURCE,
+    TAKES_DEST,
+];
+
+// What `audit` takes.
+const AUDIT_TAKES: &[Taken] = &[
+    TAKES_DIGEST,
+    TAKES_TUPLE_SIZE,
+    TAKES_TUPLES,
+    TAKES_GATHER,
+    TAKES_SHARE,
+    TAKES_IGNORE,
+    TAKES_VERBOSE,
+    TAKES_PROGRESS,
+    TAKES_SOURCE,
+    TAKES_DEST,
+];
 
 // The program's version, and the line of the toolchain that proves it.
 const VERSION: &str = "0.1.0\nrattle-kit-13f logic dac8208d650f15bf";
@@ -108,13 +279,30 @@ Exit status:
 pub(crate) fn parser<'a>(alloc: Global) -> Result<Parser<'a>, AllocError>
     ensures { IfOk result (λ parser. IsProgram (app_of parser)) }
 {
-    let top = Parser::new(alloc, "pairtree2ocfl")
+    let with_names = with_command(top(alloc), names_parser(alloc))?;
+    let with_migrate = with_command(with_names, migrate_parser(alloc))?;
+    with_command(with_migrate, audit_parser(alloc))
+}
+
+// The parser with no command.
+fn top<'a>(alloc: Global) -> Parser<'a>
+    ensures { app_of result ≡ top_app }
+{
+    Parser::new(alloc, "pairtree2ocfl")
         .version(VERSION)
         .about("Carries a Pairtree 0.1 store into an OCFL 1.1 storage root")
-        .subcommand_required(true);
-    let with_names = top.subcommand(names_parser(alloc)?)?;
-    let with_migrate = with_names.subcommand(migrate_parser(alloc)?)?;
-    with_migrate.subcommand(audit_parser(alloc)?)
+        .subcommand_required(true)
+}
+
+// A parser with one more command.
+fn with_command<'a>(
+    parser: Parser<'a>,
+    command: Result<Parser<'a>, AllocError>,
+) -> Result<Parser<'a>, AllocError>
+    ensures { IfOk result (λ grown. IsOkAnd command.entry
+        (λ below. AddsSubcommand parser.entry below grown)) }
+{
+    parser.subcommand(command?)
 }
 
 fn names_parser<'a>(alloc: Global) -> Result<Parser<'a>, AllocError>
@@ -124,228 +312,123 @@ fn names_parser<'a>(alloc: Global) -> Result<Parser<'a>, AllocError>
     let parser = Parser::new(alloc, NAMES).about(
         "Prints the pairpath of an identifier and its place in a layout",
     );
-    let parser = parser.arg(prefix(alloc))?.arg(tuple_size(alloc))?;
-    parser.arg(tuples(alloc))?.arg(id(alloc))
+    with_taken(alloc, parser, NAMES_TAKES)
 }
 
 fn migrate_parser<'a>(alloc: Global) -> Result<Parser<'a>, AllocError>
     ensures { IfOk result (λ parser. IsMigrateApp (app_of parser)
         × ((out-Command parser).has_globals ≡ false)) }
 {
-    let parser = Parser::new(alloc, MIGRATE)
-        .about("Carries a Pairtree store into an OCFL storage root")
-        .after_help(LOG_AND_STATUS);
-    let parser = parser.arg(created(alloc))?.arg(name(alloc))?;
-    let parser = parser.arg(address(alloc))?.arg(message(alloc))?;
-    let parser = parser.arg(digest(alloc))?.arg(tuple_size(alloc))?;
-    let parser = parser.arg(tuples(alloc))?.arg(gather(alloc))?;
-    let parser = parser.arg(share(alloc))?.arg(ignore(alloc))?;
-    let parser = parser.arg(sync(alloc))?.arg(rehearse(alloc))?;
-    let parser = parser.arg(verbose(alloc))?.arg(progress(alloc))?;
-    let parser = parser.arg(interval(alloc))?.arg(expect(alloc))?;
-    parser.arg(source(alloc))?.arg(dest(alloc))
+    let about = "Carries a Pairtree store into an OCFL storage root";
+    with_help(alloc, MIGRATE, about, LOG_AND_STATUS, MIGRATE_TAKES)
 }
 
 fn audit_parser<'a>(alloc: Global) -> Result<Parser<'a>, AllocError>
     ensures { IfOk result (λ parser. IsAuditApp (app_of parser)
         × ((out-Command parser).has_globals ≡ false)) }
 {
-    let parser = Parser::new(alloc, AUDIT)
-        .about("Holds an OCFL storage root against the Pairtree store that it was made of")
-        .after_help(AUDIT_AND_STATUS);
-    let parser = parser.arg(digest(alloc))?.arg(tuple_size(alloc))?;
-    let parser = parser.arg(tuples(alloc))?.arg(gather(alloc))?;
-    let parser = parser.arg(share(alloc))?.arg(ignore(alloc))?;
-    let parser = parser.arg(verbose(alloc))?.arg(progress(alloc))?;
-    parser.arg(source(alloc))?.arg(dest(alloc))
+    let about = "Holds an OCFL storage root against the Pairtree store that it was made of";
+    with_help(alloc, AUDIT, about, AUDIT_AND_STATUS, AUDIT_TAKES)
 }
 
-fn created<'a>(alloc: Global) -> Arg<'a>
-    ensures { (rule_of result ≡ created_rule) × (result.global ≡ false) }
+// The parser of a command that takes these, with what its help says before and after them.
+fn with_help<'a>(
+    alloc: Global,
+    name: &'a str,
+    before: &'a str,
+    after: &'a str,
+    takes: &[Taken],
+) -> Result<Parser<'a>, AllocError>
+    ensures { IfOk result (IsTaker name.entry.now (map rule_of_taken takes.now)) }
 {
-    Arg::new(alloc, CREATED)
-        .long(CREATED)
-        .value_name("MOMENT")
-        .required(true)
-        .help("The moment that the inventories give, as 2024-05-01T12:00:00Z")
+    let parser = Parser::new(alloc, name).about(before).after_help(after);
+    with_taken(alloc, parser, takes)
 }
 
-fn name<'a>(alloc: Global) -> Arg<'a>
-    ensures { (rule_of result ≡ name_rule) × (result.global ≡ false) }
+// A parser that takes these too.
+fn with_taken<'a>(
+    alloc: Global,
+    parser: Parser<'a>,
+    takes: &[Taken],
+) -> Result<Parser<'a>, AllocError>
+    ensures { IfOk result (λ grown. TakesToo (map rule_of_taken takes.now) parser.entry grown) }
 {
-    Arg::new(alloc, NAME)
-        .long(NAME)
-        .value_name("NAME")
-        .required(true)
-        .help("Who made the migration, as the inventories name them")
+    let mut grown = parser;
+    for taken in takes {
+        grown = grown.arg(taken.arg(alloc).help(taken.help))?;
+    }
+    Ok(grown)
 }
 
-fn address<'a>(alloc: Global) -> Arg<'a>
-    ensures { (rule_of result ≡ address_rule) × (result.global ≡ false) }
-{
-    Arg::new(alloc, ADDRESS)
-        .long(ADDRESS)
-        .value_name("ADDRESS")
-        .help("Where to reach them, as mailto:ada@example.org [default: none]")
+impl Taken {
+    // What the parser is told of it, but for its help.
+    fn arg<'a>(&self, alloc: Global) -> Arg<'a>
+        ensures { IsLocal (rule_of_taken self.now) result }
+    {
+        match self.form {
+            Form::Place => place(alloc, self.id),
+            Form::Value(name) => option(alloc, self.id, name),
+            Form::Needed(name) => needed(alloc, self.id, name),
+            Form::Repeated(name) => repeated(alloc, self.id, name),
+            Form::Default(name, default) => defaulted(alloc, self.id, name, default),
+            Form::Number(name, default) => number(alloc, self.id, name, default),
+            Form::Word(name, words, default) => word(alloc, self.id, name, words, default),
+            Form::Flag => flag(alloc, self.id),
+            Form::Letter(letter) => flag(alloc, self.id).short(letter),
+        }
+    }
 }
 
-fn message<'a>(alloc: Global) -> Arg<'a>
-    ensures { (rule_of result ≡ message_rule) × (result.global ≡ false) }
+fn place<'a>(alloc: Global, id: &'a str) -> Arg<'a>
+    ensures { IsLocal (place_rule id.entry.now) result }
 {
-    Arg::new(alloc, MESSAGE)
-        .long(MESSAGE)
-        .value_name("TEXT")
-        .default_value("Migrated from Pairtree")
-        .help("What the inventories say of the migration")
+    Arg::new(alloc, id).required(true)
 }
 
-fn digest<'a>(alloc: Global) -> Arg<'a>
-    ensures { IsDigestRule (rule_of result) × (result.global ≡ false) }
+fn option<'a>(alloc: Global, id: &'a str, name: &'a str) -> Arg<'a>
+    ensures { IsLocal (option_rule id.entry.now) result }
 {
-    Arg::new(alloc, DIGEST)
-        .long(DIGEST)
-        .value_name("ALGORITHM")
-        .value_parser(DIGESTS.as_slice())
-        .default_value("sha512")
-        .help("The digest algorithm of the inventories")
+    Arg::new(alloc, id).long(id).value_name(name)
 }
 
-fn tuple_size<'a>(alloc: Global) -> Arg<'a>
-    ensures { (rule_of result ≡ size_rule) × (result.global ≡ false) }
+fn needed<'a>(alloc: Global, id: &'a str, name: &'a str) -> Arg<'a>
+    ensures { IsLocal (needed_rule id.entry.now) result }
 {
-    Arg::new(alloc, TUPLE_SIZE)
-        .long(TUPLE_SIZE)
-        .value_name("DIGITS")
-        .value_parser(value_parser!(u32))
-        .default_value("3")
-        .help("Digits in the name of each folder above an object")
+    option(alloc, id, name).required(true)
 }
 
-fn tuples<'a>(alloc: Global) -> Arg<'a>
-    ensures { (rule_of result ≡ count_rule) × (result.global ≡ false) }
+fn repeated<'a>(alloc: Global, id: &'a str, name: &'a str) -> Arg<'a>
+    ensures { IsLocal (repeated_rule id.entry.now) result }
 {
-    Arg::new(alloc, TUPLES)
-        .long(TUPLES)
-        .value_name("NUMBER")
-        .value_parser(value_parser!(u32))
-        .default_value("3")
-        .help("Folders above each object")
+    option(alloc, id, name).action(ArgAction::Append)
 }
 
-fn gather<'a>(alloc: Global) -> Arg<'a>
-    ensures { (rule_of result ≡ gather_rule) × (result.global ≡ false) }
+fn defaulted<'a>(alloc: Global, id: &'a str, name: &'a str, default: &'a str) -> Arg<'a>
+    ensures { IsLocal (defaulted_rule id.entry.now default.entry.now) result }
 {
-    Arg::new(alloc, GATHER)
-        .long(GATHER)
-        .action(ArgAction::SetTrue)
-        .help(
-            "Carry what lies directly in an identifier's folder too, as one object [default: skip it]",
-        )
+    option(alloc, id, name).default_value(default)
 }
 
-fn share<'a>(alloc: Global) -> Arg<'a>
-    ensures { (rule_of result ≡ share_rule) × (result.global ≡ false) }
+fn number<'a>(alloc: Global, id: &'a str, name: &'a str, default: &'a str) -> Arg<'a>
+    ensures { IsLocal (number_rule id.entry.now default.entry.now) result }
 {
-    Arg::new(alloc, SHARE).long(SHARE).value_name("K/N").help(
-        "Carry the objects of share K of N shares alone, as 2/8 [default: all objects]",
-    )
+    defaulted(alloc, id, name, default).value_parser(value_parser!(u32))
 }
 
-fn ignore<'a>(alloc: Global) -> Arg<'a>
-    ensures { (rule_of result ≡ ignore_rule) × (result.global ≡ false) }
+fn word<'a>(
+    alloc: Global,
+    id: &'a str,
+    name: &'a str,
+    words: &'a [&'a str],
+    default: &'a str,
+) -> Arg<'a>
+    ensures { IsLocal (word_rule id.entry.now words.entry default.entry.now) result }
 {
-    Arg::new(alloc, IGNORE)
-        .long(IGNORE)
-        .value_name("NAME")
-        .action(ArgAction::Append)
-        .help("Leave out every file and folder of this name, as .DS_Store; may be given again")
+    defaulted(alloc, id, name, default).value_parser(words)
 }
 
-fn sync<'a>(alloc: Global) -> Arg<'a>
-    ensures { (rule_of result ≡ sync_rule) × (result.global ≡ false) }
+fn flag<'a>(alloc: Global, id: &'a str) -> Arg<'a>
+    ensures { IsLocal (flag_rule id.entry.now) result }
 {
-    Arg::new(alloc, SYNC)
-        .long(SYNC)
-        .action(ArgAction::SetTrue)
-        .help("Have each file, each object's folder and the log put onto the disk")
-}
-
-fn rehearse<'a>(alloc: Global) -> Arg<'a>
-    ensures { (rule_of result ≡ rehearse_rule) × (result.global ≡ false) }
-{
-    Arg::new(alloc, REHEARSE)
-        .long(REHEARSE)
-        .short('n')
-        .action(ArgAction::SetTrue)
-        .help("Rehearse: read all, write the log, and make or change nothing in DEST")
-}
-
-fn verbose<'a>(alloc: Global) -> Arg<'a>
-    ensures { (rule_of result ≡ verbose_rule) × (result.global ≡ false) }
-{
-    Arg::new(alloc, VERBOSE)
-        .long(VERBOSE)
-        .short('v')
-        .action(ArgAction::SetTrue)
-        .help("Tell of a fault also the path and the reason, on one more line")
-}
-
-fn progress<'a>(alloc: Global) -> Arg<'a>
-    ensures { IsProgressRule (rule_of result) × (result.global ≡ false) }
-{
-    Arg::new(alloc, PROGRESS)
-        .long(PROGRESS)
-        .value_name("WHEN")
-        .value_parser(TIMES.as_slice())
-        .default_value("auto")
-        .help("When to show on standard error how far the run is")
-}
-
-fn interval<'a>(alloc: Global) -> Arg<'a>
-    ensures { (rule_of result ≡ interval_rule) × (result.global ≡ false) }
-{
-    Arg::new(alloc, INTERVAL)
-        .long(INTERVAL)
-        .value_name("SECONDS")
-        .value_parser(value_parser!(u32))
-        .default_value("10")
-        .help("Seconds between two such lines, where they don't go to a terminal")
-}
-
-fn expect<'a>(alloc: Global) -> Arg<'a>
-    ensures { (rule_of result ≡ expect_rule) × (result.global ≡ false) }
-{
-    Arg::new(alloc, EXPECT).long(EXPECT).value_name("LOG").help(
-        "Show the share done and the time left too, by the log of a rehearsal",
-    )
-}
-
-fn prefix<'a>(alloc: Global) -> Arg<'a>
-    ensures { (rule_of result ≡ prefix_rule) × (result.global ≡ false) }
-{
-    Arg::new(alloc, PREFIX).long(PREFIX).value_name("TEXT").help(
-        "The prefix of the store, put before the identifier for its place",
-    )
-}
-
-fn id<'a>(alloc: Global) -> Arg<'a>
-    ensures { (rule_of result ≡ id_rule) × (result.global ≡ false) }
-{
-    Arg::new(alloc, ID).required(true).help("The identifier")
-}
-
-fn source<'a>(alloc: Global) -> Arg<'a>
-    ensures { (rule_of result ≡ source_rule) × (result.global ≡ false) }
-{
-    Arg::new(alloc, SOURCE)
-        .required(true)
-        .help("The folder that holds pairtree_root")
-}
-
-fn dest<'a>(alloc: Global) -> Arg<'a>
-    ensures { (rule_of result ≡ dest_rule) × (result.global ≡ false) }
-{
-    Arg::new(alloc, DEST).required(true).help(
-        "A folder that stands already; ocfl and staging in it are the program's",
-    )
+    Arg::new(alloc, id).long(id).action(ArgAction::SetTrue)
 }

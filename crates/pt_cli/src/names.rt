@@ -1,4 +1,4 @@
-ghost use Rattle.std.specs.Prelude.{◌≡◌, ◌↔◌, ◌++◌, [], IfOk, IfErr, OnOk, length, ◌<◌, IsErrOf};
+ghost use Rattle.std.specs.Prelude.{◌≡◌, ◌↔◌, ◌++◌, ◌∷◌, [], IfOk, IfErr, OnOk, length, ◌<◌, IsErrOf};
 ghost use Rattle.std.specs.Io.KnownBytes.{Appends};
 ghost use Rattle.pt_cli.specs.Names.{names_text, names_number, LeavesWritten};
 
@@ -82,12 +82,20 @@ fn two_lines(
     requires { 0 < length id.now }
     ensures { IfOk result (λ text. text.items ≡ names_text layout.now prefix.now id.now) }
 {
-    let whole = behind(alloc, prefix, id)?;
+    let place = layout.place_text(alloc, &behind(alloc, prefix, id)?)?;
     let mut text = pairpath(alloc, id)?;
-    text.push(b'\n')?;
-    text.extend_from_slice(&layout.place_text(alloc, &whole)?)?;
-    text.push(b'\n')?;
+    add_lines(&mut text, &place)?;
     Ok(text)
+}
+
+// Ends a line, and puts another behind it.
+fn add_lines(text: &mut Vec<u8>, line: &[u8]) -> Result<(), MemoryFault>
+    ensures { OnOk result (text.new.items ≡ text.old.items ++ 10 ∷ line.now ++ 10 ∷ []) }
+{
+    text.push(b'\n')?;
+    text.extend_from_slice(line)?;
+    text.push(b'\n')?;
+    Ok(())
 }
 
 // A prefix with an identifier behind.

@@ -1,7 +1,7 @@
-ghost use Rattle.std.specs.Prelude.{◌≡◌, ◌⊎◌, map, string_bytes};
+ghost use Rattle.std.specs.Prelude.{◌≡◌, ◌⊎◌, Ok, map, string_bytes};
 ghost use Rattle.std.specs.Process.{exit_status};
 ghost use Rattle.pt_cli.specs.Calls.{AuditsFor, TellsNames, names_status, wanted_of};
-ghost use Rattle.pt_cli.specs.Statuses.{Ends, EndsWith};
+ghost use Rattle.pt_cli.specs.Statuses.{Does, Ends, EndsWith, IsStatusOf};
 ghost use Rattle.pt_run.specs.Audits.{Audits};
 ghost use Rattle.pt_run.specs.Made.{Runs};
 
@@ -60,17 +60,43 @@ where
         (map string_bytes words.now) host.old host.new result }
 {
     match read_words(rt.alloc(), words) {
-        Ok(Command::Names(asked)) => write_names(rt, host, &asked),
-        Ok(Command::Migrate(words)) => make_run(rt, host, words),
-        Ok(Command::Audit(words)) => make_audit(rt, host, words),
-        Err(WordsFault::Help(text)) => tell(rt, &text),
-        Err(WordsFault::Version(text)) => tell(rt, &text),
-        Err(WordsFault::Words(text)) => {
+        Ok(command) => obey(rt, host, command),
+        Err(fault) => refuse(rt, &fault),
+    }
+}
+
+// Does what a command asks for.
+fn obey<R, H: Host>(rt: &R, host: &mut H, command: Command) -> u8
+where
+    R: Files + Clock + Eprint + AllocGlobal + Terminals,
+    ensures { Does (TellsNames H.lends H.takes_back H.Output.contents)
+        (λ words. Runs H.resolves H.identifies H.holds H.releases H.finds H.File.syncs
+        H.lends H.takes_back H.Store.forest H.Folder.kept H.Output.contents
+        (wanted_of words) words.source words.dest)
+        (AuditsFor (Audits H.resolves H.identifies H.holds H.releases
+        H.lends H.takes_back H.Store.forest H.Folder.forest H.Output.contents))
+        (Ok command) host.old host.new result }
+{
+    match command {
+        Command::Names(asked) => write_names(rt, host, &asked),
+        Command::Migrate(words) => make_run(rt, host, words),
+        Command::Audit(words) => make_audit(rt, host, words),
+    }
+}
+
+// Tells what was asked of the parser alone, or why the words are refused.
+fn refuse<R: Print + Eprint>(rt: &R, fault: &WordsFault) -> u8
+    ensures { IsStatusOf fault.now result }
+{
+    match fault {
+        WordsFault::Help(text) => tell(rt, text),
+        WordsFault::Version(text) => tell(rt, text),
+        WordsFault::Words(text) => {
             let _ = eprint!(rt; "{text}");
             REFUSED
         }
-        Err(WordsFault::Memory) => failed(rt, &Fault::Memory),
-        Err(fault) => {
+        WordsFault::Memory => failed(rt, &Fault::Memory),
+        _ => {
             let _ = eprintln!(rt; "pairtree2ocfl: {fault}");
             REFUSED
         }

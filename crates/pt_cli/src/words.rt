@@ -3,15 +3,16 @@ ghost use Rattle.pt_tree.specs.Name.{is_name};
 ghost use Rattle.std.specs.Option.{option_map, unwrap_or};
 ghost use Rattle.pt_tree.specs.Refusal.{Answers as AnswersTo};
 ghost use Rattle.clap.specs.Words.{all_of, first_of, found_of, kind_of, rows_of, subcommand_rows_of};
-ghost use Rattle.pt_cli.specs.Options.{algorithm_of, asked_in, is_set_in, number_in, number_of, options_in, progress_of};
+ghost use Rattle.pt_cli.specs.Given.{options_given};
+ghost use Rattle.pt_cli.specs.Options.{algorithm_of, asked_in, audit_in, both_of, choices_in, is_set_in, number_in};
+ghost use Rattle.pt_cli.specs.Options.{number_of, options_in, progress_of, tuples_in};
 ghost use Rattle.pt_cli.specs.Words.{Answers, OrMemory, OrNone, ReadsWords, RefusedAs, answer_to};
-ghost use Rattle.pt_cli.specs.Words.{AreNamed, migrate_answer, names_answer, not_a_name, share_asked, share_in, words_number};
+ghost use Rattle.pt_cli.specs.Words.{AreNamed, audit_answer, migrate_answer, names_answer, not_a_name, share_asked, share_in, words_number};
 
-use crate::audit_words::{audit_command, audit_options};
+use crate::audit_words::{GivenAudit, audit_command, audit_of, audit_options};
 use crate::grammar::{
-    ADDRESS, AUDIT, CREATED, DEST, DIGEST, EXPECT, GATHER, ID, IGNORE, INTERVAL, MESSAGE, MIGRATE,
-    NAME, NAMES, PREFIX, PROGRESS, REHEARSE, SHARE, SOURCE, SYNC, TUPLE_SIZE, TUPLES, VERBOSE,
-    parser,
+    ADDRESS, AUDIT, CREATED, DIGEST, EXPECT, ID, INTERVAL, MESSAGE, MIGRATE, NAME, NAMES, PREFIX,
+    PROGRESS, REHEARSE, SYNC, TUPLE_SIZE, TUPLES, parser,
 };
 use crate::{Command, Migrate, Named, Text};
 use clap::error::ErrorKind;
@@ -136,49 +137,11 @@ struct Given<'m, 'a> {
     name: &'a str,
     address: Option<&'a str>,
     message: &'a str,
-    algorithm: Algorithm,
-    size: u32,
-    count: u32,
-    gather: bool,
-    share: Option<&'a str>,
-    ignored: Option<&'m [&'a str]>,
     sync: bool,
     rehearse: bool,
-    verbose: bool,
-    progress: Progress,
     interval: u32,
     expected: Option<&'a str>,
-    source: &'a str,
-    dest: &'a str,
-}
-
-impl<'m, 'a> Model for Given<'m, 'a> {
-    ghost use Rattle.std.specs.Prelude.{[], map};
-    ghost use Rattle.std.specs.Option.{option_map, unwrap_or};
-    ghost use Rattle.pt_cli.specs.Options.{Options};
-
-    ghost Value = { Options };
-
-    ghost view = { λ g. record {
-      created = g.created.now;
-      name = g.name.now;
-      address = option_map (λ a. a.now) g.address;
-      message = g.message.now;
-      algorithm = g.algorithm;
-      size = g.size;
-      count = g.count;
-      gather = g.gather;
-      share = option_map (λ s. s.now) g.share;
-      ignored = unwrap_or (option_map (λ s. map (λ v. v.now) s.now) g.ignored) [];
-      sync = g.sync;
-      rehearse = g.rehearse;
-      verbose = g.verbose;
-      progress = g.progress;
-      interval = g.interval;
-      expected = option_map (λ e. e.now) g.expected;
-      source = g.source.now;
-      dest = g.dest.now;
-    } };
+    shared: GivenAudit<'m, 'a>,
 }
 
 // What `names` was given, as its parser reads it.
@@ -235,11 +198,32 @@ fn answer(alloc: Global, matches: &ArgMatches<'_>) -> Option<Result<Command, Wor
     ensures { OrNone (answer_to (subcommand_rows_of matches.now)) result }
 {
     match entered(matches)? {
-        (NAMES, inner) => Some(names_command(alloc, &asked(inner)?)),
-        (MIGRATE, inner) => Some(migrate_command(alloc, &options(inner)?)),
-        (AUDIT, inner) => Some(audit_command(alloc, &audit_options(inner)?)),
+        (NAMES, inner) => answer_names(alloc, inner),
+        (MIGRATE, inner) => answer_migrate(alloc, inner),
+        (AUDIT, inner) => answer_audit(alloc, inner),
         _ => None,
     }
+}
+
+// What `names` is answered, if its options are there.
+fn answer_names(alloc: Global, inner: &ArgMatches<'_>) -> Option<Result<Command, WordsFault>>
+    ensures { OrNone (option_map names_answer (asked_in (rows_of (found_of inner.now)))) result }
+{
+    Some(names_command(alloc, &asked(inner)?))
+}
+
+// What `migrate` is answered, if its options are there.
+fn answer_migrate(alloc: Global, inner: &ArgMatches<'_>) -> Option<Result<Command, WordsFault>>
+    ensures { OrNone (option_map migrate_answer (options_in (rows_of (found_of inner.now)))) result }
+{
+    Some(migrate_command(alloc, &options(inner)?))
+}
+
+// What `audit` is answered, if its options are there.
+fn answer_audit(alloc: Global, inner: &ArgMatches<'_>) -> Option<Result<Command, WordsFault>>
+    ensures { OrNone (option_map audit_answer (audit_in (rows_of (found_of inner.now)))) result }
+{
+    Some(audit_command(alloc, &audit_options(inner)?))
 }
 
 // The command that the parser found, and what was found for its arguments.
@@ -267,7 +251,7 @@ fn names_command(alloc: Global, given: &Request<'_>) -> Result<Command, WordsFau
 
 // The command that the options of `migrate` ask for.
 fn migrate_command(alloc: Global, given: &Given<'_, '_>) -> Result<Command, WordsFault>
-    ensures { OrMemory (migrate_answer given.now) result }
+    ensures { OrMemory (migrate_answer (options_given given.now)) result }
 {
     let meta = Meta::of(
         alloc,
@@ -276,26 +260,23 @@ fn migrate_command(alloc: Global, given: &Given<'_, '_>) -> Result<Command, Word
         given.address,
         given.message,
     )?;
-    let layout = Layout::of(given.size, given.count)?;
-    let Some(share) = share(given.share) else {
-        return Err(WordsFault::Share);
-    };
-    let ignored = names_asked(alloc, given.ignored)?;
+    let expected = text_of(alloc, given.expected)?;
+    let audit = audit_of(alloc, &given.shared)?;
     Ok(Command::Migrate(Migrate {
         meta,
-        algorithm: given.algorithm,
-        layout,
-        gather: given.gather,
-        share,
-        ignored,
+        algorithm: audit.algorithm,
+        layout: audit.layout,
+        gather: audit.gather,
+        share: audit.share,
+        ignored: audit.ignored,
         sync: given.sync,
         rehearse: given.rehearse,
-        verbose: given.verbose,
-        progress: given.progress,
+        verbose: audit.verbose,
+        progress: audit.progress,
         interval: given.interval,
-        expected: text_of(alloc, given.expected)?,
-        source: Text::of(alloc, given.source)?,
-        dest: Text::of(alloc, given.dest)?,
+        expected,
+        source: audit.source,
+        dest: audit.dest,
     }))
 }
 
@@ -370,27 +351,20 @@ fn text_of(alloc: Global, text: Option<&str>) -> Result<Option<Text>, MemoryFaul
 
 // The options of `migrate` in its matches. The parser leaves none out that is wanted here.
 fn options<'m, 'a>(matches: &'m ArgMatches<'a>) -> Option<Given<'m, 'a>>
-    ensures { result ≡ options_in (rows_of (found_of matches.now)) }
+    ensures { option_map options_given result ≡ options_in (rows_of (found_of matches.now)) }
 {
+    let shared = audit_options(matches)?;
+    let (created, name) = two_texts(matches, CREATED, NAME)?;
     Some(Given {
-        created: text(matches, CREATED)?,
-        name: text(matches, NAME)?,
+        created,
+        name,
         address: text(matches, ADDRESS),
         message: text(matches, MESSAGE)?,
-        algorithm: algorithm(text(matches, DIGEST)?)?,
-        size: number(matches, TUPLE_SIZE)?,
-        count: number(matches, TUPLES)?,
-        gather: is_set(matches, GATHER),
-        share: text(matches, SHARE),
-        ignored: texts(matches, IGNORE),
         sync: is_set(matches, SYNC),
         rehearse: is_set(matches, REHEARSE),
-        verbose: is_set(matches, VERBOSE),
-        progress: progress(text(matches, PROGRESS)?)?,
         interval: number(matches, INTERVAL)?,
         expected: text(matches, EXPECT),
-        source: text(matches, SOURCE)?,
-        dest: text(matches, DEST)?,
+        shared,
     })
 }
 
@@ -398,12 +372,41 @@ fn options<'m, 'a>(matches: &'m ArgMatches<'a>) -> Option<Given<'m, 'a>>
 fn asked<'a>(matches: &ArgMatches<'a>) -> Option<Request<'a>>
     ensures { result ≡ asked_in (rows_of (found_of matches.now)) }
 {
+    let (size, count) = tuples(matches)?;
     Some(Request {
         id: text(matches, ID)?,
         prefix: text(matches, PREFIX).unwrap_or(""),
-        size: number(matches, TUPLE_SIZE)?,
-        count: number(matches, TUPLES)?,
+        size,
+        count,
     })
+}
+
+// How the places are cut: the digits of a name, and how many folders.
+pub(crate) fn tuples(matches: &ArgMatches<'_>) -> Option<(u32, u32)>
+    ensures { result ≡ tuples_in (rows_of (found_of matches.now)) }
+{
+    Some((number(matches, TUPLE_SIZE)?, number(matches, TUPLES)?))
+}
+
+// Two texts, where both are there.
+pub(crate) fn two_texts<'a>(
+    matches: &ArgMatches<'a>,
+    first: &str,
+    second: &str,
+) -> Option<(&'a str, &'a str)>
+    ensures { option_map (λ p. (p.0.now, p.1.now)) result
+        ≡ both_of (first_of first.now (rows_of (found_of matches.now)))
+        (first_of second.now (rows_of (found_of matches.now))) }
+{
+    Some((text(matches, first)?, text(matches, second)?))
+}
+
+// The two options whose values are words.
+pub(crate) fn choices(matches: &ArgMatches<'_>) -> Option<(Algorithm, Progress)>
+    ensures { result ≡ choices_in (rows_of (found_of matches.now)) }
+{
+    let algorithm = algorithm(text(matches, DIGEST)?)?;
+    Some((algorithm, progress(text(matches, PROGRESS)?)?))
 }
 
 pub(crate) fn is_set(matches: &ArgMatches<'_>, id: &str) -> bool
@@ -425,13 +428,13 @@ pub(crate) fn texts<'m, 'a>(matches: &'m ArgMatches<'a>, id: &str) -> Option<&'m
     matches.get_strs(id)
 }
 
-pub(crate) fn number(matches: &ArgMatches<'_>, id: &str) -> Option<u32>
+fn number(matches: &ArgMatches<'_>, id: &str) -> Option<u32>
     ensures { result ≡ number_in id.now (rows_of (found_of matches.now)) }
 {
     matches.get_one(id)
 }
 
-pub(crate) fn algorithm(word: &str) -> Option<Algorithm>
+fn algorithm(word: &str) -> Option<Algorithm>
     ensures { result ≡ algorithm_of word.now }
 {
     match word {
@@ -441,7 +444,7 @@ pub(crate) fn algorithm(word: &str) -> Option<Algorithm>
     }
 }
 
-pub(crate) fn progress(word: &str) -> Option<Progress>
+fn progress(word: &str) -> Option<Progress>
     ensures { result ≡ progress_of word.now }
 {
     match word {

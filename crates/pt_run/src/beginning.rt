@@ -2,8 +2,8 @@
 ghost use Rattle.pt_guard.specs.Guard.{Begins};
 
 use crate::host::Host;
-use crate::{prefix, reason};
 use pt_guard::{GuardFault, begin};
+use pt_notices::{prefix, reason};
 use std::alloc::AllocGlobal;
 use std::io;
 use std::rt::Files;

@@ -1,4 +1,4 @@
-//! The devices of a run, as it is asked for.
+//! The devices of a run and of an audit, as they are asked for.
 ghost use Rattle.std.specs.Prelude.{◌≡◌, ◌+◌, None};
 ghost use Rattle.pt_run.specs.Room.{spare_of};
 
@@ -7,6 +7,7 @@ use crate::host::Ground;
 use crate::log::{DurableLog, Syncs};
 use crate::room::longest_made;
 use pt_folder::{HostDest, HostSource, System};
+use pt_ignore::{Ignored, Ignoring};
 use std::alloc::Global;
 use std::io::Write;
 
@@ -47,6 +48,40 @@ pub(crate) fn equipped<'a, S: System, D: System, W: Write, F: Syncs + Drop>(
         dest: HostDest::new(ground.folder, alloc, folder)
             .with_longest(longest_made(&wanted.job.layout))
             .with_sync(wanted.sync),
+        log: DurableLog::new(ground.output, file),
+    }
+}
+
+/// The two sides of an audit, and its log.
+#[derive(Drop)]
+pub(crate) struct Sides<'a, S: System, D: System, W: Write, F: Syncs + Drop> {
+    /// The folder of the store, without the entries that are left out.
+    pub source: Ignoring<HostSource<'a, S>>,
+    /// The folder of the root, which is only read.
+    pub root: HostSource<'a, D>,
+    /// The log, whose lines are put onto the disk where that is asked.
+    pub log: DurableLog<W, F>,
+}
+
+/// The sides of an audit over these, of a store and of the root in a folder. The entries of the store that have these names are left out.
+pub(crate) fn both_sides<'a, S: System, D: System, W: Write, F: Syncs + Drop>(
+    alloc: Global,
+    ground: Ground<S, D, W>,
+    file: Option<F>,
+    ignored: Ignored,
+    store: &'a str,
+    folder: &'a str,
+) -> Sides<'a, S, D, W, F>
+    ensures store { (result.source.source.desk.system ≡ ground.store)
+        × (result.source.source.folder.path.now ≡ store.now) }
+    ensures left_out { result.source.names ≡ ignored }
+    ensures folder { (result.root.desk.system ≡ ground.folder)
+        × (result.root.folder.path.now ≡ folder.now) }
+    ensures log { result.log.writer ≡ ground.output }
+{
+    Sides {
+        source: Ignoring::new(HostSource::new(ground.store, alloc, store), ignored),
+        root: HostSource::new(ground.folder, alloc, folder),
         log: DurableLog::new(ground.output, file),
     }
 }

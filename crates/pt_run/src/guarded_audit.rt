@@ -3,19 +3,17 @@ ghost use Rattle.std.specs.Prelude.{◌≡◌};
 ghost use Rattle.pt_run.specs.Audits.{Audits, AuditsOver, audit_status};
 
 use crate::beginning::begun;
+use crate::devices::{Sides, both_sides};
 use crate::host::{Ground, Host};
-use crate::log::{DurableLog, Syncs};
-use crate::reason;
+use crate::log::Syncs;
 use crate::running::Ended;
 use crate::saying::{refused, tell_fault};
 use crate::status::{DONE, FAILED, TOLD};
-use crate::tally::Tally;
-use crate::terminal::Terminals;
-use crate::watch::{Progress, Watched, Watching, Words};
 use pt_audit::Counts;
 use pt_folder::{HostSource, System};
-use pt_ignore::{Ignored, Ignoring};
+use pt_ignore::Ignored;
 use pt_move::{Fault, Job};
+use pt_notices::{Progress, Tally, Terminals, Watched, Watching, Words, reason};
 use std::alloc::AllocGlobal;
 use std::io::Write;
 use std::rt::{Clock, Files};
@@ -106,10 +104,12 @@ where
     };
     let verbose = wanted.verbose;
     let ignores = !wanted.ignored.names().is_empty();
-    let ignoring = Ignoring::new(HostSource::new(ground.store, alloc, store), wanted.ignored);
-    let mut source = Watched::new(ignoring, rt, alloc, &tally, watching);
-    let mut root = HostSource::new(ground.folder, alloc, folder);
-    let mut log = DurableLog::new(ground.output, file);
+    let Sides {
+        source,
+        mut root,
+        mut log,
+    } = both_sides(alloc, ground, file, wanted.ignored, store, folder);
+    let mut source = Watched::new(source, rt, alloc, &tally, watching);
     let ran = pt_audit::audit(alloc, &mut source, &mut root, &mut log, wanted.job, &tally);
     source.end();
     let ignoring = source.into_source();

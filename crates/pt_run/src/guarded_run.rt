@@ -3,16 +3,13 @@ ghost use Rattle.pt_run.specs.Made.{FindsLog, GoesOver, Runs, RunsOver};
 
 use crate::beginning::begun;
 use crate::devices::equipped;
-use crate::expected::lines_expected;
 use crate::host::Host;
 use crate::log::Syncs;
-use crate::reason;
 use crate::running::{Ended, run};
 use crate::saying::{failed, refused};
-use crate::terminal::Terminals;
-use crate::watch::Progress;
 use pt_ignore::Ignored;
 use pt_move::{Fault, Job};
+use pt_notices::{Progress, Terminals, lines_expected, reason};
 use std::alloc::AllocGlobal;
 use std::io;
 use std::io::ErrorKind;

@@ -6,9 +6,9 @@ ghost use Rattle.std.specs.declared.result.Result.{Result};
 ghost use Rattle.pt_run.specs.declared.host.Ground.{Ground};
 
 use crate::log::Syncs;
-use crate::terminal::Terminals;
 use pt_folder::System;
 use pt_guard::{Lockable, Places};
+use pt_notices::Terminals;
 use std::fs::{OpenFile, OpenOptions};
 use std::io;
 use std::io::{Printer, Write};

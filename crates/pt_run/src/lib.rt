@@ -4,29 +4,21 @@
 
 mod beginning;
 mod devices;
-mod expected;
 mod guarded_audit;
 mod guarded_run;
 mod host;
 pub mod laws;
 mod log;
-mod prefix;
-mod reason;
 mod room;
 mod running;
 mod saying;
-mod shown;
 pub mod status;
-mod tally;
-mod terminal;
 mod turns;
-mod watch;
 
 pub use guarded_audit::{WantedAudit, audit_guarded};
 pub use guarded_run::{Wanted, run_guarded};
 pub use host::{Ground, Host, OutputFile};
 pub use log::{DurableLog, Syncs};
+pub use pt_notices::{Progress, Terminals};
 pub use room::longest_made;
 pub use saying::failed;
-pub use terminal::Terminals;
-pub use watch::Progress;

@@ -2,8 +2,8 @@
 ghost use Rattle.pt_move.specs.Migrates.{Migrates};
 ghost use Rattle.pt_state.specs.Outside.{world};
 
-use crate::tally::Tally;
 use pt_move::{Fault, Job, Mover, Report, Turn};
+use pt_notices::Tally;
 use pt_tree::{Dest, Log, Source};
 use std::alloc::Global;
 
@@ -29,8 +29,11 @@ pub(crate) fn make_turns<S: Source, D: Dest, L: Log>(
 {
     job.layout.count();
     let mut mover = Mover::start(alloc, job);
-    while let Turn::More = mover.step(source, dest, log)? {
-        tally.set_lines(mover.report());
+    loop {
+        match mover.step(source, dest, log) {
+            Ok(Turn::More) => tally.set_lines(mover.report()),
+            Ok(Turn::Finished) => break Ok(mover.report()),
+            Err(fault) => break Err(fault),
+        }
     }
-    Ok(mover.report())
 }

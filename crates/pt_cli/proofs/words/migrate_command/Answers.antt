@@ -1,23 +1,15 @@
-use Rattle.pt_cli.proofs.Migrating.{carried, no_layout, no_meta, no_names, no_share, no_some}
+use Rattle.pt_cli.specs.Given.{options_given}
+use Rattle.pt_cli.proofs.Migrating.{carried, no_audit, no_meta}
 use Rattle.pt_cli.proofs.words.migrate_command.Goals as goal
 
 pub returns-in_err-meta : goal.returns-in_err-meta
-returns-in_err-meta c = no_meta _ _ c.given.view_is c.in_err-meta.field-0.0 c.from_residual.result c.in_err-meta.ensures c.from_residual.ensures.1
+returns-in_err-meta c = no_meta (options_given c.args.given.now) c.in_err-meta.field-0.0 c.from_residual.result c.in_err-meta.ensures c.from_residual.ensures.1
 
-pub returns-in_err-layout : goal.returns-in_err-layout
-returns-in_err-layout c =
-    no_layout _ _ c.given.view_is c.in_ok-meta.meta c.in_err-layout.field-0.0 c.from_residual-in_err-layout.result c.in_ok-meta.ensures c.in_err-layout.ensures
-    c.from_residual-in_err-layout.ensures.1
-
-pub returns-in_default : goal.returns-in_default
-returns-in_default c = no_share _ _ c.given.view_is c.in_ok-meta.meta c.in_ok-layout.layout c.in_ok-meta.ensures c.in_ok-layout.ensures (no_some _ _ c.in_default.not-Some c.share.ensures)
-
-pub returns-in_err-ignored : goal.returns-in_err-ignored
-returns-in_err-ignored c =
-    no_names _ _ c.given.view_is c.in_ok-meta.meta c.in_ok-layout.layout c.in_ok-meta.ensures c.in_ok-layout.ensures c.in-Some.share c.in_err-ignored.field-0.0
-    c.from_residual-in_err-ignored.result c.in-Some.ensures c.in_err-ignored.ensures c.from_residual-in_err-ignored.ensures.1
+pub returns-in_err-audit : goal.returns-in_err-audit
+returns-in_err-audit c =
+    no_audit (options_given c.args.given.now) c.in_ok-meta.meta c.in_ok-meta.ensures c.in_err-audit.field-0.0 c.from_residual-in_err-audit.result
+    c.in_err-audit.ensures c.from_residual-in_err-audit.ensures.1
 
 pub returns : goal.returns
 returns c =
-    carried _ _ c.given.view_is c.in_ok-meta.meta c.in_ok-layout.layout c.in_ok-meta.ensures c.in_ok-layout.ensures _ c.in-Some.share c.in_ok-ignored.ignored c.in_ok-text_of.field-0 c.in_ok-of.field-0
-    c.in_ok-of-2.field-0 c.in-Some.ensures c.in_ok-ignored.ensures c.meta.view_is c.in_ok-text_of.ensures c.in_ok-of.ensures c.in_ok-of-2.ensures
+    carried (options_given c.args.given.now) c.in_ok-meta.meta c.in_ok-meta.ensures c.in_ok-audit.audit c.in_ok-expected.expected c.in_ok-audit.ensures c.in_ok-expected.ensures

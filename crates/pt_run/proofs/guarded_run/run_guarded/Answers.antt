@@ -1,4 +1,4 @@
-use Rattle.std.proofs.Common.{Err, Ok}
+use Rattle.std.proofs.Common.{Err, Ok, rules}
 use Rattle.pt_run.proofs.guarded_run.run_guarded.Goals as goal
 
 pub returns-in-Ok-Ok : goal.returns-in-Ok-Ok
@@ -16,3 +16,6 @@ returns-in-Ok-Err g c = (
   rw c.in-Ok-Err.field-0-is at c.in-Ok-Err.ensures,
   c.carry.ensures,
 )
+
+pub returns-in-Err : goal.returns-in-Err
+returns-in-Err g c = search rules

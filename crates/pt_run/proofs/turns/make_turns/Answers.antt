@@ -8,6 +8,7 @@ use Rattle.pt_plan.specs.declared.fault.Fault.{Fault}
 use Rattle.pt_plan.specs.declared.fault.Fault.TheVariants as fault
 use Rattle.pt_move.specs.declared.mover.Turn.{Turn}
 use Rattle.pt_run.proofs.turns.make_turns.Goals as goal
+use Rattle.pt_run.proofs.turns.make_turns.Goals.{in-Ok-Finished, in-Err}
 
 -- a device that is the first one still is so after a step
 stays_on : {X : Type 0} {keeps : X → X → Type 0} {first old new : X} → ((a b c : X) → keeps a b → keeps b c → keeps a c) → (answer : Result Turn Fault) → keeps first old → Stays keeps answer old new → keeps first new
@@ -31,33 +32,32 @@ step-requires g c = has_begun _ _ _ c.loop-mover.invariant.so_far.begun
 -- what holds of the run so far holds after a step: Migrating.antt of pt_move (`so_far_on`)
 pub loop-mover-preserved : goal.loop-mover-preserved
 loop-mover-preserved g c = record {
-  so_far = so_far_on _ _ _ _ _ _ c.loop-mover.invariant.so_far c.in_ok-step.field-0 c.in-More.is
-      (record { keeps = c.in_ok-step.ensures.keeps; steps = c.in_ok-step.ensures.steps });
-  source = stays_on g.met.S.Source.keeps_on (Ok c.in_ok-step.field-0) c.loop-mover.invariant.source c.in_ok-step.ensures.source_stays;
-  dest = stays_on g.met.D.Dest.keeps_on (Ok c.in_ok-step.field-0) c.loop-mover.invariant.dest c.in_ok-step.ensures.dest_stays;
-  log = stays_on g.met.L.Log.keeps_on (Ok c.in_ok-step.field-0) c.loop-mover.invariant.log c.in_ok-step.ensures.log_stays;
+  so_far = so_far_on _ _ _ _ _ _ c.loop-mover.invariant.so_far c.in-Ok-More.field-0 c.in-Ok-More.field-0-is
+      (record { keeps = c.in-Ok-More.ensures.keeps; steps = c.in-Ok-More.ensures.steps });
+  source = stays_on g.met.S.Source.keeps_on (Ok c.in-Ok-More.field-0) c.loop-mover.invariant.source c.in-Ok-More.ensures.source_stays;
+  dest = stays_on g.met.D.Dest.keeps_on (Ok c.in-Ok-More.field-0) c.loop-mover.invariant.dest c.in-Ok-More.ensures.dest_stays;
+  log = stays_on g.met.L.Log.keeps_on (Ok c.in-Ok-More.field-0) c.loop-mover.invariant.log c.in-Ok-More.ensures.log_stays;
 }
 
 -- the steps come to an end, for each leaves a turn less to make: Ran.antt of pt_move (`smaller`)
 pub loop-mover-smaller : goal.loop-mover-smaller
-loop-mover-smaller g c = smaller _ _ _ _ c.in_ok-step.field-0 c.in-More.is c.in_ok-step.ensures.steps.leaves c.in_ok-step.ensures.steps.answer
+loop-mover-smaller g c = smaller _ _ _ _ c.in-Ok-More.field-0 c.in-Ok-More.field-0-is c.in-Ok-More.ensures.steps.leaves c.in-Ok-More.ensures.steps.answer
 
--- all promises, where a step met a fault: Migrating.antt of pt_move (`migrates_halted`)
-pub returns-in_err-step : goal.returns-in_err-step
-returns-in_err-step g c = record {
-  promises = migrates_halted _ _ _ _ _ _ c.loop-mover.invariant.so_far c.in_err-step.field-0.0 _ (search rules)
-      (record { keeps = c.in_err-step.ensures.keeps; steps = c.in_err-step.ensures.steps });
-  source_stays = stays_on g.met.S.Source.keeps_on (Err c.in_err-step.field-0.0) c.loop-mover.invariant.source c.in_err-step.ensures.source_stays;
-  dest_stays = stays_on g.met.D.Dest.keeps_on (Err c.in_err-step.field-0.0) c.loop-mover.invariant.dest c.in_err-step.ensures.dest_stays;
-  log_stays = stays_on g.met.L.Log.keeps_on (Err c.in_err-step.field-0.0) c.loop-mover.invariant.log c.in_err-step.ensures.log_stays;
-}
-
--- all promises, where the last turn was made: Migrating.antt of pt_move (`migrates_whole`)
+-- all promises, where the last turn was made and where a step met a fault: Migrating.antt of pt_move (`migrates_whole`, `migrates_halted`)
 pub returns : goal.returns
-returns g c = record {
-  promises = migrates_whole _ _ _ _ _ _ c.loop-mover.invariant.so_far c.in_ok-step.field-0 c.report-2.result (search rules) (search rules) (search rules)
-      (record { keeps = c.in_ok-step.ensures.keeps; steps = c.in_ok-step.ensures.steps });
-  source_stays = stays_on g.met.S.Source.keeps_on (Ok c.in_ok-step.field-0) c.loop-mover.invariant.source c.in_ok-step.ensures.source_stays;
-  dest_stays = stays_on g.met.D.Dest.keeps_on (Ok c.in_ok-step.field-0) c.loop-mover.invariant.dest c.in_ok-step.ensures.dest_stays;
-  log_stays = stays_on g.met.L.Log.keeps_on (Ok c.in_ok-step.field-0) c.loop-mover.invariant.log c.in_ok-step.ensures.log_stays;
-}
+returns g c = elim c.match-step.branch [
+  | in-Ok-Finished w ↦ record {
+    promises = rw w.result-is (migrates_whole _ _ _ _ _ _ c.loop-mover.invariant.so_far w.in-Ok-Finished.field-0 w.report-in-Ok-Finished.result w.in-Ok-Finished.field-0-is (search rules) (search rules)
+        (record { keeps = w.in-Ok-Finished.ensures.keeps; steps = w.in-Ok-Finished.ensures.steps }));
+    source_stays = stays_on g.met.S.Source.keeps_on (Ok w.in-Ok-Finished.field-0) c.loop-mover.invariant.source w.in-Ok-Finished.ensures.source_stays;
+    dest_stays = stays_on g.met.D.Dest.keeps_on (Ok w.in-Ok-Finished.field-0) c.loop-mover.invariant.dest w.in-Ok-Finished.ensures.dest_stays;
+    log_stays = stays_on g.met.L.Log.keeps_on (Ok w.in-Ok-Finished.field-0) c.loop-mover.invariant.log w.in-Ok-Finished.ensures.log_stays;
+  }
+  | in-Err w ↦ record {
+    promises = migrates_halted _ _ _ _ _ _ c.loop-mover.invariant.so_far w.in-Err.fault _ (search rules)
+        (record { keeps = w.in-Err.ensures.keeps; steps = w.in-Err.ensures.steps });
+    source_stays = stays_on g.met.S.Source.keeps_on (Err w.in-Err.fault) c.loop-mover.invariant.source w.in-Err.ensures.source_stays;
+    dest_stays = stays_on g.met.D.Dest.keeps_on (Err w.in-Err.fault) c.loop-mover.invariant.dest w.in-Err.ensures.dest_stays;
+    log_stays = stays_on g.met.L.Log.keeps_on (Err w.in-Err.fault) c.loop-mover.invariant.log w.in-Err.ensures.log_stays;
+  }
+]

@@ -11,7 +11,7 @@ const NAME: &str = "/pairtree_prefix";
 const LONGEST: u64 = 1024;
 
 /// Tells standard error of a store whose prefix holds a control character, a blank at an end, or a byte order mark.
-pub(crate) fn tell<R: Files + Eprint + AllocGlobal>(rt: &R, store: &str) {
+pub fn tell<R: Files + Eprint + AllocGlobal>(rt: &R, store: &str) {
     let Ok(path) = path_in(rt.alloc(), store) else {
         return;
     };

@@ -10,10 +10,7 @@ use std::rt::Files;
 const TAIL: usize = 128;
 
 /// The number of lines that a log's end line counts, if a log is named. Standard error is told where it can't be read, or has no end line.
-pub(crate) fn lines_expected<R: Files + Eprint + AllocGlobal>(
-    rt: &R,
-    log: Option<&str>,
-) -> Option<u64> {
+pub fn lines_expected<R: Files + Eprint + AllocGlobal>(rt: &R, log: Option<&str>) -> Option<u64> {
     let log = log?;
     let mut tail = [0u8; TAIL];
     let counted = match read_tail(rt, log, &mut tail) {

@@ -8,7 +8,7 @@ use std::io;
 use std::io::ErrorKind;
 
 /// Tells standard error why a run over these folders ended with a fault, where that has a path.
-pub(crate) fn tell<R: Eprint + AllocGlobal, S: System, D: System>(
+pub fn tell<R: Eprint + AllocGlobal, S: System, D: System>(
     rt: &R,
     fault: &Fault,
     source: &HostSource<'_, S>,
@@ -62,7 +62,7 @@ fn tell_of_source<R: Eprint + AllocGlobal, S: System>(
 }
 
 /// Tells standard error why an audit of the root in a folder ended with a fault, where that has a path.
-pub(crate) fn tell_audit<R: Eprint + AllocGlobal, S: System, D: System>(
+pub fn tell_audit<R: Eprint + AllocGlobal, S: System, D: System>(
     rt: &R,
     fault: &Fault,
     source: &HostSource<'_, S>,
@@ -82,7 +82,7 @@ pub(crate) fn tell_audit<R: Eprint + AllocGlobal, S: System, D: System>(
 }
 
 /// Tells standard error why a destination that is there can't be locked.
-pub(crate) fn unlocked<R: Eprint + AllocGlobal>(rt: &R, dest: &str, error: &io::Error) {
+pub fn unlocked<R: Eprint + AllocGlobal>(rt: &R, dest: &str, error: &io::Error) {
     if error.kind() == ErrorKind::NotFound {
         return;
     }
@@ -92,12 +92,12 @@ pub(crate) fn unlocked<R: Eprint + AllocGlobal>(rt: &R, dest: &str, error: &io::
 }
 
 /// Tells standard error why the log's file can't be put onto its disk.
-pub(crate) fn unsynced<R: Eprint>(rt: &R, error: &io::Error) {
+pub fn unsynced<R: Eprint>(rt: &R, error: &io::Error) {
     let _ = eprintln!(rt; "pairtree2ocfl: the log's file will not be put onto its disk: {error}");
 }
 
 /// Tells standard error how many entries were left out by their names, if that is wanted.
-pub(crate) fn left_out<R: Eprint>(rt: &R, wanted: bool, count: u64) {
+pub fn left_out<R: Eprint>(rt: &R, wanted: bool, count: u64) {
     if wanted {
         let _ = eprintln!(rt; "pairtree2ocfl: left out by their names: {count}");
     }
