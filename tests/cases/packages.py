@@ -120,14 +120,19 @@ def syntax(program, folder):
 
 
 def versions(program, folder):
-    """The version stands in the changelog first and in the man page, and the toolchain's line is the toolchain's."""
+    """The version stands in the changelog first and in the man page, and the toolchain's line has the toolchain's logic."""
     first, toolchain = done(program, "--version").splitlines()
     number = first.removeprefix("pairtree2ocfl ")
     newest = re.search(r"^## \[([^]]*)\]", text_of("CHANGELOG.md"), re.MULTILINE)[1]
     faults = differs(changelog=(newest, number), page=(f"pairtree2ocfl {number}" in text_of("man/pairtree2ocfl.1"), True))
     faults += differs(readme=(f"`{toolchain}`" in text_of("README.md"), True))
     rt = shutil.which(os.environ.get("RT", "rt"))
-    return faults + (differs(toolchain=(done(rt, "version").strip(), toolchain)) if rt else [])
+    return faults + (differs(logic=(logic_of(done(rt, "version")), logic_of(toolchain))) if rt else [])
+
+
+def logic_of(line):
+    """The logic that a toolchain's line names, with the words before it but for the kit's own number."""
+    return re.sub(r"\Arattle-kit-\w+", "rattle-kit", line.strip())
 
 
 def licences(program, folder):
