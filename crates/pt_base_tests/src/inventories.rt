@@ -1,17 +1,15 @@
 ghost use Rattle.std.specs.Prelude.{◌≡◌, IfOk, map};
 ghost use Rattle.pt_object.specs.Distinct.{content_of_row, distinct};
 
-use crate::answers::gives_text;
+use crate::answers::{Holds, all_hold, gives_text};
 use crate::objects::{OF_ABC, OF_NOTHING, SHORT_OF_ABC};
 use pt_object::{Algorithm, Contents, Digest, Hasher, Meta, MetaFault, Rows, inventory};
 use pt_texts::path;
 use pt_tree::{MemoryFault, NamePath};
 use std::alloc::{AllocError, Global};
-use std::test::Fail;
 
 // An object, and what its inventory says.
 struct Case {
-    name: &'static str,
     id: &'static str,
     algorithm: Algorithm,
     word: &'static str,
@@ -25,8 +23,8 @@ struct Case {
 }
 
 const CASES: &[Case] = &[
+    // One file.
     Case {
-        name: "one file",
         id: "abc",
         algorithm: Algorithm::Sha512,
         word: "sha512",
@@ -36,8 +34,8 @@ const CASES: &[Case] = &[
         state: &[(OF_ABC, "\"a.txt\"")],
         user: "{\"name\":\"Ada\"}",
     },
+    // Equal contents.
     Case {
-        name: "equal contents",
         id: "abcd",
         algorithm: Algorithm::Sha512,
         word: "sha512",
@@ -50,8 +48,8 @@ const CASES: &[Case] = &[
         state: &[(OF_NOTHING, "\"c\""), (OF_ABC, "\"a/x\",\"a.txt\"")],
         user: "{\"name\":\"Ada\"}",
     },
+    // No files, and an address.
     Case {
-        name: "no files, and an address",
         id: "abc",
         algorithm: Algorithm::Sha512,
         word: "sha512",
@@ -61,8 +59,8 @@ const CASES: &[Case] = &[
         state: &[],
         user: "{\"address\":\"mailto:ada@example.org\",\"name\":\"Ada\"}",
     },
+    // A quote, by SHA-256.
     Case {
-        name: "a quote, by SHA-256",
         id: "abc",
         algorithm: Algorithm::Sha256,
         word: "sha256",
@@ -179,12 +177,16 @@ fn wanted(alloc: Global, case: &Case) -> Result<String, AllocError> {
     text_of(alloc, case, manifest.as_str(), state.as_str())
 }
 
-#[test]
-fn inventories(rt: HostRuntime) -> Result<(), Fail> {
-    for case in CASES {
-        let name = case.name;
-        let want = wanted(rt.alloc(), case)?;
-        assert!(rt; is_written(rt.alloc(), case, want.as_str()), "{name}");
+impl Holds for Case {
+    fn holds(&self, alloc: Global) -> bool {
+        match wanted(alloc, self) {
+            Ok(want) => is_written(alloc, self, want.as_str()),
+            Err(_) => false,
+        }
     }
-    Ok(())
+}
+
+#[test]
+fn inventories(rt: HostRuntime) {
+    all_hold(&rt, rt.alloc(), "inventories", CASES);
 }

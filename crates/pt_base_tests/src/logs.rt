@@ -4,7 +4,6 @@ use pt_tree::{Log, TreeFault, WriterLog};
 use std::alloc::Global;
 use std::io;
 use std::io::Write;
-use std::process::Abort;
 
 fn takes<L: Log>(log: &mut L, piece: &[u8]) -> bool {
     log.put(piece).is_ok()
@@ -14,21 +13,34 @@ fn is_full(log: &mut MemLog, piece: &[u8]) -> bool {
     log.put(piece) == Err(TreeFault::Device)
 }
 
-fn takes_what_fits(rt: &impl Abort, log: &mut MemLog) {
-    assert!(rt; takes(log, b"") && takes(log, b"abc"));
+fn has(log: &MemLog, bytes: &[u8]) -> bool {
+    log.bytes() == bytes
+}
+
+// It takes five more bytes, and fails at the first piece that doesn't fit.
+fn takes_five(log: &mut MemLog) -> bool {
     log.fuse(Some(5));
-    assert!(rt; takes(log, b"def") && is_full(log, b"ghi"));
-    assert!(rt; log.bytes() == b"abcdefgh".as_slice() && log.failures() == 1);
-    assert!(rt; takes(log, b"") && takes(log, b""));
-    assert!(rt; is_full(log, b"i"));
+    takes(log, b"def") && is_full(log, b"ghi") && has(log, b"abcdefgh") && log.failures() == 1
+}
+
+// Its fuse is blown: it takes what is empty alone.
+fn takes_nothing(log: &mut MemLog) -> bool {
+    takes(log, b"") && takes(log, b"") && is_full(log, b"i")
+}
+
+// Without its fuse it goes on.
+fn goes_on(log: &mut MemLog) -> bool {
     log.fuse(None);
-    assert!(rt; takes(log, b"i"));
-    assert!(rt; log.bytes() == b"abcdefghi".as_slice());
+    takes(log, b"i") && has(log, b"abcdefghi")
+}
+
+fn takes_what_fits(log: &mut MemLog) -> bool {
+    takes(log, b"") && takes(log, b"abc") && takes_five(log) && takes_nothing(log) && goes_on(log)
 }
 
 #[test]
 fn a_log_takes_what_fits_its_fuse(rt: HostRuntime) {
-    takes_what_fits(&rt, &mut MemLog::new(rt.alloc()));
+    assert!(rt; takes_what_fits(&mut MemLog::new(rt.alloc())));
 }
 
 // A writer that takes so many bytes at a time, and may fail when it is flushed.
@@ -66,16 +78,14 @@ fn takes_both(alloc: Global, at_a_time: usize, flushes: bool, failures: u64) -> 
     takes_all == (failures == 0) && log.failures() == failures
 }
 
+// How many bytes a writer takes at a time, whether it is flushed, and how often the log fails.
+const WRITERS: &[(usize, bool, u64)] = &[(1, true, 0), (3, true, 0), (0, true, 1), (3, false, 1)];
+
 #[test]
 fn a_writer_takes_a_piece_in_parts(rt: HostRuntime) {
-    for (at_a_time, flushes, failures) in [
-        (1usize, true, 0u64),
-        (3, true, 0),
-        (0, true, 1),
-        (3, false, 1),
-    ] {
+    for (at_a_time, flushes, failures) in WRITERS {
         assert!(rt;
-            takes_both(rt.alloc(), at_a_time, flushes, failures),
+            takes_both(rt.alloc(), *at_a_time, *flushes, *failures),
             "{at_a_time}, {flushes}"
         );
     }

@@ -1,72 +1,96 @@
-ghost use Rattle.std.specs.Prelude.{◌<◌, length};
-
-use crate::answers::{gives_bytes, gives_text, refuses};
+use crate::answers::{Holds, all_hold, gives_bytes, gives_text, refuses};
 use pt_name::*;
 use pt_texts::path;
 use std::alloc::Global;
 
-// An identifier, its pairpath and its place in the default layout.
-const ROWS: &[(&[u8], &[u8], &[u8])] = &[
-    (b"abc", b"ab/c", b"ba7/816/bf8/abc"),
-    (
+enum Row {
+    // An identifier, its pairpath and its place in the default layout.
+    Mapped(&'static [u8], &'static [u8], &'static [u8]),
+    // An identifier, and its place alone.
+    Placed(&'static [u8], &'static [u8]),
+    // An identifier, and its pairpath alone.
+    Pairpath(&'static [u8], &'static [u8]),
+    // An identifier, and its cleaned text.
+    Cleaned(&'static [u8], &'static [u8]),
+    // An identifier, and how many characters its encoding has.
+    Encoded(&'static [u8], usize),
+    // An identifier, and the front and the end of its last name.
+    Ends(&'static [u8], &'static [u8], &'static [u8]),
+    // A cleaned text, and the identifier that it reads; or why it reads none.
+    Read(&'static [u8], &'static str),
+    Unread(&'static [u8], UncleanFault),
+    // The names of a path, and the same with nothing between them.
+    Joined(&'static str, &'static [u8]),
+    // The bytes of a file `pairtree_prefix`, and the prefix; bytes that are the prefix, all of them; and why there is none.
+    Prefix(&'static [u8], &'static str),
+    WholePrefix(&'static [u8]),
+    NoPrefix(&'static [u8], PrefixFault),
+}
+
+impl Holds for Row {
+    fn holds(&self, alloc: Global) -> bool {
+        match self {
+            Row::Mapped(id, path, place) => {
+                gives_bytes(pairpath(alloc, id), path) && is_placed(alloc, id, place)
+            }
+            Row::Placed(id, place) => is_placed(alloc, id, place),
+            Row::Pairpath(id, path) => gives_bytes(pairpath(alloc, id), path),
+            Row::Cleaned(id, text) => gives_bytes(clean(alloc, id), text),
+            Row::Encoded(id, length) => has_encoding_of(alloc, id, *length),
+            Row::Ends(id, front, end) => ends_in(alloc, id, front, end),
+            Row::Read(text, id) => gives_text(unclean(alloc, text), id),
+            Row::Unread(text, fault) => refuses(unclean(alloc, text), *fault),
+            Row::Joined(names, text) => concatenates(alloc, names, text),
+            Row::Prefix(bytes, prefix) => gives_text(read_prefix(alloc, bytes), prefix),
+            Row::WholePrefix(bytes) => is_prefix(alloc, bytes),
+            Row::NoPrefix(bytes, fault) => refuses(read_prefix(alloc, bytes), *fault),
+        }
+    }
+}
+
+const MAPPED: &[Row] = &[
+    Row::Mapped(b"abc", b"ab/c", b"ba7/816/bf8/abc"),
+    Row::Mapped(
         b"ark:/13030/xt12t3",
         b"ar/k+/=1/30/30/=x/t1/2t/3",
         b"4b8/4fe/385/ark%3a%2f13030%2fxt12t3",
     ),
-    (
+    Row::Mapped(
         b"..hor/rib:le-$id",
         b",,/ho/r=/ri/b+/le/-$/id",
         b"487/326/d8c/%2e%2ehor%2frib%3ale-%24id",
     ),
-    (b"object-01", b"ob/je/ct/-0/1", b"3c0/ff4/240/object-01"),
-    (
+    Row::Mapped(b"object-01", b"ob/je/ct/-0/1", b"3c0/ff4/240/object-01"),
+    Row::Mapped(
         b"what-the-*@?#!^!?",
         b"wh/at/-t/he/-^/2a/@^/3f/#!/^5/e!/^3/f",
         b"fd1/d8a/b04/what-the-%2a%40%3f%23%21%5e%21%3f",
     ),
+    Row::Pairpath(b"", b""),
+    Row::Placed(b"\n", b"01b/a47/19c/%0a"),
 ];
 
-// The pairpath and the place in the default layout are these.
-fn is_mapped(alloc: Global, id: &[u8], path: &[u8], place: &[u8]) -> bool {
-    !id.is_empty()
-        && gives_bytes(pairpath(alloc, id), path)
-        && gives_bytes(Layout::default_form().place_text(alloc, id), place)
+// The identifier isn't empty, and its place in the default layout is this.
+fn is_placed(alloc: Global, id: &[u8], place: &[u8]) -> bool {
+    !id.is_empty() && gives_bytes(Layout::default_form().place_text(alloc, id), place)
 }
 
-#[test]
-fn pairpaths_and_places(rt: HostRuntime) {
-    for (id, path, place) in ROWS {
-        assert!(rt; is_mapped(rt.alloc(), id, path, place), "{id:?}");
-    }
-    assert!(rt; gives_bytes(pairpath(rt.alloc(), b""), b""));
-}
-
-// An identifier, and its cleaned text.
-const CLEANED: &[(&[u8], &[u8])] = &[
-    (
+const CLEANED: &[Row] = &[
+    Row::Cleaned(
         b"http://n2t.info/urn:nbn:se:kb:repos-1",
         b"http+==n2t,info=urn+nbn+se+kb+repos-1",
     ),
-    (b"\xc3\xa9", b"^c3^a9"),
-    (b"a\\ b", b"a^5c^20b"),
+    Row::Cleaned(b"\xc3\xa9", b"^c3^a9"),
+    Row::Cleaned(b"a\\ b", b"a^5c^20b"),
 ];
 
-#[test]
-fn cleaned_texts(rt: HostRuntime) {
-    for (id, text) in CLEANED {
-        assert!(rt; gives_bytes(clean(rt.alloc(), id), text), "{id:?}");
-    }
+// The identifier isn't empty, and its last name is this front, and then this end.
+fn ends_in(alloc: Global, id: &[u8], front: &[u8], end: &[u8]) -> bool {
+    !id.is_empty() && is_joined_of(last_name(alloc, id), front, end)
 }
 
-// The first 100 characters of the encoding of 34 slashes, which has 102.
-const SLASHES: &[u8] =
-    b"%2f%2f%2f%2f%2f%2f%2f%2f%2f%2f%2f%2f%2f%2f%2f%2f%2f%2f%2f%2f%2f%2f%2f%2f%2f%2f%2f%2f%2f%2f%2f%2f%2f%";
-
-// The last name of an identifier is this front, and then this end.
-fn ends_in(alloc: Global, id: &[u8], front: &[u8], end: &[u8]) -> bool
-    requires { 0 < length id.now }
-{
-    match last_name(alloc, id) {
+fn is_joined_of<E: Drop>(name: Result<Vec<u8>, E>, front: &[u8], end: &[u8]) -> bool {
+    match name {
         Ok(name) => {
             name.len() == front.len() + end.len() && name.starts_with(front) && name.ends_with(end)
         }
@@ -74,22 +98,86 @@ fn ends_in(alloc: Global, id: &[u8], front: &[u8], end: &[u8]) -> bool
     }
 }
 
-#[test]
-fn shortening_begins_after_100_characters(rt: HostRuntime) {
-    let letters = [b'a'; 101];
-    let of_letters = b"-9d0793397991b57a99a07c6e6b4a92bab68dbf605345cd0b87f385a448a726bc";
-    assert!(rt; ends_in(rt.alloc(), &letters[..100], &letters[..100], b""));
-    assert!(rt; ends_in(rt.alloc(), &letters, &letters[..100], of_letters));
+const A_100: &[u8] = &[b'a'; 100];
+
+const A_101: &[u8] = &[b'a'; 101];
+
+const LETTERS: &[Row] = &[
+    Row::Ends(A_100, A_100, b""),
+    Row::Ends(
+        A_101,
+        A_100,
+        b"-9d0793397991b57a99a07c6e6b4a92bab68dbf605345cd0b87f385a448a726bc",
+    ),
+];
+
+// 34 slashes, and 33 with a letter.
+const SLASHES: &[u8] = &[b'/'; 34];
+
+const SLASHES_AND_A: &[u8] = b"/////////////////////////////////a";
+
+// The first 99 characters of the encoding of 34 slashes, which has 102, and the one after them.
+const ENCODED: &[u8] =
+    b"%2f%2f%2f%2f%2f%2f%2f%2f%2f%2f%2f%2f%2f%2f%2f%2f%2f%2f%2f%2f%2f%2f%2f%2f%2f%2f%2f%2f%2f%2f%2f%2f%2f";
+
+const ENCODED_100: &[u8] =
+    b"%2f%2f%2f%2f%2f%2f%2f%2f%2f%2f%2f%2f%2f%2f%2f%2f%2f%2f%2f%2f%2f%2f%2f%2f%2f%2f%2f%2f%2f%2f%2f%2f%2f%";
+
+fn has_encoding_of(alloc: Global, id: &[u8], length: usize) -> bool {
+    match encoded(alloc, id) {
+        Ok(encoding) => encoding.len() == length,
+        Err(_) => false,
+    }
 }
 
-#[test]
-fn shortening_cuts_the_encoding(rt: HostRuntime) {
-    let mut id = [b'/'; 34];
-    let of_slashes = b"-1f62aeee9540aa9022a24e0c65a754e3434d310c30a4ecc682361bde1e7a8760";
-    assert!(rt; encoded(rt.alloc(), &id).is_ok_and(|encoding| encoding.len() == 102));
-    assert!(rt; ends_in(rt.alloc(), &id, SLASHES, of_slashes));
-    id[33] = b'a';
-    assert!(rt; ends_in(rt.alloc(), &id, &SLASHES[..99], b"a"));
+const CUT: &[Row] = &[
+    Row::Encoded(SLASHES, 102),
+    Row::Ends(
+        SLASHES,
+        ENCODED_100,
+        b"-1f62aeee9540aa9022a24e0c65a754e3434d310c30a4ecc682361bde1e7a8760",
+    ),
+    Row::Ends(SLASHES_AND_A, ENCODED, b"a"),
+];
+
+// Layouts and shares.
+enum Form {
+    // The size and the number of the tuples of the default layout.
+    DefaultLayout(u32, u32),
+    // The size and the number of the tuples of a layout; or why there is no such layout.
+    Layout(u32, u32),
+    NoLayout(u32, u32, LayoutFault),
+    // The same, how many names the place of `abc` has, and the place.
+    Place(u32, u32, usize, &'static [u8]),
+    // The number of a share, and how many there are; or why there is no such share.
+    Share(u32, u32),
+    NoShare(u32, u32, ShareFault),
+    // An identifier, and the numbers of the shares that it is of where there are so many as in `COUNTS`.
+    Shares(&'static [u8], &'static [u32; 7]),
+    // The same as of a share, and an identifier that it doesn't hold.
+    NotHeld(u32, u32, &'static [u8]),
+    // The share that is the whole is the first one.
+    WholeIsFirst,
+}
+
+impl Holds for Form {
+    fn holds(&self, alloc: Global) -> bool {
+        match self {
+            Form::DefaultLayout(size, count) => {
+                is_layout(Ok(Layout::default_form()), *size, *count)
+            }
+            Form::Layout(size, count) => is_layout(Layout::of(*size, *count), *size, *count),
+            Form::NoLayout(size, count, fault) => refuses(Layout::of(*size, *count), *fault),
+            Form::Place(size, count, names, place) => {
+                is_place(alloc, *size, *count, *names, place)
+            }
+            Form::Share(index, count) => is_share(Share::of(*index, *count), *index, *count),
+            Form::NoShare(index, count, fault) => refuses(Share::of(*index, *count), *fault),
+            Form::Shares(id, numbers) => first_missed(id, numbers).is_none(),
+            Form::NotHeld(index, count, id) => is_held(*index, *count, id, false),
+            Form::WholeIsFirst => Share::whole().is_first(),
+        }
+    }
 }
 
 fn is_layout(layout: Result<Layout, LayoutFault>, size: u32, count: u32) -> bool {
@@ -99,118 +187,88 @@ fn is_layout(layout: Result<Layout, LayoutFault>, size: u32, count: u32) -> bool
     }
 }
 
-#[test]
-fn layouts(rt: HostRuntime) {
-    assert!(rt; is_layout(Ok(Layout::default_form()), 3, 3));
-    for (size, count) in [(3, 3), (2, 4), (0, 0), (32, 2), (2, 32), (32, 1), (1, 32)] {
-        assert!(rt;
-            is_layout(Layout::of(size, count), size, count),
-            "{size} by {count}"
-        );
-    }
-}
-
-// The size and the number of tuples, and why there is no such layout.
-const NO_LAYOUTS: &[(u32, u32, LayoutFault)] = &[
-    (33, 1, LayoutFault::OutOfRange),
-    (1, 33, LayoutFault::OutOfRange),
-    (33, 0, LayoutFault::OutOfRange),
-    (0, 3, LayoutFault::OneZero),
-    (3, 0, LayoutFault::OneZero),
-    (13, 5, LayoutFault::TooLong),
-    (32, 3, LayoutFault::TooLong),
+const LAYOUTS: &[Form] = &[
+    Form::DefaultLayout(3, 3),
+    Form::Layout(3, 3),
+    Form::Layout(2, 4),
+    Form::Layout(0, 0),
+    Form::Layout(32, 2),
+    Form::Layout(2, 32),
+    Form::Layout(32, 1),
+    Form::Layout(1, 32),
 ];
 
-#[test]
-fn layouts_that_are_refused(rt: HostRuntime) {
-    for (size, count, fault) in NO_LAYOUTS {
-        assert!(rt;
-            refuses(Layout::of(*size, *count), *fault),
-            "{size} by {count}"
-        );
-    }
-}
-
-// A cleaned text, and the identifier that it reads.
-const READ: &[(&[u8], &str)] = &[
-    (b"^2A", "*"),
-    (b"^2a", "*"),
-    (b"a\\", "a\\"),
-    (b"a^5c", "a\\"),
-    (b"ark+=13030=xt12t3", "ark:/13030/xt12t3"),
-    (b"ab/c", "ab/c"),
-    (b"\"*<>?|", "\"*<>?|"),
-    (b"^c3^A9", "\u{e9}"),
-    (b"", ""),
+const NO_LAYOUTS: &[Form] = &[
+    Form::NoLayout(33, 1, LayoutFault::OutOfRange),
+    Form::NoLayout(1, 33, LayoutFault::OutOfRange),
+    Form::NoLayout(33, 0, LayoutFault::OutOfRange),
+    Form::NoLayout(0, 3, LayoutFault::OneZero),
+    Form::NoLayout(3, 0, LayoutFault::OneZero),
+    Form::NoLayout(13, 5, LayoutFault::TooLong),
+    Form::NoLayout(32, 3, LayoutFault::TooLong),
 ];
 
-#[test]
-fn texts_read_back(rt: HostRuntime) {
-    for (text, id) in READ {
-        assert!(rt; gives_text(unclean(rt.alloc(), text), id), "{text:?}");
-    }
-}
-
-// A text, and why it reads no identifier.
-const UNREAD: &[(&[u8], UncleanFault)] = &[
-    (b"^ff^2", UncleanFault::Malformed),
-    (b"^ff", UncleanFault::NotUtf8),
-    (b"^2", UncleanFault::Malformed),
-    (b"^", UncleanFault::Malformed),
-    (b"^2g", UncleanFault::Malformed),
-    (b"a b", UncleanFault::Malformed),
-    (b"\x7f", UncleanFault::Malformed),
-    (b"\xc3\xa9", UncleanFault::Malformed),
-    (b"^^2a", UncleanFault::Malformed),
+const READ: &[Row] = &[
+    Row::Read(b"^2A", "*"),
+    Row::Read(b"^2a", "*"),
+    Row::Read(b"a\\", "a\\"),
+    Row::Read(b"a^5c", "a\\"),
+    Row::Read(b"ark+=13030=xt12t3", "ark:/13030/xt12t3"),
+    Row::Read(b"ab/c", "ab/c"),
+    Row::Read(b"\"*<>?|", "\"*<>?|"),
+    Row::Read(b"^c3^A9", "\u{e9}"),
+    Row::Read(b"", ""),
 ];
 
-#[test]
-fn texts_that_read_nothing(rt: HostRuntime) {
-    for (text, fault) in UNREAD {
-        assert!(rt; refuses(unclean(rt.alloc(), text), *fault), "{text:?}");
-    }
-}
-
-// The bytes of a file `pairtree_prefix`, and the prefix.
-const PREFIXES: &[(&[u8], &str)] = &[
-    (b"uc1.\r\n\n", "uc1."),
-    (b"\n", ""),
-    (b"", ""),
-    (b"a\nb\r", "a\nb"),
+const UNREAD: &[Row] = &[
+    Row::Unread(b"^ff^2", UncleanFault::Malformed),
+    Row::Unread(b"^ff", UncleanFault::NotUtf8),
+    Row::Unread(b"^2", UncleanFault::Malformed),
+    Row::Unread(b"^", UncleanFault::Malformed),
+    Row::Unread(b"^2g", UncleanFault::Malformed),
+    Row::Unread(b"a b", UncleanFault::Malformed),
+    Row::Unread(b"\x7f", UncleanFault::Malformed),
+    Row::Unread(b"\xc3\xa9", UncleanFault::Malformed),
+    Row::Unread(b"^^2a", UncleanFault::Malformed),
 ];
 
-#[test]
-fn prefixes(rt: HostRuntime) {
-    for (bytes, prefix) in PREFIXES {
-        assert!(rt;
-            gives_text(read_prefix(rt.alloc(), bytes), prefix),
-            "{bytes:?}"
-        );
+const PREFIXES: &[Row] = &[
+    Row::Prefix(b"uc1.\r\n\n", "uc1."),
+    Row::Prefix(b"\n", ""),
+    Row::Prefix(b"", ""),
+    Row::Prefix(b"a\nb\r", "a\nb"),
+];
+
+const A_1024: &[u8] = &[b'a'; 1024];
+
+const A_1025: &[u8] = &[b'a'; 1025];
+
+const NO_PREFIXES: &[Row] = &[
+    Row::WholePrefix(A_1024),
+    Row::NoPrefix(A_1025, PrefixFault::TooLong),
+    Row::NoPrefix(b"\xff", PrefixFault::NotUtf8),
+];
+
+// These bytes are the prefix, all of them.
+fn is_prefix(alloc: Global, bytes: &[u8]) -> bool {
+    match str::from_utf8(bytes) {
+        Ok(prefix) => gives_text(read_prefix(alloc, bytes), prefix),
+        Err(_) => false,
     }
 }
 
-#[test]
-fn prefixes_end_at_their_greatest_length(rt: HostRuntime) {
-    let letters = [b'a'; 1025];
-    let mut with_line_end = letters;
-    with_line_end[1024] = b'\n';
-    let longest = str::from_utf8(&letters[..1024]).unwrap_or("");
-    assert!(rt; gives_text(read_prefix(rt.alloc(), &letters[..1024]), longest));
-    for (bytes, fault) in [
-        (letters.as_slice(), PrefixFault::TooLong),
-        (with_line_end.as_slice(), PrefixFault::TooLong),
-        (b"\xff", PrefixFault::NotUtf8),
-    ] {
-        assert!(rt; refuses(read_prefix(rt.alloc(), bytes), fault), "{bytes:?}");
-    }
+// 1,024 letters and a line end, which isn't taken off before the length is looked at.
+fn refuses_line_end(alloc: Global) -> bool {
+    let mut bytes = [b'a'; 1025];
+    bytes[1024] = b'\n';
+    refuses(read_prefix(alloc, &bytes), PrefixFault::TooLong)
 }
 
-// The size and the number of tuples; how many names the place of `abc` has, and the place.
-const PLACES: &[(u32, u32, usize, &[u8])] = &[
-    (3, 3, 4, b"ba7/816/bf8/abc"),
-    (2, 4, 5, b"ba/78/16/bf/abc"),
-    (0, 0, 1, b"abc"),
-    (
+const PLACES: &[Form] = &[
+    Form::Place(3, 3, 4, b"ba7/816/bf8/abc"),
+    Form::Place(2, 4, 5, b"ba/78/16/bf/abc"),
+    Form::Place(0, 0, 1, b"abc"),
+    Form::Place(
         32,
         2,
         3,
@@ -230,21 +288,11 @@ fn abc_lies_at(alloc: Global, layout: Layout, names: usize, place: &[u8]) -> boo
     }
 }
 
-#[test]
-fn places_in_other_layouts(rt: HostRuntime) {
-    for (size, count, names, place) in PLACES {
-        let layout = Layout::of(*size, *count);
-        assert!(rt;
-            layout.is_ok_and(|layout| abc_lies_at(rt.alloc(), layout, *names, place)),
-            "{size} by {count}"
-        );
+fn is_place(alloc: Global, size: u32, count: u32, names: usize, place: &[u8]) -> bool {
+    match Layout::of(size, count) {
+        Ok(layout) => abc_lies_at(alloc, layout, names, place),
+        Err(_) => false,
     }
-}
-
-#[test]
-fn place_of_a_line_end(rt: HostRuntime) {
-    let text = Layout::default_form().place_text(rt.alloc(), b"\n");
-    assert!(rt; gives_bytes(text, b"01b/a47/19c/%0a"));
 }
 
 // The names of this path are this text, with nothing between them.
@@ -255,31 +303,30 @@ fn concatenates(alloc: Global, names: &str, want: &[u8]) -> bool {
     }
 }
 
-#[test]
-fn identifiers_are_read_from_joined_names(rt: HostRuntime) {
-    assert!(rt; concatenates(rt.alloc(), "^6/1b/c", b"^61bc"));
-    assert!(rt; gives_text(unclean(rt.alloc(), b"^61bc"), "abc"));
-    assert!(rt; concatenates(rt.alloc(), "", b""));
-}
+const JOINED: &[Row] = &[
+    Row::Joined("^6/1b/c", b"^61bc"),
+    Row::Read(b"^61bc", "abc"),
+    Row::Joined("", b""),
+];
 
 const COUNTS: [u32; 7] = [1, 2, 3, 4, 7, 100, 4096];
 
-// An identifier, and the numbers of the shares that it is of where there are so many: computed from its SHA-256 by
-// another program.
-const SHARES: &[(&[u8], [u32; 7])] = &[
-    (b"abc", [1, 2, 3, 3, 6, 73, 2984]),
-    (b"abcd", [1, 2, 2, 3, 4, 54, 2190]),
-    (b"abcde", [1, 1, 1, 1, 2, 22, 876]),
-    (b"", [1, 2, 3, 4, 7, 89, 3644]),
-    (b"ark:/13030/xt12t3", [1, 1, 1, 2, 3, 30, 1209]),
-    (b"\xc3\xa9", [1, 1, 1, 2, 3, 30, 1194]),
-    (b"a", [1, 2, 3, 4, 6, 80, 3242]),
-    (b"ab", [1, 2, 3, 4, 7, 99, 4025]),
+// Computed from the SHA-256 of the identifiers by another program.
+const SHARES: &[Form] = &[
+    Form::Shares(b"abc", &[1, 2, 3, 3, 6, 73, 2984]),
+    Form::Shares(b"abcd", &[1, 2, 2, 3, 4, 54, 2190]),
+    Form::Shares(b"abcde", &[1, 1, 1, 1, 2, 22, 876]),
+    Form::Shares(b"", &[1, 2, 3, 4, 7, 89, 3644]),
+    Form::Shares(b"ark:/13030/xt12t3", &[1, 1, 1, 2, 3, 30, 1209]),
+    Form::Shares(b"\xc3\xa9", &[1, 1, 1, 2, 3, 30, 1194]),
+    Form::Shares(b"a", &[1, 2, 3, 4, 6, 80, 3242]),
+    Form::Shares(b"ab", &[1, 2, 3, 4, 7, 99, 4025]),
 ];
 
-fn share_holds(index: u32, count: u32, id: &[u8]) -> bool {
+// There is such a share, and it holds the identifier; or it doesn't.
+fn is_held(index: u32, count: u32, id: &[u8], answer: bool) -> bool {
     match Share::of(index, count) {
-        Ok(share) => share.holds(id),
+        Ok(share) => share.holds(id) == answer,
         Err(_) => false,
     }
 }
@@ -287,67 +334,99 @@ fn share_holds(index: u32, count: u32, id: &[u8]) -> bool {
 // How many shares there are where the identifier isn't of the share with its number, if anywhere.
 fn first_missed(id: &[u8], numbers: &[u32; 7]) -> Option<u32> {
     for (count, number) in COUNTS.iter().zip(numbers.iter()) {
-        if !share_holds(*number, *count, id) {
+        if !is_held(*number, *count, id, true) {
             return Some(*count);
         }
     }
     None
 }
 
-#[test]
-fn shares_of_identifiers(rt: HostRuntime) {
-    for (id, numbers) in SHARES {
-        let missed = first_missed(id, numbers);
-        assert!(rt; missed.is_none(), "{id:?} of {missed:?}");
-    }
-}
-
-#[test]
-fn shares_hold_no_other_identifiers(rt: HostRuntime) {
-    assert!(rt; Share::of(1, 2).is_ok_and(|share| !share.holds(b"abc")));
-    assert!(rt; Share::of(3, 4).is_ok_and(|share| !share.holds(b"ab")));
-    assert!(rt; Share::whole().is_first());
-}
-
-// The number of a share and how many there are, and why there is no such share.
-const NO_SHARES: &[(u32, u32, ShareFault)] = &[
-    (0, 0, ShareFault::Zero),
-    (0, 5000, ShareFault::Zero),
-    (1, 0, ShareFault::Zero),
-    (1, 4097, ShareFault::TooMany),
-    (5000, 4097, ShareFault::TooMany),
-    (2, 1, ShareFault::OutOfRange),
-    (4097, 4096, ShareFault::OutOfRange),
+const NOT_HELD: &[Form] = &[
+    Form::NotHeld(1, 2, b"abc"),
+    Form::NotHeld(3, 4, b"ab"),
+    Form::WholeIsFirst,
 ];
 
-#[test]
-fn shares_that_are_refused(rt: HostRuntime) {
-    for (index, count, fault) in NO_SHARES {
-        assert!(rt;
-            refuses(Share::of(*index, *count), *fault),
-            "{index} of {count}"
-        );
+const NO_SHARES: &[Form] = &[
+    Form::NoShare(0, 0, ShareFault::Zero),
+    Form::NoShare(0, 5000, ShareFault::Zero),
+    Form::NoShare(1, 0, ShareFault::Zero),
+    Form::NoShare(1, 4097, ShareFault::TooMany),
+    Form::NoShare(5000, 4097, ShareFault::TooMany),
+    Form::NoShare(2, 1, ShareFault::OutOfRange),
+    Form::NoShare(4097, 4096, ShareFault::OutOfRange),
+    Form::Share(4096, 4096),
+];
+
+fn is_share(share: Result<Share, ShareFault>, index: u32, count: u32) -> bool {
+    match share {
+        Ok(share) => share.index() == index && share.count() == count,
+        Err(_) => false,
     }
-    let last = Share::of(4096, 4096);
-    assert!(rt; last.is_ok_and(|last| last.index() == 4096 && last.count() == 4096));
+}
+
+#[test]
+fn texts_of_identifiers(rt: HostRuntime) {
+    all_hold(&rt, rt.alloc(), "pairpaths and places", MAPPED);
+    all_hold(&rt, rt.alloc(), "cleaned texts", CLEANED);
+    all_hold(
+        &rt,
+        rt.alloc(),
+        "shortening begins after 100 characters",
+        LETTERS,
+    );
+    all_hold(&rt, rt.alloc(), "shortening cuts the encoding", CUT);
+    all_hold(&rt, rt.alloc(), "texts read back", READ);
+    all_hold(&rt, rt.alloc(), "texts that read nothing", UNREAD);
+    all_hold(&rt, rt.alloc(), "prefixes", PREFIXES);
+    all_hold(
+        &rt,
+        rt.alloc(),
+        "prefixes end at their greatest length",
+        NO_PREFIXES,
+    );
+    all_hold(
+        &rt,
+        rt.alloc(),
+        "identifiers are read from joined names",
+        JOINED,
+    );
+    assert!(rt; refuses_line_end(rt.alloc()));
+}
+
+#[test]
+fn layouts_and_shares(rt: HostRuntime) {
+    all_hold(&rt, rt.alloc(), "layouts", LAYOUTS);
+    all_hold(&rt, rt.alloc(), "layouts that are refused", NO_LAYOUTS);
+    all_hold(&rt, rt.alloc(), "places in other layouts", PLACES);
+    all_hold(&rt, rt.alloc(), "shares of identifiers", SHARES);
+    all_hold(
+        &rt,
+        rt.alloc(),
+        "shares hold no other identifiers",
+        NOT_HELD,
+    );
+    all_hold(&rt, rt.alloc(), "shares that are refused", NO_SHARES);
 }
 
 #[test]
 fn faults_of_names_have_numbers(rt: HostRuntime) {
-    for (fault, number, want) in [
-        ("OutOfRange", LayoutFault::OutOfRange.number(), 1),
-        ("OneZero", LayoutFault::OneZero.number(), 2),
-        ("TooLong", LayoutFault::TooLong.number(), 3),
-        ("Malformed", UncleanFault::Malformed.number(), 1),
-        ("NotUtf8", UncleanFault::NotUtf8.number(), 2),
-        ("Memory", UncleanFault::Memory.number(), 3),
-        ("TooLong", PrefixFault::TooLong.number(), 1),
-        ("NotUtf8", PrefixFault::NotUtf8.number(), 2),
-        ("Memory", PrefixFault::Memory.number(), 3),
-        ("Zero", ShareFault::Zero.number(), 1),
-        ("TooMany", ShareFault::TooMany.number(), 2),
-        ("OutOfRange", ShareFault::OutOfRange.number(), 3),
-    ] {
-        assert!(rt; number == want, "{fault} isn't {want}");
-    }
+    let numbers = [
+        LayoutFault::OutOfRange.number(),
+        LayoutFault::OneZero.number(),
+        LayoutFault::TooLong.number(),
+        UncleanFault::Malformed.number(),
+        UncleanFault::NotUtf8.number(),
+        UncleanFault::Memory.number(),
+        PrefixFault::TooLong.number(),
+        PrefixFault::NotUtf8.number(),
+        PrefixFault::Memory.number(),
+        ShareFault::Zero.number(),
+        ShareFault::TooMany.number(),
+        ShareFault::OutOfRange.number(),
+    ];
+    assert!(rt;
+        numbers == [1, 2, 3, 1, 2, 3, 1, 2, 3, 1, 2, 3],
+        "{numbers:?}"
+    );
 }

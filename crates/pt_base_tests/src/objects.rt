@@ -1,4 +1,4 @@
-use crate::answers::{gives_text, is_path, refuses};
+use crate::answers::{Holds, all_hold, gives_text, is_path, refuses};
 use pt_name::Layout;
 use pt_object::{
     Algorithm, Content, Contents, Digest, Hasher, Meta, MetaFault, RootFiles, Row, Rows,
@@ -6,9 +6,7 @@ use pt_object::{
 };
 use pt_texts::path;
 use pt_tree::{Block, NamePath};
-use std::alloc::Global;
-use std::process::Abort;
-use std::test::Fail;
+use std::alloc::{AllocError, Global};
 
 // The SHA-512 of `abc` and of the empty text.
 pub(crate) const OF_ABC: &str =
@@ -57,55 +55,92 @@ fn is_digest(alloc: Global, digest: &Digest, length: usize, text: &str) -> bool 
     digest.bytes().len() == length && gives_text(digest.hex(alloc), text)
 }
 
-// Two digests are one, and come after the third.
-fn are_one_above(first: &Digest, second: &Digest, third: &Digest) -> bool {
-    first == second && first != third && third < first
+enum Worked {
+    // Bytes in blocks, and the SHA-512 of them.
+    Blocks(&'static [&'static [u8]], &'static str),
+    // A number of letters, and the SHA-256 of as many.
+    Letters(usize, &'static str),
+    // An algorithm, its word, and the digest in the sidecar of `abc`.
+    Sidecar(Algorithm, &'static str, &'static str),
+    // A moment to the second.
+    Moment(&'static str),
+    // No moment, with a name and without one: it is looked at first.
+    NoMoment(&'static str),
+    // A moment, and a name that is none.
+    NoName(&'static str, &'static str),
+    // The size and the number of tuples, and the end of that layout's configuration.
+    Config(u32, u32, &'static str),
 }
 
-#[test]
-fn digests_of_blocks(rt: HostRuntime) {
-    let abc = digest_of_blocks(Algorithm::Sha512, &[b"abc".as_slice()]);
-    let in_two = digest_of_blocks(Algorithm::Sha512, &[b"a".as_slice(), b"bc".as_slice()]);
+impl Holds for Worked {
+    fn holds(&self, alloc: Global) -> bool {
+        match self {
+            Worked::Blocks(blocks, text) => {
+                is_digest(
+                    alloc,
+                    &digest_of_blocks(Algorithm::Sha512, blocks),
+                    64,
+                    text,
+                )
+            }
+            Worked::Letters(count, text) => {
+                is_digest(
+                    alloc,
+                    &digest_of_letters(Algorithm::Sha256, *count),
+                    32,
+                    text,
+                )
+            }
+            Worked::Sidecar(algorithm, word, digest) => {
+                algorithm.word() == *word && is_sidecar(alloc, *algorithm, digest)
+            }
+            Worked::Moment(created) => Meta::of(alloc, created, "Ada", None, "").is_ok(),
+            Worked::NoMoment(created) => is_no_moment(alloc, created),
+            Worked::NoName(created, name) => refuses(
+                Meta::of(alloc, created, name, Some("a"), "m"),
+                MetaFault::EmptyName,
+            ),
+            Worked::Config(size, count, config) => gives_files(alloc, *size, *count, config),
+        }
+    }
+}
+
+const ABC: &[&[u8]] = &[b"abc"];
+
+const A_AND_BC: &[&[u8]] = &[b"a", b"bc"];
+
+const BLOCKS: &[Worked] = &[
+    Worked::Blocks(ABC, OF_ABC),
+    Worked::Blocks(A_AND_BC, OF_ABC),
+    Worked::Blocks(&[], OF_NOTHING),
+];
+
+// The digest of `abc` is one, however it is fed, and comes after that of nothing.
+fn are_in_order() -> bool {
+    let abc = digest_of_blocks(Algorithm::Sha512, ABC);
+    let in_two = digest_of_blocks(Algorithm::Sha512, A_AND_BC);
     let nothing = digest_of_blocks(Algorithm::Sha512, &[]);
-    assert!(rt; is_digest(rt.alloc(), &abc, 64, OF_ABC));
-    assert!(rt; is_digest(rt.alloc(), &in_two, 64, OF_ABC));
-    assert!(rt; is_digest(rt.alloc(), &nothing, 64, OF_NOTHING));
-    assert!(rt; are_one_above(&abc, &in_two, &nothing));
+    abc == in_two && abc != nothing && nothing < abc
 }
 
-// A number of letters, and the SHA-256 of as many.
-const LETTERS: &[(usize, &str)] = &[
-    (
+const LETTERS: &[Worked] = &[
+    Worked::Letters(
         0,
         "e3b0c44298fc1c149afbf4c8996fb92427ae41e4649b934ca495991b7852b855",
     ),
-    (
+    Worked::Letters(
         8191,
         "d691798dcd3bab9099e84b4cbc484caef67262d1ef5dca83330d07f5ce4740dd",
     ),
-    (
+    Worked::Letters(
         8192,
         "dd4e6730520932767ec0a9e33fe19c4ce24399d6eba4ff62f13013c9ed30ef87",
     ),
-    (
+    Worked::Letters(
         8193,
         "9c10c48d1f1d6618db88fde2c25409181c9201ed34ec6815d62bcf57c10d177b",
     ),
 ];
-
-#[test]
-fn digests_at_the_length_of_a_block(rt: HostRuntime) {
-    for (count, text) in LETTERS {
-        let digest = digest_of_letters(Algorithm::Sha256, *count);
-        assert!(rt; is_digest(rt.alloc(), &digest, 32, text), "{count} letters");
-    }
-}
-
-#[test]
-fn words_of_algorithms(rt: HostRuntime) {
-    assert!(rt; Algorithm::Sha512.word() == "sha512");
-    assert!(rt; Algorithm::Sha256.word() == "sha256");
-}
 
 fn is_row(row: Option<&Row>, path: &NamePath, digest: &Digest, length: u64) -> bool {
     match row {
@@ -118,21 +153,32 @@ fn takes_row(rows: &mut Rows, path: &NamePath, digest: &Digest) -> bool {
     rows.push(path, digest, 1).is_ok()
 }
 
-fn keeps_a_row(rt: &impl Abort, rows: &mut Rows, path: &NamePath, digest: &Digest) {
-    assert!(rt; rows.is_empty());
-    assert!(rt; takes_row(rows, path, digest));
-    assert!(rt; rows.len() == 1 && is_row(rows.get(0), path, digest, 1));
-    assert!(rt; rows.get(1).is_none());
+// Having no rows, it keeps this one, until it is cleared.
+fn keeps_a_row(rows: &mut Rows, path: &NamePath, digest: &Digest) -> bool {
+    rows.is_empty()
+        && takes_row(rows, path, digest)
+        && rows.len() == 1
+        && is_row(rows.get(0), path, digest, 1)
+        && rows.get(1).is_none()
+        && is_cleared(rows)
+}
+
+fn is_cleared(rows: &mut Rows) -> bool {
     rows.clear();
-    assert!(rt; rows.is_empty());
+    rows.is_empty()
+}
+
+fn keeps_rows(alloc: Global) -> bool {
+    let digest = digest_of_letters(Algorithm::Sha512, 1);
+    match path(alloc, "a/x") {
+        Ok(path) => keeps_a_row(&mut Rows::new(alloc), &path, &digest),
+        Err(_) => false,
+    }
 }
 
 #[test]
-fn keeps_rows_in_order(rt: HostRuntime) -> Result<(), Fail> {
-    let path = path(rt.alloc(), "a/x")?;
-    let digest = digest_of_letters(Algorithm::Sha512, 1);
-    keeps_a_row(&rt, &mut Rows::new(rt.alloc()), &path, &digest);
-    Ok(())
+fn keeps_rows_in_order(rt: HostRuntime) {
+    assert!(rt; keeps_rows(rt.alloc()));
 }
 
 fn is_item(item: Option<&Content>, digest: &Digest, path: &NamePath) -> bool {
@@ -142,10 +188,12 @@ fn is_item(item: Option<&Content>, digest: &Digest, path: &NamePath) -> bool {
     }
 }
 
-// Notes a digest at a path of this text, and answers whether it is new.
-fn note(contents: &mut Contents, alloc: Global, digest: &Digest, at: &str) -> Option<bool> {
-    let at = path(alloc, at).ok()?;
-    contents.note(digest, &at).ok()
+// A digest is noted at a path of this text, and it is new; or it isn't.
+fn is_noted(contents: &mut Contents, alloc: Global, digest: &Digest, at: &str, new: bool) -> bool {
+    match path(alloc, at) {
+        Ok(at) => contents.note(digest, &at) == Ok(new),
+        Err(_) => false,
+    }
 }
 
 // The item has this digest, and a path of this text.
@@ -164,34 +212,43 @@ fn is_first_at(contents: &Contents, digest: &Digest, at: &str) -> bool {
     }
 }
 
-fn notes(rt: &impl Abort, alloc: Global, contents: &mut Contents, abc: &Digest, nothing: &Digest) {
-    assert!(rt; note(contents, alloc, abc, "a/x") == Some(true));
-    assert!(rt; note(contents, alloc, abc, "a.txt") == Some(false));
-    assert!(rt; note(contents, alloc, nothing, "c") == Some(true));
+// Without contents, it notes these two.
+fn notes(contents: &mut Contents, alloc: Global, abc: &Digest, nothing: &Digest) -> bool {
+    contents.is_empty()
+        && contents.first(abc).is_none()
+        && is_noted(contents, alloc, abc, "a/x", true)
+        && is_noted(contents, alloc, abc, "a.txt", false)
+        && is_noted(contents, alloc, nothing, "c", true)
 }
 
-fn are_noted(rt: &impl Abort, contents: &Contents, abc: &Digest, nothing: &Digest) {
-    assert!(rt; contents.len() == 2);
-    assert!(rt; is_noted_at(contents.get(0), abc, "a/x"));
-    assert!(rt; is_noted_at(contents.get(1), nothing, "c"));
-    assert!(rt; contents.get(2).is_none());
-    assert!(rt; is_first_at(contents, abc, "a/x"));
+fn are_noted(contents: &Contents, abc: &Digest, nothing: &Digest) -> bool {
+    contents.len() == 2
+        && is_noted_at(contents.get(0), abc, "a/x")
+        && is_noted_at(contents.get(1), nothing, "c")
+        && contents.get(2).is_none()
+        && is_first_at(contents, abc, "a/x")
+}
+
+fn are_cleared(contents: &mut Contents) -> bool {
+    contents.clear();
+    contents.is_empty()
+}
+
+fn notes_once(contents: &mut Contents, alloc: Global) -> bool {
+    let abc = digest_of_blocks(Algorithm::Sha512, ABC);
+    let nothing = digest_of_blocks(Algorithm::Sha512, &[]);
+    notes(contents, alloc, &abc, &nothing)
+        && are_noted(contents, &abc, &nothing)
+        && are_cleared(contents)
 }
 
 #[test]
 fn notes_each_content_once(rt: HostRuntime) {
-    let abc = digest_of_blocks(Algorithm::Sha512, &[b"abc".as_slice()]);
-    let nothing = digest_of_blocks(Algorithm::Sha512, &[]);
-    let mut contents = Contents::new(rt.alloc());
-    assert!(rt; contents.is_empty() && contents.first(&abc).is_none());
-    notes(&rt, rt.alloc(), &mut contents, &abc, &nothing);
-    are_noted(&rt, &contents, &abc, &nothing);
-    contents.clear();
-    assert!(rt; contents.is_empty());
+    assert!(rt; notes_once(&mut Contents::new(rt.alloc()), rt.alloc()));
 }
 
 // The SHA-256 digests of the texts of one byte, from the byte 0 on.
-fn digests_of_bytes(alloc: Global) -> Result<Vec<Digest>, Fail> {
+fn digests_of_bytes(alloc: Global) -> Result<Vec<Digest>, AllocError> {
     let mut digests = Vec::new(alloc);
     for byte in 0..=255u8 {
         digests.push(digest_of_blocks(Algorithm::Sha256, &[[byte].as_slice()]))?;
@@ -239,64 +296,69 @@ fn first_out_of_order(
     if let Some(i) = first_unlike(contents, path, digests, false) {
         return Some((i, "is new"));
     }
-    match first_not_found(contents, path, digests) {
-        Some(i) => Some((i, "isn't found")),
-        None => None,
+    if let Some(i) = first_not_found(contents, path, digests) {
+        return Some((i, "isn't found"));
+    }
+    if contents.len() != 256 {
+        return Some((256, "isn't the last"));
+    }
+    None
+}
+
+// The same from the start, at a path.
+fn first_misnoted(alloc: Global, digests: &[Digest]) -> Option<(usize, &'static str)> {
+    match path(alloc, "f") {
+        Ok(path) => first_out_of_order(&mut Contents::new(alloc), &path, digests),
+        Err(_) => Some((0, "has no path")),
     }
 }
 
-fn notes_in_order(rt: &impl Abort, contents: &mut Contents, path: &NamePath, digests: &[Digest]) {
-    let wrong = first_out_of_order(contents, path, digests);
-    assert!(rt; wrong.is_none(), "{wrong:?}");
-    assert!(rt; contents.len() == 256);
-}
-
-#[test]
-fn notes_in_any_order_of_digests(rt: HostRuntime) -> Result<(), Fail> {
-    let path = path(rt.alloc(), "f")?;
-    let mut digests = digests_of_bytes(rt.alloc())?;
-    notes_in_order(&rt, &mut Contents::new(rt.alloc()), &path, &digests);
-    digests.sort()?;
-    notes_in_order(&rt, &mut Contents::new(rt.alloc()), &path, &digests);
+// The same of these digests as they are, sorted, and the other way round.
+fn first_in_any_order(alloc: Global, digests: &mut Vec<Digest>) -> Option<(usize, &'static str)> {
+    let given = first_misnoted(alloc, digests);
+    if digests.sort().is_err() {
+        return Some((0, "isn't sorted"));
+    }
+    let sorted = first_misnoted(alloc, digests);
     digests.reverse();
-    notes_in_order(&rt, &mut Contents::new(rt.alloc()), &path, &digests);
-    Ok(())
+    given.or(sorted).or(first_misnoted(alloc, digests))
 }
 
-const MOMENTS: &[&str] = &[
-    "2024-05-01T12:00:00Z",
-    "2024-02-29T23:59:59+05:30",
-    "2024-05-01T12:00:00-00:00",
-    "0000-01-01T00:00:00Z",
-];
-
-fn is_moment(alloc: Global, created: &str) -> bool {
-    Meta::of(alloc, created, "Ada", None, "").is_ok()
-}
-
-#[test]
-fn takes_moments_to_the_second(rt: HostRuntime) {
-    for created in MOMENTS {
-        assert!(rt; is_moment(rt.alloc(), created), "{created}");
+fn first_wrong(alloc: Global) -> Option<(usize, &'static str)> {
+    match digests_of_bytes(alloc) {
+        Ok(mut digests) => first_in_any_order(alloc, &mut digests),
+        Err(_) => Some((0, "isn't there")),
     }
 }
 
-const NO_MOMENTS: &[&str] = &[
-    "2024-02-30T00:00:00Z",
-    "2023-02-29T00:00:00Z",
-    "2024-05-01T24:00:00Z",
-    "2024-05-01T12:00:60Z",
-    "2024-05-01T12:00:00.5Z",
-    "2024-05-01T12:00:00z",
-    "2024-05-01t12:00:00Z",
-    "2024-05-01T12:00:00+24:00",
-    "2024-05-01T12:00:00+05:30Z",
-    "2024-05-01T12:00:00",
-    "2024-13-01T12:00:00Z",
-    "",
+#[test]
+fn notes_in_any_order_of_digests(rt: HostRuntime) {
+    let wrong = first_wrong(rt.alloc());
+    assert!(rt; wrong.is_none(), "{wrong:?}");
+}
+
+const MOMENTS: &[Worked] = &[
+    Worked::Moment("2024-05-01T12:00:00Z"),
+    Worked::Moment("2024-02-29T23:59:59+05:30"),
+    Worked::Moment("2024-05-01T12:00:00-00:00"),
+    Worked::Moment("0000-01-01T00:00:00Z"),
 ];
 
-// With a name and without one: the moment is looked at first.
+const NO_MOMENTS: &[Worked] = &[
+    Worked::NoMoment("2024-02-30T00:00:00Z"),
+    Worked::NoMoment("2023-02-29T00:00:00Z"),
+    Worked::NoMoment("2024-05-01T24:00:00Z"),
+    Worked::NoMoment("2024-05-01T12:00:60Z"),
+    Worked::NoMoment("2024-05-01T12:00:00.5Z"),
+    Worked::NoMoment("2024-05-01T12:00:00z"),
+    Worked::NoMoment("2024-05-01t12:00:00Z"),
+    Worked::NoMoment("2024-05-01T12:00:00+24:00"),
+    Worked::NoMoment("2024-05-01T12:00:00+05:30Z"),
+    Worked::NoMoment("2024-05-01T12:00:00"),
+    Worked::NoMoment("2024-13-01T12:00:00Z"),
+    Worked::NoMoment(""),
+];
+
 fn is_no_moment(alloc: Global, created: &str) -> bool {
     refuses(
         Meta::of(alloc, created, "Ada", None, ""),
@@ -304,48 +366,26 @@ fn is_no_moment(alloc: Global, created: &str) -> bool {
     ) && refuses(Meta::of(alloc, created, "", None, "m"), MetaFault::Created)
 }
 
-#[test]
-fn refuses_what_is_no_moment(rt: HostRuntime) {
-    for created in NO_MOMENTS {
-        assert!(rt; is_no_moment(rt.alloc(), created), "{created}");
+// The sidecar of `abc` is this digest and the name of an inventory.
+fn is_sidecar(alloc: Global, algorithm: Algorithm, digest: &str) -> bool {
+    match sidecar(alloc, "abc", algorithm) {
+        Ok(text) => text.as_str().strip_prefix(digest) == Some(" inventory.json\n"),
+        Err(_) => false,
     }
 }
 
-#[test]
-fn refuses_no_name(rt: HostRuntime) {
-    let unnamed = Meta::of(rt.alloc(), "2024-05-01T12:00:00Z", "", Some("a"), "m");
-    assert!(rt; refuses(unnamed, MetaFault::EmptyName));
-    assert!(rt; MetaFault::Memory.number() == 3);
-}
-
-#[test]
-fn bytes_of_declarations(rt: HostRuntime) {
-    assert!(rt; object_declaration() == b"ocfl_object_1.1\n".as_slice());
-    assert!(rt; root_declaration() == b"ocfl_1.1\n".as_slice());
-}
-
-// The text is this digest and the name of an inventory.
-fn is_sidecar(text: &str, digest: &str) -> bool {
-    text.strip_prefix(digest) == Some(" inventory.json\n")
-}
-
-#[test]
-fn bytes_of_sidecars(rt: HostRuntime) -> Result<(), Fail> {
-    let short = sidecar(rt.alloc(), "abc", Algorithm::Sha256)?;
-    assert!(rt; is_sidecar(short.as_str(), SHORT_OF_ABC));
-    let long = sidecar(rt.alloc(), "abc", Algorithm::Sha512)?;
-    assert!(rt; is_sidecar(long.as_str(), OF_ABC));
-    Ok(())
-}
+const SIDECARS: &[Worked] = &[
+    Worked::Sidecar(Algorithm::Sha256, "sha256", SHORT_OF_ABC),
+    Worked::Sidecar(Algorithm::Sha512, "sha512", OF_ABC),
+];
 
 const LAYOUT: &str =
     "{\"description\":\"SHA-256 of the identifier in tuples, then the encoded identifier\",\"extension\":\"0003-hash-and-id-n-tuple-storage-layout\"}";
 
-// The size and the number of tuples, and the end of that layout's configuration.
-const CONFIGS: &[(u32, u32, &str)] = &[
-    (3, 3, ",\"numberOfTuples\":3,\"tupleSize\":3}"),
-    (2, 4, ",\"numberOfTuples\":4,\"tupleSize\":2}"),
-    (0, 0, ",\"numberOfTuples\":0,\"tupleSize\":0}"),
+const CONFIGS: &[Worked] = &[
+    Worked::Config(3, 3, ",\"numberOfTuples\":3,\"tupleSize\":3}"),
+    Worked::Config(2, 4, ",\"numberOfTuples\":4,\"tupleSize\":2}"),
+    Worked::Config(0, 0, ",\"numberOfTuples\":0,\"tupleSize\":0}"),
 ];
 
 const CONFIG: &str =
@@ -370,16 +410,40 @@ fn are_files(files: &RootFiles, config: &str) -> bool {
         && files.get(3).is_none()
 }
 
-fn has_files(alloc: Global, size: u32, count: u32, config: &str) -> Result<bool, Fail> {
-    let files = root_files(alloc, Layout::of(size, count)?)?;
-    Ok(are_files(&files, config))
+fn has_files(alloc: Global, layout: Layout, config: &str) -> bool {
+    match root_files(alloc, layout) {
+        Ok(files) => are_files(&files, config),
+        Err(_) => false,
+    }
 }
 
-#[test]
-fn root_files_of_layouts(rt: HostRuntime) -> Result<(), Fail> {
-    for (size, count, config) in CONFIGS {
-        let has_files = has_files(rt.alloc(), *size, *count, config)?;
-        assert!(rt; has_files, "{size} by {count}");
+fn gives_files(alloc: Global, size: u32, count: u32, config: &str) -> bool {
+    match Layout::of(size, count) {
+        Ok(layout) => has_files(alloc, layout, config),
+        Err(_) => false,
     }
-    Ok(())
+}
+
+fn are_declarations() -> bool {
+    object_declaration() == b"ocfl_object_1.1\n".as_slice()
+        && root_declaration() == b"ocfl_1.1\n".as_slice()
+}
+
+const NO_NAMES: &[Worked] = &[Worked::NoName("2024-05-01T12:00:00Z", "")];
+
+#[test]
+fn texts_of_objects(rt: HostRuntime) {
+    all_hold(&rt, rt.alloc(), "digests of blocks", BLOCKS);
+    all_hold(&rt, rt.alloc(), "digests at the length of a block", LETTERS);
+    all_hold(
+        &rt,
+        rt.alloc(),
+        "words of algorithms, and bytes of sidecars",
+        SIDECARS,
+    );
+    all_hold(&rt, rt.alloc(), "takes moments to the second", MOMENTS);
+    all_hold(&rt, rt.alloc(), "refuses what is no moment", NO_MOMENTS);
+    all_hold(&rt, rt.alloc(), "refuses no name", NO_NAMES);
+    all_hold(&rt, rt.alloc(), "root files of layouts", CONFIGS);
+    assert!(rt; are_in_order() && are_declarations() && MetaFault::Memory.number() == 3);
 }

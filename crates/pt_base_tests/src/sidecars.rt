@@ -1,5 +1,5 @@
 // Digests of bytes that are fed piece by piece, and sidecars made of them.
-use crate::answers::gives_text;
+use crate::answers::{Holds, all_hold, gives_text};
 use pt_object::{Algorithm, Hasher, sidecar_of};
 use pt_tree::Block;
 use std::alloc::Global;
@@ -15,17 +15,25 @@ fn ends_as(alloc: Global, hasher: Hasher, text: &str) -> bool {
     gives_text(sidecar_of(alloc, &hasher.end()), text)
 }
 
-#[test]
-fn sidecars_of_what_was_fed(rt: HostRuntime) {
-    for (algorithm, text) in [(Algorithm::Sha256, SHORT), (Algorithm::Sha512, LONG)] {
-        let mut hasher = Hasher::start(algorithm);
+// The algorithm, and the sidecar by it of the text `abc`.
+const SIDECARS: &[(Algorithm, &str)] = &[(Algorithm::Sha256, SHORT), (Algorithm::Sha512, LONG)];
+
+impl Holds for (Algorithm, &str) {
+    fn holds(&self, alloc: Global) -> bool {
+        let (algorithm, text) = self;
+        let mut hasher = Hasher::start(*algorithm);
         hasher.feed_bytes(b"abc");
-        assert!(rt; ends_as(rt.alloc(), hasher, text), "{text}");
+        ends_as(alloc, hasher, text)
     }
 }
 
 #[test]
-fn bytes_are_fed_beside_blocks(rt: HostRuntime) {
+fn sidecars_of_what_was_fed(rt: HostRuntime) {
+    all_hold(&rt, rt.alloc(), "sidecars", SIDECARS);
+}
+
+// Three bytes in four pieces, one of them in a block.
+fn fed_beside_a_block() -> Hasher {
     let mut block = Block::new();
     block.push(b'b');
     let mut hasher = Hasher::start(Algorithm::Sha256);
@@ -33,5 +41,10 @@ fn bytes_are_fed_beside_blocks(rt: HostRuntime) {
     hasher.feed(&block);
     hasher.feed_bytes(b"");
     hasher.feed_bytes(b"c");
-    assert!(rt; ends_as(rt.alloc(), hasher, SHORT));
+    hasher
+}
+
+#[test]
+fn bytes_are_fed_beside_blocks(rt: HostRuntime) {
+    assert!(rt; ends_as(rt.alloc(), fed_beside_a_block(), SHORT));
 }

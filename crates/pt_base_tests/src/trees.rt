@@ -3,75 +3,90 @@ ghost use Rattle.pt_tree.specs.Dest.{MayMake};
 ghost use Rattle.pt_memory.specs.MemDest.{dest_told};
 ghost use Rattle.pt_tree.specs.Source.{CanOpen};
 
-use crate::listings::first_other;
+use crate::answers::none_wrong;
+use crate::listings::is_entry;
 use pt_memory::{LooseSource, MemDest, MemSource, PlantFault, SwapFault, TakeFault};
 use pt_texts::{path, tree};
 use pt_tree::{
-    Block, Dest, Kind, Listing, ListingFault, MemoryFault, NameFault, NamePath, Source, TreeFault,
+    Block, Dest, Kind, ListingFault, MemoryFault, NameFault, NamePath, Source, TreeFault,
 };
 use std::alloc::Global;
-use std::process::Abort;
-use std::test::Fail;
 
-// Planting an entry is answered so. A file has the bytes `abc`.
-fn is_planted(
-    source: &mut MemSource,
-    alloc: Global,
-    at: &str,
-    kind: Kind,
-    answer: Result<(), PlantFault>,
-) -> bool {
+// Texts of 8,191 to 8,194 bytes: a block has up to 8,192.
+const A_8191: &[u8] = &[b'a'; 8191];
+
+const A_8192: &[u8] = &[b'a'; 8192];
+
+const A_8193: &[u8] = &[b'a'; 8193];
+
+const A_8194: &[u8] = &[b'a'; 8194];
+
+const B_8194: &[u8] = &[b'b'; 8194];
+
+// A tree that rows of this kind are about: what is done at a path, or found there.
+trait Goes<W> {
+    // Whether that goes as the row says.
+    fn goes(&mut self, alloc: Global, at: &NamePath, what: &W) -> bool;
+}
+
+fn goes_at<W, T: Goes<W>>(tree: &mut T, alloc: Global, at: &str, what: &W) -> bool {
     match path(alloc, at) {
-        Ok(at) => plant(source, &at, kind) == answer,
+        Ok(at) => tree.goes(alloc, &at, what),
         Err(_) => false,
     }
+}
+
+// The first of these rows that goes otherwise over this tree, counted from 0.
+fn first_wrong<W, T: Goes<W> + Drop>(tree: T, alloc: Global, rows: &[(&str, W)]) -> Option<usize> {
+    let mut tree = tree;
+    for (i, (at, what)) in rows.iter().enumerate() {
+        if !goes_at(&mut tree, alloc, at, what) {
+            return Some(i);
+        }
+    }
+    None
+}
+
+// What is done at a path of a source, or found there.
+enum InSource {
+    // Planting an entry is answered so. A file has the bytes `abc`.
+    Plant(Kind, Result<(), PlantFault>),
+    // The file has these bytes; or there is none.
+    Has(Option<&'static [u8]>),
+    // A file of these bytes is planted and read in so many calls, and none of them fails.
+    IsReadIn(&'static [u8], usize),
+    // The directory is listed with this entry at this place, or with none there.
+    Lists(usize, Option<(&'static str, Kind)>),
+    // The directory can't be listed once the fuse is blown, and that is counted.
+    FailsToList,
+}
+
+impl Goes<InSource> for MemSource {
+    fn goes(&mut self, _: Global, at: &NamePath, what: &InSource) -> bool {
+        match what {
+            InSource::Plant(kind, answer) => plant(self, at, *kind) == *answer,
+            InSource::Has(bytes) => has(self, at, *bytes),
+            InSource::IsReadIn(bytes, calls) => is_read_in(self, at, bytes, *calls),
+            InSource::Lists(place, entry) => lists(self, at, *place, *entry),
+            InSource::FailsToList => fails_to_list(self, at),
+        }
+    }
+}
+
+fn has(source: &MemSource, at: &NamePath, bytes: Option<&[u8]>) -> bool {
+    source.file(at) == bytes
 }
 
 fn plant(source: &mut MemSource, at: &NamePath, kind: Kind) -> Result<(), PlantFault> {
     match kind {
-        Kind::Dir => pt_texts::Plants::dir(source, at),
-        Kind::File => pt_texts::Plants::file(source, at, b"abc"),
-        Kind::Other => plant_other(source, at),
+        Kind::Dir => source.plant_dir(at),
+        Kind::File => source.plant_file(at, b"abc"),
+        Kind::Other => source.plant_other(at),
     }
-}
-
-fn plant_other(source: &mut MemSource, at: &NamePath) -> Result<(), PlantFault> {
-    source.plant_other(at)
-}
-
-// The file at a path has these bytes; or there is none.
-fn source_has(source: &MemSource, alloc: Global, at: &str, bytes: Option<&[u8]>) -> bool {
-    match path(alloc, at) {
-        Ok(at) => source.file(&at) == bytes,
-        Err(_) => false,
-    }
-}
-
-fn refuses_what_has_no_place(rt: &impl Abort, alloc: Global, source: &mut MemSource) {
-    for (at, kind, answer) in [
-        ("x/y", Kind::File, Err(PlantFault::NoParent)),
-        ("x", Kind::Dir, Ok(())),
-        ("x", Kind::Dir, Err(PlantFault::Taken)),
-        ("", Kind::Dir, Err(PlantFault::Taken)),
-        ("x/z", Kind::Other, Ok(())),
-        ("x/y", Kind::File, Ok(())),
-    ] {
-        assert!(rt;
-            is_planted(source, alloc, at, kind, answer),
-            "{at}: {answer:?}"
-        );
-    }
-    assert!(rt; source_has(source, alloc, "x/y", Some(b"abc")));
-    assert!(rt; source_has(source, alloc, "x", None));
-}
-
-#[test]
-fn planting_is_refused_where_it_has_no_place(rt: HostRuntime) {
-    refuses_what_has_no_place(&rt, rt.alloc(), &mut MemSource::new(rt.alloc()));
 }
 
 fn plants(source: &mut MemSource, file: &NamePath, bytes: &[u8]) -> bool {
-    pt_texts::Plants::file(source, file, bytes).is_ok()
+    source.plant_file(file, bytes).is_ok()
 }
 
 // Reads the file at a path to its end, and answers how many bytes it has and how many calls of `next` that took.
@@ -92,26 +107,127 @@ fn read_file<S: Source>(source: &mut S, path: &NamePath) -> Result<(usize, usize
     Ok((length, 100))
 }
 
-// A file of these letters is read in so many calls, and none of them fails.
-fn is_read_in(source: &mut MemSource, file: &NamePath, letters: &[u8], calls: usize) -> bool {
-    plants(source, file, letters)
+fn is_read_in(source: &mut MemSource, file: &NamePath, bytes: &[u8], calls: usize) -> bool {
+    plants(source, file, bytes)
         && source.has_file(file)
-        && read_file(source, file) == Ok((letters.len(), calls))
+        && read_file(source, file) == Ok((bytes.len(), calls))
         && source.failures() == 0
 }
 
-#[test]
-fn a_file_is_read_block_by_block(rt: HostRuntime) -> Result<(), Fail> {
-    let file = path(rt.alloc(), "f")?;
-    let letters = [b'a'; 8193];
-    for (length, calls) in [(0usize, 1usize), (8191, 2), (8192, 2), (8193, 3)] {
-        let mut source = MemSource::new(rt.alloc());
-        assert!(rt;
-            is_read_in(&mut source, &file, &letters[..length], calls),
-            "{length} letters"
-        );
+fn lists(
+    source: &mut MemSource,
+    dir: &NamePath,
+    place: usize,
+    entry: Option<(&str, Kind)>,
+) -> bool {
+    if !source.has_dir(dir) {
+        return false;
     }
-    Ok(())
+    match source.list(dir) {
+        Ok(listing) => is_entry(&listing, place, entry),
+        Err(_) => false,
+    }
+}
+
+fn fails_to_list(source: &mut MemSource, dir: &NamePath) -> bool {
+    source.fuse(Some(0));
+    if !source.has_dir(dir) {
+        return false;
+    }
+    match source.list(dir) {
+        Ok(_) => false,
+        Err(fault) => fault == TreeFault::Device && source.failures() == 1,
+    }
+}
+
+const NO_PLACE: &[(&str, InSource)] = &[
+    (
+        "x/y",
+        InSource::Plant(Kind::File, Err(PlantFault::NoParent)),
+    ),
+    ("x", InSource::Plant(Kind::Dir, Ok(()))),
+    ("x", InSource::Plant(Kind::Dir, Err(PlantFault::Taken))),
+    ("", InSource::Plant(Kind::Dir, Err(PlantFault::Taken))),
+    ("x/z", InSource::Plant(Kind::Other, Ok(()))),
+    ("x/y", InSource::Plant(Kind::File, Ok(()))),
+    ("x/y", InSource::Has(Some(b"abc"))),
+    ("x", InSource::Has(None)),
+];
+
+const IN_BLOCKS: &[(&str, InSource)] = &[
+    ("f", InSource::IsReadIn(b"", 1)),
+    ("g", InSource::IsReadIn(A_8191, 2)),
+    ("h", InSource::IsReadIn(A_8192, 2)),
+    ("i", InSource::IsReadIn(A_8193, 3)),
+];
+
+const THREE_KINDS: &[(&str, InSource)] = &[
+    ("b", InSource::Plant(Kind::File, Ok(()))),
+    ("a", InSource::Plant(Kind::Dir, Ok(()))),
+    ("c", InSource::Plant(Kind::Other, Ok(()))),
+    ("", InSource::Lists(0, Some(("a", Kind::Dir)))),
+    ("", InSource::Lists(1, Some(("b", Kind::File)))),
+    ("", InSource::Lists(2, Some(("c", Kind::Other)))),
+    ("", InSource::Lists(3, None)),
+    ("", InSource::FailsToList),
+];
+
+const SOURCES: &[(&str, &[(&str, InSource)])] = &[
+    ("planting is refused where it has no place", NO_PLACE),
+    ("a file is read block by block", IN_BLOCKS),
+    (
+        "names and kinds are listed, and the fuse is blown",
+        THREE_KINDS,
+    ),
+];
+
+#[test]
+fn sources_go_as_the_rows_say(rt: HostRuntime) {
+    for (what, rows) in SOURCES {
+        let source = MemSource::new(rt.alloc());
+        none_wrong(&rt, what, first_wrong(source, rt.alloc(), rows));
+    }
+}
+
+// What is done at a path of a destination, or found there.
+enum InDest {
+    // A directory may be made, and is.
+    MakesDir,
+    // A file may be made, and is made of these pieces.
+    MakesFile(&'static [&'static [u8]]),
+    // A file may be made, and an append of it that fails leaves half of its piece.
+    LeavesHalf,
+    // Nothing may be made.
+    MayNotMake,
+    // What is there may not be moved to this path.
+    MayNotMove(&'static str),
+    // It may be, and is.
+    Moves(&'static str),
+    // What stands there.
+    Stands(Option<Kind>),
+    // The file has these bytes, in the tree and for who looks at its first block.
+    Has(&'static [u8]),
+    // Taking away what is there is answered so.
+    Take(Result<(), TakeFault>),
+    // The whole destination is the tree of these files; or it isn't.
+    Is(bool, &'static [(&'static str, &'static str)]),
+}
+
+impl Goes<InDest> for MemDest {
+    fn goes(&mut self, alloc: Global, at: &NamePath, what: &InDest) -> bool {
+        match what {
+            InDest::MakesDir => self.may_make(at) && self.mkdir(at).is_ok(),
+            InDest::MakesFile(pieces) => self.may_make(at) && write_file(self, at, pieces).is_ok(),
+            InDest::LeavesHalf => leaves_half_of_a_piece(self, at),
+            InDest::MayNotMake => !self.may_make(at),
+            InDest::MayNotMove(to) => may_not_move(self, alloc, at, to),
+            InDest::Moves(to) => moves(self, alloc, at, to),
+            InDest::Stands(kind) => self.kind(at) == Ok(*kind),
+            InDest::Has(bytes) => has_file(self, at, bytes) && is_peeked(self, at, bytes),
+            InDest::Take(answer) => self.take_away(at) == *answer,
+            InDest::Is(is_same, files) => is_tree(self, alloc, files, *is_same),
+        }
+    }
 }
 
 // Writes a file in pieces, and closes it.
@@ -146,105 +262,26 @@ fn append_by_a_fuse(dest: &mut MemDest, file: &NamePath) -> Result<(), TreeFault
 fn leaves_half_of_a_piece(dest: &mut MemDest, file: &NamePath) -> bool {
     dest.may_make(file)
         && append_by_a_fuse(dest, file).is_ok()
-        && dest.file(file) == Some(b"ababc")
+        && has_file(dest, file, b"ababc")
         && dest.failures() == 1
 }
 
-#[test]
-fn a_failing_append_leaves_half_of_its_piece(rt: HostRuntime) -> Result<(), Fail> {
-    let file = path(rt.alloc(), "f")?;
-    assert!(rt; leaves_half_of_a_piece(&mut MemDest::new(rt.alloc()), &file));
-    Ok(())
-}
-
-// A directory may be made there, and is made.
-fn makes_dir(dest: &mut MemDest, alloc: Global, at: &str) -> bool {
-    match path(alloc, at) {
-        Ok(at) => mkdir(dest, &at),
+fn may_not_move(dest: &MemDest, alloc: Global, from: &NamePath, to: &str) -> bool {
+    match path(alloc, to) {
+        Ok(to) => !dest.may_move(from, &to),
         Err(_) => false,
     }
 }
 
-fn mkdir(dest: &mut MemDest, at: &NamePath) -> bool {
-    dest.may_make(at) && dest.mkdir(at).is_ok()
-}
-
-// A file may be made there, and is made of these pieces.
-fn makes_file(dest: &mut MemDest, alloc: Global, at: &str, pieces: &[&[u8]]) -> bool {
-    match path(alloc, at) {
-        Ok(at) => dest.may_make(&at) && write_file(dest, &at, pieces).is_ok(),
+fn moves(dest: &mut MemDest, alloc: Global, from: &NamePath, to: &str) -> bool {
+    match path(alloc, to) {
+        Ok(to) => dest.may_move(from, &to) && dest.rename(from, &to).is_ok(),
         Err(_) => false,
     }
 }
 
-// Nothing may be made there.
-fn may_not_make(dest: &MemDest, alloc: Global, at: &str) -> bool {
-    match path(alloc, at) {
-        Ok(at) => !dest.may_make(&at),
-        Err(_) => false,
-    }
-}
-
-// What is at one path may not be moved to the other.
-fn may_not_move(dest: &MemDest, alloc: Global, from: &str, to: &str) -> Result<bool, TreeFault> {
-    Ok(!dest.may_move(&path(alloc, from)?, &path(alloc, to)?))
-}
-
-// It may be, and is.
-fn moves(dest: &mut MemDest, alloc: Global, from: &str, to: &str) -> Result<bool, TreeFault> {
-    Ok(rename(dest, &path(alloc, from)?, &path(alloc, to)?))
-}
-
-fn rename(dest: &mut MemDest, from: &NamePath, to: &NamePath) -> bool {
-    dest.may_move(from, to) && dest.rename(from, to).is_ok()
-}
-
-// Makes the file `staging/v1/f` of three letters, and moves `staging` to `ocfl`.
-fn make_and_move(rt: &impl Abort, alloc: Global, dest: &mut MemDest) {
-    assert!(rt; makes_dir(dest, alloc, "staging"));
-    assert!(rt; makes_dir(dest, alloc, "staging/v1"));
-    assert!(rt; makes_file(dest, alloc, "staging/v1/f", &[b"ab", b"c"]));
-    assert!(rt; may_not_make(dest, alloc, "staging/v1/f"));
-    assert!(rt; may_not_move(dest, alloc, "staging", "staging/v1") == Ok(true));
-    assert!(rt; moves(dest, alloc, "staging", "ocfl") == Ok(true));
-}
-
-// A path, and what stands there after that.
-const MOVED: &[(&str, Option<Kind>)] = &[
-    ("staging", None),
-    ("staging/v1", None),
-    ("ocfl/v1", Some(Kind::Dir)),
-    ("ocfl/v1/f", Some(Kind::File)),
-    ("ocfl/v1/f/g", None),
-    ("", Some(Kind::Dir)),
-];
-
-fn kind_is(dest: &mut MemDest, alloc: Global, at: &str, kind: Option<Kind>) -> bool {
-    match path(alloc, at) {
-        Ok(at) => dest.kind(&at) == Ok(kind),
-        Err(_) => false,
-    }
-}
-
-fn stands_as_moved(rt: &impl Abort, alloc: Global, dest: &mut MemDest) {
-    for (at, kind) in MOVED {
-        assert!(rt; kind_is(dest, alloc, at, *kind), "{at}");
-    }
-}
-
-#[test]
-fn a_destination_moves_whole_trees(rt: HostRuntime) {
-    let mut dest = MemDest::new(rt.alloc());
-    make_and_move(&rt, rt.alloc(), &mut dest);
-    stands_as_moved(&rt, rt.alloc(), &mut dest);
-}
-
-// The file there has these bytes, in the tree and for who looks at its first block.
-fn file_is(dest: &mut MemDest, alloc: Global, at: &str, bytes: &[u8]) -> bool {
-    match path(alloc, at) {
-        Ok(at) => dest.file(&at) == Some(bytes) && is_peeked(dest, &at, bytes),
-        Err(_) => false,
-    }
+fn has_file(dest: &MemDest, at: &NamePath, bytes: &[u8]) -> bool {
+    dest.file(at) == Some(bytes)
 }
 
 fn is_peeked(dest: &mut MemDest, at: &NamePath, bytes: &[u8]) -> bool {
@@ -252,240 +289,161 @@ fn is_peeked(dest: &mut MemDest, at: &NamePath, bytes: &[u8]) -> bool {
     dest.has_file(at) && dest.peek(at, &mut block).is_ok() && block.as_slice() == bytes
 }
 
-#[test]
-fn a_moved_file_keeps_its_bytes(rt: HostRuntime) {
-    let mut dest = MemDest::new(rt.alloc());
-    make_and_move(&rt, rt.alloc(), &mut dest);
-    assert!(rt; file_is(&mut dest, rt.alloc(), "ocfl/v1/f", b"abc"));
-}
-
-// Taking away what is at a path is answered so.
-fn taken(dest: &mut MemDest, alloc: Global, at: &str, answer: Result<(), TakeFault>) -> bool {
-    match path(alloc, at) {
-        Ok(at) => take_away(dest, &at) == answer,
+fn is_tree(dest: &MemDest, alloc: Global, files: &[(&str, &str)], is_same: bool) -> bool {
+    match tree(alloc, files) {
+        Ok(tree) => dest.same(&tree) == is_same,
         Err(_) => false,
     }
 }
 
-fn take_away(dest: &mut MemDest, at: &NamePath) -> Result<(), TakeFault> {
-    dest.take_away(at)
-}
+const HALF: &[(&str, InDest)] = &[("f", InDest::LeavesHalf)];
 
-fn is_taken_away(rt: &impl Abort, alloc: Global, dest: &mut MemDest, planted: &MemDest) {
-    assert!(rt; dest.same(planted));
-    assert!(rt; taken(dest, alloc, "ocfl", Ok(())));
-    assert!(rt; !dest.same(planted));
-    assert!(rt; dest.same(&MemDest::new(alloc)));
-}
+const WHOLE_TREES: &[(&str, InDest)] = &[
+    // The file `staging/v1/f` of three letters is made, and `staging` is moved to `ocfl`.
+    ("staging", InDest::MakesDir),
+    ("staging/v1", InDest::MakesDir),
+    ("staging/v1/f", InDest::MakesFile(&[b"ab", b"c"])),
+    ("staging/v1/f", InDest::MayNotMake),
+    ("staging", InDest::MayNotMove("staging/v1")),
+    ("staging", InDest::Moves("ocfl")),
+    ("staging", InDest::Stands(None)),
+    ("staging/v1", InDest::Stands(None)),
+    ("ocfl/v1", InDest::Stands(Some(Kind::Dir))),
+    ("ocfl/v1/f", InDest::Stands(Some(Kind::File))),
+    ("ocfl/v1/f/g", InDest::Stands(None)),
+    ("", InDest::Stands(Some(Kind::Dir))),
+    ("ocfl/v1/f", InDest::Has(b"abc")),
+    // What is absent isn't taken away, nor is the top; the rest is, whole.
+    ("staging", InDest::Take(Err(TakeFault::Absent))),
+    ("", InDest::Take(Err(TakeFault::Absent))),
+    ("ocfl/v1/f", InDest::Has(b"abc")),
+    ("", InDest::Is(true, &[("ocfl/v1/f", "abc")])),
+    ("ocfl", InDest::Take(Ok(()))),
+    ("", InDest::Is(false, &[("ocfl/v1/f", "abc")])),
+    ("", InDest::Is(true, &[])),
+];
 
-#[test]
-fn a_destination_takes_away_whole_trees(rt: HostRuntime) -> Result<(), Fail> {
-    let planted = tree(rt.alloc(), &[("ocfl/v1/f", "abc")])?;
-    let mut dest = MemDest::new(rt.alloc());
-    make_and_move(&rt, rt.alloc(), &mut dest);
-    is_taken_away(&rt, rt.alloc(), &mut dest, &planted);
-    Ok(())
-}
-
-#[test]
-fn what_is_absent_is_not_taken_away(rt: HostRuntime) {
-    let mut dest = MemDest::new(rt.alloc());
-    make_and_move(&rt, rt.alloc(), &mut dest);
-    for at in ["staging", ""] {
-        assert!(rt;
-            taken(&mut dest, rt.alloc(), at, Err(TakeFault::Absent)),
-            "{at}"
-        );
-    }
-    assert!(rt; file_is(&mut dest, rt.alloc(), "ocfl/v1/f", b"abc"));
-}
-
-// The names and kinds of a directory, a file and an entry that is neither.
-const THREE_KINDS: [(&str, Kind); 3] = [("a", Kind::Dir), ("b", Kind::File), ("c", Kind::Other)];
-
-fn plant_three_kinds(rt: &impl Abort, alloc: Global, source: &mut MemSource) {
-    for i in [1usize, 0, 2] {
-        let (at, kind) = THREE_KINDS[i];
-        assert!(rt; is_planted(source, alloc, at, kind, Ok(())), "{at}");
-    }
-}
-
-// The top directory, if it can be listed.
-fn top_of(source: &mut MemSource, top: &NamePath) -> Option<Result<Listing, TreeFault>> {
-    if source.has_dir(top) {
-        Some(source.list(top))
-    } else {
-        None
-    }
-}
-
-// The place of the first entry at the top that isn't the one of `THREE_KINDS`.
-fn first_other_at_top(source: &mut MemSource, top: &NamePath) -> Option<usize> {
-    match top_of(source, top) {
-        Some(Ok(listing)) => first_other(&listing, &THREE_KINDS),
-        _ => Some(0),
-    }
-}
-
-fn fails_to_list(source: &mut MemSource, top: &NamePath) -> bool {
-    match top_of(source, top) {
-        Some(Err(fault)) => fault == TreeFault::Device,
-        _ => false,
-    }
-}
+const DESTS: &[(&str, &[(&str, InDest)])] = &[
+    ("a failing append leaves half of its piece", HALF),
+    ("whole trees are moved and taken away", WHOLE_TREES),
+];
 
 #[test]
-fn a_source_lists_names_and_kinds(rt: HostRuntime) {
-    let mut source = MemSource::new(rt.alloc());
-    plant_three_kinds(&rt, rt.alloc(), &mut source);
-    let other = first_other_at_top(&mut source, &NamePath::new(rt.alloc()));
-    assert!(rt; other.is_none(), "at {other:?}");
-}
-
-fn fails_by_its_fuse(rt: &impl Abort, source: &mut MemSource, top: &NamePath) {
-    assert!(rt; first_other_at_top(source, top).is_none());
-    source.fuse(Some(0));
-    assert!(rt; fails_to_list(source, top));
-    assert!(rt; source.failures() == 1);
-}
-
-#[test]
-fn a_source_fails_by_its_fuse(rt: HostRuntime) {
-    let mut source = MemSource::new(rt.alloc());
-    plant_three_kinds(&rt, rt.alloc(), &mut source);
-    fails_by_its_fuse(&rt, &mut source, &NamePath::new(rt.alloc()));
+fn destinations_go_as_the_rows_say(rt: HostRuntime) {
+    for (what, rows) in DESTS {
+        let dest = MemDest::new(rt.alloc());
+        none_wrong(&rt, what, first_wrong(dest, rt.alloc(), rows));
+    }
 }
 
 #[test]
 fn faults_have_numbers(rt: HostRuntime) {
-    assert!(rt; NameFault::Empty.number() == 1);
-    assert!(rt; NameFault::TooLong.number() == 2);
-    assert!(rt; NameFault::NotUtf8.number() == 3);
-    assert!(rt; NameFault::Forbidden.number() == 4);
-    assert!(rt; NameFault::Memory.number() == 5);
-    assert!(rt; TreeFault::Device.number() == 1);
-    assert!(rt; TreeFault::Memory.number() == 2);
-    assert!(rt; MemoryFault::Memory.number() == 1);
-    assert!(rt; ListingFault::NotRising.number() == 1);
-    assert!(rt; ListingFault::Memory.number() == 2);
-    assert!(rt; PlantFault::NoParent.number() == 1);
-    assert!(rt; PlantFault::Taken.number() == 2);
-    assert!(rt; PlantFault::Memory.number() == 3);
-    assert!(rt; TakeFault::Absent.number() == 1);
-    assert!(rt; SwapFault::Absent.number() == 1);
-    assert!(rt; SwapFault::Memory.number() == 2);
+    let numbers = [
+        NameFault::Empty.number(),
+        NameFault::TooLong.number(),
+        NameFault::NotUtf8.number(),
+        NameFault::Forbidden.number(),
+        NameFault::Memory.number(),
+        TreeFault::Device.number(),
+        TreeFault::Memory.number(),
+        MemoryFault::Memory.number(),
+        ListingFault::NotRising.number(),
+        ListingFault::Memory.number(),
+        PlantFault::NoParent.number(),
+        PlantFault::Taken.number(),
+        PlantFault::Memory.number(),
+        TakeFault::Absent.number(),
+        SwapFault::Absent.number(),
+        SwapFault::Memory.number(),
+    ];
+    assert!(rt;
+        numbers == [1, 2, 3, 4, 5, 1, 2, 1, 1, 2, 1, 2, 3, 1, 1, 2],
+        "{numbers:?}"
+    );
 }
 
-// Swapping a file is answered so.
-fn swap_is(
-    source: &mut LooseSource,
-    calls: u64,
-    at: &NamePath,
-    bytes: &[u8],
-    answer: Result<(), SwapFault>,
-) -> bool {
-    swap(source, calls, at, bytes) == answer
+// What is done at a path of a source that may change while it is read, or found there.
+enum Loose {
+    // Swapping the file's bytes after so many calls is answered so.
+    Swap(u64, &'static [u8], Result<(), SwapFault>),
+    // Opening it is answered so.
+    Open(Result<(), TreeFault>),
+    // The next block of the open file is these bytes.
+    Gives(&'static [u8]),
+    // The source failed so often.
+    Failed(u64),
 }
 
-fn swap(
-    source: &mut LooseSource,
-    calls: u64,
-    at: &NamePath,
-    bytes: &[u8],
-) -> Result<(), SwapFault> {
-    source.swap_after(calls, at, bytes)
+impl Goes<Loose> for LooseSource {
+    fn goes(&mut self, _: Global, at: &NamePath, what: &Loose) -> bool {
+        match what {
+            Loose::Swap(calls, bytes, answer) => self.swap_after(*calls, at, bytes) == *answer,
+            Loose::Open(answer) => self.open(at) == *answer,
+            Loose::Gives(bytes) => gives(self, bytes),
+            Loose::Failed(failures) => self.failures() == *failures,
+        }
+    }
 }
 
-fn swaps_where_a_file_is(
-    rt: &impl Abort,
-    source: &mut LooseSource,
-    file: &NamePath,
-    absent: &NamePath,
-) {
-    assert!(rt; swap_is(source, 0, absent, b"", Err(SwapFault::Absent)));
-    assert!(rt; swap_is(source, 2, file, b"b", Ok(())));
-    assert!(rt; swap_is(source, 0, absent, b"", Err(SwapFault::Absent)));
+fn plants_at(source: &mut MemSource, alloc: Global, at: &str, bytes: &[u8]) -> bool {
+    match path(alloc, at) {
+        Ok(at) => plants(source, &at, bytes),
+        Err(_) => false,
+    }
 }
 
-#[test]
-fn a_swap_wants_a_file(rt: HostRuntime) -> Result<(), Fail> {
-    let file = path(rt.alloc(), "f")?;
-    let absent = path(rt.alloc(), "g")?;
-    let mut source = MemSource::new(rt.alloc());
-    assert!(rt; plants(&mut source, &file, b"a"));
-    let mut source = LooseSource::of(source);
-    swaps_where_a_file_is(&rt, &mut source, &file, &absent);
-    Ok(())
+// Over a source of a file `f` of these bytes; without one, none goes right.
+fn wrong_in_loose(alloc: Global, bytes: &[u8], rows: &[(&str, Loose)]) -> Option<usize> {
+    let mut source = MemSource::new(alloc);
+    let is_planted = plants_at(&mut source, alloc, "f", bytes);
+    let wrong = first_wrong(LooseSource::of(source), alloc, rows);
+    if is_planted { wrong } else { Some(0) }
 }
 
-fn open(source: &mut LooseSource, file: &NamePath) -> Result<(), TreeFault> {
-    source.open(file)
-}
-
-// The next block is these bytes.
 fn gives(source: &mut LooseSource, bytes: &[u8]) -> bool {
     let mut block = Block::new();
     source.next(&mut block).is_ok() && block.as_slice() == bytes
 }
 
-// The first of these blocks that the file isn't read in.
-fn first_other_block(source: &mut LooseSource, file: &NamePath, blocks: &[&[u8]]) -> Option<usize> {
-    if open(source, file).is_err() {
-        return Some(0);
+const SWAPS: &[(&str, Loose)] = &[
+    ("g", Loose::Swap(0, b"", Err(SwapFault::Absent))),
+    ("f", Loose::Swap(2, b"b", Ok(()))),
+    ("g", Loose::Swap(0, b"", Err(SwapFault::Absent))),
+];
+
+const GROWS: &[(&str, Loose)] = &[
+    ("f", Loose::Swap(2, B_8194, Ok(()))),
+    ("f", Loose::Open(Ok(()))),
+    ("f", Loose::Gives(A_8192)),
+    ("f", Loose::Gives(b"bb")),
+];
+
+const SHRINKS: &[(&str, Loose)] = &[
+    ("f", Loose::Swap(2, b"b", Ok(()))),
+    ("f", Loose::Open(Ok(()))),
+    ("f", Loose::Gives(A_8192)),
+    ("f", Loose::Gives(b"")),
+    ("f", Loose::Open(Ok(()))),
+    ("f", Loose::Gives(b"b")),
+];
+
+const FAILS: &[(&str, Loose)] = &[
+    ("g", Loose::Failed(0)),
+    ("g", Loose::Open(Err(TreeFault::Device))),
+    ("g", Loose::Failed(1)),
+];
+
+// The bytes of the file `f` before the rows.
+const LOOSE: &[(&str, &[u8], &[(&str, Loose)])] = &[
+    ("a swap wants a file", b"a", SWAPS),
+    ("a file grows while it is read", A_8192, GROWS),
+    ("a file shrinks while it is read", A_8194, SHRINKS),
+    ("a loose source counts its failures", b"a", FAILS),
+];
+
+#[test]
+fn loose_sources_go_as_the_rows_say(rt: HostRuntime) {
+    for (what, bytes, rows) in LOOSE {
+        none_wrong(&rt, what, wrong_in_loose(rt.alloc(), bytes, rows));
     }
-    for (i, bytes) in blocks.iter().enumerate() {
-        if !gives(source, bytes) {
-            return Some(i);
-        }
-    }
-    None
-}
-
-// A file of 8,192 letters `a` that becomes one of 8,194 letters `b` after two calls.
-fn grows(rt: &impl Abort, source: &mut LooseSource, file: &NamePath) {
-    assert!(rt; swap_is(source, 2, file, &[b'b'; 8194], Ok(())));
-    let other = first_other_block(source, file, &[[b'a'; 8192].as_slice(), b"bb"]);
-    assert!(rt; other.is_none(), "block {other:?}");
-}
-
-#[test]
-fn a_file_grows_while_it_is_read(rt: HostRuntime) -> Result<(), Fail> {
-    let file = path(rt.alloc(), "f")?;
-    let mut source = MemSource::new(rt.alloc());
-    assert!(rt; plants(&mut source, &file, &[b'a'; 8192]));
-    grows(&rt, &mut LooseSource::of(source), &file);
-    Ok(())
-}
-
-// A file of 8,194 letters `a` that becomes one of one letter `b` after two calls.
-fn shrinks(rt: &impl Abort, source: &mut LooseSource, file: &NamePath) {
-    assert!(rt; swap_is(source, 2, file, b"b", Ok(())));
-    let other = first_other_block(source, file, &[[b'a'; 8192].as_slice(), b""]);
-    assert!(rt; other.is_none(), "block {other:?}");
-    assert!(rt; first_other_block(source, file, &[b"b".as_slice()]).is_none());
-}
-
-#[test]
-fn a_file_shrinks_while_it_is_read(rt: HostRuntime) -> Result<(), Fail> {
-    let file = path(rt.alloc(), "f")?;
-    let mut source = MemSource::new(rt.alloc());
-    assert!(rt; plants(&mut source, &file, &[b'a'; 8194]));
-    shrinks(&rt, &mut LooseSource::of(source), &file);
-    Ok(())
-}
-
-fn counts_its_failures(rt: &impl Abort, source: &mut LooseSource, absent: &NamePath) {
-    assert!(rt; source.failures() == 0);
-    assert!(rt; open(source, absent) == Err(TreeFault::Device));
-    assert!(rt; source.failures() == 1);
-}
-
-#[test]
-fn a_loose_source_counts_its_failures(rt: HostRuntime) -> Result<(), Fail> {
-    let file = path(rt.alloc(), "f")?;
-    let absent = path(rt.alloc(), "g")?;
-    let mut source = MemSource::new(rt.alloc());
-    assert!(rt; plants(&mut source, &file, b"a"));
-    counts_its_failures(&rt, &mut LooseSource::of(source), &absent);
-    Ok(())
 }

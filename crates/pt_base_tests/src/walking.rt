@@ -2,88 +2,110 @@
 ghost use Rattle.std.specs.Prelude.{◌≡◌, IsTrue};
 ghost use Rattle.pt_walk.specs.Trail.{can_enter, current_entry, is_dir_entry};
 
-use crate::answers::{is_path, refuses};
+use crate::answers::{Holds, all_hold, is_path, refuses};
+use crate::listings::is_added;
 use pt_tree::{Kind, Listing, Name};
 use pt_walk::{At, Cause, Finding, Form, Limits, LimitsFault, Trail, is_shorty, judge, laws};
 use std::alloc::Global;
-use std::process::Abort;
-use std::test::Fail;
 
-const SITES: [(&[(&str, Kind)], Finding, Finding, Finding); 13] = [
-    // What the directory holds; what it is as the top, as another site, and as another site where objects are gathered.
-    (
+enum Row {
+    // What a directory holds; what it is as the top, as another site, and as another site where objects are gathered.
+    Site(&'static [(&'static str, Kind)], Finding, Finding, Finding),
+    // A cause with its number and its word.
+    Cause(Cause, u8, &'static str),
+    // An entry, and whether it is a shorty.
+    Shorty(&'static str, Kind, bool),
+    // The numbers of no limits, and why they aren't.
+    NoLimits(&'static [u64; 5], LimitsFault),
+}
+
+impl Holds for Row {
+    fn holds(&self, alloc: Global) -> bool {
+        match self {
+            Row::Site(entries, at_top, plain, gathering) => {
+                is_site(alloc, entries, *at_top, *plain, *gathering)
+            }
+            Row::Cause(cause, number, word) => cause.number() == *number && cause.word() == *word,
+            Row::Shorty(name, kind, answer) => is_shorty_as(alloc, name, *kind, *answer),
+            Row::NoLimits(numbers, fault) => refuses(limits_of(**numbers), *fault),
+        }
+    }
+}
+
+const SITES: &[Row] = &[
+    Row::Site(
         &[],
         Finding::Interior,
         Finding::Skip(Cause::Empty),
         Finding::Skip(Cause::Empty),
     ),
-    (
+    Row::Site(
         &[("a", Kind::Dir), ("bc", Kind::Dir)],
         Finding::Interior,
         Finding::Interior,
         Finding::Interior,
     ),
-    (
+    Row::Site(
         &[("obj", Kind::Dir)],
         Finding::Skip(Cause::Root),
         Finding::Candidate(0),
         Finding::Candidate(0),
     ),
-    (
+    Row::Site(
         &[("ef", Kind::Dir), ("obj", Kind::Dir)],
         Finding::Skip(Cause::Root),
         Finding::Candidate(1),
         Finding::Candidate(1),
     ),
-    (
+    Row::Site(
         &[("a", Kind::Dir), ("abc", Kind::Dir), ("bc", Kind::Dir)],
         Finding::Skip(Cause::Root),
         Finding::Candidate(1),
         Finding::Candidate(1),
     ),
-    (
+    Row::Site(
         &[("notes.txt", Kind::File), ("obj", Kind::Dir)],
         Finding::Skip(Cause::Root),
         Finding::Skip(Cause::Split),
         Finding::Gathered,
     ),
-    (
+    Row::Site(
         &[("obj", Kind::Dir), ("z", Kind::File)],
         Finding::Skip(Cause::Root),
         Finding::Skip(Cause::Split),
         Finding::Gathered,
     ),
-    (
+    Row::Site(
         &[("one", Kind::Dir), ("two", Kind::Dir)],
         Finding::Skip(Cause::Root),
         Finding::Skip(Cause::Split),
         Finding::Gathered,
     ),
-    (
+    Row::Site(
         &[("readme", Kind::File)],
         Finding::Skip(Cause::Root),
         Finding::Skip(Cause::Split),
         Finding::Gathered,
     ),
-    (
+    Row::Site(
         &[("x", Kind::File)],
         Finding::Skip(Cause::Root),
         Finding::Skip(Cause::Split),
         Finding::Gathered,
     ),
-    (
+    Row::Site(
         &[("xy", Kind::File)],
         Finding::Skip(Cause::Root),
         Finding::Skip(Cause::Split),
         Finding::Gathered,
     ),
-    (
+    Row::Site(
         &[("m", Kind::Other)],
         Finding::Skip(Cause::Root),
         Finding::Skip(Cause::Split),
         Finding::Gathered,
     ),
-    (
+    Row::Site(
         &[("link", Kind::Other)],
         Finding::Skip(Cause::Root),
         Finding::Skip(Cause::Split),
@@ -91,12 +113,14 @@ const SITES: [(&[(&str, Kind)], Finding, Finding, Finding); 13] = [
     ),
 ];
 
-fn listing_of(alloc: Global, entries: &[(&str, Kind)]) -> Result<Listing, Fail> {
+fn listing_of(alloc: Global, entries: &[(&str, Kind)]) -> Option<Listing> {
     let mut listing = Listing::new(alloc);
     for (name, kind) in entries {
-        listing.add(Name::of(alloc, name.as_bytes())?, *kind)?;
+        if !is_added(&mut listing, alloc, name, *kind, Ok(())) {
+            return None;
+        }
     }
-    Ok(listing)
+    Some(listing)
 }
 
 // As the top it is judged so in both forms, and as another site by the form.
@@ -109,59 +133,47 @@ fn is_judged(listing: &Listing, at_top: Finding, plain: Finding, gathering: Find
         && judge(listing, At::Last, Form::Gathering) == gathering
 }
 
-#[test]
-fn sites_are_what_the_table_says(rt: HostRuntime) -> Result<(), Fail> {
-    for (entries, at_top, plain, gathering) in SITES {
-        let listing = listing_of(rt.alloc(), entries)?;
-        assert!(rt;
-            is_judged(&listing, at_top, plain, gathering),
-            "{entries:?}"
-        );
+// So is a directory of these entries.
+fn is_site(
+    alloc: Global,
+    entries: &[(&str, Kind)],
+    at_top: Finding,
+    plain: Finding,
+    gathering: Finding,
+) -> bool {
+    match listing_of(alloc, entries) {
+        Some(listing) => is_judged(&listing, at_top, plain, gathering),
+        None => false,
     }
-    Ok(())
 }
 
-// The causes with their words, the first of which has the number 1.
-const CAUSES: [(Cause, &str); 9] = [
-    (Cause::Root, "root"),
-    (Cause::Empty, "empty"),
-    (Cause::Split, "split"),
-    (Cause::Past, "past"),
-    (Cause::Name, "name"),
-    (Cause::Utf8, "utf8"),
-    (Cause::Other, "other"),
-    (Cause::Limit, "limit"),
-    (Cause::Reserved, "reserved"),
+const CAUSES: &[Row] = &[
+    Row::Cause(Cause::Root, 1, "root"),
+    Row::Cause(Cause::Empty, 2, "empty"),
+    Row::Cause(Cause::Split, 3, "split"),
+    Row::Cause(Cause::Past, 4, "past"),
+    Row::Cause(Cause::Name, 5, "name"),
+    Row::Cause(Cause::Utf8, 6, "utf8"),
+    Row::Cause(Cause::Other, 7, "other"),
+    Row::Cause(Cause::Limit, 8, "limit"),
+    Row::Cause(Cause::Reserved, 9, "reserved"),
 ];
 
-#[test]
-fn causes_have_numbers_and_words(rt: HostRuntime) {
-    for (i, (cause, word)) in CAUSES.iter().enumerate() {
-        let number = usize::from(cause.number());
-        assert!(rt; number == i + 1 && cause.word() == *word, "{word}");
+// An entry of this name and kind is a shorty, or is none.
+fn is_shorty_as(alloc: Global, name: &str, kind: Kind, answer: bool) -> bool {
+    match Name::of(alloc, name.as_bytes()) {
+        Ok(name) => is_shorty(&name, kind) == answer,
+        Err(_) => false,
     }
 }
 
-fn is_shorty_of(alloc: Global, name: &str, kind: Kind) -> Option<bool> {
-    let name = Name::of(alloc, name.as_bytes()).ok()?;
-    Some(is_shorty(&name, kind))
-}
-
-#[test]
-fn shorties_are_directories_of_one_or_two_bytes(rt: HostRuntime) {
-    for (name, kind, answer) in [
-        ("a", Kind::Dir, true),
-        ("ab", Kind::Dir, true),
-        ("abc", Kind::Dir, false),
-        ("ab", Kind::File, false),
-        ("ab", Kind::Other, false),
-    ] {
-        assert!(rt;
-            is_shorty_of(rt.alloc(), name, kind) == Some(answer),
-            "{name}: {kind:?}"
-        );
-    }
-}
+const SHORTIES: &[Row] = &[
+    Row::Shorty("a", Kind::Dir, true),
+    Row::Shorty("ab", Kind::Dir, true),
+    Row::Shorty("abc", Kind::Dir, false),
+    Row::Shorty("ab", Kind::File, false),
+    Row::Shorty("ab", Kind::Other, false),
+];
 
 // The numbers of files, bytes of a path, names on a way, bytes of a file and turns.
 fn numbers_of(limits: &Limits) -> [u64; 5] {
@@ -181,36 +193,51 @@ fn limits_of(numbers: [u64; 5]) -> Result<Limits, LimitsFault> {
 
 const GREATEST: [u64; 5] = [1_000_000, 4_000, 600, 8_796_093_022_208, 1_099_511_627_776];
 
-#[test]
-fn limits_end_at_their_greatest_values(rt: HostRuntime) -> Result<(), Fail> {
-    let limits = limits_of(GREATEST)?;
-    assert!(rt; numbers_of(&limits) == GREATEST);
-    assert!(rt; Limits::greatest() == limits);
-    assert!(rt; limits_of([1, 1, 1, 1, 1])?.depth() == 1);
-    Ok(())
+fn are_greatest(limits: Result<Limits, LimitsFault>) -> bool {
+    match limits {
+        Ok(limits) => numbers_of(&limits) == GREATEST && Limits::greatest() == limits,
+        Err(_) => false,
+    }
 }
 
-const NO_LIMITS: &[([u64; 5], LimitsFault)] = &[
-    ([0, 1, 1, 1, 1], LimitsFault::Zero),
-    ([1, 0, 1, 1, 1], LimitsFault::Zero),
-    ([1, 1, 0, 1, 1], LimitsFault::Zero),
-    ([1, 1, 1, 0, 1], LimitsFault::Zero),
-    ([1, 1, 1, 1, 0], LimitsFault::Zero),
-    ([1_000_001, 1, 1, 1, 0], LimitsFault::Zero),
-    ([1_000_001, 1, 1, 1, 1], LimitsFault::TooLarge),
-    ([1, 4_001, 1, 1, 1], LimitsFault::TooLarge),
-    ([1, 1, 601, 1, 1], LimitsFault::TooLarge),
-    ([1, 1, 1, 8_796_093_022_209, 1], LimitsFault::TooLarge),
-    ([1, 1, 1, 1, 1_099_511_627_777], LimitsFault::TooLarge),
+fn has_depth(limits: Result<Limits, LimitsFault>, depth: u64) -> bool {
+    match limits {
+        Ok(limits) => limits.depth() == depth,
+        Err(_) => false,
+    }
+}
+
+#[test]
+fn limits_end_at_their_greatest_values(rt: HostRuntime) {
+    assert!(rt; are_greatest(limits_of(GREATEST)) && has_depth(limits_of([1, 1, 1, 1, 1]), 1));
+    assert!(rt; LimitsFault::Zero.number() == 1 && LimitsFault::TooLarge.number() == 2);
+}
+
+const NO_LIMITS: &[Row] = &[
+    Row::NoLimits(&[0, 1, 1, 1, 1], LimitsFault::Zero),
+    Row::NoLimits(&[1, 0, 1, 1, 1], LimitsFault::Zero),
+    Row::NoLimits(&[1, 1, 0, 1, 1], LimitsFault::Zero),
+    Row::NoLimits(&[1, 1, 1, 0, 1], LimitsFault::Zero),
+    Row::NoLimits(&[1, 1, 1, 1, 0], LimitsFault::Zero),
+    Row::NoLimits(&[1_000_001, 1, 1, 1, 0], LimitsFault::Zero),
+    Row::NoLimits(&[1_000_001, 1, 1, 1, 1], LimitsFault::TooLarge),
+    Row::NoLimits(&[1, 4_001, 1, 1, 1], LimitsFault::TooLarge),
+    Row::NoLimits(&[1, 1, 601, 1, 1], LimitsFault::TooLarge),
+    Row::NoLimits(&[1, 1, 1, 8_796_093_022_209, 1], LimitsFault::TooLarge),
+    Row::NoLimits(&[1, 1, 1, 1, 1_099_511_627_777], LimitsFault::TooLarge),
 ];
 
 #[test]
-fn limits_that_are_refused(rt: HostRuntime) {
-    for (numbers, fault) in NO_LIMITS {
-        assert!(rt; refuses(limits_of(*numbers), *fault), "{numbers:?}");
-    }
-    assert!(rt; LimitsFault::Zero.number() == 1);
-    assert!(rt; LimitsFault::TooLarge.number() == 2);
+fn sites_causes_shorties_and_limits(rt: HostRuntime) {
+    all_hold(&rt, rt.alloc(), "sites are what the table says", SITES);
+    all_hold(&rt, rt.alloc(), "causes have numbers and words", CAUSES);
+    all_hold(
+        &rt,
+        rt.alloc(),
+        "shorties are directories of one or two bytes",
+        SHORTIES,
+    );
+    all_hold(&rt, rt.alloc(), "limits that are refused", NO_LIMITS);
 }
 
 fn is_at_directory(trail: &Trail) -> bool
@@ -229,10 +256,13 @@ fn is_at(trail: &Trail, name: &str, kind: Kind) -> bool {
     }
 }
 
-fn enters(trail: &mut Trail, listing: Listing) -> bool
+fn enters(trail: &mut Trail, alloc: Global, entries: &[(&str, Kind)]) -> bool
     requires { IsTrue (can_enter trail.old) }
 {
-    trail.enter(listing).is_ok()
+    match listing_of(alloc, entries) {
+        Some(listing) => trail.enter(listing).is_ok(),
+        None => false,
+    }
 }
 
 fn path_is(trail: &Trail, want: &str) -> bool {
@@ -242,42 +272,87 @@ fn path_is(trail: &Trail, want: &str) -> bool {
     }
 }
 
+// It is at an entry, and passes it.
+fn advances(trail: &mut Trail) -> bool {
+    if trail.current().is_none() {
+        return false;
+    }
+    trail.advance();
+    true
+}
+
+// It is in a directory, and goes back to its first entry.
+fn goes_back(trail: &mut Trail) -> bool {
+    if trail.len() == 0 {
+        return false;
+    }
+    trail.seek(0);
+    true
+}
+
+// It is in a directory, and leaves it.
+fn leaves(trail: &mut Trail) -> bool {
+    if trail.len() == 0 {
+        return false;
+    }
+    trail.leave();
+    true
+}
+
+fn has_innermost(trail: &Trail, entries: usize) -> bool {
+    match trail.innermost() {
+        Some(listing) => listing.len() == entries,
+        None => false,
+    }
+}
+
 // At the first of the two entries below `ab`; afterwards behind them.
-fn advances(rt: &impl Abort, trail: &mut Trail) {
-    assert!(rt; trail.records() == 3 && trail.len() == 2);
-    assert!(rt; path_is(trail, "ab"));
-    assert!(rt; is_at(trail, "c", Kind::Dir));
-    assert!(rt; trail.current().is_some());
-    trail.advance();
-    assert!(rt; is_at(trail, "x", Kind::File));
-    assert!(rt; trail.current().is_some());
-    trail.advance();
-    assert!(rt; trail.current().is_none());
+fn passes_both(trail: &mut Trail) -> bool {
+    trail.records() == 3
+        && trail.len() == 2
+        && path_is(trail, "ab")
+        && is_at(trail, "c", Kind::Dir)
+        && advances(trail)
+        && is_at(trail, "x", Kind::File)
+        && advances(trail)
+        && trail.current().is_none()
 }
 
 // Behind the entries below `ab`; afterwards at `ab`.
-fn goes_back_and_leaves(rt: &impl Abort, trail: &mut Trail) {
-    assert!(rt; trail.len() > 0);
-    trail.seek(0);
-    assert!(rt; is_at(trail, "c", Kind::Dir));
-    assert!(rt; trail.len() > 0);
-    trail.leave();
-    assert!(rt; trail.records() == 1 && path_is(trail, ""));
-    assert!(rt; is_at(trail, "ab", Kind::Dir));
-    assert!(rt; trail.innermost().is_some_and(|listing| listing.len() == 1));
+fn goes_back_and_leaves(trail: &mut Trail) -> bool {
+    goes_back(trail)
+        && is_at(trail, "c", Kind::Dir)
+        && leaves(trail)
+        && trail.records() == 1
+        && path_is(trail, "")
+        && is_at(trail, "ab", Kind::Dir)
+        && has_innermost(trail, 1)
+}
+
+const TOP: &[(&str, Kind)] = &[("ab", Kind::Dir)];
+
+const BELOW: &[(&str, Kind)] = &[("c", Kind::Dir), ("x", Kind::File)];
+
+// Without entries; afterwards at the first of the two below `ab`.
+fn enters_both(trail: &mut Trail, alloc: Global) -> bool
+    requires { IsTrue (can_enter trail.old) }
+{
+    trail.current().is_none()
+        && trail.innermost().is_none()
+        && enters(trail, alloc, TOP)
+        && is_at_directory(trail)
+        && enters(trail, alloc, BELOW)
+}
+
+fn goes(trail: &mut Trail, alloc: Global) -> bool
+    requires { IsTrue (can_enter trail.old) }
+{
+    enters_both(trail, alloc) && passes_both(trail) && goes_back_and_leaves(trail)
 }
 
 #[test]
-fn a_trail_enters_advances_and_leaves(rt: HostRuntime) -> Result<(), Fail> {
-    let mut trail = Trail::new(rt.alloc());
-    assert!(rt; trail.current().is_none() && trail.innermost().is_none());
-    assert!(rt; enters(&mut trail, listing_of(rt.alloc(), &[("ab", Kind::Dir)])?));
-    assert!(rt; is_at_directory(&trail));
-    let below = [("c", Kind::Dir), ("x", Kind::File)];
-    assert!(rt; enters(&mut trail, listing_of(rt.alloc(), &below)?));
-    advances(&rt, &mut trail);
-    goes_back_and_leaves(&rt, &mut trail);
-    Ok(())
+fn a_trail_enters_advances_and_leaves(rt: HostRuntime) {
+    assert!(rt; goes(&mut Trail::new(rt.alloc()), rt.alloc()));
 }
 
 #[test]

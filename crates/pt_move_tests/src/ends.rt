@@ -1,60 +1,71 @@
 // Runs that end before their end, what they leave, and the runs after them.
 #![tactic(auto)]
 
-use crate::objects::{ABC, Base, Files, ONE, STORE, TOLD, one_object, tree_of};
-use crate::steps::{Ends, Step, wrong};
-use crate::stores::{Asked, go_on, job};
-use pt_memory::{LooseSource, MemDest, MemLog};
-use pt_move::{Fault, Job, Mover, Turn, migrate};
+use crate::objects::{ABC, Base, Files, ONE, STORE, TOLD, is_tree};
+use crate::steps::{Ends, Step, all_go};
+use crate::stores::{Asked, Goes, go_on, goes_over, goes_over_store, job, run};
+use pt_memory::{LooseSource, MemDest, MemLog, MemSource};
+use pt_move::{Fault, Job, Mover, Report, Turn};
 use pt_texts::{path, store};
 use pt_tree::Source;
 use std::alloc::Global;
-use std::test::Fail;
 
 const DONE: &str =
     "{\"as\":\"done\",\"at\":\"ab/c/obj\",\"bytes\":3,\"empty\":0,\"files\":1,\"id\":\"abc\",\"to\":\"ba7/816/bf8/abc\"}\n";
 
-// Whether a run whose log takes so many bytes leaves the object and these bytes, and ends in a fault if more were to follow.
-fn ends_by_its_log(alloc: Global, want: &MemDest, taken: usize) -> Result<bool, Fail> {
-    let job = job(alloc, Asked::Usual)?;
-    let mut source = store(alloc, STORE)?;
-    let mut dest = MemDest::new(alloc);
-    let mut log = MemLog::new(alloc);
-    log.fuse(Some(taken as u64));
-    let answer = migrate(alloc, &mut source, &mut dest, &mut log, job);
-    let is_fault = answer == Err(Fault::Log);
-    let lines = TOLD.as_bytes().get(..taken);
-    Ok(is_fault == (taken < TOLD.len()) && dest.same(want) && lines == Some(log.bytes()))
+// How many bytes a log takes.
+#[derive(Clone, Copy)]
+struct Taken(usize);
+
+// The run ends in a fault if more were to follow, and leaves the object and these bytes.
+impl Goes<MemSource> for Taken {
+    fn goes(
+        &self,
+        alloc: Global,
+        source: &mut MemSource,
+        dest: &mut MemDest,
+        log: &mut MemLog,
+    ) -> bool {
+        let taken = self.0;
+        log.fuse(Some(taken as u64));
+        ends_by_its_log(run(alloc, source, dest, log, Asked::Usual), taken)
+            && is_tree(alloc, dest, Base::Object(ONE), ABC)
+            && TOLD.as_bytes().get(..taken) == Some(log.bytes())
+    }
+}
+
+fn ends_by_its_log(answer: Option<Result<Report, Fault>>, taken: usize) -> bool {
+    (answer == Some(Err(Fault::Log))) == (taken < TOLD.len())
 }
 
 // The first number of bytes at which that is otherwise.
-fn first_wrong_byte(alloc: Global, want: &MemDest) -> Result<Option<usize>, Fail> {
+fn first_wrong_byte(alloc: Global) -> Option<usize> {
     for taken in 0..TOLD.len() + 1 {
-        if !ends_by_its_log(alloc, want, taken)? {
-            return Ok(Some(taken));
+        if !goes_over_store(alloc, STORE, &Taken(taken)) {
+            return Some(taken);
         }
     }
-    Ok(None)
+    None
 }
 
 #[test]
-fn a_log_may_fail_at_each_of_its_bytes(rt: HostRuntime) -> Result<(), Fail> {
-    let wrong = first_wrong_byte(rt.alloc(), &one_object(rt.alloc())?)?;
+fn a_log_may_fail_at_each_of_its_bytes(rt: HostRuntime) {
+    let wrong = first_wrong_byte(rt.alloc());
     assert!(rt; wrong.is_none(), "at byte {wrong:?}");
-    Ok(())
 }
 
+// How many steps went on, what the two steps after them answer, and the turns and the objects that are reported.
+type After = (u64, Result<Turn, Fault>, Result<Turn, Fault>, u64, u64);
+
 // A run that is stopped: what its job has that isn't as usual, how many bytes its log takes, how many steps are made while it
-// goes on, and what is in its log then.
+// goes on, what is in its log then, and what comes after.
 struct Stopped {
     asked: Asked,
     taken: Option<u64>,
     steps: u64,
     lines: &'static str,
+    after: After,
 }
-
-// How many steps went on, what the two steps after them answer, and the turns and the objects that are reported.
-type After = (u64, [Result<Turn, Fault>; 2], u64, u64);
 
 fn after_steps<S: Source>(
     alloc: Global,
@@ -69,73 +80,67 @@ fn after_steps<S: Source>(
     let first = mover.step(source, dest, log);
     let second = mover.step(source, dest, log);
     let report = mover.report();
-    (made, [first, second], report.turns, report.done)
+    (made, first, second, report.turns, report.done)
 }
 
-// The same over this source; none where the log is another, or the destination doesn't hold just the object.
-fn after<S: Source>(
-    alloc: Global,
-    source: &mut S,
-    stopped: &Stopped,
-) -> Result<Option<After>, Fail> {
-    let want = one_object(alloc)?;
-    let job = job(alloc, stopped.asked)?;
-    let mut dest = MemDest::new(alloc);
-    let mut log = MemLog::new(alloc);
-    log.fuse(stopped.taken);
-    let after = after_steps(alloc, source, &mut dest, &mut log, (job, stopped.steps));
-    let is_left = dest.same(&want) && log.bytes() == stopped.lines.as_bytes();
-    Ok(is_left.then_some(after))
+// It leaves just the object, too.
+impl<S: Source> Goes<S> for Stopped {
+    fn goes(&self, alloc: Global, source: &mut S, dest: &mut MemDest, log: &mut MemLog) -> bool {
+        log.fuse(self.taken);
+        match job(alloc, self.asked) {
+            Some(job) => {
+                after_steps(alloc, source, dest, log, (job, self.steps)) == self.after
+                    && log.bytes() == self.lines.as_bytes()
+                    && is_tree(alloc, dest, Base::Object(ONE), ABC)
+            }
+            None => false,
+        }
+    }
 }
 
-const FULL_LOG: Stopped = Stopped {
+// Whether a run over the store of the object goes so, where it may change.
+fn goes_over_loose<R: Goes<LooseSource>>(alloc: Global, row: &R) -> bool {
+    match store(alloc, STORE) {
+        Ok(source) => goes_over(alloc, LooseSource::of(source), row),
+        Err(_) => false,
+    }
+}
+
+const FULL_LOG: &Stopped = &Stopped {
     asked: Asked::Usual,
     taken: Some(10),
     steps: 100,
     lines: "{\"as\":\"don",
+    after: (37, Err(Fault::Ended), Err(Fault::Ended), 38, 0),
 };
 
-#[test]
-fn a_log_that_failed_ends_the_run(rt: HostRuntime) -> Result<(), Fail> {
-    let after = after(rt.alloc(), &mut store(rt.alloc(), STORE)?, &FULL_LOG)?;
-    let answers = [Err(Fault::Ended), Err(Fault::Ended)];
-    assert!(rt; after == Some((37, answers, 38, 0)), "{after:?}");
-    Ok(())
-}
-
-const TOO_FEW_TURNS: Stopped = Stopped {
+const TOO_FEW_TURNS: &Stopped = &Stopped {
     asked: Asked::Turns(42),
     taken: None,
     steps: 42,
     lines: DONE,
+    after: (42, Err(Fault::Turns), Err(Fault::Ended), 42, 1),
 };
 
-#[test]
-fn the_limit_of_turns_ends_a_run(rt: HostRuntime) -> Result<(), Fail> {
-    let after = after(rt.alloc(), &mut store(rt.alloc(), STORE)?, &TOO_FEW_TURNS)?;
-    let answers = [Err(Fault::Turns), Err(Fault::Ended)];
-    assert!(rt; after == Some((42, answers, 42, 1)), "{after:?}");
-    Ok(())
-}
-
-const ENOUGH_TURNS: Stopped = Stopped {
+const ENOUGH_TURNS: &Stopped = &Stopped {
     asked: Asked::Turns(43),
     taken: None,
     steps: 42,
     lines: TOLD,
+    after: (42, Ok(Turn::Finished), Err(Fault::Ended), 43, 1),
 };
 
-// The same over a source that may change.
-fn after_loose(alloc: Global, stopped: &Stopped) -> Result<Option<After>, Fail> {
-    after(alloc, &mut LooseSource::of(store(alloc, STORE)?), stopped)
-}
-
 #[test]
-fn the_last_turn_is_finished_and_nothing_follows(rt: HostRuntime) -> Result<(), Fail> {
-    let after = after_loose(rt.alloc(), &ENOUGH_TURNS)?;
-    let answers = [Ok(Turn::Finished), Err(Fault::Ended)];
-    assert!(rt; after == Some((42, answers, 43, 1)), "{after:?}");
-    Ok(())
+fn a_stopped_run_goes_no_further(rt: HostRuntime) {
+    assert!(rt;
+        goes_over_store(rt.alloc(), STORE, FULL_LOG),
+        "a log that failed"
+    );
+    assert!(rt;
+        goes_over_store(rt.alloc(), STORE, TOO_FEW_TURNS),
+        "the limit of turns"
+    );
+    assert!(rt; goes_over_loose(rt.alloc(), ENOUGH_TURNS), "the last turn");
 }
 
 const FIVE_TURNS: &[Step] = &[
@@ -144,14 +149,6 @@ const FIVE_TURNS: &[Step] = &[
     Step::Is(Base::Nothing, &[("staging/", "")]),
 ];
 
-#[test]
-fn five_turns_make_staging_alone(rt: HostRuntime) -> Result<(), Fail> {
-    let wrong = wrong(rt.alloc(), FIVE_TURNS)?;
-    assert!(rt; wrong.is_none(), "step {wrong:?}");
-    Ok(())
-}
-
-// A run over the store of one object takes eleven calls of its source.
 const TEN_CALLS: &[Step] = &[
     Step::Store(STORE),
     Step::SourceFails(10),
@@ -172,32 +169,49 @@ const ELEVEN_CALLS: &[Step] = &[
     Step::Is(Base::Object(ONE), ABC),
 ];
 
-#[test]
-fn a_source_that_fails_ends_the_run(rt: HostRuntime) -> Result<(), Fail> {
-    for (calls, steps) in [(10, TEN_CALLS), (11, ELEVEN_CALLS)] {
-        let wrong = wrong(rt.alloc(), steps)?;
-        assert!(rt; wrong.is_none(), "{calls} calls: step {wrong:?}");
+// What a file of `abc` holds when it is read again, after eight calls, and what is left then.
+struct Changed(&'static str, Files);
+
+fn changes(alloc: Global, source: &mut LooseSource, bytes: &str) -> bool {
+    match path(alloc, "pairtree_root/ab/c/obj/a.txt") {
+        Ok(file) => source.swap_after(8, &file, bytes.as_bytes()).is_ok(),
+        Err(_) => false,
     }
-    Ok(())
 }
 
-// What a file of `abc` holds when it is read again, and what is left then.
-const CHANGED: [(&str, Files); 3] = [
-    (
+// The run ends before its log.
+impl Goes<LooseSource> for Changed {
+    fn goes(
+        &self,
+        alloc: Global,
+        source: &mut LooseSource,
+        dest: &mut MemDest,
+        log: &mut MemLog,
+    ) -> bool {
+        let Changed(bytes, left) = self;
+        changes(alloc, source, bytes)
+            && run(alloc, source, dest, log, Asked::Usual) == Some(Err(Fault::Changed))
+            && log.bytes().is_empty()
+            && is_tree(alloc, dest, Base::Root, left)
+    }
+}
+
+const CHANGED: &[Changed] = &[
+    Changed(
         "abd",
         &[
             ("staging/0=ocfl_object_1.1", "ocfl_object_1.1\n"),
             ("staging/v1/content/a.txt", "abd"),
         ],
     ),
-    (
+    Changed(
         "ab",
         &[
             ("staging/0=ocfl_object_1.1", "ocfl_object_1.1\n"),
             ("staging/v1/content/a.txt", "ab"),
         ],
     ),
-    (
+    Changed(
         "abcd",
         &[
             ("staging/0=ocfl_object_1.1", "ocfl_object_1.1\n"),
@@ -206,35 +220,12 @@ const CHANGED: [(&str, Files); 3] = [
     ),
 ];
 
-// The store whose file holds that after eight calls.
-fn changing(alloc: Global, bytes: &str) -> Result<LooseSource, Fail> {
-    let file = path(alloc, "pairtree_root/ab/c/obj/a.txt")?;
-    let mut source = LooseSource::of(store(alloc, STORE)?);
-    source.swap_after(8, &file, bytes.as_bytes())?;
-    Ok(source)
-}
-
-// Whether a run over it ends before its log, and leaves this.
-fn ends_by_a_change(alloc: Global, bytes: &str, left: &MemDest) -> Result<bool, Fail> {
-    let job = job(alloc, Asked::Usual)?;
-    let mut source = changing(alloc, bytes)?;
-    let mut dest = MemDest::new(alloc);
-    let mut log = MemLog::new(alloc);
-    let answer = migrate(alloc, &mut source, &mut dest, &mut log, job);
-    Ok(answer == Err(Fault::Changed) && log.bytes().is_empty() && dest.same(left))
-}
-
-fn leaves_by_a_change(alloc: Global, bytes: &str, left: Files) -> Result<bool, Fail> {
-    ends_by_a_change(alloc, bytes, &tree_of(alloc, Base::Root, left)?)
-}
-
 #[test]
-fn a_file_that_changes_ends_the_run(rt: HostRuntime) -> Result<(), Fail> {
-    for (bytes, left) in CHANGED {
-        let is_left = leaves_by_a_change(rt.alloc(), bytes, left)?;
-        assert!(rt; is_left, "{bytes}");
+fn a_file_that_changes_ends_the_run(rt: HostRuntime) {
+    for row in CHANGED {
+        let bytes = row.0;
+        assert!(rt; goes_over_loose(rt.alloc(), row), "{bytes}");
     }
-    Ok(())
 }
 
 const TWO: &str = "ab/c/obj/a.txt=abc ab/cd/obj/a.txt=abc ab/cd/obj/b.bin*16384";
@@ -278,10 +269,25 @@ const BROKEN: &[Step] = &[
 ];
 
 #[test]
-fn staging_is_left_and_taken_away_by_hand(rt: HostRuntime) -> Result<(), Fail> {
-    for (what, steps) in [("unbroken", UNBROKEN), ("broken", BROKEN)] {
-        let wrong = wrong(rt.alloc(), steps)?;
-        assert!(rt; wrong.is_none(), "{what}: step {wrong:?}");
-    }
-    Ok(())
+fn runs_end_before_their_end(rt: HostRuntime) {
+    all_go(&rt, rt.alloc(), "five turns make staging alone", FIVE_TURNS);
+    all_go(
+        &rt,
+        rt.alloc(),
+        "a source that fails after ten calls ends the run",
+        TEN_CALLS,
+    );
+    all_go(
+        &rt,
+        rt.alloc(),
+        "a run takes eleven calls of its source",
+        ELEVEN_CALLS,
+    );
+    all_go(&rt, rt.alloc(), "a run that isn't broken", UNBROKEN);
+    all_go(
+        &rt,
+        rt.alloc(),
+        "staging is left and taken away by hand",
+        BROKEN,
+    );
 }

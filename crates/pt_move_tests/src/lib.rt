@@ -7,6 +7,8 @@ mod ends;
 #[cfg(test)]
 mod identifiers;
 #[cfg(test)]
+mod limits;
+#[cfg(test)]
 mod lines;
 #[cfg(test)]
 mod objects;

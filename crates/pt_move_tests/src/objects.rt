@@ -2,9 +2,8 @@
 #![tactic(auto)]
 
 use pt_memory::MemDest;
-use pt_texts::{add, tree};
-use std::alloc::Global;
-use std::test::Fail;
+use pt_texts::add;
+use std::alloc::{AllocError, Global};
 
 /// Files by their paths; a path that ends in `/` is a directory, and the text `*9` is nine letters `a`.
 pub type Files = &'static [(&'static str, &'static str)];
@@ -28,101 +27,111 @@ pub struct Frame {
     pub digest: &'static str,
 }
 
-/// The tree of these files beside the base.
-pub fn tree_of(alloc: Global, base: Base, files: Files) -> Result<MemDest, Fail> {
-    let mut dest = base_of(alloc, base)?;
-    add_files(alloc, &mut dest, files)?;
-    Ok(dest)
+/// The destination is the tree of these files beside the base.
+pub fn is_tree(alloc: Global, dest: &MemDest, base: Base, files: Files) -> bool {
+    let mut tree = MemDest::new(alloc);
+    adds_base(alloc, &mut tree, base) && adds_files(alloc, &mut tree, files) && dest.same(&tree)
 }
 
-fn base_of(alloc: Global, base: Base) -> Result<MemDest, Fail> {
+fn adds_base(alloc: Global, dest: &mut MemDest, base: Base) -> bool {
     match base {
-        Base::Nothing => Ok(MemDest::new(alloc)),
-        Base::Root => Ok(tree(alloc, &ROOT)?),
-        Base::Object(frame) => framed(alloc, &frame),
+        Base::Nothing => true,
+        Base::Root => adds_root(alloc, dest),
+        Base::Object(frame) => adds_root(alloc, dest) && adds_frame(alloc, dest, &frame),
     }
 }
 
-fn add_files(alloc: Global, dest: &mut MemDest, files: Files) -> Result<(), Fail> {
+fn adds_root(alloc: Global, dest: &mut MemDest) -> bool {
+    add(alloc, dest, ROOT).is_ok()
+}
+
+fn adds_files(alloc: Global, dest: &mut MemDest, files: Files) -> bool {
     for (at, text) in files {
-        add_file(alloc, dest, at, text)?;
+        if !adds_file(alloc, dest, at, text) {
+            return false;
+        }
     }
-    Ok(())
+    true
 }
 
-fn add_file(alloc: Global, dest: &mut MemDest, at: &str, text: &str) -> Result<(), Fail> {
-    let Some(count) = text.strip_prefix('*') else {
-        return Ok(add(alloc, dest, &[(at, text)])?);
-    };
-    let letters = "a".repeat(alloc, count.parse::<usize>()?)?;
-    Ok(add(alloc, dest, &[(at, letters.as_str())])?)
+fn adds_file(alloc: Global, dest: &mut MemDest, at: &str, text: &str) -> bool {
+    match text.strip_prefix('*') {
+        Some(count) => adds_letters(alloc, dest, at, count),
+        None => adds(alloc, dest, at, text),
+    }
 }
 
-// The root with the object, without its contents.
-fn framed(alloc: Global, frame: &Frame) -> Result<MemDest, Fail> {
-    let mut dest = tree(alloc, &ROOT)?;
-    add_frame(alloc, &mut dest, frame)?;
-    Ok(dest)
+fn adds(alloc: Global, dest: &mut MemDest, at: &str, text: &str) -> bool {
+    add(alloc, dest, &[(at, text)]).is_ok()
 }
 
-fn add_frame(alloc: Global, dest: &mut MemDest, frame: &Frame) -> Result<(), Fail> {
-    add_in(
+fn adds_letters(alloc: Global, dest: &mut MemDest, at: &str, count: &str) -> bool {
+    match letters(alloc, count) {
+        Some(text) => adds(alloc, dest, at, text.as_str()),
+        None => false,
+    }
+}
+
+// So many letters `a`.
+fn letters(alloc: Global, count: &str) -> Option<String> {
+    let count = count.parse::<usize>().ok()?;
+    "a".repeat(alloc, count).ok()
+}
+
+// Adds what an object has beside its contents: its declaration, and its inventory at its top and in its version.
+fn adds_frame(alloc: Global, dest: &mut MemDest, frame: &Frame) -> bool {
+    adds_in(
         alloc,
         dest,
         frame.place,
-        ("0=ocfl_object_1.1", "ocfl_object_1.1\n"),
-    )?;
-    for version in ["", "/v1"] {
-        add_inventory(alloc, dest, frame, version)?;
-    }
-    Ok(())
+        "0=ocfl_object_1.1",
+        "ocfl_object_1.1\n",
+    ) && adds_inventory(alloc, dest, frame.place, frame)
+        && adds_inventory_in_version(alloc, dest, frame)
 }
 
-// Adds the inventory and its sidecar at the top of the object, or in its version.
-fn add_inventory(
-    alloc: Global,
-    dest: &mut MemDest,
-    frame: &Frame,
-    version: &str,
-) -> Result<(), Fail> {
-    let place = frame.place;
-    let at = format!(in alloc; "{place}{version}")?;
-    add_in(
-        alloc,
-        dest,
-        at.as_str(),
-        ("inventory.json", frame.inventory),
-    )?;
-    add_in(alloc, dest, at.as_str(), (frame.sidecar, frame.digest))
+fn adds_inventory_in_version(alloc: Global, dest: &mut MemDest, frame: &Frame) -> bool {
+    match below(alloc, frame.place, "v1") {
+        Ok(version) => adds_inventory(alloc, dest, version.as_str(), frame),
+        Err(_) => false,
+    }
+}
+
+// Adds the inventory and its sidecar to what stands at a place.
+fn adds_inventory(alloc: Global, dest: &mut MemDest, place: &str, frame: &Frame) -> bool {
+    adds_in(alloc, dest, place, "inventory.json", frame.inventory)
+        && adds_in(alloc, dest, place, frame.sidecar, frame.digest)
 }
 
 // Adds a file to what stands at a place.
-fn add_in(alloc: Global, dest: &mut MemDest, place: &str, file: (&str, &str)) -> Result<(), Fail> {
-    let (name, text) = file;
-    let at = format!(in alloc; "{place}/{name}")?;
-    Ok(add(alloc, dest, &[(at.as_str(), text)])?)
+fn adds_in(alloc: Global, dest: &mut MemDest, place: &str, name: &str, text: &str) -> bool {
+    match below(alloc, place, name) {
+        Ok(at) => adds(alloc, dest, at.as_str(), text),
+        Err(_) => false,
+    }
 }
 
-/// The destination of the store of one object.
-pub fn one_object(alloc: Global) -> Result<MemDest, Fail> {
-    tree_of(alloc, Base::Object(ONE), ABC)
+fn below(alloc: Global, place: &str, name: &str) -> Result<String, AllocError> {
+    format!(in alloc; "{place}/{name}")
 }
 
 // Where a storage root says its layout.
 pub const CONFIG: &str = "ocfl/extensions/0003-hash-and-id-n-tuple-storage-layout/config.json";
 
 // The files of a storage root of three tuples of three digits.
-pub const ROOT: [(&str, &str); 3] = [
-    (
-        CONFIG,
-        r#"{"digestAlgorithm":"sha256","extensionName":"0003-hash-and-id-n-tuple-storage-layout","numberOfTuples":3,"tupleSize":3}"#,
-    ),
-    (
-        "ocfl/ocfl_layout.json",
-        r#"{"description":"SHA-256 of the identifier in tuples, then the encoded identifier","extension":"0003-hash-and-id-n-tuple-storage-layout"}"#,
-    ),
-    ("ocfl/0=ocfl_1.1", "ocfl_1.1\n"),
-];
+pub const ROOT: Files = &[THREE_OF_THREE, LAYOUT, DECLARATION];
+
+pub const THREE_OF_THREE: (&str, &str) = (
+    CONFIG,
+    r#"{"digestAlgorithm":"sha256","extensionName":"0003-hash-and-id-n-tuple-storage-layout","numberOfTuples":3,"tupleSize":3}"#,
+);
+
+pub const LAYOUT: (&str, &str) = (
+    "ocfl/ocfl_layout.json",
+    r#"{"description":"SHA-256 of the identifier in tuples, then the encoded identifier","extension":"0003-hash-and-id-n-tuple-storage-layout"}"#,
+);
+
+pub const DECLARATION: (&str, &str) = ("ocfl/0=ocfl_1.1", "ocfl_1.1\n");
 
 // The inventory of the store of one object, and its digest, as a sidecar has it.
 const INVENTORY: &str =

@@ -1,14 +1,12 @@
 // Runs over what stands in a destination already: the order of the start, roots, and second runs.
 #![tactic(auto)]
 
-use crate::objects::{ABC, Base, CONFIG, ONE, ROOT, STAGED, STORE};
-use crate::steps::{Ends, Step, wrong};
-use crate::stores::{Asked, run};
-use pt_memory::{MemDest, MemLog};
+use crate::objects::{
+    ABC, Base, CONFIG, DECLARATION, Files, LAYOUT, ONE, ROOT, STAGED, STORE, THREE_OF_THREE,
+};
+use crate::steps::{Ends, Step, all_go};
+use crate::stores::Asked;
 use pt_move::{Fault, Report};
-use pt_texts::{add, path, store, tree};
-use std::alloc::Global;
-use std::test::Fail;
 
 const PRESENT: Report = Report {
     done: 0,
@@ -31,13 +29,6 @@ const SECOND: &[Step] = &[
     Step::Run(Asked::Usual, Ends::Told(PRESENT), PRESENT_LINES),
     Step::Is(Base::Object(ONE), ABC),
 ];
-
-#[test]
-fn a_second_run_finds_all_present(rt: HostRuntime) -> Result<(), Fail> {
-    let wrong = wrong(rt.alloc(), SECOND)?;
-    assert!(rt; wrong.is_none(), "step {wrong:?}");
-    Ok(())
-}
 
 const SPLIT: Report = Report {
     done: 0,
@@ -73,13 +64,6 @@ const DIVIDED: &[Step] = &[
     Step::Has("ocfl/ba7/816/bf8/abc/v1/content/obj/f"),
 ];
 
-#[test]
-fn a_divided_site_is_gathered_by_a_later_run(rt: HostRuntime) -> Result<(), Fail> {
-    let wrong = wrong(rt.alloc(), DIVIDED)?;
-    assert!(rt; wrong.is_none(), "step {wrong:?}");
-    Ok(())
-}
-
 const START: &[Step] = &[
     Step::Plant("pairtree_root/"),
     Step::Plant("pairtree_prefix*1025"),
@@ -97,78 +81,64 @@ const START: &[Step] = &[
     Step::Run(Asked::Usual, Ends::In(Fault::Prefix), ""),
 ];
 
-#[test]
-fn the_start_is_told_in_its_order(rt: HostRuntime) -> Result<(), Fail> {
-    let wrong = wrong(rt.alloc(), START)?;
-    assert!(rt; wrong.is_none(), "step {wrong:?}");
-    Ok(())
-}
-
-// What is taken away of a good root, and the file that stands then, so that a run can't use it.
-const UNUSABLE: [(&str, &str, &str); 4] = [
+// Roots in which a file is another one, so that a run can't use them.
+const LINE_END: Files = &[
     (
-        CONFIG,
         CONFIG,
         "{\"digestAlgorithm\":\"sha256\",\"extensionName\":\"0003-hash-and-id-n-tuple-storage-layout\",\"numberOfTuples\":3,\"tupleSize\":3}\n",
     ),
+    LAYOUT,
+    DECLARATION,
+];
+
+const FOUR_OF_TWO: Files = &[
     (
-        CONFIG,
         CONFIG,
         "{\"digestAlgorithm\":\"sha256\",\"extensionName\":\"0003-hash-and-id-n-tuple-storage-layout\",\"numberOfTuples\":4,\"tupleSize\":2}",
     ),
-    ("ocfl/ocfl_layout.json", "ocfl/ocfl_layout.json/", ""),
-    ("ocfl/ocfl_layout.json", "ocfl/other.json", ""),
+    LAYOUT,
+    DECLARATION,
 ];
 
-// The good root without one of its files, and with this one.
-fn other_root(alloc: Global, taken: &str, at: &str, bytes: &str) -> Result<MemDest, Fail> {
-    let mut dest = tree(alloc, &ROOT)?;
-    dest.take_away(&path(alloc, taken)?)?;
-    add(alloc, &mut dest, &[(at, bytes)])?;
-    Ok(dest)
-}
+const NO_FILE: Files = &[THREE_OF_THREE, ("ocfl/ocfl_layout.json/", ""), DECLARATION];
 
-// Whether a run over it is refused, writes no line and changes nothing.
-fn is_refused(alloc: Global, taken: &str, at: &str, bytes: &str) -> Result<bool, Fail> {
-    let same = other_root(alloc, taken, at, bytes)?;
-    let mut dest = other_root(alloc, taken, at, bytes)?;
-    Ok(is_target_refused(alloc, &mut dest)? && dest.same(&same))
-}
+const OTHER_NAME: Files = &[THREE_OF_THREE, ("ocfl/other.json", ""), DECLARATION];
 
-fn is_target_refused(alloc: Global, dest: &mut MemDest) -> Result<bool, Fail> {
-    let mut source = store(alloc, STORE)?;
-    let mut log = MemLog::new(alloc);
-    let answer = run(alloc, &mut source, dest, &mut log, Asked::Usual)?;
-    Ok(answer == Err(Fault::Target) && log.bytes().is_empty())
-}
+// Each is refused and left alone.
+const OTHER_CONFIGS: &[Step] = &[
+    Step::Store(STORE),
+    Step::Add(LINE_END),
+    Step::Run(Asked::Usual, Ends::In(Fault::Target), ""),
+    Step::Is(Base::Nothing, LINE_END),
+    Step::Take("ocfl"),
+    Step::Add(FOUR_OF_TWO),
+    Step::Run(Asked::Usual, Ends::In(Fault::Target), ""),
+    Step::Is(Base::Nothing, FOUR_OF_TWO),
+];
 
-#[test]
-fn another_root_is_refused_and_left_alone(rt: HostRuntime) -> Result<(), Fail> {
-    for (taken, at, bytes) in UNUSABLE {
-        assert!(rt; is_refused(rt.alloc(), taken, at, bytes)?, "{at}: {bytes}");
-    }
-    Ok(())
-}
+const OTHER_LAYOUTS: &[Step] = &[
+    Step::Store(STORE),
+    Step::Add(NO_FILE),
+    Step::Run(Asked::Usual, Ends::In(Fault::Target), ""),
+    Step::Is(Base::Nothing, NO_FILE),
+    Step::Take("ocfl"),
+    Step::Add(OTHER_NAME),
+    Step::Run(Asked::Usual, Ends::In(Fault::Target), ""),
+    Step::Is(Base::Nothing, OTHER_NAME),
+];
 
 const OTHER_TUPLES: &[Step] = &[
     Step::Store(STORE),
-    Step::Add(&ROOT),
+    Step::Add(ROOT),
     Step::Run(Asked::Tuples(2, 4), Ends::In(Fault::Target), ""),
     Step::Is(Base::Root, &[]),
     Step::Run(Asked::Tuples(0, 0), Ends::In(Fault::Target), ""),
     Step::Is(Base::Root, &[]),
 ];
 
-#[test]
-fn other_tuples_need_another_root(rt: HostRuntime) -> Result<(), Fail> {
-    let wrong = wrong(rt.alloc(), OTHER_TUPLES)?;
-    assert!(rt; wrong.is_none(), "step {wrong:?}");
-    Ok(())
-}
-
 const ON_THE_WAY: &[Step] = &[
     Step::Store(STORE),
-    Step::Add(&ROOT),
+    Step::Add(ROOT),
     Step::Add(&[("ocfl/ba7", "")]),
     Step::Run(Asked::Usual, Ends::In(Fault::Target), ""),
     Step::Is(
@@ -178,8 +148,32 @@ const ON_THE_WAY: &[Step] = &[
 ];
 
 #[test]
-fn a_file_on_the_way_stays_and_staging_holds_the_object(rt: HostRuntime) -> Result<(), Fail> {
-    let wrong = wrong(rt.alloc(), ON_THE_WAY)?;
-    assert!(rt; wrong.is_none(), "step {wrong:?}");
-    Ok(())
+fn runs_start_over_what_stands_already(rt: HostRuntime) {
+    all_go(&rt, rt.alloc(), "a second run finds all present", SECOND);
+    all_go(
+        &rt,
+        rt.alloc(),
+        "a divided site is gathered by a later run",
+        DIVIDED,
+    );
+    all_go(&rt, rt.alloc(), "the start is told in its order", START);
+    all_go(
+        &rt,
+        rt.alloc(),
+        "other configurations are refused",
+        OTHER_CONFIGS,
+    );
+    all_go(&rt, rt.alloc(), "other layouts are refused", OTHER_LAYOUTS);
+    all_go(
+        &rt,
+        rt.alloc(),
+        "other tuples need another root",
+        OTHER_TUPLES,
+    );
+    all_go(
+        &rt,
+        rt.alloc(),
+        "a file on the way stays and staging holds the object",
+        ON_THE_WAY,
+    );
 }

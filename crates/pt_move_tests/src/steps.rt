@@ -1,13 +1,13 @@
 // Tests as data: what is done with a store and a destination, and what comes of it.
 #![tactic(auto)]
 
-use crate::objects::{Base, Files, tree_of};
+use crate::objects::{Base, Files, is_tree};
 use crate::stores::{Asked, run};
 use pt_memory::{MemDest, MemLog, MemSource};
 use pt_move::{Fault, Report};
 use pt_texts::{add, path, plant, store};
 use std::alloc::Global;
-use std::test::Fail;
+use std::process::Abort;
 
 /// A step: what is done, or what is found then.
 #[derive(Clone, Copy)]
@@ -47,48 +47,81 @@ pub enum Ends {
     In(Fault),
 }
 
-/// The first of these steps, counted from 0, that goes otherwise, with an empty store and an empty destination before them.
-pub fn wrong(alloc: Global, steps: &[Step]) -> Result<Option<usize>, Fail> {
-    let mut dest = MemDest::new(alloc);
-    wrong_by(alloc, &mut MemSource::new(alloc), &mut dest, steps)
+/// Each of these steps goes so, with an empty store and an empty destination before them.
+pub fn all_go(rt: &impl Abort, alloc: Global, what: &str, steps: &[Step]) {
+    let wrong = wrong(alloc, steps);
+    assert!(rt; wrong.is_none(), "{what}: step {wrong:?}");
 }
 
-fn wrong_by(
+// The first of these steps, counted from 0, that goes otherwise.
+fn wrong(alloc: Global, steps: &[Step]) -> Option<usize> {
+    let mut source = MemSource::new(alloc);
+    let mut dest = MemDest::new(alloc);
+    wrong_over(alloc, &mut source, &mut dest, steps)
+}
+
+fn wrong_over(
     alloc: Global,
     source: &mut MemSource,
     dest: &mut MemDest,
     steps: &[Step],
-) -> Result<Option<usize>, Fail> {
+) -> Option<usize> {
     for (i, step) in steps.iter().enumerate() {
-        if !goes(alloc, source, dest, *step)? {
-            return Ok(Some(i));
+        if !goes(alloc, source, dest, step) {
+            return Some(i);
         }
     }
-    Ok(None)
+    None
 }
 
-fn goes(
-    alloc: Global,
-    source: &mut MemSource,
-    dest: &mut MemDest,
-    step: Step,
-) -> Result<bool, Fail> {
+fn goes(alloc: Global, source: &mut MemSource, dest: &mut MemDest, step: &Step) -> bool {
     match step {
-        Step::Store(entries) => *source = store(alloc, entries)?,
-        Step::Plant(entry) => plant(alloc, source, entry)?,
-        Step::Add(files) => add(alloc, dest, files)?,
-        Step::Take(at) => dest.take_away(&path(alloc, at)?)?,
-        Step::SourceFails(calls) => source.fuse(Some(calls)),
-        Step::DestFails(calls) => dest.fuse(Some(calls)),
-        Step::DestIsWell => dest.fuse(None),
-        Step::Run(asked, ends, lines) => {
-            return is_run(alloc, source, dest, asked, (ends, lines));
+        Step::Store(entries) => stores(alloc, source, entries),
+        Step::Plant(entry) => plant(alloc, source, entry).is_ok(),
+        Step::SourceFails(calls) => {
+            source.fuse(Some(*calls));
+            true
         }
-        Step::Carry(asked) => return carries(alloc, source, dest, asked),
-        Step::IsUnbroken => return is_unbroken(alloc, source, dest),
-        _ => return is_found(alloc, dest, step),
+        Step::Run(asked, ends, lines) => is_run(alloc, source, dest, *asked, (*ends, lines)),
+        Step::Carry(asked) => carries(alloc, source, dest, *asked),
+        Step::IsUnbroken => is_unbroken(alloc, source, dest),
+        _ => goes_in_dest(alloc, dest, step),
     }
-    Ok(true)
+}
+
+fn goes_in_dest(alloc: Global, dest: &mut MemDest, step: &Step) -> bool {
+    match step {
+        Step::Add(files) => add(alloc, dest, files).is_ok(),
+        Step::Take(at) => takes(alloc, dest, at),
+        Step::DestFails(calls) => {
+            dest.fuse(Some(*calls));
+            true
+        }
+        Step::DestIsWell => {
+            dest.fuse(None);
+            true
+        }
+        Step::Is(base, files) => is_tree(alloc, dest, *base, files),
+        Step::Has(at) | Step::EndsWith(at, _) | Step::Letters(at, _) => has(alloc, dest, at, step),
+        _ => false,
+    }
+}
+
+fn stores(alloc: Global, source: &mut MemSource, entries: &str) -> bool {
+    match store(alloc, entries) {
+        Ok(store) => {
+            *source = store;
+            true
+        }
+        Err(_) => false,
+    }
+}
+
+fn takes(alloc: Global, dest: &mut MemDest, at: &str) -> bool {
+    match path(alloc, at) {
+        Ok(at) => dest.take_away(&at).is_ok(),
+        Err(_) => false,
+    }
 }
 
 // Whether a run ends so and writes these lines.
@@ -98,50 +131,57 @@ fn is_run(
     dest: &mut MemDest,
     asked: Asked,
     wanted: (Ends, &str),
-) -> Result<bool, Fail> {
+) -> bool {
     let mut log = MemLog::new(alloc);
-    let answer = run(alloc, source, dest, &mut log, asked)?;
+    let answer = run(alloc, source, dest, &mut log, asked);
     let (ends, lines) = wanted;
-    Ok(is_end(answer, ends) && log.bytes() == lines.as_bytes())
+    is_end(answer, ends) && log.bytes() == lines.as_bytes()
 }
 
 // Whether a run ends well.
-fn carries(
-    alloc: Global,
-    source: &mut MemSource,
-    dest: &mut MemDest,
-    asked: Asked,
-) -> Result<bool, Fail> {
-    let mut log = MemLog::new(alloc);
-    Ok(run(alloc, source, dest, &mut log, asked)?.is_ok())
+fn carries(alloc: Global, source: &mut MemSource, dest: &mut MemDest, asked: Asked) -> bool {
+    is_end(
+        run(alloc, source, dest, &mut MemLog::new(alloc), asked),
+        Ends::Well,
+    )
 }
 
-fn is_end(answer: Result<Report, Fault>, ends: Ends) -> bool {
-    match ends {
-        Ends::Well => answer.is_ok(),
-        Ends::Told(report) => answer == Ok(report),
-        Ends::In(fault) => answer == Err(fault),
+fn is_end(answer: Option<Result<Report, Fault>>, ends: Ends) -> bool {
+    match (answer, ends) {
+        (Some(Ok(_)), Ends::Well) => true,
+        (Some(Ok(found)), Ends::Told(report)) => found == report,
+        (Some(Err(found)), Ends::In(fault)) => found == fault,
+        _ => false,
     }
 }
 
-fn is_unbroken(alloc: Global, source: &mut MemSource, dest: &MemDest) -> Result<bool, Fail> {
+fn is_unbroken(alloc: Global, source: &mut MemSource, dest: &MemDest) -> bool {
     let mut whole = MemDest::new(alloc);
-    let is_well = carries(alloc, source, &mut whole, Asked::Usual)?;
-    Ok(is_well && dest.same(&whole))
+    carries(alloc, source, &mut whole, Asked::Usual) && dest.same(&whole)
 }
 
-fn is_found(alloc: Global, dest: &MemDest, step: Step) -> Result<bool, Fail> {
-    Ok(match step {
-        Step::Is(base, files) => dest.same(&tree_of(alloc, base, files)?),
-        Step::Has(at) => dest.file(&path(alloc, at)?).is_some(),
-        Step::EndsWith(at, ending) => {
-            let bytes = dest.file(&path(alloc, at)?).unwrap_or(b"");
-            bytes.ends_with(ending.as_bytes())
-        }
-        Step::Letters(at, count) => {
-            let letters = "a".repeat(alloc, count)?;
-            dest.file(&path(alloc, at)?) == Some(letters.as_bytes())
-        }
+// Whether a file is at a path, and holds what the step says.
+fn has(alloc: Global, dest: &MemDest, at: &str, step: &Step) -> bool {
+    match path(alloc, at) {
+        Ok(at) => is_held(dest.file(&at), step),
+        Err(_) => false,
+    }
+}
+
+fn is_held(bytes: Option<&[u8]>, step: &Step) -> bool {
+    match (bytes, step) {
+        (Some(_), Step::Has(_)) => true,
+        (Some(bytes), Step::EndsWith(_, ending)) => bytes.ends_with(ending.as_bytes()),
+        (Some(bytes), Step::Letters(_, count)) => are_letters(bytes, *count),
         _ => false,
-    })
+    }
+}
+
+fn are_letters(bytes: &[u8], count: usize) -> bool {
+    for byte in bytes {
+        if *byte != b'a' {
+            return false;
+        }
+    }
+    bytes.len() == count
 }

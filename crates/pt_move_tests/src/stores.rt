@@ -7,11 +7,11 @@ ghost use Rattle.pt_state.specs.Outside.{world};
 use pt_memory::{MemDest, MemLog, MemSource};
 use pt_move::{Fault, Job, Mover, Report, Turn, migrate};
 use pt_name::{Layout, LayoutFault, Share, ShareFault};
-use pt_object::{Algorithm, Meta};
+use pt_object::{Algorithm, Meta, MetaFault};
+use pt_texts::store;
 use pt_tree::{Dest, Log, Source};
 use pt_walk::{Limits, LimitsFault};
 use std::alloc::Global;
-use std::test::Fail;
 
 /// What a job has that isn't as usual: three tuples of three digits, SHA-512, the greatest limits, the whole store.
 #[derive(Clone, Copy)]
@@ -29,22 +29,29 @@ pub enum Asked {
     Share(u32, u32),
 }
 
-pub fn job(alloc: Global, asked: Asked) -> Result<Job, Fail> {
-    let meta = Meta::of(
+pub fn job(alloc: Global, asked: Asked) -> Option<Job> {
+    let layout = layout(asked).ok()?;
+    let limits = limits(asked).ok()?;
+    let share = share(asked).ok()?;
+    let meta = meta(alloc).ok()?;
+    Some(Job {
+        meta,
+        layout,
+        algorithm: algorithm(asked),
+        limits,
+        gather: matches!(asked, Asked::Gather),
+        share,
+    })
+}
+
+fn meta(alloc: Global) -> Result<Meta, MetaFault> {
+    Meta::of(
         alloc,
         "2024-05-01T12:00:00Z",
         "Ada",
         None,
         "Migrated from Pairtree",
-    )?;
-    Ok(Job {
-        meta,
-        layout: layout(asked)?,
-        algorithm: algorithm(asked),
-        limits: limits(asked)?,
-        gather: matches!(asked, Asked::Gather),
-        share: share(asked)?,
-    })
+    )
 }
 
 fn layout(asked: Asked) -> Result<Layout, LayoutFault> {
@@ -103,13 +110,35 @@ pub fn go_on<S: Source, D: Dest, L: Log>(
     (steps, most)
 }
 
-// What a run answers.
-pub fn run(
+/// What a run answers, if there is such a job.
+pub fn run<S: Source>(
     alloc: Global,
-    source: &mut MemSource,
+    source: &mut S,
     dest: &mut MemDest,
     log: &mut MemLog,
     asked: Asked,
-) -> Result<Result<Report, Fault>, Fail> {
-    Ok(migrate(alloc, source, dest, log, job(alloc, asked)?))
+) -> Option<Result<Report, Fault>> {
+    Some(migrate(alloc, source, dest, log, job(alloc, asked)?))
+}
+
+/// What is to come of a run over such a source.
+pub trait Goes<S: Source> {
+    /// Whether that comes of it, where the destination and the log were empty.
+    fn goes(&self, alloc: Global, source: &mut S, dest: &mut MemDest, log: &mut MemLog) -> bool;
+}
+
+/// Whether that comes of a run over this source.
+pub fn goes_over<S: Source + Drop, R: Goes<S>>(alloc: Global, source: S, row: &R) -> bool {
+    let mut source = source;
+    let mut dest = MemDest::new(alloc);
+    let mut log = MemLog::new(alloc);
+    row.goes(alloc, &mut source, &mut dest, &mut log)
+}
+
+/// Whether that comes of a run over the store of these entries.
+pub fn goes_over_store<R: Goes<MemSource>>(alloc: Global, entries: &str, row: &R) -> bool {
+    match store(alloc, entries) {
+        Ok(source) => goes_over(alloc, source, row),
+        Err(_) => false,
+    }
 }

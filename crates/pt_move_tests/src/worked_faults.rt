@@ -1,8 +1,6 @@
 // What a fault leaves of the worked stores, computed from the definitions by the prover.
 ghost use Rattle.pt_move_tests.specs.WorkedFaults.{EmptyStoreTells, OneIdentifierCounts, OneObjectHasTuples, RerunCarriesTheObject, TwoTuplesStand};
 
-use std::test::Fail;
-
 fn faults()
     ensures tuples { OneObjectHasTuples }
     ensures stand { TwoTuplesStand }
@@ -12,7 +10,6 @@ fn faults()
 {}
 
 #[test]
-fn worked_faults_follow_from_the_definitions(_rt: HostRuntime) -> Result<(), Fail> {
+fn worked_faults_follow_from_the_definitions() {
     faults();
-    Ok(())
 }

@@ -1,8 +1,6 @@
 // The worked objects, computed from the definitions by the prover.
 ghost use Rattle.pt_move_tests.specs.WorkedObjects.{EqualContentsPaths, FourFilesStored, NoFilesPaths, OneFileObject, OneFileScript, RootStands, SharedFolders};
 
-use std::test::Fail;
-
 fn one_file()
     ensures object { OneFileObject }
     ensures script { OneFileScript }
@@ -29,12 +27,11 @@ fn root()
 {}
 
 #[test]
-fn worked_objects_follow_from_the_definitions(_rt: HostRuntime) -> Result<(), Fail> {
+fn worked_objects_follow_from_the_definitions() {
     one_file();
     equal_contents();
     no_files();
     four_files();
     shared_folders();
     root();
-    Ok(())
 }

@@ -4,7 +4,6 @@ ghost use Rattle.pt_move_tests.specs.WorkedTurns.{EmptyStoreTurns, OneObjectTurn
 
 use pt_begun::laws as begun_laws;
 use pt_plan::laws;
-use std::test::Fail;
 
 fn stores()
     ensures { StoresAreKnown }
@@ -68,7 +67,7 @@ fn records()
 {}
 
 #[test]
-fn worked_stores_follow_from_the_definitions(_rt: HostRuntime) -> Result<(), Fail> {
+fn worked_stores_follow_from_the_definitions() {
     stores();
     verdicts();
     logs();
@@ -78,11 +77,10 @@ fn worked_stores_follow_from_the_definitions(_rt: HostRuntime) -> Result<(), Fai
     turns();
     single_turns();
     records();
-    Ok(())
 }
 
 #[test]
-fn each_law_can_be_called(_rt: HostRuntime) -> Result<(), Fail> {
+fn each_law_can_be_called() {
     laws::files_come_in_order();
     laws::carried_files_come_in_order();
     laws::taken_against_earlier();
@@ -115,11 +113,10 @@ fn each_law_can_be_called(_rt: HostRuntime) -> Result<(), Fail> {
     laws::shares_tell_the_whole();
     laws::shares_leave_the_whole();
     laws::shares_meet_in_folders();
-    Ok(())
 }
 
 #[test]
-fn each_law_of_a_run_in_progress_can_be_called(_rt: HostRuntime) -> Result<(), Fail> {
+fn each_law_of_a_run_in_progress_can_be_called() {
     begun_laws::new_run_is_begun();
     begun_laws::begun_permits();
     begun_laws::turn_keeps_begun();
@@ -148,5 +145,4 @@ fn each_law_of_a_run_in_progress_can_be_called(_rt: HostRuntime) -> Result<(), F
     begun_laws::scanning_keeps_items();
     begun_laws::making_keeps_items();
     begun_laws::placing_keeps_items();
-    Ok(())
 }

@@ -1,16 +1,6 @@
 //! Files that are put onto the disk.
-use crate::counting::Counts;
 use crate::steps::{Step, wrong_in_folder};
-use pt_folder::HostDest;
 use pt_tree::TreeFault;
-use std::alloc::Global;
-
-// The first of these steps that goes otherwise.
-fn wrong(alloc: Global, sync: bool, steps: &[Step]) -> Result<Option<usize>, TreeFault> {
-    let counts = Counts::new();
-    let mut dest = HostDest::new(counts.system(), alloc, "f").with_sync(sync);
-    wrong_in_folder(&mut dest, &counts, alloc, steps)
-}
 
 const NOT_SYNCED: &[Step] = &[
     Step::Create("staging", Ok(())),
@@ -30,14 +20,6 @@ const SYNCED: &[Step] = &[
     Step::Syncs(2),
 ];
 
-#[test]
-fn files_are_synced_where_that_is_asked(rt: HostRuntime) {
-    for (sync, steps) in [(false, NOT_SYNCED), (true, SYNCED)] {
-        let wrong = wrong(rt.alloc(), sync, steps);
-        assert!(rt; wrong == Ok(None), "{sync}: step {wrong:?}");
-    }
-}
-
 const LATE: &[Step] = &[
     Step::Create("a", Ok(())),
     Step::Finish(Ok(())),
@@ -45,12 +27,6 @@ const LATE: &[Step] = &[
     Step::Rename("a", "b", Err(TreeFault::Device)),
     Step::FailedAt("f/b/.."),
 ];
-
-#[test]
-fn errors_that_come_late_are_told(rt: HostRuntime) {
-    let wrong = wrong(rt.alloc(), true, LATE);
-    assert!(rt; wrong == Ok(None), "step {wrong:?}");
-}
 
 const STUCK: &[Step] = &[
     Step::SyncsFail(true),
@@ -64,8 +40,22 @@ const STUCK: &[Step] = &[
     Step::NoPath,
 ];
 
+// Whether files are put onto the disk, and the steps.
+const ROWS: &[(&str, bool, &[Step])] = &[
+    (
+        "files aren't synced where that isn't asked",
+        false,
+        NOT_SYNCED,
+    ),
+    ("files are synced where that is asked", true, SYNCED),
+    ("errors that come late are told", true, LATE),
+    ("nothing is asked after a late error", true, STUCK),
+];
+
 #[test]
-fn nothing_is_asked_after_a_late_error(rt: HostRuntime) {
-    let wrong = wrong(rt.alloc(), true, STUCK);
-    assert!(rt; wrong == Ok(None), "step {wrong:?}");
+fn files_are_put_onto_the_disk(rt: HostRuntime) {
+    for &(what, sync, steps) in ROWS {
+        let wrong = wrong_in_folder(rt.alloc(), sync, usize::MAX, steps);
+        assert!(rt; wrong == Ok(None), "{what}: step {wrong:?}");
+    }
 }

@@ -1,9 +1,7 @@
 //! Rehearsals, and paths that are too long.
 use crate::counting::Counts;
 use crate::steps::{Step, wrong_in_folder, wrong_in_rehearsal};
-use pt_folder::HostDest;
 use pt_tree::{Kind, TreeFault};
-use std::alloc::Global;
 
 const WHOLE: &[Step] = &[
     Step::Mkdir("staging", Ok(())),
@@ -14,17 +12,12 @@ const WHOLE: &[Step] = &[
     Step::Rename("staging", "ocfl/abc", Ok(())),
     Step::Kind("ocfl/abc", Ok(Some(Kind::Dir))),
     Step::Kind("staging", Ok(Some(Kind::File))),
-    Step::Peek("staging/a", Ok(0)),
+    Step::Peek("staging/a", Ok(())),
+    Step::Holds(0),
     Step::Changes(0),
     Step::Syncs(0),
     Step::Looks(3),
 ];
-
-#[test]
-fn a_rehearsal_changes_nothing(rt: HostRuntime) {
-    let wrong = wrong_in_rehearsal(&Counts::new(), rt.alloc(), WHOLE);
-    assert!(rt; wrong == Ok(None), "step {wrong:?}");
-}
 
 const REMEMBERED: &[Step] = &[
     Step::Mkdir("staging", Ok(())),
@@ -39,12 +32,6 @@ const REMEMBERED: &[Step] = &[
     Step::Looks(2),
 ];
 
-#[test]
-fn a_rehearsal_knows_the_folders_that_it_would_have_made(rt: HostRuntime) {
-    let wrong = wrong_in_rehearsal(&Counts::new(), rt.alloc(), REMEMBERED);
-    assert!(rt; wrong == Ok(None), "step {wrong:?}");
-}
-
 const UNKNOWN: &[Step] = &[
     Step::Mkdir("staging", Ok(())),
     Step::Mkdir("staging/a", Ok(())),
@@ -57,12 +44,6 @@ const UNKNOWN: &[Step] = &[
     Step::NoPath,
 ];
 
-#[test]
-fn a_rehearsal_refuses_what_it_does_not_know(rt: HostRuntime) {
-    let wrong = wrong_in_rehearsal(&Counts::new(), rt.alloc(), UNKNOWN);
-    assert!(rt; wrong == Ok(None), "step {wrong:?}");
-}
-
 const NO_FOLDER: &[Step] = &[
     Step::Kind("staging", Ok(None)),
     Step::Mkdir("staging", Err(TreeFault::Device)),
@@ -70,12 +51,26 @@ const NO_FOLDER: &[Step] = &[
     Step::FailedAt("f/"),
 ];
 
+// Whether the folder isn't there, and the steps.
+const REHEARSALS: &[(&str, bool, &[Step])] = &[
+    ("a rehearsal changes nothing", false, WHOLE),
+    (
+        "it knows the folders that it would have made",
+        false,
+        REMEMBERED,
+    ),
+    ("it refuses what it doesn't know", false, UNKNOWN),
+    ("it needs its folder", true, NO_FOLDER),
+];
+
 #[test]
-fn a_rehearsal_needs_its_folder(rt: HostRuntime) {
-    let counts = Counts::new();
-    counts.no_look.set(true);
-    let wrong = wrong_in_rehearsal(&counts, rt.alloc(), NO_FOLDER);
-    assert!(rt; wrong == Ok(None), "step {wrong:?}");
+fn rehearsals(rt: HostRuntime) {
+    for &(what, no_look, steps) in REHEARSALS {
+        let counts = Counts::new();
+        counts.no_look.set(no_look);
+        let wrong = wrong_in_rehearsal(&counts, rt.alloc(), steps);
+        assert!(rt; wrong == Ok(None), "{what}: step {wrong:?}");
+    }
 }
 
 // Where a path, the folder's before it, has five bytes at most.
@@ -92,15 +87,8 @@ const LONG: &[Step] = &[
     Step::TooLong("f/\u{e9}cd"),
 ];
 
-// The first of these steps that goes otherwise.
-fn wrong_in_short_paths(alloc: Global, steps: &[Step]) -> Result<Option<usize>, TreeFault> {
-    let counts = Counts::new();
-    let mut dest = HostDest::new(counts.system(), alloc, "f").with_longest(5);
-    wrong_in_folder(&mut dest, &counts, alloc, steps)
-}
-
 #[test]
 fn longer_paths_are_not_made(rt: HostRuntime) {
-    let wrong = wrong_in_short_paths(rt.alloc(), LONG);
+    let wrong = wrong_in_folder(rt.alloc(), false, 5, LONG);
     assert!(rt; wrong == Ok(None), "step {wrong:?}");
 }

@@ -3,7 +3,7 @@ use crate::counting::{Counted, Counts};
 use pt_folder::{Cause, Failure, HostDest};
 use pt_rehearsal::Rehearsal;
 use pt_texts::path;
-use pt_tree::{Block, Dest, Kind, TreeFault};
+use pt_tree::{Block, Dest, Kind, NamePath, TreeFault};
 use std::alloc::Global;
 
 /// A call with what it answers, what is found then, or what changes in the system.
@@ -15,8 +15,9 @@ pub enum Step {
     Finish(Result<(), TreeFault>),
     Rename(&'static str, &'static str, Result<(), TreeFault>),
     Kind(&'static str, Result<Option<Kind>, TreeFault>),
-    /// With the number of bytes that it gives.
-    Peek(&'static str, Result<usize, TreeFault>),
+    Peek(&'static str, Result<(), TreeFault>),
+    /// The block that `Peek` gives has so many bytes.
+    Holds(usize),
     /// So often has the system been asked to look, to change something, and to put something onto the disk.
     Looks(u32),
     Changes(u32),
@@ -31,8 +32,35 @@ pub enum Step {
     SyncsFail(bool),
 }
 
-/// The first of these steps over the folder `f` that goes otherwise.
+impl Step {
+    // The path that a call is about, and the one that it moves to; empty where it has none.
+    fn paths(self) -> (&'static str, &'static str) {
+        match self {
+            Step::Mkdir(at, _) | Step::Create(at, _) => (at, ""),
+            Step::Kind(at, _) => (at, ""),
+            Step::Peek(at, _) => (at, ""),
+            Step::Rename(from, to, _) => (from, to),
+            _ => ("", ""),
+        }
+    }
+}
+
+/// The first of these steps over the folder `f` that goes otherwise, where files are put onto the disk, or aren't, and paths
+/// have so many bytes at most.
 pub fn wrong_in_folder(
+    alloc: Global,
+    sync: bool,
+    longest: usize,
+    steps: &[Step],
+) -> Result<Option<usize>, TreeFault> {
+    let counts = Counts::new();
+    let mut dest = HostDest::new(counts.system(), alloc, "f")
+        .with_sync(sync)
+        .with_longest(longest);
+    wrong_of_folder(&mut dest, &counts, alloc, steps)
+}
+
+fn wrong_of_folder(
     dest: &mut HostDest<'_, Counted<'_>>,
     counts: &Counts,
     alloc: Global,
@@ -46,24 +74,37 @@ pub fn wrong_in_folder(
     Ok(None)
 }
 
-#[tactic(auto, using(pt_folder::specs::DestHeld::untold_can_peek, pt_folder::specs::DestHeld::untold_may_make, pt_folder::specs::DestHeld::untold_can_write, pt_folder::specs::DestHeld::untold_may_move))]
 fn goes_in_folder(
     dest: &mut HostDest<'_, Counted<'_>>,
     counts: &Counts,
     alloc: Global,
     step: Step,
 ) -> Result<bool, TreeFault> {
-    Ok(match step {
-        Step::Mkdir(at, answer) => dest.mkdir(&path(alloc, at)?) == answer,
-        Step::Create(at, answer) => dest.create(&path(alloc, at)?) == answer,
-        Step::Append(bytes, answer) => dest.append(bytes.as_bytes()) == answer,
-        Step::Finish(answer) => dest.finish() == answer,
-        Step::Rename(from, to, answer) => {
-            dest.rename(&path(alloc, from)?, &path(alloc, to)?) == answer
-        }
-        Step::Kind(at, answer) => dest.kind(&path(alloc, at)?) == answer,
-        _ => is_found(counts, dest.failures(), dest.last_failure(), step),
-    })
+    let (from, to) = step.paths();
+    match answer_in_folder(dest, step, &path(alloc, from)?, &path(alloc, to)?) {
+        Some(is_answer) => Ok(is_answer),
+        None => Ok(is_found(counts, dest.failures(), dest.last_failure(), step)),
+    }
+}
+
+// Whether a call of the folder is answered so; none of a step that is no call of it.
+#[tactic(auto, using(pt_folder::specs::DestHeld::untold_may_make, pt_folder::specs::DestHeld::untold_can_write, pt_folder::specs::DestHeld::untold_may_move))]
+fn answer_in_folder(
+    dest: &mut HostDest<'_, Counted<'_>>,
+    step: Step,
+    at: &NamePath,
+    to: &NamePath,
+) -> Option<bool> {
+    let (found, answer) = match step {
+        Step::Mkdir(_, answer) => (dest.mkdir(at), answer),
+        Step::Create(_, answer) => (dest.create(at), answer),
+        Step::Append(bytes, answer) => (dest.append(bytes.as_bytes()), answer),
+        Step::Finish(answer) => (dest.finish(), answer),
+        Step::Rename(_, _, answer) => (dest.rename(at, to), answer),
+        Step::Kind(_, answer) => return Some(dest.kind(at) == answer),
+        _ => return None,
+    };
+    Some(found == answer)
 }
 
 /// The first of these steps of a rehearsal that goes otherwise.
@@ -73,37 +114,59 @@ pub fn wrong_in_rehearsal(
     steps: &[Step],
 ) -> Result<Option<usize>, TreeFault> {
     let mut dest = Rehearsal::new(alloc, HostDest::new(counts.system(), alloc, "f"));
+    wrong_of_rehearsal(&mut dest, counts, alloc, steps)
+}
+
+fn wrong_of_rehearsal(
+    dest: &mut Rehearsal<'_, Counted<'_>>,
+    counts: &Counts,
+    alloc: Global,
+    steps: &[Step],
+) -> Result<Option<usize>, TreeFault> {
+    let mut block = Block::new();
     for (i, step) in steps.iter().enumerate() {
-        if !goes_in_rehearsal(&mut dest, counts, alloc, *step)? {
+        if !goes_in_rehearsal(dest, &mut block, counts, alloc, *step)? {
             return Ok(Some(i));
         }
     }
     Ok(None)
 }
 
-#[tactic(auto, using(pt_rehearsal::specs::Untold::untold_may_make, pt_rehearsal::specs::Untold::untold_can_write, pt_rehearsal::specs::Untold::untold_may_move, pt_rehearsal::specs::Untold::untold_can_peek))]
 fn goes_in_rehearsal(
     dest: &mut Rehearsal<'_, Counted<'_>>,
+    block: &mut Block,
     counts: &Counts,
     alloc: Global,
     step: Step,
 ) -> Result<bool, TreeFault> {
-    Ok(match step {
-        Step::Mkdir(at, answer) => dest.mkdir(&path(alloc, at)?) == answer,
-        Step::Create(at, answer) => dest.create(&path(alloc, at)?) == answer,
-        Step::Append(bytes, answer) => dest.append(bytes.as_bytes()) == answer,
-        Step::Finish(answer) => dest.finish() == answer,
-        Step::Rename(from, to, answer) => {
-            dest.rename(&path(alloc, from)?, &path(alloc, to)?) == answer
-        }
-        Step::Kind(at, answer) => dest.kind(&path(alloc, at)?) == answer,
-        Step::Peek(at, answer) => {
-            let mut block = Block::new();
-            let peeked = dest.peek(&path(alloc, at)?, &mut block);
-            peeked.map(|_| block.len()) == answer
-        }
-        _ => is_found(counts, dest.failures(), dest.dest().last_failure(), step),
-    })
+    let (from, to) = step.paths();
+    match answer_in_rehearsal(dest, block, step, &path(alloc, from)?, &path(alloc, to)?) {
+        Some(is_answer) => Ok(is_answer),
+        None => Ok(is_found(counts, dest.failures(), dest.dest().last_failure(), step)),
+    }
+}
+
+// Whether a call of the rehearsal is answered so; none of a step that is no call of it.
+#[tactic(auto, using(pt_rehearsal::specs::Untold::untold_may_make, pt_rehearsal::specs::Untold::untold_can_write, pt_rehearsal::specs::Untold::untold_may_move, pt_rehearsal::specs::Untold::untold_can_peek))]
+fn answer_in_rehearsal(
+    dest: &mut Rehearsal<'_, Counted<'_>>,
+    block: &mut Block,
+    step: Step,
+    at: &NamePath,
+    to: &NamePath,
+) -> Option<bool> {
+    let (found, answer) = match step {
+        Step::Mkdir(_, answer) => (dest.mkdir(at), answer),
+        Step::Create(_, answer) => (dest.create(at), answer),
+        Step::Append(bytes, answer) => (dest.append(bytes.as_bytes()), answer),
+        Step::Finish(answer) => (dest.finish(), answer),
+        Step::Rename(_, _, answer) => (dest.rename(at, to), answer),
+        Step::Peek(_, answer) => (dest.peek(at, block), answer),
+        Step::Kind(_, answer) => return Some(dest.kind(at) == answer),
+        Step::Holds(len) => return Some(block.len() == len),
+        _ => return None,
+    };
+    Some(found == answer)
 }
 
 // Whether this is found; what changes in the system is changed.
@@ -113,8 +176,8 @@ fn is_found(counts: &Counts, failures: u64, last: Option<&Failure>, step: Step) 
         Step::Changes(number) => counts.changes.get() == number,
         Step::Syncs(number) => counts.syncs.get() == number,
         Step::Failures(number) => failures == number,
-        Step::FailedAt(at) => last.is_some_and(|failure| failure.path() == at),
-        Step::TooLong(at) => last.is_some_and(|failure| is_too_long(failure, at)),
+        Step::FailedAt(at) => has_failed(last, at, false),
+        Step::TooLong(at) => has_failed(last, at, true),
         Step::NoPath => last.is_none(),
         Step::SyncsFail(fail) => {
             counts.no_sync.set(fail);
@@ -124,6 +187,10 @@ fn is_found(counts: &Counts, failures: u64, last: Option<&Failure>, step: Step) 
     }
 }
 
-fn is_too_long(failure: &Failure, at: &str) -> bool {
-    failure.path() == at && matches!(failure.cause(), Cause::Long)
+// Whether the last failure was at this path, and, where that is asked, because it is too long.
+fn has_failed(last: Option<&Failure>, at: &str, long: bool) -> bool {
+    match last {
+        Some(failure) => failure.path() == at && (!long || matches!(failure.cause(), Cause::Long)),
+        None => false,
+    }
 }

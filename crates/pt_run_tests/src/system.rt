@@ -4,7 +4,7 @@ use pt_memory::{MemDest, MemSource};
 use pt_memory_system::{Faults, MemFile, MemNames, MemorySystem};
 use pt_rehearsal::Rehearsal;
 use pt_texts::path;
-use pt_tree::{Dest, Kind, TreeFault};
+use pt_tree::{Dest, Kind, NamePath, TreeFault};
 use std::alloc::Global;
 use std::io;
 use std::io::ErrorKind;
@@ -13,12 +13,18 @@ use std::test::Fail;
 // A store of a file in a directory, and a link beside it; and an empty root.
 fn system(alloc: Global, faults: &Faults) -> Result<MemorySystem<'_>, Fail> {
     let mut store = MemSource::new(alloc);
+    fill(alloc, &mut store)?;
+    match MemorySystem::new(alloc, faults, "store", store, "root", MemDest::new(alloc)) {
+        Some(system) => Ok(system),
+        None => Err(Fail::from(TreeFault::Device)),
+    }
+}
+
+fn fill(alloc: Global, store: &mut MemSource) -> Result<(), Fail> {
     store.plant_dir(&path(alloc, "pairs")?)?;
     store.plant_file(&path(alloc, "pairs/a")?, b"bytes".as_slice())?;
     store.plant_other(&path(alloc, "link")?)?;
-    let root = MemDest::new(alloc);
-    let made = MemorySystem::new(alloc, faults, "store", store, "root", root);
-    Ok(made.ok_or(TreeFault::Device)?)
+    Ok(())
 }
 
 // A call with what it answers, or with what it fails for.
@@ -43,8 +49,16 @@ enum Step {
 fn wrong(alloc: Global, steps: &[Step]) -> Result<Option<usize>, Fail> {
     let faults = Faults::new();
     let mut system = system(alloc, &faults)?;
+    wrong_of(&mut system, &faults, steps)
+}
+
+fn wrong_of(
+    system: &mut MemorySystem<'_>,
+    faults: &Faults,
+    steps: &[Step],
+) -> Result<Option<usize>, Fail> {
     for (i, step) in steps.iter().enumerate() {
-        if !goes(&mut system, &faults, *step)? {
+        if !goes(system, faults, *step)? {
             return Ok(Some(i));
         }
     }
@@ -52,20 +66,28 @@ fn wrong(alloc: Global, steps: &[Step]) -> Result<Option<usize>, Fail> {
 }
 
 fn goes(system: &mut MemorySystem<'_>, faults: &Faults, step: Step) -> io::Result<bool> {
-    Ok(match step {
-        Step::Look(at, answer) => kind(system, at) == answer,
-        Step::Names(at, room, pieces) => are_names(&mut system.open_names(at)?, room, pieces)?,
-        Step::NoNames(at, error) => fault(system.open_names(at)) == Some(error),
-        Step::Read(at, pieces) => is_read(&mut system.open_to_read(at)?, pieces)?,
-        Step::NoFile(at, error) => fault(system.open_to_read(at)) == Some(error),
-        Step::MakeDir(at, error) => fault(system.make_dir(at)) == error,
-        Step::Write(at, pieces) => is_written(system, at, pieces)?,
-        Step::Move(from, to, error) => fault(system.move_to(from, to)) == error,
+    match step {
+        Step::Names(at, room, pieces) => are_names(system, at, room, pieces),
+        Step::Read(at, pieces) => is_read(system, at, pieces),
+        Step::Write(at, pieces) => is_written(system, at, pieces),
         Step::TakeAtMost(most) => {
             faults.take_at_most(most);
-            true
+            Ok(true)
         }
-    })
+        _ => Ok(is_answered(system, step)),
+    }
+}
+
+// Whether a look, a change, or a call that is to fail is answered so.
+fn is_answered(system: &mut MemorySystem<'_>, step: Step) -> bool {
+    match step {
+        Step::Look(at, answer) => kind(system, at) == answer,
+        Step::NoNames(at, error) => fault(system.open_names(at)) == Some(error),
+        Step::NoFile(at, error) => fault(system.open_to_read(at)) == Some(error),
+        Step::MakeDir(at, error) => fault(system.make_dir(at)) == error,
+        Step::Move(from, to, error) => fault(system.move_to(from, to)) == error,
+        _ => false,
+    }
 }
 
 // What a call failed for.
@@ -83,7 +105,17 @@ fn kind(system: &mut MemorySystem<'_>, at: &str) -> Result<Kind, ErrorKind> {
     }
 }
 
-fn are_names(names: &mut MemNames<'_>, room: usize, pieces: &[&str]) -> io::Result<bool> {
+fn are_names(
+    system: &mut MemorySystem<'_>,
+    at: &str,
+    room: usize,
+    pieces: &[&str],
+) -> io::Result<bool> {
+    let mut names = system.open_names(at)?;
+    are_pieces(&mut names, room, pieces)
+}
+
+fn are_pieces(names: &mut MemNames<'_>, room: usize, pieces: &[&str]) -> io::Result<bool> {
     for piece in pieces {
         if !is_next(names, room, piece)? {
             return Ok(false);
@@ -92,7 +124,16 @@ fn are_names(names: &mut MemNames<'_>, room: usize, pieces: &[&str]) -> io::Resu
     Ok(true)
 }
 
-fn is_read(file: &mut MemFile<'_>, pieces: &[(Option<u64>, &str)]) -> io::Result<bool> {
+fn is_read(
+    system: &mut MemorySystem<'_>,
+    at: &str,
+    pieces: &[(Option<u64>, &str)],
+) -> io::Result<bool> {
+    let mut file = system.open_to_read(at)?;
+    holds(&mut file, pieces)
+}
+
+fn holds(file: &mut MemFile<'_>, pieces: &[(Option<u64>, &str)]) -> io::Result<bool> {
     for (place, piece) in pieces {
         if !goes_there(file, *place)? || !is_next(file, 64, piece)? {
             return Ok(false);
@@ -121,74 +162,75 @@ fn is_written(
     pieces: &[(&str, usize)],
 ) -> io::Result<bool> {
     let mut file = system.make_file(at)?;
+    takes(system, &mut file, pieces)
+}
+
+fn takes<'a>(
+    system: &mut MemorySystem<'a>,
+    file: &mut MemFile<'a>,
+    pieces: &[(&str, usize)],
+) -> io::Result<bool> {
     for (piece, taken) in pieces {
-        if system.write_piece(&mut file, piece.as_bytes())? != *taken {
+        if system.write_piece(file, piece.as_bytes())? != *taken {
             return Ok(false);
         }
     }
     Ok(true)
 }
 
-#[test]
-fn a_folder_is_read(rt: HostRuntime) -> Result<(), Fail> {
-    const STEPS: &[Step] = &[
-        Step::Look("store/", Ok(Kind::Dir)),
-        Step::Look("store/pairs/a", Ok(Kind::File)),
-        Step::Look("store/link", Ok(Kind::Other)),
-        Step::Look("store/b", Err(ErrorKind::NotFound)),
-        Step::Names("store/", 64, &["link\0pairs\0", ""]),
-    ];
-    let wrong = wrong(rt.alloc(), STEPS)?;
-    assert!(rt; wrong.is_none(), "step {wrong:?}");
-    Ok(())
-}
+const READ: &[Step] = &[
+    Step::Look("store/", Ok(Kind::Dir)),
+    Step::Look("store/pairs/a", Ok(Kind::File)),
+    Step::Look("store/link", Ok(Kind::Other)),
+    Step::Look("store/b", Err(ErrorKind::NotFound)),
+    Step::Names("store/", 64, &["link\0pairs\0", ""]),
+];
+
+const WHOLE_NAMES: &[Step] = &[
+    Step::Names("store/", 9, &["link\0", "pairs\0"]),
+    Step::NoNames("store/pairs/a", ErrorKind::NotFound),
+];
+
+const PIECES: &[(Option<u64>, &str)] = &[
+    (None, "by"),
+    (None, "te"),
+    (None, "s"),
+    (None, ""),
+    (Some(3), "es"),
+];
+
+const BY_PIECES: &[Step] = &[
+    Step::TakeAtMost(2),
+    Step::Read("store/pairs/a", PIECES),
+    Step::NoFile("store/b", ErrorKind::NotFound),
+];
+
+const WRITTEN: &[Step] = &[
+    Step::MakeDir("root/staging", None),
+    Step::TakeAtMost(3),
+    Step::Write("root/staging/a", &[("bytes", 3), ("es", 2)]),
+    Step::MakeDir("root/staging", Some(ErrorKind::AlreadyExists)),
+    Step::Move("root/staging", "root/place", None),
+    Step::Look("root/staging", Err(ErrorKind::NotFound)),
+    Step::Look("root/place", Ok(Kind::Dir)),
+    Step::TakeAtMost(64),
+    Step::Read("root/place/a", &[(None, "bytes")]),
+    Step::MakeDir("store/new", Some(ErrorKind::NotFound)),
+];
+
+const FOLDERS: &[(&str, &[Step])] = &[
+    ("a folder is read", READ),
+    ("a directory is read by whole names", WHOLE_NAMES),
+    ("a file is read by pieces", BY_PIECES),
+    ("a folder is written", WRITTEN),
+];
 
 #[test]
-fn a_directory_is_read_by_whole_names(rt: HostRuntime) -> Result<(), Fail> {
-    const STEPS: &[Step] = &[
-        Step::Names("store/", 9, &["link\0", "pairs\0"]),
-        Step::NoNames("store/pairs/a", ErrorKind::NotFound),
-    ];
-    let wrong = wrong(rt.alloc(), STEPS)?;
-    assert!(rt; wrong.is_none(), "step {wrong:?}");
-    Ok(())
-}
-
-#[test]
-fn a_file_is_read_by_pieces(rt: HostRuntime) -> Result<(), Fail> {
-    const PIECES: &[(Option<u64>, &str)] = &[
-        (None, "by"),
-        (None, "te"),
-        (None, "s"),
-        (None, ""),
-        (Some(3), "es"),
-    ];
-    const STEPS: &[Step] = &[
-        Step::TakeAtMost(2),
-        Step::Read("store/pairs/a", PIECES),
-        Step::NoFile("store/b", ErrorKind::NotFound),
-    ];
-    let wrong = wrong(rt.alloc(), STEPS)?;
-    assert!(rt; wrong.is_none(), "step {wrong:?}");
-    Ok(())
-}
-
-#[test]
-fn a_folder_is_written(rt: HostRuntime) -> Result<(), Fail> {
-    const STEPS: &[Step] = &[
-        Step::MakeDir("root/staging", None),
-        Step::TakeAtMost(3),
-        Step::Write("root/staging/a", &[("bytes", 3), ("es", 2)]),
-        Step::MakeDir("root/staging", Some(ErrorKind::AlreadyExists)),
-        Step::Move("root/staging", "root/place", None),
-        Step::Look("root/staging", Err(ErrorKind::NotFound)),
-        Step::Look("root/place", Ok(Kind::Dir)),
-        Step::TakeAtMost(64),
-        Step::Read("root/place/a", &[(None, "bytes")]),
-        Step::MakeDir("store/new", Some(ErrorKind::NotFound)),
-    ];
-    let wrong = wrong(rt.alloc(), STEPS)?;
-    assert!(rt; wrong.is_none(), "step {wrong:?}");
+fn folders_are_read_and_written(rt: HostRuntime) -> Result<(), Fail> {
+    for (what, steps) in FOLDERS {
+        let wrong = wrong(rt.alloc(), steps)?;
+        assert!(rt; wrong.is_none(), "{what}: step {wrong:?}");
+    }
     Ok(())
 }
 
@@ -196,50 +238,46 @@ fn a_folder_is_written(rt: HostRuntime) -> Result<(), Fail> {
 fn seven_calls(system: &mut MemorySystem<'_>) -> io::Result<()> {
     system.look("root/")?;
     system.make_dir("root/staging")?;
-    let mut file = system.make_file("root/staging/a")?;
-    system.write_piece(&mut file, b"bytes".as_slice())?;
-    file.sync()?;
+    write_staged(system)?;
     system.move_to("root/staging", "root/place")?;
     system.look("root/place/a")?;
     Ok(())
 }
 
-// What the seven calls fail for where each call after so many fails, and how many were made.
-fn failing(alloc: Global, passing: u64) -> Result<(Option<ErrorKind>, u64), Fail> {
+fn write_staged(system: &mut MemorySystem<'_>) -> io::Result<()> {
+    let mut file = system.make_file("root/staging/a")?;
+    system.write_piece(&mut file, b"bytes".as_slice())?;
+    file.sync()
+}
+
+// What the seven calls fail for where each call after so many fails, how many were made, and whether half of what is
+// written is left.
+fn failing(alloc: Global, passing: u64) -> Result<(Option<ErrorKind>, u64, bool), Fail> {
+    let at = path(alloc, "staging/a")?;
     let faults = Faults::new();
     let mut system = system(alloc, &faults)?;
     faults.fail_after(Some(passing));
-    Ok((fault(seven_calls(&mut system)), faults.made()))
+    let error = fault(seven_calls(&mut system));
+    Ok((error, faults.made(), is_half(system, &at)))
+}
+
+fn is_half(system: MemorySystem<'_>, at: &NamePath) -> bool {
+    let (_, root) = system.into_folders();
+    root.file(at) == Some(b"by".as_slice())
 }
 
 #[test]
 fn each_call_fails_in_turn(rt: HostRuntime) -> Result<(), Fail> {
     for passing in 0..7 {
+        // the fourth call, a write, leaves half
         let failed = failing(rt.alloc(), passing)?;
         assert!(rt;
-            failed == (Some(ErrorKind::Other), passing + 1),
+            failed == (Some(ErrorKind::Other), passing + 1, passing == 3),
             "after {passing}"
         );
     }
-    let (error, _) = failing(rt.alloc(), 7)?;
+    let (error, _, _) = failing(rt.alloc(), 7)?;
     assert!(rt; error.is_none());
-    Ok(())
-}
-
-// Whether the fourth call, a write, fails where it is to, and leaves half.
-fn leaves_half(alloc: Global) -> Result<bool, Fail> {
-    let faults = Faults::new();
-    let mut system = system(alloc, &faults)?;
-    faults.fail_after(Some(3));
-    let error = fault(seven_calls(&mut system));
-    let (_, root) = system.into_folders();
-    let left = root.file(&path(alloc, "staging/a")?) == Some(b"by".as_slice());
-    Ok(left && error == Some(ErrorKind::Other))
-}
-
-#[test]
-fn a_failed_write_leaves_half(rt: HostRuntime) -> Result<(), Fail> {
-    assert!(rt; leaves_half(rt.alloc())?);
     Ok(())
 }
 
@@ -249,26 +287,36 @@ fn declare(system: &mut MemorySystem<'_>) -> io::Result<()> {
     Ok(())
 }
 
-fn kind_in(
+// The kinds of the declaration and of `staging`.
+fn kinds_in(
     dest: &mut Rehearsal<'_, MemorySystem<'_>>,
     alloc: Global,
-    at: &str,
-) -> Result<Option<Kind>, TreeFault> {
-    dest.kind(&path(alloc, at)?)
+) -> Result<(Option<Kind>, Option<Kind>), TreeFault> {
+    let declared = dest.kind(&path(alloc, "0=ocfl_1.1")?)?;
+    Ok((declared, dest.kind(&path(alloc, "staging")?)?))
+}
+
+// A rehearsal over a root with its declaration.
+fn rehearsal(alloc: Global, faults: &Faults) -> Result<Rehearsal<'_, MemorySystem<'_>>, Fail> {
+    let mut system = system(alloc, faults)?;
+    declare(&mut system)?;
+    Ok(Rehearsal::new(alloc, HostDest::new(system, alloc, "root")))
+}
+
+fn kind_after(dest: Rehearsal<'_, MemorySystem<'_>>, at: &NamePath) -> Option<Kind> {
+    let (_, root) = dest.into_dest().into_system().into_folders();
+    root.kind_at(at)
 }
 
 // What a rehearsal sees where the root's declaration and `staging` would be, and what is at the first of these after it.
 fn seen(alloc: Global) -> Result<[Option<Kind>; 3], Fail> {
     let declared = path(alloc, "0=ocfl_1.1")?;
     let faults = Faults::new();
-    let mut system = system(alloc, &faults)?;
-    declare(&mut system)?;
-    let mut dest = Rehearsal::new(alloc, HostDest::new(system, alloc, "root"));
-    let first = kind_in(&mut dest, alloc, "0=ocfl_1.1");
-    let second = kind_in(&mut dest, alloc, "staging");
-    let (_, root) = dest.into_dest().into_system().into_folders();
-    let after = root.kind_at(&declared);
-    Ok([first?, second?, after])
+    let mut dest = rehearsal(alloc, &faults)?;
+    let kinds = kinds_in(&mut dest, alloc);
+    let after = kind_after(dest, &declared);
+    let (first, second) = kinds?;
+    Ok([first, second, after])
 }
 
 #[test]

@@ -5,21 +5,29 @@
 mod stores;
 mod sweep;
 
-use stores::CASES;
+use stores::{CASES, Case};
 use sweep::{Device, Swept, sweep};
+
+// The devices, each with what its places are.
+const DEVICES: &[(Device, &str)] = &[
+    (Device::Source, "calls of the source"),
+    (Device::Dest, "calls of the destination"),
+    (Device::Log, "bytes of the log"),
+];
 
 fn main(rt: HostRuntime) {
     for case in CASES {
-        let name = case.name;
-        for (device, places) in [
-            (Device::Source, "calls of the source"),
-            (Device::Dest, "calls of the destination"),
-            (Device::Log, "bytes of the log"),
-        ] {
-            let _ = match sweep(rt.alloc(), &case, device) {
-                Swept::Well(count) => println!(rt; "{name}: {count} {places}: all well"),
-                Swept::Wrong(at, why) => println!(rt; "{name}: at {at} of the {places}: {why}"),
-            };
+        for &(device, places) in DEVICES {
+            tell(&rt, case, device, places);
         }
     }
+}
+
+// Sweeps over a case by one device.
+fn tell(rt: &HostRuntime, case: &Case, device: Device, places: &str) {
+    let name = case.name;
+    let _ = match sweep(rt.alloc(), case, device) {
+        Swept::Well(count) => println!(rt; "{name}: {count} {places}: all well"),
+        Swept::Wrong(at, why) => println!(rt; "{name}: at {at} of the {places}: {why}"),
+    };
 }

@@ -20,7 +20,7 @@ pub struct Case {
     pub places: &'static str,
 }
 
-pub const CASES: [Case; 4] = [
+pub const CASES: &[Case] = &[
     Case {
         name: "one object of one file",
         entries: "ab/c/obj/a.txt=abc",
@@ -77,24 +77,41 @@ pub fn run(
     Some(migrate(alloc, source, dest, log, job(alloc)?))
 }
 
-// Carries a store with these entries, by a run that nothing stops.
-fn carry(alloc: Global, entries: &str, dest: &mut MemDest) -> Option<Report> {
+/// Carries a store with these entries, by a run that nothing stops.
+pub fn carry(
+    alloc: Global,
+    entries: &str,
+    dest: &mut MemDest,
+    log: &mut MemLog,
+) -> Option<Result<Report, Fault>> {
     let mut source = store(alloc, entries).ok()?;
-    run(alloc, &mut source, dest, &mut MemLog::new(alloc))?.ok()
+    run(alloc, &mut source, dest, log)
 }
 
 /// The destination before the run.
 pub fn before(alloc: Global, case: &Case) -> Option<MemDest> {
-    let mut dest = MemDest::new(alloc);
-    if let Some(entries) = case.earlier {
-        carry(alloc, entries, &mut dest)?;
-    }
-    Some(dest)
+    left(alloc, case.earlier, None)
 }
 
 /// The destination after a run that nothing stops.
 pub fn whole(alloc: Global, case: &Case) -> Option<MemDest> {
-    let mut dest = before(alloc, case)?;
-    carry(alloc, case.entries, &mut dest)?;
-    Some(dest)
+    left(alloc, case.earlier, Some(case.entries))
+}
+
+// The destination after runs over two stores, each of which may be none.
+fn left(alloc: Global, first: Option<&str>, second: Option<&str>) -> Option<MemDest> {
+    let mut dest = MemDest::new(alloc);
+    let is_carried = carry_well(alloc, first, &mut dest) && carry_well(alloc, second, &mut dest);
+    is_carried.then_some(dest)
+}
+
+// Whether a store, if any, is carried to its end.
+fn carry_well(alloc: Global, entries: Option<&str>, dest: &mut MemDest) -> bool {
+    match entries {
+        Some(entries) => {
+            let answer = carry(alloc, entries, dest, &mut MemLog::new(alloc));
+            matches!(answer, Some(Ok(_)))
+        }
+        None => true,
+    }
 }

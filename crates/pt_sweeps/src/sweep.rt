@@ -1,12 +1,13 @@
 //! One device fails at each of its calls, or the log at each of its bytes.
-use crate::stores::{Case, before, run, whole};
-use pt_memory::{MemDest, MemLog};
+use crate::stores::{Case, before, carry, run, whole};
+use pt_memory::{MemDest, MemLog, MemSource};
 use pt_move::Fault;
 use pt_texts::{path, store};
+use pt_tree::NamePath;
 use std::alloc::Global;
 
 /// Which device fails.
-#[derive(Clone, Copy, PartialEq, Eq)]
+#[derive(Clone, Copy)]
 pub enum Device {
     Source,
     Dest,
@@ -22,11 +23,32 @@ pub enum Swept {
 /// A run of the case that this device stops at each place in turn, until it isn't stopped, each time followed by a run
 /// that nothing stops.
 pub fn sweep(alloc: Global, case: &Case, device: Device) -> Swept {
-    let Some(ends) = all_ends(alloc, case) else {
-        return Swept::Wrong(0, "the devices cannot be made");
+    let mut setting = Setting {
+        ends: Vec::new(alloc),
+        source: MemSource::new(alloc),
+        dest: MemDest::new(alloc),
+        log: MemLog::new(alloc),
     };
+    match add_ends(alloc, case, &mut setting.ends) {
+        Some(()) => sweep_by(alloc, case, device, &mut setting),
+        None => Swept::Wrong(0, "the devices cannot be made"),
+    }
+}
+
+// What a sweep goes over.
+#[derive(Drop)]
+struct Setting {
+    // What runs of the case may leave, but for `staging`: first a run that nothing stops, then those that are stopped, which
+    // leave the destination as before it, or with the first objects whole and some of the tuple directories of the next one.
+    ends: Vec<MemDest>,
+    source: MemSource,
+    dest: MemDest,
+    log: MemLog,
+}
+
+fn sweep_by(alloc: Global, case: &Case, device: Device, setting: &mut Setting) -> Swept {
     for at in 0..10_000 {
-        match stopped(alloc, case, &ends, device, at) {
+        match stopped(alloc, case, device, at, setting) {
             None => return Swept::Wrong(at, "the devices cannot be made"),
             Some(Stop::Wrong(why)) => return Swept::Wrong(at, why),
             Some(Stop::Well) => {}
@@ -36,30 +58,58 @@ pub fn sweep(alloc: Global, case: &Case, device: Device) -> Swept {
     Swept::Wrong(10_000, "the run never ends")
 }
 
-// What runs of a case may leave, but for `staging`.
-#[derive(Drop)]
-struct Allowed {
-    // A run that nothing stops.
-    all: MemDest,
-    // One that is stopped: the destination as before it, or with the first objects whole and some of the tuple
-    // directories of the next one.
-    left: Vec<MemDest>,
-}
-
-fn all_ends(alloc: Global, case: &Case) -> Option<Allowed> {
-    let mut left = Vec::new(alloc);
-    left.push(before(alloc, case)?).ok()?;
-    left.push(whole(alloc, case)?).ok()?;
+fn add_ends(alloc: Global, case: &Case, ends: &mut Vec<MemDest>) -> Option<()> {
+    add(whole(alloc, case), ends)?;
+    add(before(alloc, case), ends)?;
     for (done, next) in case.places.split(' ').enumerate() {
         for tuples in 0..4 {
-            left.push(on_the_way(alloc, case, done, next, tuples)?)
-                .ok()?;
+            add(whole(alloc, case), ends)?;
+            cut_back(alloc, case, (done, next, tuples), ends.last_mut()?)?;
         }
     }
-    Some(Allowed {
-        all: whole(alloc, case)?,
-        left,
-    })
+    Some(())
+}
+
+fn add(end: Option<MemDest>, ends: &mut Vec<MemDest>) -> Option<()> {
+    ends.push(end?).ok()
+}
+
+// Leaves so many of the objects, and so many tuple directories of the next one.
+fn cut_back(
+    alloc: Global,
+    case: &Case,
+    (done, next, tuples): (usize, &str, usize),
+    dest: &mut MemDest,
+) -> Option<()> {
+    for place in case.places.split(' ').skip(done) {
+        take_away(alloc, place.split('/').next()?, dest)?;
+    }
+    plant_tuples(alloc, next, tuples, dest)
+}
+
+// Plants the first tuple directories of a place.
+fn plant_tuples(alloc: Global, place: &str, tuples: usize, dest: &mut MemDest) -> Option<()> {
+    for (end, _) in place.match_indices('/').take(tuples) {
+        plant(alloc, place.get(..end)?, dest)?;
+    }
+    Some(())
+}
+
+// Takes away what lies there in the storage root.
+fn take_away(alloc: Global, rest: &str, dest: &mut MemDest) -> Option<()> {
+    let at = in_root(alloc, rest)?;
+    dest.take_away(&at).ok()
+}
+
+// Plants a directory there.
+fn plant(alloc: Global, rest: &str, dest: &mut MemDest) -> Option<()> {
+    let at = in_root(alloc, rest)?;
+    dest.plant_dir(&at).ok()
+}
+
+fn in_root(alloc: Global, rest: &str) -> Option<NamePath> {
+    let at = format!(in alloc; "ocfl/{rest}").ok()?;
+    path(alloc, at.as_str()).ok()
 }
 
 // How a run ends that is to be stopped: as it should, otherwise, or without being stopped.
@@ -69,33 +119,40 @@ enum Stop {
     Past,
 }
 
-fn stopped(alloc: Global, case: &Case, ends: &Allowed, device: Device, at: u64) -> Option<Stop> {
-    let mut source = store(alloc, case.entries).ok()?;
-    let mut dest = before(alloc, case)?;
-    let mut log = MemLog::new(alloc);
+// A run that this device stops at this place, and the one after it.
+fn stopped(
+    alloc: Global,
+    case: &Case,
+    device: Device,
+    at: u64,
+    setting: &mut Setting,
+) -> Option<Stop> {
+    setting.source = store(alloc, case.entries).ok()?;
+    setting.dest = before(alloc, case)?;
+    setting.log = MemLog::new(alloc);
     match device {
-        Device::Source => source.fuse(Some(at)),
-        Device::Dest => dest.fuse(Some(at)),
-        Device::Log => log.fuse(Some(at)),
+        Device::Source => setting.source.fuse(Some(at)),
+        Device::Dest => setting.dest.fuse(Some(at)),
+        Device::Log => setting.log.fuse(Some(at)),
     }
-    let answer = run(alloc, &mut source, &mut dest, &mut log)?;
-    dest.fuse(None);
-    clear_staging(alloc, &mut dest)?;
-    let Err(fault) = answer else {
-        return Some(Stop::Past);
-    };
-    if fault != fault_of(device) {
-        return Some(Stop::Wrong("the fault is another"));
+    let answer = run(
+        alloc,
+        &mut setting.source,
+        &mut setting.dest,
+        &mut setting.log,
+    )?;
+    setting.dest.fuse(None);
+    clear_staging(alloc, &mut setting.dest)?;
+    match answer {
+        Ok(_) => Some(Stop::Past),
+        Err(fault) => after(alloc, case, fault == fault_of(device), setting),
     }
-    if !ends.left.iter().any(|left| left.same(&dest)) {
-        return Some(Stop::Wrong("something else is left"));
-    }
-    again(alloc, case, &ends.all, &mut dest, &log)
 }
 
 // Takes `staging` away, where it stands.
 fn clear_staging(alloc: Global, dest: &mut MemDest) -> Option<()> {
-    let _ = dest.take_away(&path(alloc, "staging").ok()?);
+    let staging = path(alloc, "staging").ok()?;
+    let _ = dest.take_away(&staging);
     Some(())
 }
 
@@ -107,85 +164,72 @@ fn fault_of(device: Device) -> Fault {
     }
 }
 
-// The destination with so many of the objects, and so many tuple directories of the next one.
-fn on_the_way(
-    alloc: Global,
-    case: &Case,
-    done: usize,
-    next: &str,
-    tuples: usize,
-) -> Option<MemDest> {
-    let mut dest = whole(alloc, case)?;
-    take_objects_away(alloc, case, done, &mut dest)?;
-    plant_tuples(alloc, next, tuples, &mut dest)?;
-    Some(dest)
-}
-
-// Takes the objects behind the first ones away, with their tuple directories.
-fn take_objects_away(alloc: Global, case: &Case, done: usize, dest: &mut MemDest) -> Option<()> {
-    for place in case.places.split(' ').skip(done) {
-        let tuple = place.split('/').next()?;
-        let at = format!(in alloc; "ocfl/{tuple}").ok()?;
-        dest.take_away(&path(alloc, at.as_str()).ok()?).ok()?;
+// How a run ended that was stopped, whether by the fault that it should be, and the one after it.
+fn after(alloc: Global, case: &Case, is_fault: bool, setting: &mut Setting) -> Option<Stop> {
+    if !is_fault {
+        return Some(Stop::Wrong("the fault is another"));
     }
-    Some(())
-}
-
-// Plants the first tuple directories of a place.
-fn plant_tuples(alloc: Global, place: &str, tuples: usize, dest: &mut MemDest) -> Option<()> {
-    let mut at = String::from_str(alloc, "ocfl").ok()?;
-    for tuple in place.split('/').take(tuples) {
-        at.push('/').ok()?;
-        at.push_str(tuple).ok()?;
-        dest.plant_dir(&path(alloc, at.as_str()).ok()?).ok()?;
+    if !setting.ends.iter().any(|end| end.same(&setting.dest)) {
+        return Some(Stop::Wrong("something else is left"));
     }
-    Some(())
-}
-
-// The run after a stopped one.
-fn again(
-    alloc: Global,
-    case: &Case,
-    all: &MemDest,
-    dest: &mut MemDest,
-    first: &MemLog,
-) -> Option<Stop> {
-    let mut source = store(alloc, case.entries).ok()?;
     let mut log = MemLog::new(alloc);
-    let answer = run(alloc, &mut source, dest, &mut log)?;
-    Some(if answer.is_err() {
+    let answer = carry(alloc, case.entries, &mut setting.dest, &mut log);
+    Some(ended(case, answer?.is_ok(), setting, &log))
+}
+
+// How the run after a stopped one ended, whether by no fault, and with this log.
+fn ended(case: &Case, is_done: bool, setting: &Setting, log: &MemLog) -> Stop {
+    if !is_done {
         Stop::Wrong("the second run ends in a fault")
-    } else if !dest.same(all) {
+    } else if !setting
+        .ends
+        .first()
+        .is_some_and(|all| all.same(&setting.dest))
+    {
         Stop::Wrong("the second run leaves something else")
-    } else if !are_told_once(alloc, case, first, &log)? {
+    } else if !are_told_once(case, &setting.log, log) {
         Stop::Wrong("an object isn't told once")
     } else {
         Stop::Well
-    })
+    }
 }
 
 // Whether two logs tell once of each object: the first as done, or the second as done, or as present.
-fn are_told_once(alloc: Global, case: &Case, first: &MemLog, second: &MemLog) -> Option<bool> {
+fn are_told_once(case: &Case, first: &MemLog, second: &MemLog) -> bool {
     for place in case.places.split(' ') {
-        let earlier = lines(alloc, first, "done", place)?;
-        let done = lines(alloc, second, "done", place)?;
-        let present = lines(alloc, second, "present", place)?;
-        if (earlier, done, present) != (0, 1, 0) && (done, present) != (0, 1) {
-            return Some(false);
+        let earlier = lines(first, "done", place);
+        let later = (
+            lines(second, "done", place),
+            lines(second, "present", place),
+        );
+        if later != (0, 1) && (earlier, later) != (0, (1, 0)) {
+            return false;
         }
     }
-    Some(true)
+    true
 }
 
 // How many whole lines of a log tell of this place with this word.
-fn lines(alloc: Global, log: &MemLog, word: &str, place: &str) -> Option<usize> {
-    let head = format!(in alloc; "{{\"as\":\"{word}\",").ok()?;
-    let tail = format!(in alloc; "\"to\":\"{place}\"}}").ok()?;
+fn lines(log: &MemLog, word: &str, place: &str) -> usize {
     let mut count = 0usize;
-    for line in str::from_utf8(log.bytes()).ok()?.split('\n') {
-        if line.starts_with(head.as_str()) && line.ends_with(tail.as_str()) {
+    for line in str::from_utf8(log.bytes()).unwrap_or("").split('\n') {
+        if tells(line, word, place) {
             count = count.wrapping_add(1);
         }
     }
-    Some(count)
+    count
+}
+
+// Whether a line begins with this word and ends with this place.
+fn tells(line: &str, word: &str, place: &str) -> bool {
+    let Some(head) = line.strip_prefix("{\"as\":\"") else {
+        return false;
+    };
+    let Some(tail) = line.strip_suffix("\"}") else {
+        return false;
+    };
+    match (head.strip_prefix(word), tail.strip_suffix(place)) {
+        (Some(head), Some(tail)) => head.starts_with("\",") && tail.ends_with("\"to\":\""),
+        _ => false,
+    }
 }

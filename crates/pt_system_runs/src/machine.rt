@@ -97,7 +97,7 @@ impl<'a> Host for Machine<'a> {
     }
 }
 
-/// What a run leaves.
+/// What runs leave.
 #[derive(Drop)]
 pub struct Ran {
     pub status: u8,
@@ -106,40 +106,46 @@ pub struct Ran {
     pub root: MemDest,
 }
 
-/// Carries a store into a root, or rehearses that. None where the machine can't be made.
-pub fn carried(
-    rt: &HostRuntime,
-    faults: &Faults,
-    store: MemSource,
-    root: MemDest,
-    rehearse: bool,
-) -> Option<Ran> {
-    let wanted = wanted(rt.alloc(), rehearse)?;
-    let mut machine = set_up(rt.alloc(), faults, store, root)?;
-    let status = status_of(rt, &mut machine, wanted);
-    Some(left(machine, status))
+impl Ran {
+    /// An empty store and an empty root, before any run.
+    pub fn new(alloc: Global) -> Ran {
+        Ran {
+            status: 0,
+            log: Vec::new(alloc),
+            store: MemSource::new(alloc),
+            root: MemDest::new(alloc),
+        }
+    }
+}
+
+/// Carries the store into the root, or rehearses that. None where the machine can't be made.
+pub fn carry(rt: &HostRuntime, faults: &Faults, ran: &mut Ran, rehearse: bool) -> Option<()> {
+    let alloc = rt.alloc();
+    let store = mem::replace(&mut ran.store, MemSource::new(alloc));
+    let root = mem::replace(&mut ran.root, MemDest::new(alloc));
+    let mut machine = set_up(alloc, faults, store, root)?;
+    let status = status_of(rt, &mut machine, rehearse);
+    give_back(machine, ran);
+    ran.status = status?;
+    Some(())
 }
 
 // The status of a run on a machine.
-fn status_of(rt: &HostRuntime, machine: &mut Machine<'_>, wanted: Wanted) -> u8 {
-    run_guarded(rt, machine, wanted, None, "store", "root")
+fn status_of(rt: &HostRuntime, machine: &mut Machine<'_>, rehearse: bool) -> Option<u8> {
+    let wanted = wanted(rt.alloc(), rehearse)?;
+    Some(run_guarded(rt, machine, wanted, None, "store", "root"))
 }
 
-// What a run of this status left on a machine.
-fn left(machine: Machine<'_>, status: u8) -> Ran {
+// Gives what a run left on a machine.
+fn give_back(machine: Machine<'_>, ran: &mut Ran) {
     let Ground {
         store,
         folder,
         output,
     } = machine.ground;
-    let (store, _) = store.into_folders();
-    let (_, root) = folder.into_folders();
-    Ran {
-        status,
-        log: output,
-        store,
-        root,
-    }
+    ran.store = store.into_folders().0;
+    ran.root = folder.into_folders().1;
+    ran.log = output;
 }
 
 fn set_up(alloc: Global, faults: &Faults, store: MemSource, root: MemDest) -> Option<Machine<'_>> {

@@ -10,7 +10,7 @@ mod rows;
 use cases::Case;
 use rows::{Found, Row, tried};
 
-const ROWS: [(&str, Row); 4] = [
+const ROWS: &[(&str, Row)] = &[
     ("carried", Row::Carried),
     ("rehearsed before", Row::RehearsedBefore),
     ("rehearsed after", Row::RehearsedAfter),
@@ -18,16 +18,15 @@ const ROWS: [(&str, Row); 4] = [
 ];
 
 fn main(rt: HostRuntime) {
-    for case in [one_object::CASE, demo::CASE] {
-        tell(&rt, &case);
-    }
+    tell(&rt, &one_object::CASE);
+    tell(&rt, &demo::CASE);
 }
 
 // Tries each row over a case.
 fn tell(rt: &HostRuntime, case: &Case) {
     let name = case.name;
     for (what, row) in ROWS {
-        let said = match tried(rt, case, row) {
+        let said = match tried(rt, case, *row) {
             Found::Well => "as it should be",
             Found::Otherwise(why) => why,
             Found::Unmade => "the devices can't be made",

@@ -1,13 +1,13 @@
 //! The rows: what runs over a case leave, held against what they should.
 use crate::cases::Case;
-use crate::machine::{Ran, carried};
-use pt_memory::{MemDest, MemSource};
+use crate::machine::{Ran, carry};
+use pt_memory::MemDest;
 use pt_memory_system::Faults;
 use pt_texts::{add, path, tree};
 use std::alloc::{AllocGlobal, Global};
 
 /// What a row finds.
-#[derive(Clone, Copy, PartialEq, Eq)]
+#[derive(Clone, Copy)]
 pub enum Found {
     Well,
     /// What differs.
@@ -31,68 +31,53 @@ pub enum Row {
 
 /// Tries a row over a case.
 pub fn tried(rt: &HostRuntime, case: &Case, row: Row) -> Found {
-    let differs = match row {
-        Row::Carried => carrying(rt, case),
-        Row::RehearsedBefore => rehearsing(rt, case),
-        Row::RehearsedAfter => rehearsing_again(rt, case),
-        Row::Stopped => stopping(rt, case),
-    };
-    differs.unwrap_or(Found::Unmade)
+    let mut ran = Ran::new(rt.alloc());
+    tried_on(rt, case, row, &mut ran).unwrap_or(Found::Unmade)
 }
 
-fn carrying(rt: &HostRuntime, case: &Case) -> Option<Found> {
-    let ran = undisturbed(rt, case)?;
-    let told = told(&ran, case.status, case.log);
-    if told != Found::Well {
-        return Some(told);
+fn tried_on(rt: &HostRuntime, case: &Case, row: Row, ran: &mut Ran) -> Option<Found> {
+    add(rt.alloc(), &mut ran.store, case.store).ok()?;
+    match row {
+        Row::Carried => carrying(rt, case, ran),
+        Row::RehearsedBefore => rehearsing(rt, case, ran),
+        Row::RehearsedAfter => rehearsing_again(rt, case, ran),
+        Row::Stopped => stopping(rt, case, ran),
     }
-    stands(rt.alloc(), case, &ran.root)
 }
 
-fn rehearsing(rt: &HostRuntime, case: &Case) -> Option<Found> {
-    let alloc = rt.alloc();
-    let faults = Faults::new();
-    let rehearsed = carried(rt, &faults, store(alloc, case)?, MemDest::new(alloc), true)?;
-    let before = told(&rehearsed, case.status, case.log);
-    if before != Found::Well {
-        return Some(before);
+fn carrying(rt: &HostRuntime, case: &Case, ran: &mut Ran) -> Option<Found> {
+    carry(rt, &Faults::new(), ran, false)?;
+    match told(ran, case.status, case.log) {
+        Found::Well => stands(rt.alloc(), case, &ran.root),
+        differs => Some(differs),
     }
-    if !rehearsed.root.same(&MemDest::new(alloc)) {
-        return Some(Found::Otherwise("the rehearsal leaves something"));
-    }
-    let ran = carried(rt, &faults, rehearsed.store, rehearsed.root, false)?;
-    if told(&ran, rehearsed.status, case.log) != Found::Well {
-        return Some(Found::Otherwise("the run tells something else"));
-    }
-    stands(alloc, case, &ran.root)
 }
 
-fn rehearsing_again(rt: &HostRuntime, case: &Case) -> Option<Found> {
-    let first = undisturbed(rt, case)?;
-    let again = carried(rt, &Faults::new(), first.store, first.root, true)?;
-    let told = told(&again, 1, case.present);
-    if told != Found::Well {
-        return Some(told);
+fn rehearsing(rt: &HostRuntime, case: &Case, ran: &mut Ran) -> Option<Found> {
+    carry(rt, &Faults::new(), ran, true)?;
+    match told(ran, case.status, case.log) {
+        Found::Well if is_empty(rt.alloc(), &ran.root) => {}
+        Found::Well => return Some(Found::Otherwise("the rehearsal leaves something")),
+        differs => return Some(differs),
     }
-    stands(rt.alloc(), case, &again.root)
+    carry(rt, &Faults::new(), ran, false)?;
+    match told(ran, case.status, case.log) {
+        Found::Well => stands(rt.alloc(), case, &ran.root),
+        _ => Some(Found::Otherwise("the run tells something else")),
+    }
 }
 
-// A run over the case's store into an empty root, of which no call fails.
-fn undisturbed(rt: &HostRuntime, case: &Case) -> Option<Ran> {
-    let alloc = rt.alloc();
-    carried(
-        rt,
-        &Faults::new(),
-        store(alloc, case)?,
-        MemDest::new(alloc),
-        false,
-    )
+fn is_empty(alloc: Global, root: &MemDest) -> bool {
+    root.same(&MemDest::new(alloc))
 }
 
-fn store(alloc: Global, case: &Case) -> Option<MemSource> {
-    let mut store = MemSource::new(alloc);
-    add(alloc, &mut store, case.store).ok()?;
-    Some(store)
+fn rehearsing_again(rt: &HostRuntime, case: &Case, ran: &mut Ran) -> Option<Found> {
+    carry(rt, &Faults::new(), ran, false)?;
+    carry(rt, &Faults::new(), ran, true)?;
+    match told(ran, 1, case.present) {
+        Found::Well => stands(rt.alloc(), case, &ran.root),
+        differs => Some(differs),
+    }
 }
 
 // Whether a run ended with this status and this log.
@@ -109,21 +94,32 @@ fn told(ran: &Ran, status: u8, log: &str) -> Found {
 // Whether a root has the case's files.
 fn stands(alloc: Global, case: &Case, root: &MemDest) -> Option<Found> {
     for (at, bytes) in case.files {
-        if root.file(&path(alloc, at).ok()?) != Some(bytes.as_bytes()) {
+        if !has_file(alloc, root, at, bytes)? {
             return Some(Found::Otherwise("a file is another"));
         }
     }
-    if case.alone && !root.same(&tree(alloc, case.files).ok()?) {
+    if case.alone && !has_all(alloc, root, case.files)? {
         return Some(Found::Otherwise("something else stands there"));
     }
     Some(Found::Well)
 }
 
+fn has_file(alloc: Global, root: &MemDest, at: &str, bytes: &str) -> Option<bool> {
+    let at = path(alloc, at).ok()?;
+    Some(root.file(&at) == Some(bytes.as_bytes()))
+}
+
+// Whether these files are all that stands there.
+fn has_all(alloc: Global, root: &MemDest, files: &[(&str, &str)]) -> Option<bool> {
+    let tree = tree(alloc, files).ok()?;
+    Some(root.same(&tree))
+}
+
 // Runs that are stopped after each so many calls, until one isn't stopped.
-fn stopping(rt: &HostRuntime, case: &Case) -> Option<Found> {
-    let whole = undisturbed(rt, case)?;
+fn stopping(rt: &HostRuntime, case: &Case, ran: &mut Ran) -> Option<Found> {
+    carry(rt, &Faults::new(), ran, false)?;
     for turn in 0..10_000u64 {
-        match stopped(rt, case, &whole.root, turn.wrapping_mul(case.stride))? {
+        match stopped(rt, case, &ran.root, turn.wrapping_mul(case.stride))? {
             Stop::Well => {}
             Stop::Otherwise(why) => return Some(Found::Otherwise(why)),
             Stop::Past => return Some(Found::Well),
@@ -139,24 +135,32 @@ enum Stop {
     Past,
 }
 
-// A run of which so many calls pass, and the one after it.
 fn stopped(rt: &HostRuntime, case: &Case, whole: &MemDest, passing: u64) -> Option<Stop> {
-    let alloc = rt.alloc();
+    let mut ran = Ran::new(rt.alloc());
+    stopping_once(rt, case, whole, passing, &mut ran)
+}
+
+// A run of which so many calls pass, and the one after it.
+fn stopping_once(
+    rt: &HostRuntime,
+    case: &Case,
+    whole: &MemDest,
+    passing: u64,
+    ran: &mut Ran,
+) -> Option<Stop> {
+    add(rt.alloc(), &mut ran.store, case.store).ok()?;
     let faults = Faults::new();
     faults.fail_after(Some(passing));
-    let ran = carried(rt, &faults, store(alloc, case)?, MemDest::new(alloc), false)?;
+    carry(rt, &faults, ran, false)?;
     if faults.made() <= passing {
-        return Some(past(case, whole, &ran));
+        return Some(past(case, whole, ran));
     }
     if ran.status != 3 {
         return Some(Stop::Otherwise("a call fails and the status is another"));
     }
-    let Ran { store, root, .. } = ran;
-    let mut root = root;
-    let _ = root.take_away(&path(alloc, "staging").ok()?);
-    faults.fail_after(None);
-    let again = carried(rt, &faults, store, root, false)?;
-    Some(after_a_stop(case, whole, &again))
+    let _ = ran.root.take_away(&path(rt.alloc(), "staging").ok()?);
+    carry(rt, &Faults::new(), ran, false)?;
+    Some(after_a_stop(case, whole, ran))
 }
 
 // Whether a run that wasn't stopped left all.
