@@ -1,4 +1,5 @@
 //! A system whose calls are counted, of which one may fail, and whose reads and writes are short.
+use crate::folder_steps::{Ask, Step};
 use std::alloc::Allocator;
 use std::cell::Cell;
 use std::fs::{Metadata, OpenFile, OpenOptions};
@@ -33,6 +34,28 @@ impl World {
             written: Cell::new(0),
             names,
         }
+    }
+
+    /// Whether what isn't asked of a destination goes: what is found is so, and what changes in the system is changed.
+    pub fn steps(&self, step: Step) -> bool {
+        match step {
+            Step::CallFails(call) => self.failing.set(call),
+            Step::Calls(calls) => return self.calls.get() == calls,
+            Step::Written(bytes) => return self.written.get() == bytes,
+            _ => return false,
+        }
+        true
+    }
+
+    /// The same of a source.
+    pub fn goes(&self, ask: Ask) -> bool {
+        match ask {
+            Ask::CallFails(call) => self.failing.set(call),
+            Ask::SeekFails(fails) => self.lost.set(fails),
+            Ask::Calls(calls) => return self.calls.get() == calls,
+            _ => return false,
+        }
+        true
     }
 
     // One more call, which may be the one that fails.

@@ -1,122 +1,251 @@
-//! Calls of a destination and a source as data, for tests.
+//! Calls of a destination and of a source as data, for tests, and what is found then.
+use crate::folder_fakes::{World, byte_at};
 use pt_folder::{HostDest, HostSource};
 use pt_texts::path;
-use pt_tree::{Block, Dest, Kind, Listing, Name, Source, TreeFault};
+use pt_tree::{Block, Dest, Kind, Listing, Name, NamePath, Source, TreeFault};
 use std::alloc::Global;
 use std::rt::Files;
 use std::test::Fail;
 
-/// A call of a destination.
+/// A call of a destination, what is found then, or what changes in the system.
 #[derive(Clone, Copy)]
-pub enum Step<'a> {
-    Kind(&'a str),
-    Peek(&'a str),
-    Mkdir(&'a str),
-    Create(&'a str),
+pub enum Step {
+    Kind(&'static str),
+    Peek(&'static str),
+    Mkdir(&'static str),
+    Create(&'static str),
+    /// Appends so many bytes of a file.
     Append(usize),
     Finish,
-    Rename(&'a str, &'a str),
+    Rename(&'static str, &'static str),
+    /// The block holds the first so many bytes of a file.
+    Holds(usize),
+    /// The call of the system that fails, from the next one on.
+    CallFails(u64),
+    /// So many calls of the system were made.
+    Calls(u64),
+    /// So many bytes were written.
+    Written(u64),
 }
 
-/// Makes the call; an `Append` adds so many letters.
-#[tactic(auto, using(pt_folder::specs::DestHeld::untold_can_peek, pt_folder::specs::DestHeld::untold_may_make, pt_folder::specs::DestHeld::untold_can_write, pt_folder::specs::DestHeld::untold_may_move))]
-pub fn take<R: Files>(
+/// What a step answers: of `Kind` what stands there, and of the others nothing.
+pub type Answer = Result<Option<Kind>, TreeFault>;
+
+pub const DONE: Answer = Ok(None);
+
+pub const FAILS: Answer = Err(TreeFault::Device);
+
+/// A step and what it answers.
+pub type Row = (Step, Answer);
+
+/// What goes otherwise, and how many failures there are.
+pub type Wrong = (Option<usize>, u64);
+
+/// The first row of a destination over a folder that goes otherwise, or leaves the count of failures at another number
+/// than that of the steps that failed for the device.
+pub fn wrong_row<R: Files>(
+    system: &R,
+    world: &World,
+    alloc: Global,
+    folder: &str,
+    rows: &[Row],
+) -> Result<Wrong, Fail> {
+    let mut dest = HostDest::new(system, alloc, folder);
+    wrong_in_dest(&mut dest, world, alloc, rows)
+}
+
+fn wrong_in_dest<R: Files>(
+    dest: &mut HostDest<'_, &R>,
+    world: &World,
+    alloc: Global,
+    rows: &[Row],
+) -> Result<Wrong, Fail> {
+    let mut block = Block::new();
+    let mut failures = 0u64;
+    for (i, (step, answer)) in rows.iter().enumerate() {
+        let taken = take(dest, &mut block, world, alloc, *step)?;
+        failures = failures.saturating_add((*answer == FAILS) as u64);
+        if taken != *answer || dest.failures() != failures {
+            return Ok((Some(i), dest.failures()));
+        }
+    }
+    Ok((None, dest.failures()))
+}
+
+// Takes a step; what isn't found is answered as a want of memory.
+fn take<R: Files>(
+    dest: &mut HostDest<'_, &R>,
+    block: &mut Block,
+    world: &World,
+    alloc: Global,
+    step: Step,
+) -> Result<Answer, Fail> {
+    let is_found = match step {
+        Step::Append(len) => return append(dest, alloc, len),
+        Step::Holds(len) => is_part(block.as_slice(), 0, len),
+        Step::CallFails(_) | Step::Calls(_) | Step::Written(_) => world.steps(step),
+        _ => return called(dest, block, alloc, step),
+    };
+    Ok(if is_found {
+        DONE
+    } else {
+        Err(TreeFault::Memory)
+    })
+}
+
+#[tactic(auto, using(pt_folder::specs::DestHeld::untold_can_write))]
+fn append<R: Files>(
+    dest: &mut HostDest<'_, &R>,
+    alloc: Global,
+    len: usize,
+) -> Result<Answer, Fail> {
+    let bytes = piece(alloc, len)?;
+    match dest.append(&bytes) {
+        Ok(()) => Ok(DONE),
+        Err(fault) => Ok(Err(fault)),
+    }
+}
+
+fn called<R: Files>(
     dest: &mut HostDest<'_, &R>,
     block: &mut Block,
     alloc: Global,
-    step: Step<'_>,
-) -> Result<Result<(), TreeFault>, Fail> {
-    let answer = match step {
-        Step::Kind(text) => dest.kind(&path(alloc, text)?).map(|_| ()),
-        Step::Peek(text) => dest.peek(&path(alloc, text)?, block),
-        Step::Mkdir(text) => dest.mkdir(&path(alloc, text)?),
-        Step::Create(text) => dest.create(&path(alloc, text)?),
-        Step::Append(len) => dest.append(&letters(alloc, len)?),
-        Step::Finish => dest.finish(),
-        Step::Rename(from, to) => dest.rename(&path(alloc, from)?, &path(alloc, to)?),
+    step: Step,
+) -> Result<Answer, Fail> {
+    let (from, to) = match step {
+        Step::Kind(at) | Step::Peek(at) | Step::Mkdir(at) | Step::Create(at) => (at, ""),
+        Step::Rename(from, to) => (from, to),
+        _ => ("", ""),
     };
-    Ok(answer)
+    let from = path(alloc, from)?;
+    let to = path(alloc, to)?;
+    Ok(call(dest, block, step, &from, &to))
 }
 
-/// The kind of what is at a path.
-pub fn kind<R: Files>(
+#[tactic(auto, using(pt_folder::specs::DestHeld::untold_can_peek, pt_folder::specs::DestHeld::untold_may_make, pt_folder::specs::DestHeld::untold_can_write, pt_folder::specs::DestHeld::untold_may_move))]
+fn call<R: Files>(
     dest: &mut HostDest<'_, &R>,
+    block: &mut Block,
+    step: Step,
+    at: &NamePath,
+    to: &NamePath,
+) -> Answer {
+    match step {
+        Step::Kind(_) => return dest.kind(at),
+        Step::Peek(_) => dest.peek(at, block)?,
+        Step::Mkdir(_) => dest.mkdir(at)?,
+        Step::Create(_) => dest.create(at)?,
+        Step::Rename(..) => dest.rename(at, to)?,
+        _ => dest.finish()?,
+    }
+    DONE
+}
+
+/// A call of a source, what is found then, or what changes in the system.
+#[derive(Clone, Copy)]
+pub enum Ask {
+    Open(&'static str, Result<(), TreeFault>),
+    /// The names and kinds in a directory.
+    List(&'static str, Result<&'static [(&'static str, Kind)], TreeFault>),
+    /// The next block is so many bytes of the file, from a place on.
+    Next(u64, usize),
+    /// No block is given, for this fault.
+    NoBlock(TreeFault),
+    /// The call of the system that fails, from the next one on.
+    CallFails(u64),
+    /// Whether going to a place in a file fails.
+    SeekFails(bool),
+    /// So many calls of the system were made.
+    Calls(u64),
+}
+
+/// The first step of a source over a folder that goes otherwise.
+pub fn wrong_ask<R: Files>(
+    system: &R,
+    world: &World,
     alloc: Global,
-    text: &str,
-) -> Result<Result<Option<Kind>, TreeFault>, Fail> {
-    Ok(dest.kind(&path(alloc, text)?))
+    folder: &str,
+    asks: &[Ask],
+) -> Result<Wrong, Fail> {
+    let mut source = HostSource::new(system, alloc, folder);
+    wrong_in_source(&mut source, world, alloc, asks)
 }
 
-/// Reads the next block of the open file.
-#[tactic(auto, unfolding(pt_tree::specs::Source::CanRead))]
-pub fn next<R: Files>(source: &mut HostSource<'_, &R>, block: &mut Block) -> Result<(), TreeFault> {
-    source.next(block)
-}
-
-/// What `list` answers: the names and kinds, a line each, or the fault's number.
-#[tactic(auto, unfolding(pt_tree::specs::Source::CanList))]
-pub fn listed<R: Files>(
+fn wrong_in_source<R: Files>(
     source: &mut HostSource<'_, &R>,
+    world: &World,
     alloc: Global,
-    text: &str,
-) -> Result<String, Fail> {
-    match source.list(&path(alloc, text)?) {
-        Ok(listing) => lines(alloc, &listing),
-        Err(fault) => {
-            let number = fault.number();
-            Ok(format!(in alloc; "{number}")?)
+    asks: &[Ask],
+) -> Result<Wrong, Fail> {
+    let mut block = Block::new();
+    for (i, ask) in asks.iter().enumerate() {
+        if !goes(source, &mut block, world, alloc, *ask)? {
+            return Ok((Some(i), source.failures()));
         }
     }
+    Ok((None, source.failures()))
 }
 
-/// What `open` answers.
-#[tactic(auto, unfolding(pt_tree::specs::Source::CanOpen))]
-pub fn opened<R: Files>(
+#[tactic(auto, unfolding(pt_tree::specs::Source::CanRead, pt_tree::specs::Source::CanList, pt_tree::specs::Source::CanOpen))]
+fn goes<R: Files>(
     source: &mut HostSource<'_, &R>,
+    block: &mut Block,
+    world: &World,
     alloc: Global,
-    text: &str,
-) -> Result<Result<(), TreeFault>, Fail> {
-    Ok(source.open(&path(alloc, text)?))
+    ask: Ask,
+) -> Result<bool, Fail> {
+    Ok(match ask {
+        Ask::Open(at, answer) => source.open(&path(alloc, at)?) == answer,
+        Ask::List(at, answer) => is_listed(&source.list(&path(alloc, at)?), answer),
+        Ask::Next(start, len) => source.next(block).is_ok()
+            && is_part(block.as_slice(), start, len),
+        Ask::NoBlock(fault) => source.next(block) == Err(fault) && block.is_empty(),
+        _ => world.goes(ask),
+    })
 }
 
-fn lines(alloc: Global, listing: &Listing) -> Result<String, Fail> {
-    let mut text = String::new(alloc);
-    for i in 0..listing.len() {
-        if let Some((name, kind)) = listing.get(i) {
-            push_line(&mut text, name, kind)?;
-        }
+fn is_listed(
+    listed: &Result<Listing, TreeFault>,
+    answer: Result<&[(&str, Kind)], TreeFault>,
+) -> bool {
+    match (listed, answer) {
+        (Ok(listing), Ok(entries)) => has_entries(listing, entries),
+        (Err(fault), Err(wanted)) => *fault == wanted,
+        _ => false,
     }
-    Ok(text)
 }
 
-fn push_line(text: &mut String, name: &Name, kind: Kind) -> Result<(), Fail> {
-    text.push_str(str::from_utf8(name.bytes())?)?;
-    text.push_str(match kind {
-        Kind::File => " file\n",
-        Kind::Dir => " dir\n",
-        Kind::Other => " other\n",
-    })?;
-    Ok(())
-}
-
-/// The letters `a` to `z` over and over.
-pub fn letters(alloc: Global, len: usize) -> Result<Vec<u8>, Fail> {
-    let mut bytes = Vec::with_capacity(alloc, len)?;
-    for i in 0..len {
-        bytes.push(letter(i))?;
-    }
-    Ok(bytes)
-}
-
-/// Whether these are such letters, from a place on.
-pub fn are_letters(bytes: &[u8], start: usize) -> bool {
-    let mut all = true;
-    for (i, byte) in bytes.iter().enumerate() {
-        all = all && *byte == letter(start.wrapping_add(i));
+fn has_entries(listing: &Listing, entries: &[(&str, Kind)]) -> bool {
+    let mut all = listing.len() == entries.len();
+    for (i, (name, kind)) in entries.iter().enumerate() {
+        all = all
+            && listing
+                .get(i)
+                .is_some_and(|found| is_entry(found, name, *kind));
     }
     all
 }
 
-fn letter(i: usize) -> u8 {
-    b'a' + (i % 26) as u8
+fn is_entry(found: (&Name, Kind), name: &str, kind: Kind) -> bool {
+    found.0.bytes() == name.as_bytes() && found.1 == kind
+}
+
+/// The first so many bytes of a file.
+pub fn piece(alloc: Global, len: usize) -> Result<Vec<u8>, Fail> {
+    let mut bytes = Vec::with_capacity(alloc, len)?;
+    for i in 0..len {
+        bytes.push(byte_at(i as u64))?;
+    }
+    Ok(bytes)
+}
+
+/// Whether these are so many bytes of a file, from a place on.
+pub fn is_part(bytes: &[u8], start: u64, len: usize) -> bool {
+    let mut place = start;
+    let mut all = bytes.len() == len;
+    for byte in bytes {
+        all = all && *byte == byte_at(place);
+        place = place.wrapping_add(1);
+    }
+    all
 }

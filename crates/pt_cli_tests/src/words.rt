@@ -1,24 +1,88 @@
 //! Words of the command line, and what is read of them.
-use pt_cli::{Command, WordsFault, read_words};
+use pt_cli::{Audit, Command, Migrate, Named, WordsFault, read_words};
+use pt_name::Layout;
 use pt_object::{Algorithm, Meta};
 use std::alloc::Global;
 use std::test::Fail;
 
-#[test]
-fn words_of_names(rt: HostRuntime) {
-    assert!(rt; are_names_of_abc(rt.alloc(), &["pairtree2ocfl", "names", "abc"]));
+// What words are read as.
+#[derive(Clone, Copy)]
+enum Reading {
+    // The names of `abc`, with no prefix and the usual tuples.
+    Names,
+    // The migration that the row has.
+    Migration(&'static Row),
+    // An audit of what was gathered, by SHA-256 and two tuples of three digits.
+    Audit,
+    // The fault of this number; 0 where it is a command.
+    Fault(u8),
+    // Help with this part.
+    Help(&'static str),
 }
 
-// Whether the words ask for the names of `abc`, with no prefix and the usual tuples.
-fn are_names_of_abc(alloc: Global, words: &[&str]) -> bool {
-    match read_words(alloc, words) {
-        Ok(Command::Names(asked)) => {
-            asked.prefix.as_str() == ""
-                && asked.id.as_str() == "abc"
-                && (asked.layout.size(), asked.layout.count()) == (3, 3)
-        }
+fn are_read(alloc: Global, words: &[&str], reading: Reading) -> bool {
+    match &read_words(alloc, words) {
+        Ok(command) => is_command(command, reading),
+        Err(fault) => is_fault(fault, reading),
+    }
+}
+
+fn is_command(command: &Command, reading: Reading) -> bool {
+    match (command, reading) {
+        (Command::Names(asked), Reading::Names) => are_of_abc(asked),
+        (Command::Migrate(job), Reading::Migration(row)) => is_migration(job, row),
+        (Command::Audit(job), Reading::Audit) => is_gathering(job),
+        (_, Reading::Fault(number)) => number == 0,
         _ => false,
     }
+}
+
+fn is_fault(fault: &WordsFault, reading: Reading) -> bool {
+    match (fault, reading) {
+        (WordsFault::Help(text), Reading::Help(part)) => text.as_str().contains(part),
+        (_, Reading::Fault(number)) => fault.number() == number,
+        _ => false,
+    }
+}
+
+fn are_of_abc(asked: &Named) -> bool {
+    (asked.prefix.as_str(), asked.id.as_str()) == ("", "abc") && has_tuples(&asked.layout, (3, 3))
+}
+
+fn is_migration(job: &Migrate, row: &Row) -> bool {
+    is_meta(&job.meta, row)
+        && has_tuples(&job.layout, row.tuples)
+        && (job.algorithm, job.gather) == (row.algorithm, row.gather)
+        && (job.source.as_str(), job.dest.as_str()) == row.folders
+}
+
+fn is_meta(meta: &Meta, row: &Row) -> bool {
+    meta.created() == row.created
+        && meta.name() == row.name
+        && meta.address() == row.address
+        && meta.message() == row.message
+}
+
+fn is_gathering(job: &Audit) -> bool {
+    has_tuples(&job.layout, (3, 2))
+        && (job.algorithm, job.gather) == (Algorithm::Sha256, true)
+        && (job.source.as_str(), job.dest.as_str()) == ("S", "D")
+}
+
+// Whether a layout has tuples of so many digits, and so many of them.
+fn has_tuples(layout: &Layout, tuples: (u32, u32)) -> bool {
+    (layout.size(), layout.count()) == tuples
+}
+
+#[test]
+fn words_of_names(rt: HostRuntime) {
+    assert!(rt;
+        are_read(
+            rt.alloc(),
+            &["pairtree2ocfl", "names", "abc"],
+            Reading::Names
+        )
+    );
 }
 
 // Words of `migrate`, and what is read of them.
@@ -35,7 +99,7 @@ struct Row {
     folders: (&'static str, &'static str),
 }
 
-const MIGRATIONS: [Row; 3] = [
+const MIGRATIONS: &[Row] = &[
     Row {
         what: "what is required",
         words: &[
@@ -111,71 +175,38 @@ const MIGRATIONS: [Row; 3] = [
     },
 ];
 
-fn is_migration(alloc: Global, row: &Row) -> bool {
-    match read_words(alloc, row.words) {
-        Ok(Command::Migrate(job)) => {
-            is_meta(&job.meta, row)
-                && job.algorithm == row.algorithm
-                && (job.layout.size(), job.layout.count()) == row.tuples
-                && job.gather == row.gather
-                && (job.source.as_str(), job.dest.as_str()) == row.folders
-        }
-        _ => false,
-    }
-}
-
-fn is_meta(meta: &Meta, row: &Row) -> bool {
-    meta.created() == row.created
-        && meta.name() == row.name
-        && meta.address() == row.address
-        && meta.message() == row.message
-}
-
 #[test]
 fn words_of_migrate(rt: HostRuntime) {
-    for row in &MIGRATIONS {
+    for row in MIGRATIONS {
         let what = row.what;
-        assert!(rt; is_migration(rt.alloc(), row), "{what}");
+        assert!(rt;
+            are_read(rt.alloc(), row.words, Reading::Migration(row)),
+            "{what}"
+        );
     }
 }
+
+const AUDIT: Words = &[
+    "pairtree2ocfl",
+    "audit",
+    "--gather",
+    "--digest=sha256",
+    "--tuples=2",
+    "S",
+    "D",
+];
 
 #[test]
 fn words_of_audit(rt: HostRuntime) {
-    let words = [
-        "pairtree2ocfl",
-        "audit",
-        "--gather",
-        "--digest=sha256",
-        "--tuples=2",
-        "S",
-        "D",
-    ];
-    assert!(rt; is_gathering_audit(rt.alloc(), &words));
+    assert!(rt; are_read(rt.alloc(), AUDIT, Reading::Audit));
 }
 
-// Whether the words ask for an audit of what was gathered, by SHA-256 and two tuples of three digits.
-fn is_gathering_audit(alloc: Global, words: &[&str]) -> bool {
-    match read_words(alloc, words) {
-        Ok(Command::Audit(job)) => {
-            job.algorithm == Algorithm::Sha256
-                && (job.layout.size(), job.layout.count()) == (3, 2)
-                && job.gather
-                && (job.source.as_str(), job.dest.as_str()) == ("S", "D")
-        }
-        _ => false,
-    }
-}
+// Words, each with the number of the fault that they are refused as; 0 of words that are read.
+type Readings = &'static [(Words, u8)];
 
-// The number of the fault that the words are refused as.
-fn refused_as(alloc: Global, words: &[&str]) -> u8 {
-    match read_words(alloc, words) {
-        Ok(_) => 0,
-        Err(fault) => fault.number(),
-    }
-}
+type Words = &'static [&'static str];
 
-// Words, and the number of the fault that they are refused as.
-const REFUSED: [(&[&str], u8); 12] = [
+const REFUSED: Readings = &[
     (&["pairtree2ocfl", "--help"], 1),
     (&["pairtree2ocfl", "names", "--help"], 1),
     (&["pairtree2ocfl", "migrate", "--help"], 1),
@@ -190,116 +221,139 @@ const REFUSED: [(&[&str], u8); 12] = [
     (&["pairtree2ocfl", "names", ""], 5),
 ];
 
-#[test]
-fn words_refused(rt: HostRuntime) {
-    for (words, number) in REFUSED {
-        assert!(rt; refused_as(rt.alloc(), words) == number, "{words:?}");
-    }
-}
+const MIGRATE: Words = &["pairtree2ocfl", "migrate"];
 
 const GOOD: &str = "--created=2024-05-01T12:00:00Z";
 
-// What follows the word `migrate`, and the fault's number; none of words that are read.
-const REFUSED_OF_MIGRATE: [([&str; 4], u8); 10] = [
-    ([GOOD, "--name=Ada", "S", "D"], 0),
-    ([GOOD, "--tuples=3", "S", "D"], 2),
-    (["--name=Ada", "--tuples=3", "S", "D"], 2),
-    ([GOOD, "--name=Ada", "--gather", "S"], 2),
-    ([GOOD, "--name=", "--digest=md5", "S"], 2),
-    (["--created=today", "--name=Ada", "S", "D"], 3),
-    (["--created=", "--name=Ada", "S", "D"], 3),
-    (["--created=", "--name=", "S", "D"], 3),
-    (["--created=today", "--name=", "S", "D"], 3),
-    ([GOOD, "--name=", "S", "D"], 4),
+// What follows the word `migrate`.
+const REFUSED_OF_MIGRATE: Readings = &[
+    (&[GOOD, "--name=Ada", "S", "D"], 0),
+    (&[GOOD, "--tuples=3", "S", "D"], 2),
+    (&["--name=Ada", "--tuples=3", "S", "D"], 2),
+    (&[GOOD, "--name=Ada", "--gather", "S"], 2),
+    (&[GOOD, "--name=", "--digest=md5", "S"], 2),
+    (&["--created=today", "--name=Ada", "S", "D"], 3),
+    (&["--created=", "--name=Ada", "S", "D"], 3),
+    (&["--created=", "--name=", "S", "D"], 3),
+    (&["--created=today", "--name=", "S", "D"], 3),
+    (&[GOOD, "--name=", "S", "D"], 4),
 ];
 
-#[test]
-fn words_of_migrate_refused(rt: HostRuntime) {
-    for (row, number) in REFUSED_OF_MIGRATE {
-        let [first, second, third, fourth] = row;
-        let words = ["pairtree2ocfl", "migrate", first, second, third, fourth];
-        assert!(rt; refused_as(rt.alloc(), &words) == number, "{row:?}");
-    }
-}
-
-const MOMENTS: [(&str, u8); 8] = [
-    ("--created=2024-02-30T00:00:00Z", 3),
-    ("--created=2024-05-01T12:00:00.5Z", 3),
-    ("--created=2024-05-01T12:00:00z", 3),
-    ("--created=2024-05-01T12:00:60Z", 3),
-    ("--created=2024-05-01T12:00:00+24:00", 3),
-    ("--created=2024-05-01T24:00:00Z", 3),
-    ("--created=2024-05-01T12:00:00-00:00", 0),
-    ("--created=0000-01-01T00:00:00Z", 0),
+const MOMENTS: Readings = &[
+    (&["--created=2024-02-30T00:00:00Z"], 3),
+    (&["--created=2024-05-01T12:00:00.5Z"], 3),
+    (&["--created=2024-05-01T12:00:00z"], 3),
+    (&["--created=2024-05-01T12:00:60Z"], 3),
+    (&["--created=2024-05-01T12:00:00+24:00"], 3),
+    (&["--created=2024-05-01T24:00:00Z"], 3),
+    (&["--created=2024-05-01T12:00:00-00:00"], 0),
+    (&["--created=0000-01-01T00:00:00Z"], 0),
 ];
-
-#[test]
-fn moments_of_migrate(rt: HostRuntime) {
-    for (created, number) in MOMENTS {
-        let words = ["pairtree2ocfl", "migrate", created, "--name=Ada", "S", "D"];
-        assert!(rt; refused_as(rt.alloc(), &words) == number, "{created}");
-    }
-}
 
 // Three options before the folders.
-const OPTIONS: [([&str; 3], u8); 18] = [
-    ([GOOD, "--name=Ada", "--digest=sha256"], 0),
-    ([GOOD, "--name=Ada", "--digest=md5"], 2),
-    ([GOOD, "--name=Ada", "--digest="], 2),
-    ([GOOD, "--name=Ada", "--tuples=x"], 2),
-    ([GOOD, "--name=Ada", "--tuples=4294967296"], 2),
-    ([GOOD, "--name=Ada", "--tuples="], 2),
-    ([GOOD, "--name=Ada", "--tuple-size=-1"], 2),
-    (["--created=today", "--name=", "--tuple-size=x"], 2),
-    ([GOOD, "--name=Ada", "--name=Eve"], 2),
-    ([GOOD, "--name=Ada", "--gather=true"], 2),
-    ([GOOD, "--name=Ada", "--tuples=4294967295"], 7),
-    ([GOOD, "--name=Ada", "--tuples=33"], 7),
-    ([GOOD, "--name=Ada", "--tuples=32"], 7),
-    ([GOOD, "--name=Ada", "--tuples=21"], 0),
-    ([GOOD, "--name=Ada", "--tuples=22"], 7),
-    ([GOOD, "--name=Ada", "--tuple-size=0"], 7),
-    (["--created=today", "--name=Ada", "--tuple-size=0"], 3),
-    ([GOOD, "--name=", "--tuple-size=0"], 4),
+const OPTIONS: Readings = &[
+    (&[GOOD, "--name=Ada", "--digest=sha256"], 0),
+    (&[GOOD, "--name=Ada", "--digest=md5"], 2),
+    (&[GOOD, "--name=Ada", "--digest="], 2),
+    (&[GOOD, "--name=Ada", "--tuples=x"], 2),
+    (&[GOOD, "--name=Ada", "--tuples=4294967296"], 2),
+    (&[GOOD, "--name=Ada", "--tuples="], 2),
+    (&[GOOD, "--name=Ada", "--tuple-size=-1"], 2),
+    (&["--created=today", "--name=", "--tuple-size=x"], 2),
+    (&[GOOD, "--name=Ada", "--name=Eve"], 2),
+    (&[GOOD, "--name=Ada", "--gather=true"], 2),
+    (&[GOOD, "--name=Ada", "--tuples=4294967295"], 7),
+    (&[GOOD, "--name=Ada", "--tuples=33"], 7),
+    (&[GOOD, "--name=Ada", "--tuples=32"], 7),
+    (&[GOOD, "--name=Ada", "--tuples=21"], 0),
+    (&[GOOD, "--name=Ada", "--tuples=22"], 7),
+    (&[GOOD, "--name=Ada", "--tuple-size=0"], 7),
+    (&["--created=today", "--name=Ada", "--tuple-size=0"], 3),
+    (&[GOOD, "--name=", "--tuple-size=0"], 4),
 ];
 
+// Words before and behind those of each row.
+const REFUSALS: &[(Words, Readings, Words)] = &[
+    (&[], REFUSED, &[]),
+    (MIGRATE, REFUSED_OF_MIGRATE, &[]),
+    (MIGRATE, MOMENTS, &["--name=Ada", "S", "D"]),
+    (MIGRATE, OPTIONS, &["S", "D"]),
+];
+
+// The first of these words that are read otherwise.
+fn misread(
+    alloc: Global,
+    before: Words,
+    readings: Readings,
+    behind: Words,
+) -> Result<Option<Words>, Fail> {
+    for &(words, number) in readings {
+        let all = joined(alloc, before, words, behind)?;
+        if !are_read(alloc, &all, Reading::Fault(number)) {
+            return Ok(Some(words));
+        }
+    }
+    Ok(None)
+}
+
+fn joined(
+    alloc: Global,
+    before: Words,
+    words: Words,
+    behind: Words,
+) -> Result<Vec<&'static str>, Fail> {
+    let mut all = Vec::new(alloc);
+    all.extend_from_slice(before)?;
+    all.extend_from_slice(words)?;
+    all.extend_from_slice(behind)?;
+    Ok(all)
+}
+
 #[test]
-fn options_of_migrate_refused(rt: HostRuntime) {
-    for (row, number) in OPTIONS {
-        let [first, second, third] = row;
-        let words = ["pairtree2ocfl", "migrate", first, second, third, "S", "D"];
-        assert!(rt; refused_as(rt.alloc(), &words) == number, "{row:?}");
+fn words_refused(rt: HostRuntime) -> Result<(), Fail> {
+    for &(before, readings, behind) in REFUSALS {
+        let misread = misread(rt.alloc(), before, readings, behind)?;
+        assert!(rt; misread.is_none(), "{misread:?}");
+    }
+    Ok(())
+}
+
+// The numbers of faults of words, each with the fault's text.
+const TEXTS: &[(u8, &str)] = &[
+    (3, "--created is not a moment of RFC 3339 to the second"),
+    (4, "--name is empty"),
+    (5, "the identifier is empty"),
+    (6, "out of memory"),
+    (7, "the tuples are out of range"),
+];
+
+fn fault_of(number: u8) -> WordsFault {
+    match number {
+        3 => WordsFault::Created,
+        4 => WordsFault::EmptyName,
+        5 => WordsFault::EmptyId,
+        6 => WordsFault::Memory,
+        _ => WordsFault::Tuples,
     }
 }
 
-// Faults of words, each with its number and its text.
-const FAULTS: [(WordsFault, u8, &str); 5] = [
-    (
-        WordsFault::Created,
-        3,
-        "--created is not a moment of RFC 3339 to the second",
-    ),
-    (WordsFault::EmptyName, 4, "--name is empty"),
-    (WordsFault::EmptyId, 5, "the identifier is empty"),
-    (WordsFault::Memory, 6, "out of memory"),
-    (WordsFault::Tuples, 7, "the tuples are out of range"),
-];
-
-fn is_text(alloc: Global, fault: &WordsFault, text: &str) -> Result<bool, Fail> {
-    Ok(fault.to_string(alloc)?.as_str() == text)
+fn tells(alloc: Global, fault: &WordsFault, number: u8, text: &str) -> Result<bool, Fail> {
+    Ok(fault.number() == number && fault.to_string(alloc)?.as_str() == text)
 }
 
 #[test]
 fn texts_of_words_faults(rt: HostRuntime) -> Result<(), Fail> {
-    for (fault, number, text) in &FAULTS {
-        assert!(rt; fault.number() == *number, "{number}");
-        assert!(rt; is_text(rt.alloc(), fault, text)?, "{number}");
+    for &(number, text) in TEXTS {
+        assert!(rt;
+            tells(rt.alloc(), &fault_of(number), number, text)?,
+            "{number}"
+        );
     }
     Ok(())
 }
 
 // Parts of the help of `migrate`.
-const HELP: [&str; 18] = [
+const HELP: &[&str] = &[
     "Carries a Pairtree store into an OCFL storage root",
     "--created <MOMENT>",
     "2024-05-01T12:00:00Z",
@@ -320,22 +374,10 @@ const HELP: [&str; 18] = [
     "\n  3 ",
 ];
 
-// The first of these parts that the help of `migrate` lacks.
-fn missing_part(alloc: Global) -> Option<&'static str> {
-    let Err(WordsFault::Help(text)) = read_words(alloc, &["pairtree2ocfl", "migrate", "--help"])
-    else {
-        return Some("the help");
-    };
-    for part in HELP {
-        if !text.as_str().contains(part) {
-            return Some(part);
-        }
-    }
-    None
-}
-
 #[test]
 fn help_tells_how_to_migrate(rt: HostRuntime) {
-    let missing = missing_part(rt.alloc());
-    assert!(rt; missing.is_none(), "{missing:?}");
+    for part in HELP {
+        let words = &["pairtree2ocfl", "migrate", "--help"];
+        assert!(rt; are_read(rt.alloc(), words, Reading::Help(part)), "{part}");
+    }
 }
