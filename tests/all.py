@@ -51,8 +51,8 @@ class Heard:
 def proofs_at_once():
     """How many proofs are made side by side: one a processor, as far as memory goes.
 
-    Left alone, the toolchain gives a proof that no other stands beside up to four processes, which is no sooner done
-    over the whole gate and takes a third more of processors."""
+    Left alone, the toolchain gives a proof that no other stands beside up to four processes, which takes a third more
+    of processors for it."""
     with open("/proc/meminfo", encoding="utf-8") as file:
         free = 1024 * int(re.search(r"MemAvailable:\s+(\d+)", file.read())[1])
     return max(1, min(len(os.sched_getaffinity(0)), free // PROOF))
