@@ -1,5 +1,5 @@
-//! A migration from folder to folder as the command asks for it: what is seen to before it, what is shown of it, and what it
-//! ends with.
+//! A migration from folder to folder as the command asks for it, and an audit: what is seen to before it, what it is made over, and
+//! what it ends with.
 #![tactic(auto)]
 
 mod beginning;
