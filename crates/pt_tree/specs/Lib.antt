@@ -6,6 +6,7 @@ pub mod Known
 pub mod Listing
 pub mod Log
 pub mod Name
+pub mod Short
 pub mod NameText
 pub mod Path
 pub mod Pieces

@@ -10,6 +10,7 @@ mod log;
 mod name;
 mod name_path;
 mod pieces;
+mod short;
 mod source;
 mod writer_log;
 

@@ -9,9 +9,11 @@ ghost use Rattle.pt_tree.specs.Known.{known_text};
 ghost use Rattle.pt_tree.specs.NameText.{text_bytes};
 ghost use Rattle.pt_tree.specs.Refusal.{Answers};
 
+use crate::short::Short;
 use crate::{Known, MemoryFault};
 use std::alloc::Global;
 use std::cmp::Ordering;
+use std::fmt;
 use std::marker::Model;
 use std::rc::Rc;
 use thiserror::Error;
@@ -51,16 +53,29 @@ impl NameFault {
 
 /// The name of an entry of a directory: 1 to 255 bytes of UTF-8 without `/` and NUL, neither `.` nor `..`.
 ///
-/// A copy shares its text.
+/// A copy shares its text, or has it too where it is short.
 #[derive(Debug, Drop)]
 pub struct Name {
     text: Text,
 }
 
-#[derive(Debug, Drop)]
+// The text of a name. Most names of a store are short, and take no memory of their own then.
+#[derive(Drop)]
 enum Text {
     Known(Known),
+    Short(Short),
     Shared(Rc<Vec<u8>>),
+}
+
+// Whether a text is held or shared isn't shown.
+impl fmt::Debug for Text {
+    fn fmt<W: fmt::Write>(&self, f: &mut fmt::Formatter<W>) -> fmt::Result {
+        match self {
+            Text::Known(known) => f.debug_tuple("Known").field(known).finish(),
+            Text::Short(short) => f.debug_tuple("Shared").field(&short.bytes()).finish(),
+            Text::Shared(bytes) => f.debug_tuple("Shared").field(bytes).finish(),
+        }
+    }
 }
 
 impl Model for Name {
@@ -87,7 +102,7 @@ impl Name {
         if let Some(refusal) = refusal(bytes) {
             return Err(refusal);
         }
-        match shared(alloc, bytes) {
+        match text_of(alloc, bytes) {
             Ok(text) => Ok(Name { text }),
             Err(_) => Err(NameFault::Memory),
         }
@@ -100,6 +115,7 @@ impl Name {
     {
         match &self.text {
             Text::Known(known) => known.text().as_bytes(),
+            Text::Short(short) => short.bytes(),
             Text::Shared(bytes) => bytes.as_slice(),
         }
     }
@@ -111,6 +127,7 @@ impl Name {
     {
         let text = match &self.text {
             Text::Known(known) => Text::Known(*known),
+            Text::Short(short) => Text::Short(*short),
             Text::Shared(bytes) => Text::Shared(bytes.clone()?),
         };
         Ok(Name { text })
@@ -167,9 +184,13 @@ impl Ord for Name {
     }
 }
 
-fn shared(alloc: Global, bytes: &[u8]) -> Result<Text, MemoryFault>
+// The text of these bytes, held where it is short, else shared.
+fn text_of(alloc: Global, bytes: &[u8]) -> Result<Text, MemoryFault>
     ensures { IfOk result (λ text. text_bytes text ≡ bytes.now) }
 {
+    if let Some(short) = Short::of(bytes) {
+        return Ok(Text::Short(short));
+    }
     match Rc::new(alloc, bytes.to_vec(alloc)?) {
         Ok(bytes) => Ok(Text::Shared(bytes)),
         Err(_) => Err(MemoryFault::Memory),
