@@ -9,8 +9,8 @@ ghost use Rattle.pt_folder.specs.Calls.{CannotMake};
 ghost use Rattle.pt_folder.specs.Failure.{IsAt, IsTooLong, IsUnasked, OnDevice};
 
 use crate::failure::{Cause, Failure, Last};
-use pt_tree::{Name, NamePath, TreeFault};
-use std::alloc::{AllocError, Global};
+use pt_tree::{MemoryFault, Name, NamePath, TreeFault};
+use std::alloc::Global;
 use std::io;
 
 /// A folder of the system, by its path.
@@ -77,41 +77,32 @@ impl<'a> Folder<'a> {
     }
 }
 
-fn path_text(alloc: Global, folder: &str, path: &NamePath) -> Result<String, AllocError>
+// The bytes of the folder and of the names are text, and so are all of them with `/` between.
+fn path_text(alloc: Global, folder: &str, path: &NamePath) -> Result<String, MemoryFault>
     ensures text { IfOk result (λ text. string_bytes text ≡ entry_text folder.now path.now) }
     ensures named { OnOk result (IsPath path.now) }
 {
-    let mut text = String::with_capacity(alloc, text_len(folder, path))?;
-    text.push_str(folder)?;
-    text.push('/')?;
-    for i in 0..path.len() {
-        if i > 0 {
-            text.push('/')?;
-        }
-        if let Some(name) = path.get(i) {
-            text.push_str(name_text(name))?;
-        }
-    }
-    Ok(text)
+    let mut text = Vec::with_capacity(alloc, text_len(folder, path))?;
+    text.extend_from_slice(folder.as_bytes())?;
+    text.push(b'/')?;
+    path.join_behind(&mut text)?;
+    Ok(unsafe { String::from_utf8_unchecked(text) })
 }
 
 // How many bytes the path of an entry has.
 fn text_len(folder: &str, path: &NamePath) -> usize {
-    let mut len = folder.len();
-    for i in 0..path.len() {
-        if let Some(name) = path.get(i) {
-            len = len.saturating_add(1).saturating_add(name.bytes().len());
-        }
-    }
-    len.max(folder.len().saturating_add(1))
+    let len = folder.len();
+    len.saturating_add(path.text_len())
+        .max(len.saturating_add(1))
 }
 
-/// A name as a text.
+/// A name as a text. Its bytes are text, so they aren't looked at.
 pub fn name_text(name: &Name) -> &str
     ensures same { result.now ≡ name.now }
     ensures named { is_name name.now ≡ true }
 {
-    str::from_utf8(name.bytes()).unwrap()
+    let bytes = name.bytes();
+    unsafe { str::from_utf8_unchecked(bytes) }
 }
 
 /// What an error of the system is answered: `Memory` for want of memory, else `Device`.

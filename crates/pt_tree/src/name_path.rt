@@ -162,17 +162,28 @@ impl NamePath {
         ensures named { OnOk result (AreNames self.now) }
     {
         let mut text = Vec::with_capacity(*self.names.allocator(), self.text_len())?;
+        self.join_behind(&mut text)?;
+        Ok(text)
+    }
+
+    /// Adds the names with `/` between to a text, which may be none in UTF-8. After `Memory`, where a growth was refused, a
+    /// part of them may stand there.
+    pub fn join_behind(&self, text: &mut Vec<u8>) -> Result<(), MemoryFault>
+        ensures names { OnOk result (text.new.items ≡ text.old.items ++ joined self.now) }
+        ensures utf8 { OnOk result (IsTrue (is_utf8 (joined self.now))) }
+        ensures named { OnOk result (AreNames self.now) }
+    {
         for (i, name) in self.names.iter().enumerate() {
             if i > 0 {
                 text.push(b'/')?;
             }
             text.extend_from_slice(name.bytes())?;
         }
-        Ok(text)
+        Ok(())
     }
 
-    // How many bytes the names have with a `/` behind each.
-    fn text_len(&self) -> usize {
+    /// How many bytes the names have with a `/` behind each, up to 2^64 - 1.
+    pub fn text_len(&self) -> usize {
         let mut len: usize = 0;
         for name in &self.names {
             len = len.saturating_add(name.bytes().len()).saturating_add(1);

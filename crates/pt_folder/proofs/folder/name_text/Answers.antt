@@ -1,5 +1,8 @@
-use Rattle.pt_folder.proofs.Texts.{reads_name}
+use Rattle.std.proofs.Common.{ap, ◌∙◌}
+use Rattle.std.specs.Str.{is_utf8}
+use Rattle.std.proofs.lemmas.Str.{IsUtf8-from_is_utf8}
+use Rattle.pt_tree.proofs.Texts.{is_utf8-name}
 use Rattle.pt_folder.proofs.folder.name_text.Goals as goal
 
-pub unwrap-requires : goal.unwrap-requires
-unwrap-requires c = reads_name _ _ _ _ _ c.bytes.ensures.bytes c.bytes.ensures.name c.from_utf8.ensures.cases
+pub from_utf8_unchecked-requires : goal.from_utf8_unchecked-requires
+from_utf8_unchecked-requires c = IsUtf8-from_is_utf8 _ (ap is_utf8 c.bytes-bytes.ensures.bytes ∙ is_utf8-name _ c.bytes-bytes.ensures.name)
