@@ -7,36 +7,49 @@ use crate::system::{Input, System};
 use pt_tree::{BLOCK, Block};
 use std::io;
 
-static ZEROS: [u8; BLOCK] = [0; BLOCK];
+/// What is read into before it is known how much that is.
+pub type Room = [u8; BLOCK];
 
 /// The block becomes the next bytes of a file: as many as it holds, unless the file ends first. A short read isn't
 /// taken for the end. On an error the block is empty.
-pub fn read_block<F: Input>(file: &mut F, block: &mut Block) -> io::Result<()>
+///
+/// A full block is read into as it is; for any other the bytes are read into `room`, and so many as there are copied: no room of
+/// a block is filled for it to be read into.
+pub fn read_block<F: Input>(file: &mut F, block: &mut Block, room: &mut Room) -> io::Result<()>
     ensures block { OnOk result (TakesBlock (F.left file.old) (F.left file.new) block.new.items) }
     ensures same { F.bytes file.new ≡ F.bytes file.old }
     ensures empty { OnErr result (block.new.items ≡ []) }
     ensures reads { OnOk result (ReadsBlock F.reads 8192 file.old block.new.items file.new) }
     ensures error { IfErr result (λ e. FailsToRead F.reads 8192 file.old e file.new) }
 {
-    make_full(block);
+    if block.is_full() {
+        return read_over(file, block);
+    }
+    block.clear();
+    let count = fill(file, room)?;
+    block.try_extend_from_slice(&room[..count]).unwrap();
+    Ok(())
+}
+
+// The same of a full block.
+fn read_over<F: Input>(file: &mut F, block: &mut Block) -> io::Result<()>
+    requires { length block.old.items ≡ 8192 }
+    ensures block { OnOk result (TakesBlock (F.left file.old) (F.left file.new) block.new.items) }
+    ensures same { F.bytes file.new ≡ F.bytes file.old }
+    ensures empty { OnErr result (block.new.items ≡ []) }
+    ensures reads { OnOk result (ReadsBlock F.reads 8192 file.old block.new.items file.new) }
+    ensures error { IfErr result (λ e. FailsToRead F.reads 8192 file.old e file.new) }
+{
     match fill(file, block.as_mut_slice()) {
         Ok(count) => {
             block.truncate(count);
             Ok(())
         }
         Err(error) => {
-            block.clear();
+            block.truncate(0);
             Err(error)
         }
     }
-}
-
-// Gives the block all the bytes that it has room for, so that it can be read into.
-fn make_full(block: &mut Block)
-    ensures { length block.new.items ≡ 8192 }
-{
-    let room = block.remaining_capacity();
-    block.try_extend_from_slice(&ZEROS[..room]).unwrap();
 }
 
 // Reads until the buffer is full or a read gives nothing, and says how many bytes were read.

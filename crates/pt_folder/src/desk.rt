@@ -13,7 +13,7 @@ use crate::bytes::read_block;
 use crate::failure::{Cause, Last};
 use crate::folder::{Folder, is_absent};
 use crate::system::{Handle, System};
-use pt_tree::{Block, Kind, NamePath, TreeFault};
+use pt_tree::{BLOCK, Block, Kind, NamePath, TreeFault};
 use std::alloc::Global;
 
 /// The system that a folder calls, and the last of these calls that failed.
@@ -112,8 +112,9 @@ impl<S: System> Desk<S> {
     {
         block.clear();
         let text = folder.text(path, &mut self.last)?;
+        let mut room = [0; BLOCK];
         match self.system.open_to_read(text.as_str()) {
-            Ok(mut file) => match read_block(&mut file, block) {
+            Ok(mut file) => match read_block(&mut file, block, &mut room) {
                 Ok(()) => Ok(()),
                 Err(error) => Err(self.last.heard(text.as_str(), error)),
             },

@@ -13,18 +13,17 @@ ghost use Rattle.pt_folder.specs.Calls.{IsDueTo, fault_of as fault_for};
 ghost use Rattle.pt_folder.specs.Listing.{FailsToGet, FailsToList, FailsToLook, GetsNames, IsListedBy, LooksAt, LooksIn, dir_front, most_entries};
 ghost use Rattle.pt_folder.specs.Names.{AddsNames, GivesNames, IsRefusedName, RefusesBytes, is_entry};
 
+use crate::bytes::Room;
 use crate::desk::Desk;
 use crate::failure::{Cause, Last};
 use crate::folder::{Folder, name_text};
 use crate::system::{Input, System};
-use pt_tree::{BLOCK, Kind, Listing, ListingFault, Name, NameFault, NamePath, TreeFault};
+use pt_tree::{Kind, Listing, ListingFault, Name, NameFault, NamePath, TreeFault};
 
 // The greatest number of a directory's entries.
 const MOST: usize = 16_777_216;
 
 const LONGEST_NAME: usize = 255;
-
-const PIECE: usize = BLOCK;
 
 /// The names and kinds in a directory of a folder, in the order of the names' bytes; links aren't followed.
 ///
@@ -35,6 +34,7 @@ pub fn list<S: System>(
     desk: &mut Desk<S>,
     folder: &Folder<'_>,
     path: &NamePath,
+    piece: &mut Room,
 ) -> Result<Listing, TreeFault>
     requires { ForSome (S.forest desk.old.system folder.now.path.now)
         (λ f. IsSome (dir_at f path.now)) }
@@ -53,7 +53,7 @@ pub fn list<S: System>(
         (KeepsListing S.looks folder.now.path.now path.now desk.new.last.failure) }
 {
     let mut text = folder.text(path, &mut desk.last)?;
-    let mut names = names_in(desk, text.as_str())?;
+    let mut names = names_in(desk, text.as_str(), piece)?;
     names.sort_unstable();
     if !path.is_empty() {
         text.push('/')?;
@@ -61,7 +61,11 @@ pub fn list<S: System>(
     with_kinds(desk, text, names)
 }
 
-fn names_in<S: System>(desk: &mut Desk<S>, text: &str) -> Result<Vec<Name>, TreeFault>
+fn names_in<S: System>(
+    desk: &mut Desk<S>,
+    text: &str,
+    piece: &mut Room,
+) -> Result<Vec<Name>, TreeFault>
     ensures most { IfOk result (λ names. vec_len names ≤ most_entries) }
     ensures asked { (reply : _) × S.opens_dir desk.old.system text.now reply desk.new.system
         × MatchResult reply (λ dir. (after : _) × MatchResult result
@@ -72,7 +76,7 @@ fn names_in<S: System>(desk: &mut Desk<S>, text: &str) -> Result<Vec<Name>, Tree
     ensures kept { OnDevice result (IfSome desk.new.last.failure (IsOfNames text.now)) }
 {
     match desk.system.open_names(text) {
-        Ok(mut dir) => read_names(&mut dir, most(), text, &mut desk.last),
+        Ok(mut dir) => read_names(&mut dir, piece, most(), text, &mut desk.last),
         Err(error) => Err(desk.last.heard(text, error)),
     }
 }
@@ -84,10 +88,12 @@ fn most() -> usize
     MOST
 }
 
-/// All names that a directory gives, in its order, but for `.` and `..`; `Device` where there are more than `most`.
+/// All names that a directory gives, in its order, but for `.` and `..`, read into `piece` one piece after another; `Device` where
+/// there are more than `most`.
 /// What fails is kept at the directory's path.
 pub fn read_names<D: Input>(
     dir: &mut D,
+    piece: &mut Room,
     most: usize,
     text: &str,
     last: &mut Last,
@@ -101,9 +107,8 @@ pub fn read_names<D: Input>(
     ensures kept { OnDevice result (IfSome last.new.failure (IsOfNames text.now)) }
 {
     let mut names = Vec::new(last.alloc);
-    let mut piece = [0u8; PIECE];
     for _ in 0..u64::MAX {
-        match dir.read_piece(&mut piece) {
+        match dir.read_piece(piece) {
             Ok(0) => return Ok(names),
             Ok(count) => add_names(&mut names, &piece[..count], most, text, last)?,
             Err(error) => return Err(last.heard(text, error)),

@@ -4,7 +4,7 @@ ghost use Rattle.std.specs.Prelude.{drop as drop_items};
 ghost use Rattle.std.specs.Option.{option_map};
 ghost use Rattle.pt_folder.specs.Reading.{FailsToGoBack, FailsToReadOn, GoesFirst, IsNext, ReadsNext, Stands, unread_of};
 
-use crate::bytes::read_block;
+use crate::bytes::{Room, read_block};
 use crate::system::{Handle, Input};
 use pt_tree::{BLOCK, Block};
 use std::io;
@@ -34,9 +34,9 @@ impl<F: Handle> Reading<F> {
         }
     }
 
-    /// The block becomes the next bytes; behind the end the system isn't asked again. On an error the block is empty,
-    /// and the next call goes back to where this one began.
-    pub fn read(&mut self, block: &mut Block) -> io::Result<()>
+    /// The block becomes the next bytes, which may be read into `room` first; behind the end the system isn't asked again. On an
+    /// error the block is empty, and the next call goes back to where this one began.
+    pub fn read(&mut self, block: &mut Block, room: &mut Room) -> io::Result<()>
         requires { Stands F.bytes F.left self.old }
         ensures stands { Stands F.bytes F.left self.new }
         ensures block { OnOk result (IsNext (unread_of F.bytes self.old) block.new.items) }
@@ -47,15 +47,19 @@ impl<F: Handle> Reading<F> {
         ensures reads { OnOk result (ReadsNext F.reads F.goes self.old self.new block.new.items) }
         ensures error { IfErr result (λ e. FailsToReadOn F.reads F.goes self.old e self.new) }
     {
-        block.clear();
         if self.ended {
+            block.clear();
             return Ok(());
         }
         if self.place > LAST {
+            block.clear();
             return Err(io::Error::from(io::ErrorKind::FileTooLarge));
         }
-        self.go_back()?;
-        match read_block(&mut self.file, block) {
+        if let Err(error) = self.go_back() {
+            block.clear();
+            return Err(error);
+        }
+        match read_block(&mut self.file, block, room) {
             Ok(()) => {
                 self.place += block.len() as u64;
                 self.ended = !block.is_full();

@@ -13,13 +13,14 @@ ghost use Rattle.pt_folder.specs.Folder.{entry_text};
 ghost use Rattle.pt_folder.specs.Opening.{KeepsOpening, OpensOnce};
 ghost use Rattle.pt_folder.specs.Reading.{IsNext, IsOfReading, ReadsBy, StandsOpen, unread_open};
 
+use crate::bytes::Room;
 use crate::desk::Desk;
 use crate::failure::{Cause, Failure, Last};
 use crate::folder::{Folder, counted};
 use crate::listing;
 use crate::reading::Reading;
 use crate::system::{Handle, Input, System};
-use pt_tree::{Block, Kind, Listing, NamePath, Source, TreeFault};
+use pt_tree::{BLOCK, Block, Kind, Listing, NamePath, Source, TreeFault};
 use std::alloc::Global;
 
 /// A folder of the system as a source. It tells the tree that the system keeps there, where it keeps one.
@@ -29,6 +30,8 @@ pub struct HostSource<'a, S: System> {
     folder: Folder<'a>,
     reading: Option<Reading<S::File>>,
     at: String,
+    // What the names of a directory and the bytes of a file are read into.
+    room: Room,
     failures: u64,
     calls: u64,
     ghost stands: { StandsOpen ⟦<S::File as Input>⟧.bytes ⟦<S::File as Input>⟧.left reading },
@@ -50,6 +53,7 @@ impl<'a, S: System> HostSource<'a, S> {
             folder: Folder { path },
             reading: None,
             at: String::new(alloc),
+            room: [0; BLOCK],
             failures: 0,
             calls: 0,
         }
@@ -136,7 +140,7 @@ impl<'a, S: System> Source for HostSource<'a, S> {
         ensures call { IsCall self.old self.new result }
     {
         self.calls = self.calls.wrapping_add(1);
-        let listing = listing::list(&mut self.desk, &self.folder, path);
+        let listing = listing::list(&mut self.desk, &self.folder, path, &mut self.room);
         counted(&mut self.failures, listing)
     }
 
@@ -177,6 +181,7 @@ impl<'a, S: System> Source for HostSource<'a, S> {
         let read = read_on(
             &mut self.reading,
             block,
+            &mut self.room,
             self.at.as_str(),
             &mut self.desk.last,
         );
@@ -214,10 +219,11 @@ fn open<S: System>(
 
 // The block becomes the next bytes of the open file; behind its end the system isn't asked again. Where no file is
 // open, it is a failure. After an error of the system the file stays open, and is read on from where it was. On a fault
-// the block is empty. `at` is the file's path, with which a failure is kept.
+// the block is empty. The bytes may be read into `room` first. `at` is the file's path, with which a failure is kept.
 fn read_on<F: Handle + Drop>(
     reading: &mut Option<Reading<F>>,
     block: &mut Block,
+    room: &mut Room,
     at: &str,
     last: &mut Last,
 ) -> Result<(), TreeFault>
@@ -234,7 +240,7 @@ fn read_on<F: Handle + Drop>(
         (IfSome last.new.failure (IsOfReading F.reads F.goes at.now reading.old)) }
 {
     match reading {
-        Some(open) => match open.read(block) {
+        Some(open) => match open.read(block, room) {
             Ok(()) => Ok(()),
             Err(error) => Err(last.heard(at, error)),
         },

@@ -1,11 +1,9 @@
-use Rattle.std.proofs.Common.{◌≡◌, length, ◌∙◌, ap, take}
-use Rattle.pt_folder.proofs.Blocks.{takes_block, refilled}
+use Rattle.std.proofs.Common.{◌≡◌, length, ◌∙◌, ap, take, rules, arith}
+use Rattle.pt_folder.proofs.Blocks.{takes_block}
 use Rattle.pt_folder.proofs.bytes.read_block.Goals as goal
 
-pub returns-in-Ok-clause-block : goal.returns-in-Ok-clause-block
-returns-in-Ok-clause-block g c =
-    let kept : length c.fill.new.buffer ≡ length c.make_full.new.block.items = c.fill.auto.buffer ∙ ap length c.as_mut_slice.ensures.value in
-    takes_block 8192 _ _ c.in-Ok.count c.fill.new.buffer c.truncate.new.self.items (kept ∙ c.make_full.ensures) c.in-Ok.ensures.bytes (c.truncate.ensures.items ∙ ap (take c.in-Ok.count) (refilled _ _ kept))
-
-pub returns-in-Err-clause-empty : goal.returns-in-Err-clause-empty
-returns-in-Err-clause-empty g c = c.clear.ensures
+pub returns-clause-block : goal.returns-clause-block
+returns-clause-block g c =
+    let long : length c.fill.new.buffer ≡ 8192 = omega arith in
+    let block : c.try_extend_from_slice.new.self.items ≡ take c.in_ok-count.count c.fill.new.buffer = search rules in
+    takes_block 8192 _ _ c.in_ok-count.count c.fill.new.buffer c.try_extend_from_slice.new.self.items long c.in_ok-count.ensures.bytes block
