@@ -1,4 +1,4 @@
-ghost use Rattle.std.specs.Prelude.{◌≡◌, IfOk, IsTrue, Some};
+ghost use Rattle.std.specs.Prelude.{◌≡◌, ◌++◌, IfOk, IsTrue, OnOk, Some};
 ghost use Rattle.std.specs.Str.{bytes_eq, is_utf8};
 ghost use Rattle.std.specs.Cmp.{partial_equiv_from_equiv};
 ghost use Rattle.std.specs.Cmp.Lexicographic.{slice_cmp, nat_list_eq_equiv, nat_list_cmp_total, texts_ties, texts_po};
@@ -120,6 +120,18 @@ impl Name {
         }
     }
 
+    // Adds the bytes to a text, which may ask for room for 22 bytes where there are fewer.
+    pub(crate) fn add_to(&self, text: &mut Vec<u8>) -> Result<(), MemoryFault>
+        ensures bytes { OnOk result (text.new.items ≡ text.old.items ++ self.now) }
+        ensures name { IsTrue (is_name self.now) }
+    {
+        match &self.text {
+            Text::Short(short) => short.add_to(text),
+            Text::Known(known) => Ok(text.extend_from_slice(known.text().as_bytes())?),
+            Text::Shared(bytes) => Ok(text.extend_from_slice(bytes.as_slice())?),
+        }
+    }
+
     /// A second name of the same bytes; `Memory` where a growth was refused.
     pub fn copy(&self) -> Result<Name, MemoryFault>
         ensures bytes { IfOk result (λ name. name ≡ self.now) }
@@ -151,7 +163,10 @@ impl PartialEq for Name {
     ghost laws = { partial_equiv_from_equiv nat_list_eq_equiv };
 
     fn eq(&self, other: &Name) -> bool {
-        self.bytes() == other.bytes()
+        match (&self.text, &other.text) {
+            (Text::Short(short), Text::Short(other)) => short.same(other),
+            _ => self.bytes() == other.bytes(),
+        }
     }
 }
 

@@ -10,6 +10,7 @@ ghost use Rattle.pt_tree.specs.Pieces.{IsRefusal, names_in};
 ghost use Rattle.pt_tree.specs.Path.{joined, rest_below, same_path, split_path, split_lent};
 
 use crate::pieces::add_pieces;
+use crate::short::SHORT;
 use crate::{Known, MemoryFault, Name, NameFault};
 use std::alloc::Global;
 use std::marker::Model;
@@ -161,7 +162,7 @@ impl NamePath {
         ensures utf8 { IfOk result (λ text. IsTrue (is_utf8 text.items)) }
         ensures named { OnOk result (AreNames self.now) }
     {
-        let mut text = Vec::with_capacity(*self.names.allocator(), self.text_len())?;
+        let mut text = Vec::with_capacity(*self.names.allocator(), self.text_room())?;
         self.join_behind(&mut text)?;
         Ok(text)
     }
@@ -177,18 +178,18 @@ impl NamePath {
             if i > 0 {
                 text.push(b'/')?;
             }
-            text.extend_from_slice(name.bytes())?;
+            name.add_to(text)?;
         }
         Ok(())
     }
 
-    /// How many bytes the names have with a `/` behind each, up to 2^64 - 1.
-    pub fn text_len(&self) -> usize {
-        let mut len: usize = 0;
+    /// How much room `join_behind` asks for, up to 2^64 - 1 bytes: as many as the names have with a `/` behind each, and 22 more.
+    pub fn text_room(&self) -> usize {
+        let mut room: usize = SHORT;
         for name in &self.names {
-            len = len.saturating_add(name.bytes().len()).saturating_add(1);
+            room = room.saturating_add(name.bytes().len()).saturating_add(1);
         }
-        len
+        room
     }
 
     /// A second path of the same names; `Memory` where a growth was refused.

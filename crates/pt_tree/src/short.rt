@@ -1,15 +1,19 @@
 // A short text, which is held in the value itself.
-ghost use Rattle.std.specs.Prelude.{◌≡◌, ◌<◌, ◌≤◌, length, MatchOption};
+ghost use Rattle.std.specs.Prelude.{◌≡◌, ◌++◌, ◌-◌, ◌<◌, ◌≤◌, drop, length, replicate, MatchOption, OnOk};
+ghost use Rattle.std.specs.Str.{bytes_eq};
+
+use crate::MemoryFault;
 
 // How many bytes it has at most: as many as fit beside their number in a name of 24 bytes.
-const SHORT: usize = 22;
+pub(crate) const SHORT: usize = 22;
 
-// A text of at most 22 bytes: so many from the front of an array.
+// A text of at most 22 bytes: so many from the front of an array, behind which there are zeros.
 #[derive(Clone, Copy)]
 pub(crate) struct Short {
     len: u8,
     bytes: [u8; SHORT],
     ghost within: { len ≤ 22 },
+    ghost padded: { drop len bytes ≡ replicate (22 - len) 0 },
 }
 
 impl Short {
@@ -28,6 +32,25 @@ impl Short {
             len: bytes.len() as u8,
             bytes: held,
         })
+    }
+
+    // Adds the bytes to a text, as `extend_from_slice` of `bytes` does: the whole array is copied, whose length the compiler
+    // knows, and the text is cut behind them. It asks for room for all of it.
+    pub(crate) fn add_to(&self, text: &mut Vec<u8>) -> Result<(), MemoryFault>
+        ensures { OnOk result (text.new.items ≡ text.old.items ++ short_bytes self.now) }
+    {
+        text.extend_from_slice(&self.bytes)?;
+        let end = text.len() - (SHORT - self.len as usize);
+        text.truncate(end);
+        Ok(())
+    }
+
+    // Whether two are the same, by the equality of `bytes`: with the zeros behind them the arrays are compared, whose length
+    // the compiler knows.
+    pub(crate) fn same(&self, other: &Short) -> bool
+        ensures { result ≡ bytes_eq (short_bytes self.now) (short_bytes other.now) }
+    {
+        self.len == other.len && self.bytes == other.bytes
     }
 
     // The bytes.

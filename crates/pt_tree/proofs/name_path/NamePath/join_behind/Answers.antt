@@ -21,10 +21,12 @@ loop-i-preserved c =
     let how : (middle : List ℕ) × (before ≡ front ++ middle)
     × (((0 < c.loop-i.i) × (middle ≡ so_far ++ 47 ∷ [])) ⊎ ((c.loop-i.i ≡ 0) × (middle ≡ so_far)))
     = elim c.if-i-gt0.branch [
-      | then-i-gt0+in_ok-push w ↦ (so_far ++ 47 ∷ [],
-          ap (λ v. v.items) w.text-is ∙ w.in_ok-push.ensures.items ∙ ap (λ l. l ++ 47 ∷ []) c.loop-i.invariant.0
-          ∙ append_assoc front so_far (47 ∷ []),
-          inl (w.if-i-gt0.true, refl))
+      | then-i-gt0+in_ok-push w ↦ (
+        so_far ++ 47 ∷ [],
+        ap (λ v. v.items) w.text-is ∙ w.in_ok-push.ensures.items ∙ ap (λ l. l ++ 47 ∷ []) c.loop-i.invariant.0
+            ∙ append_assoc front so_far (47 ∷ []),
+        inl (w.if-i-gt0.true, refl),
+      )
       | else-i-gt0 w ↦ (so_far, ap (λ v. v.items) w.text-is ∙ c.loop-i.invariant.0, inr (omega arith, refl))
     ]
     in
@@ -33,11 +35,11 @@ loop-i-preserved c =
       | inl later ↦ ap is_utf8 later.1 ∙ is_utf8-append so_far (47 ∷ []) c.loop-i.invariant.1 is_utf8-slash
       | inr first ↦ ap is_utf8 first.1 ∙ c.loop-i.invariant.1
     ] in
-    let items = c.in_ok-extend_from_slice.ensures.items ∙ ap (λ l. before ++ l) c.bytes.ensures.bytes in
+    let items = c.in_ok-add_to.ensures.bytes in
     let more : middle ++ name ≡ joined (take (c.loop-i.i + 1) names)
     = joined_more names c.loop-i.i name so_far middle (omega arith) c.name-item.is refl how.2 in (
       items ∙ ap (λ l. l ++ name) how.1 ∙ append_assoc front middle name ∙ ap (λ l. front ++ l) more,
-      ap is_utf8 (sym more) ∙ is_utf8-append middle name is_text (is_utf8-name name c.bytes.ensures.name),
+      ap is_utf8 (sym more) ∙ is_utf8-append middle name is_text (is_utf8-name name c.in_ok-add_to.ensures.name),
       All-more (λ n. is_name n ≡ true) _ c.loop-i.i name (omega arith) c.loop-i.invariant.2
-          (ap is_name (sym c.name-item.is) ∙ c.bytes.ensures.name),
+          (ap is_name (sym c.name-item.is) ∙ c.in_ok-add_to.ensures.name),
     )
