@@ -1,6 +1,6 @@
 -- The texts of names and of paths.
-use Rattle.std.proofs.Common.{◌≡◌, ℕ, List, [], ◌∷◌, ◌++◌, ◌+◌, ◌<◌, ◌≤◌, ◌⊎◌, inl, inr, length, take, get_or, refl, arith, ◌∙◌, ap, sym, subst, append_assoc, append-nil, true, false, ◌==◌}
-use Rattle.std.specs.Prelude.{Some, slice_get, Result, Ok, Err, MatchResult, IsOk}
+use Rattle.std.proofs.Common.{◌≡◌, ℕ, List, [], ◌∷◌, ◌++◌, ◌≤◌, length, arith, ◌∙◌, ap, sym, subst, append-nil, true, false, ◌==◌}
+use Rattle.std.specs.Prelude.{Result, Ok, Err}
 use Rattle.std.specs.Prelude.{◌↔◌, IsErrOf}
 use Rattle.std.specs.Result.{IsErrAnd}
 use Rattle.pt_tree.specs.declared.faults.TreeFault.{TreeFault}
@@ -10,10 +10,7 @@ use Rattle.std.specs.Prelude.{slice_index}
 use Rattle.std.specs.String.Boundary.{IsSplitPoint}
 use Rattle.std.proofs.Math.Seq.{get_or-append_seam}
 use Rattle.std.proofs.lemmas.Str.{IsCharBoundary-start, IsUtf8-append, IsUtf8-from_is_utf8}
-use Rattle.std.proofs.lemmas.Option.{slice_get_within, get_or_from_slice_get}
-use Rattle.pt_tree.specs.Name.{is_name}
 use Rattle.pt_tree.specs.Path.{Path, joined}
-use Rattle.pt_tree.proofs.Joining.{joined_more}
 use Rattle.pt_tree.proofs.Texts.{is_utf8-slash}
 use Rattle.pt_folder.specs.Folder.{entry_text}
 

@@ -30,11 +30,27 @@ impl<'a> Folder<'a> {
         ensures empty { IsErrOf result TreeFault.Device ↔ (length self.now.path.now ≡ 0) }
         ensures kept { OnDevice result (IfSome last.new.failure (IsUnasked self.now.path.now)) }
     {
+        self.text_with_room(path, 0, last)
+    }
+
+    /// The same, with room for so many bytes more.
+    pub fn text_with_room(
+        &self,
+        path: &NamePath,
+        room: usize,
+        last: &mut Last,
+    ) -> Result<String, TreeFault>
+        ensures text { IfOk result
+            (λ text. string_bytes text ≡ entry_text self.now.path.now path.now) }
+        ensures named { OnOk result (IsPath path.now) }
+        ensures empty { IsErrOf result TreeFault.Device ↔ (length self.now.path.now ≡ 0) }
+        ensures kept { OnDevice result (IfSome last.new.failure (IsUnasked self.now.path.now)) }
+    {
         if self.path.is_empty() {
             last.keep("", Cause::Empty);
             return Err(TreeFault::Device);
         }
-        Ok(path_text(last.alloc, self.path, path)?)
+        Ok(path_text(last.alloc, self.path, path, room)?)
     }
 
     /// The same of an entry that is to be made: `Device` also where its path is longer than any that may be made.
@@ -69,7 +85,7 @@ impl<'a> Folder<'a> {
         ensures kept { IfSome last.new.failure
             (IsAt (entry_text self.now.path.now path.now) (Cause.System error)) }
     {
-        last.failure = match path_text(last.alloc, self.path, path) {
+        last.failure = match path_text(last.alloc, self.path, path, 0) {
             Ok(text) => Some(Failure::at(text, Cause::System(error))),
             Err(_) => None,
         };
@@ -77,23 +93,23 @@ impl<'a> Folder<'a> {
     }
 }
 
-// The bytes of the folder and of the names are text, and so are all of them with `/` between.
-fn path_text(alloc: Global, folder: &str, path: &NamePath) -> Result<String, MemoryFault>
+// The path of an entry, with room for so many bytes more. The bytes of the folder and of the names are text, and so are all of them with
+// `/` between.
+fn path_text(
+    alloc: Global,
+    folder: &str,
+    path: &NamePath,
+    room: usize,
+) -> Result<String, MemoryFault>
     ensures text { IfOk result (λ text. string_bytes text ≡ entry_text folder.now path.now) }
     ensures named { OnOk result (IsPath path.now) }
 {
-    let mut text = Vec::with_capacity(alloc, text_len(folder, path))?;
+    let own = folder.len().saturating_add(path.text_room());
+    let mut text = Vec::with_capacity(alloc, own.saturating_add(room))?;
     text.extend_from_slice(folder.as_bytes())?;
     text.push(b'/')?;
     path.join_behind(&mut text)?;
     Ok(unsafe { String::from_utf8_unchecked(text) })
-}
-
-// How many bytes the path of an entry has.
-fn text_len(folder: &str, path: &NamePath) -> usize {
-    let len = folder.len();
-    len.saturating_add(path.text_len())
-        .max(len.saturating_add(1))
 }
 
 /// A name as a text. Its bytes are text, so they aren't looked at.

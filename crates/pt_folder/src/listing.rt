@@ -52,7 +52,7 @@ pub fn list<S: System>(
     ensures kept { OnDevice result
         (KeepsListing S.looks folder.now.path.now path.now desk.new.last.failure) }
 {
-    let mut text = folder.text(path, &mut desk.last)?;
+    let mut text = folder.text_with_room(path, LONGEST_NAME + 1, &mut desk.last)?;
     let mut names = names_in(desk, text.as_str(), piece)?;
     names.sort_unstable();
     if !path.is_empty() {
@@ -208,8 +208,7 @@ fn with_kinds<S: System>(
         (IfSome desk.new.last.failure (IsOfEntry S.looks (string_bytes text))) }
 {
     let mut text = text;
-    text.reserve(LONGEST_NAME)?;
-    let mut listing = Listing::new(desk.last.alloc);
+    let mut listing = Listing::with_room(desk.last.alloc, names.len())?;
     for name in names {
         let kind = kind_in(desk, &mut text, &name)?;
         add_entry(&mut listing, name, kind, text.as_str(), &mut desk.last)?;

@@ -1,8 +1,8 @@
-ghost use Rattle.std.specs.Prelude.{◌≡◌, ◌==◌, ◌++◌, [], ◌∷◌, IsTrue, OnErr, length, slice_get};
+ghost use Rattle.std.specs.Prelude.{◌≡◌, ◌==◌, ◌++◌, [], ◌∷◌, IfOk, IsTrue, OnErr, length, slice_get};
 ghost use Rattle.pt_tree.specs.Listing.{can_follow as can_follow_items, items_lent, left_in, listing_refusal, listing_number, names_rise};
 ghost use Rattle.pt_tree.specs.Refusal.{Answers};
 
-use crate::{Kind, Name};
+use crate::{Kind, MemoryFault, Name};
 use std::alloc::Global;
 use std::marker::Model;
 use thiserror::Error;
@@ -54,6 +54,15 @@ impl Listing {
         Listing {
             items: Vec::new(alloc),
         }
+    }
+
+    /// A listing of nothing, with room for so many entries. `Memory` where that was refused.
+    pub fn with_room(alloc: Global, entries: usize) -> Result<Listing, MemoryFault>
+        ensures { IfOk result (λ listing. listing ≡ []) }
+    {
+        Ok(Listing {
+            items: Vec::with_capacity(alloc, entries)?,
+        })
     }
 
     /// Adds an entry at the end. `NotRising` where the name doesn't come after the last one in the order of their

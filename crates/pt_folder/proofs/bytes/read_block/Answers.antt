@@ -1,4 +1,4 @@
-use Rattle.std.proofs.Common.{◌≡◌, length, ◌∙◌, ap, take, rules, arith}
+use Rattle.std.proofs.Common.{◌≡◌, length, take, rules, arith}
 use Rattle.pt_folder.proofs.Blocks.{takes_block}
 use Rattle.pt_folder.proofs.bytes.read_block.Goals as goal
 

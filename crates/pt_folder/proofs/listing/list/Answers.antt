@@ -89,6 +89,6 @@ returns-clause-kept g c =
 pub returns-in_err-text-clause-kept : goal.returns-in_err-text-clause-kept
 returns-in_err-text-clause-kept g c =
     let r = c.from_residual.result in
-    let last = c.text.new.last.failure in
+    let last = c.text_with_room.new.last.failure in
     let unasked = IsUnasked c.args.folder.now.path.now in
     kept_weaker r last unasked _ (λ f is. inl (inl is)) (kept_on r c.in_err-text.field-0.0 (IfSome last unasked) c.from_residual.ensures.1 c.in_err-text.ensures.kept)

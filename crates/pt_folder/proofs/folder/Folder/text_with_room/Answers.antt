@@ -1,6 +1,6 @@
 use Rattle.pt_folder.proofs.Texts.{never_device, not_zero, zero_is}
 use Rattle.std.proofs.Common.{◌≡◌, ◌==◌, ◌∙◌, length, refl, sym, true, false}
-use Rattle.pt_folder.proofs.folder.Folder.text.Goals as goal
+use Rattle.pt_folder.proofs.folder.Folder.text_with_room.Goals as goal
 
 pub returns-then-is_empty-clause-empty : goal.returns-then-is_empty-clause-empty
 returns-then-is_empty-clause-empty c =
