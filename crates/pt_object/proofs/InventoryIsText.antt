@@ -104,7 +104,7 @@ all_below : (xs : List ℕ) → are_ascii xs ≡ true → All (λ b. b < 128) xs
 all_below [] test = All-nil (λ b. b < 128)
 all_below (x ∷ xs) test = let both = and_parts (nat_lt x 128) (are_ascii xs) test in All-cons (λ b. b < 128) x xs (ltb-true x 128 both.0) (all_below xs both.1)
 
-digest_is_text : (digest : List ℕ) → IsUtf8 (encode_lower digest)
+pub digest_is_text : (digest : List ℕ) → IsUtf8 (encode_lower digest)
 digest_is_text digest = IsUtf8-from_ascii _ (IsAscii-encode_with lower_digits digest (IsAscii-from_all lower_digits (all_below lower_digits refl)))
 
 -- ---- an inventory

@@ -15,11 +15,15 @@ use std::marker::Model;
 
 const ROOM: usize = 1024;
 
+// How many digits a digest has in hex, at most.
+const DIGITS: usize = 128;
+
 // A text of JSON, seen as its tokens.
 #[derive(Drop)]
 pub(crate) struct Output {
-    alloc: Global,
     writer: Writer,
+    // Where each path is put together before it is written.
+    path: Vec<u8>,
 }
 
 impl Model for Output {
@@ -42,8 +46,8 @@ impl Output {
     {
         let text = Vec::with_capacity(alloc, ROOM)?;
         Ok(Output {
-            alloc,
             writer: Writer::new(text),
+            path: Vec::new(alloc),
         })
     }
 
@@ -91,8 +95,11 @@ impl Output {
         ensures bytes { IsBytes digest.now }
     {
         let bytes = digest.bytes();
-        let text = hex::encode(self.alloc, bytes)?;
-        Ok(self.writer.key(text.as_str())?)
+        let mut room = [0; DIGITS];
+        let digits = &mut room[..2 * bytes.len()];
+        hex::encode_to_slice(bytes, digits).unwrap();
+        let text = unsafe { str::from_utf8_unchecked(digits) };
+        Ok(self.writer.key(text)?)
     }
 
     // A key with a text.
@@ -107,25 +114,20 @@ impl Output {
     pub(crate) fn path(&mut self, path: &NamePath) -> Result<(), MemoryFault>
         ensures { OnOk result (self.new ≡ self.old ++ string (joined path.now) ∷ []) }
     {
-        Ok(self.writer.string(path_text(path)?.as_str())?)
+        self.path.clear();
+        path.join_behind(&mut self.path)?;
+        let text = unsafe { str::from_utf8_unchecked(self.path.as_slice()) };
+        Ok(self.writer.string(text)?)
     }
 
     // A text: where the content of the file with this logical path is stored.
     pub(crate) fn content_path(&mut self, path: &NamePath) -> Result<(), MemoryFault>
         ensures { OnOk result (self.new ≡ self.old ++ string (content_path path.now) ∷ []) }
     {
-        let path = path_text(path)?;
-        let mut text = String::with_capacity(self.alloc, "v1/content/".len() + path.len())?;
-        text.push_str("v1/content/")?;
-        text.push_str(path.as_str())?;
-        Ok(self.writer.string(text.as_str())?)
+        self.path.clear();
+        self.path.extend_from_slice(b"v1/content/")?;
+        path.join_behind(&mut self.path)?;
+        let text = unsafe { str::from_utf8_unchecked(self.path.as_slice()) };
+        Ok(self.writer.string(text)?)
     }
-}
-
-// The names of the path with `/` between.
-fn path_text(path: &NamePath) -> Result<String, MemoryFault>
-    ensures { IfOk result (λ text. string_bytes text ≡ joined path.now) }
-{
-    let bytes = path.join()?;
-    Ok(String::from_utf8(bytes).unwrap())
 }
