@@ -12,7 +12,6 @@ ghost use Rattle.pt_state.specs.Outside.{TakesTurn};
 ghost use Rattle.pt_state.specs.States.{job_of};
 ghost use Rattle.pt_scan.specs.Judging.{CanPass, IsJudging, IsNamed, IsOurs, IsPassedAt, IsPlaced, is_own_place};
 
-use crate::walking::at;
 use pt_name::{Layout, UncleanFault, concatenated, unclean};
 use pt_plan::{Fault, Identifier, Object, Phase, Stage};
 use pt_state::lines::{put_present, put_skip};
@@ -34,22 +33,29 @@ pub fn judge<O: Outside>(state: &mut State, out: &mut O) -> Result<Phase, Fault>
     ensures turn { TakesTurn O.world (O.within 0) phase.Judge state.old state.new
         out.old out.new result }
 {
-    let site = state.trail.path()?;
-    match finding(state, &site) {
+    match finding(state) {
         Finding::Interior => Ok(Phase::Walk),
-        Finding::Skip(cause) => pass_over(state, &site, cause, out),
-        Finding::Candidate(index) => judge_object(state, &site, Some(index), out),
-        Finding::Gathered => judge_object(state, &site, None, out),
+        Finding::Skip(cause) => {
+            let site = state.trail.path()?;
+            pass_over(state, &site, cause, out)
+        }
+        Finding::Candidate(index) => {
+            let site = state.trail.path()?;
+            judge_object(state, &site, Some(index), out)
+        }
+        Finding::Gathered => {
+            let site = state.trail.path()?;
+            judge_object(state, &site, None, out)
+        }
     }
 }
 
-// What the site is that was entered, whose path this is.
-fn finding(state: &State, site: &NamePath) -> Finding
-    requires { site.now ≡ trail_path state.now.trail }
+// What the site is that was entered.
+fn finding(state: &State) -> Finding
     ensures { result ≡ found_at (form_of_job (job_of state.now.job)) state.now.trail }
 {
     match state.trail.innermost() {
-        Some(listing) => judged(listing, at(site), form_of(state.job.gather)),
+        Some(listing) => judged(listing, state.trail.at(), form_of(state.job.gather)),
         None => Finding::Interior,
     }
 }

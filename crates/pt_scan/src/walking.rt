@@ -1,13 +1,12 @@
 //! The turns of the walk through the sites of a pairtree.
-ghost use Rattle.std.specs.Prelude.{◌≡◌, ◌<◌, ◌==◌, ◌^◌, cond, [], IfOk, length};
+ghost use Rattle.std.specs.Prelude.{◌≡◌, ◌<◌, ◌^◌, [], IfOk};
 ghost use Rattle.pt_plan.specs.Permits.{MayEnter};
 ghost use Rattle.pt_plan.specs.TurnWalk.{in_pairtree as in_pairtree_of};
 ghost use Rattle.pt_plan.specs.declared.phase.Opening.TheVariants as opening;
 ghost use Rattle.pt_plan.specs.declared.phase.Phase.TheVariants as phase;
 ghost use Rattle.pt_tree.specs.Source.{CanList};
 ghost use Rattle.pt_walk.specs.Sites.{at_of, is_last as is_last_of};
-ghost use Rattle.pt_walk.specs.Trail.{names_to};
-ghost use Rattle.pt_walk.specs.declared.site.At.TheVariants as at;
+ghost use Rattle.pt_walk.specs.Trail.{names_to, trail_path};
 ghost use Rattle.pt_state.specs.Outside.{TakesTurn};
 ghost use Rattle.pt_scan.specs.Walking.{CanPassShorty, EntersSite, IsAtShorty, PassesShorty};
 
@@ -15,8 +14,8 @@ use pt_plan::{Fault, Phase};
 use pt_state::lines::put_skip;
 use pt_state::paths::{entry_path, in_pairtree};
 use pt_state::{Outside, State};
-use pt_tree::{Known, MemoryFault, Name, NamePath};
-use pt_walk::{At, Cause, is_shorty};
+use pt_tree::{Known, MemoryFault, NamePath};
+use pt_walk::{At, Cause, Trail, is_shorty};
 
 /// Lists `pairtree_root` and enters it; nothing is entered yet. Gives the phase that judges it.
 ///
@@ -71,8 +70,7 @@ fn meet_shorty<O: Outside>(state: &mut State, out: &mut O) -> Result<Phase, Faul
     ensures turn { TakesTurn O.world (O.within 1) phase.Walk state.old state.new
         out.old out.new result }
 {
-    let site = state.trail.path()?;
-    if is_last(&site) {
+    if is_last(&state.trail) {
         return pass_shorty(state, Cause::Past, out);
     }
     if state.trail.len() as u64 > state.job.limits.depth() {
@@ -119,30 +117,9 @@ pub(crate) fn listed_path(state: &State) -> Result<NamePath, MemoryFault>
     in_pairtree(entry_path(&state.trail)?)
 }
 
-// Whether the site at a path below `pairtree_root` is of a name of one byte, below which no site is.
-fn is_last(site: &NamePath) -> bool
-    ensures { result ≡ is_last_of (at_of site.now) }
+// Whether the site that was entered is of a name of one byte, below which no site is.
+fn is_last(trail: &Trail) -> bool
+    ensures { result ≡ is_last_of (at_of (trail_path trail.now)) }
 {
-    at(site) == At::Last
-}
-
-// Where the site at a path below `pairtree_root` stands.
-pub(crate) fn at(site: &NamePath) -> At
-    ensures { result ≡ at_of site.now }
-{
-    match site.split() {
-        None => At::Root,
-        Some((_, name)) => at_name(name),
-    }
-}
-
-// Where a site with this name stands.
-fn at_name(name: &Name) -> At
-    ensures { result ≡ cond (length name.now == 1) at.Last at.Pair }
-{
-    if name.bytes().len() == 1 {
-        At::Last
-    } else {
-        At::Pair
-    }
+    trail.at() == At::Last
 }

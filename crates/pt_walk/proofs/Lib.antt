@@ -8,6 +8,7 @@ mod OneMore
 pub mod Paths
 mod Places
 pub mod Reached
+mod SiteName
 pub mod SiteSteps
 mod Standing
 pub mod TrailSteps

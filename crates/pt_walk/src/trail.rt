@@ -1,8 +1,11 @@
-ghost use Rattle.std.specs.Prelude.{◌≡◌, ◌<◌, ◌≤◌, ◌*◌, ◌-◌, ◌^◌, [], Some, IfOk, IsTrue, OnOk, OnErr, IsSome, length};
+ghost use Rattle.std.specs.Prelude.{◌≡◌, ◌==◌, ◌<◌, ◌≤◌, ◌*◌, ◌-◌, ◌^◌, [], Some, IfOk, IsTrue, OnOk, OnErr, IsSome, cond, length};
 ghost use Rattle.std.specs.Option.{option_copied};
 ghost use Rattle.pt_tree.specs.Listing.{items_lent};
+ghost use Rattle.pt_walk.specs.Sites.{at_of};
 ghost use Rattle.pt_walk.specs.Trail.{advanced, can_enter, current_entry, entered, entries_held, has_place, innermost_listing, is_trail, parent, sought, trail_path};
+ghost use Rattle.pt_walk.specs.declared.site.At.TheVariants as at;
 
+use crate::At;
 use crate::frame::Frame;
 use pt_tree::{Kind, Listing, MemoryFault, Name, NamePath};
 use std::alloc::Global;
@@ -117,6 +120,22 @@ impl Trail {
         Ok(path)
     }
 
+    /// Where the directory of the innermost listing stands as a site, by its name, which is the one at the place of the
+    /// listing around it. It takes no memory.
+    pub fn at(&self) -> At
+        ensures { result ≡ at_of (trail_path self.now) }
+    {
+        let count = self.frames.len();
+        if count < 2 {
+            return At::Root;
+        }
+        let around = &self.frames[count - 2];
+        match around.listing.get(around.place) {
+            Some((name, _)) => at_name(name),
+            None => At::Root,
+        }
+    }
+
     /// How many entries the listings have together.
     pub fn records(&self) -> u128
         ensures value { result ≡ entries_held self.now }
@@ -127,5 +146,16 @@ impl Trail {
             total += frame.listing.len() as u128;
         }
         total
+    }
+}
+
+// Where a site with this name stands.
+fn at_name(name: &Name) -> At
+    ensures { result ≡ cond (length name.now == 1) at.Last at.Pair }
+{
+    if name.bytes().len() == 1 {
+        At::Last
+    } else {
+        At::Pair
     }
 }
