@@ -2,6 +2,7 @@
 ghost use Rattle.std.specs.Prelude.{◌≡◌, ◌||◌, IfOk, OnErr, OnOk, true};
 ghost use Rattle.std.specs.Option.{option_map};
 ghost use Rattle.pt_tree.specs.Name.{AreNames};
+ghost use Rattle.pt_tree.specs.Path.{joined};
 ghost use Rattle.pt_rehearsal.specs.Seeing.{Becomes, inner_of, is_inside, is_itself, is_met, made_dir, made_file, made_inside, made_known, met_in, moved_known, moved_to, nothing, renamed_to, seen_at, view, with_folder, with_met};
 
 use crate::texts::put;
@@ -59,17 +60,25 @@ impl Remembered {
         ensures named { OnOk result (AreNames path.now) }
     {
         let text = path.join()?;
+        Ok(self.seen_as(path, text.as_slice()))
+    }
+
+    // What is said of a path that has this text.
+    fn seen_as(&self, path: &NamePath, text: &[u8]) -> Seen
+        requires { text.now ≡ joined path.now }
+        ensures { result ≡ seen_at (view self.now) path.now }
+    {
         let names = path.names();
-        if self.folders.contains(text.as_slice()) || is_itself(&self.filling, names) {
-            return Ok(Seen::Folder);
+        if self.folders.contains(text) || is_itself(&self.filling, names) {
+            return Seen::Folder;
         }
         if is_inside(&self.filling, names)
             || is_met(&self.filled, names)
             || path.len() > self.least
         {
-            return Ok(Seen::Hidden);
+            return Seen::Hidden;
         }
-        Ok(Seen::Standing)
+        Seen::Standing
     }
 
     /// A directory would have been made at a path. It answers whether that can be remembered: not where something would
@@ -81,10 +90,11 @@ impl Remembered {
         ensures err { OnErr result (view self.new ≡ view self.old) }
         ensures named { OnOk result (AreNames path.now) }
     {
-        match self.seen(path)? {
+        let text = path.join()?;
+        match self.seen_as(path, text.as_slice()) {
             Seen::Folder => Ok(false),
             Seen::Hidden => self.make_inside(path.names()),
-            Seen::Standing => self.make_known(path),
+            Seen::Standing => self.make_known(path, text),
         }
     }
 
@@ -114,8 +124,9 @@ impl Remembered {
         if !is_itself(&self.filling, from.names()) {
             return Ok(false);
         }
-        match self.seen(to)? {
-            Seen::Standing => self.move_known(to),
+        let text = to.join()?;
+        match self.seen_as(to, text.as_slice()) {
+            Seen::Standing => self.move_known(to, text),
             Seen::Folder | Seen::Hidden => Ok(false),
         }
     }
@@ -133,8 +144,9 @@ impl Remembered {
         Ok(true)
     }
 
-    // A directory at a path of which nothing is remembered.
-    fn make_known(&mut self, path: &NamePath) -> Result<bool, MemoryFault>
+    // A directory at a path, of this text, of which nothing is remembered.
+    fn make_known(&mut self, path: &NamePath, text: Vec<u8>) -> Result<bool, MemoryFault>
+        requires { text.items ≡ joined path.now }
         ensures ok { IfOk result (λ can.
             Becomes (made_known (view self.old) path.now) can (view self.old) (view self.new)) }
         ensures err { OnErr result (view self.new ≡ view self.old) }
@@ -152,14 +164,15 @@ impl Remembered {
                 Ok(true)
             }
             _ => {
-                self.note(path)?;
+                self.note(path, text)?;
                 Ok(true)
             }
         }
     }
 
-    // The directory that is being filled goes to a path of which nothing is remembered.
-    fn move_known(&mut self, to: &NamePath) -> Result<bool, MemoryFault>
+    // The directory that is being filled goes to a path, of this text, of which nothing is remembered.
+    fn move_known(&mut self, to: &NamePath, text: Vec<u8>) -> Result<bool, MemoryFault>
+        requires { text.items ≡ joined to.now }
         ensures ok { IfOk result (λ can.
             Becomes (moved_known (view self.old) to.now) can (view self.old) (view self.new)) }
         ensures err { OnErr result (view self.new ≡ view self.old) }
@@ -171,12 +184,12 @@ impl Remembered {
                     return Ok(false);
                 }
                 let name = name.copy()?;
-                self.note(to)?;
+                self.note(to, text)?;
                 self.filled = renamed(self.filling.take(), name);
                 Ok(true)
             }
             names => {
-                self.note(to)?;
+                self.note(to, text)?;
                 self.filling = None;
                 if names.len() < self.least {
                     self.least = names.len();
@@ -186,13 +199,13 @@ impl Remembered {
         }
     }
 
-    // A directory stands at a path.
-    fn note(&mut self, path: &NamePath) -> Result<(), MemoryFault>
+    // A directory stands at a path, of this text.
+    fn note(&mut self, path: &NamePath, text: Vec<u8>) -> Result<(), MemoryFault>
+        requires { text.items ≡ joined path.now }
         ensures ok { OnOk result (view self.new ≡ with_folder path.now (view self.old)) }
         ensures err { OnErr result (view self.new ≡ view self.old) }
     {
-        let text = path.join()?;
-        put(self.alloc, &mut self.folders, text.as_slice())
+        put(&mut self.folders, text)
     }
 
     // Something stands at a path in the directory that is being filled.
@@ -214,7 +227,8 @@ fn meet_in(alloc: Global, inner: &mut Inner, names: &[Name]) -> Result<(), Memor
 {
     match names {
         [dir, name] if dir.bytes() == inner.name.bytes() => {
-            put(alloc, &mut inner.names, name.bytes())
+            let text = name.bytes().to_vec(alloc)?;
+            put(&mut inner.names, text)
         }
         _ => Ok(()),
     }
