@@ -115,7 +115,5 @@ fn note_entry(
     ensures { OnOk result (marks_of entries.new
         ≡ with_mark (path.now ++ name.now ∷ []) kind (marks_of entries.old)) }
 {
-    let mut inner = path.copy()?;
-    inner.push(name.copy()?)?;
-    entries.add(&inner, kind)
+    entries.add(&path.child(name)?, kind)
 }

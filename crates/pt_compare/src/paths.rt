@@ -9,7 +9,7 @@ use std::alloc::Global;
 pub(crate) fn joined(path: &NamePath, inner: &NamePath) -> Result<NamePath, MemoryFault>
     ensures { IfOk result (λ whole. whole ≡ path.now ++ inner.now) }
 {
-    path.copy()?.followed_by(inner.names())
+    path.extended(inner.names())
 }
 
 /// Where the content of a logical path is stored, or the folder on the way to it that has so many names of the path (OCFL 1.1,
@@ -22,6 +22,7 @@ pub(crate) fn content_path(
     requires { names ≤ length path.now }
     ensures { IfOk result (λ whole. whole ≡ in_content (take names path.now)) }
 {
-    let above = NamePath::of_known(alloc, &[Known::Version, Known::Content])?;
-    above.followed_by(&path.names()[..names])
+    NamePath::of_known_with_room(alloc, &[Known::Version, Known::Content], names)?.followed_by(
+        &path.names()[..names],
+    )
 }

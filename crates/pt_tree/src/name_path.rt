@@ -87,6 +87,26 @@ impl NamePath {
         Ok(self)
     }
 
+    /// A path of its own of these names behind this one's. `Memory` where a growth was refused.
+    pub fn extended(&self, names: &[Name]) -> Result<NamePath, MemoryFault>
+        ensures { IfOk result (λ longer. longer ≡ self.now ++ names.now) }
+    {
+        let mut path = NamePath::new(*self.names.allocator());
+        path.reserve(self.names.len().saturating_add(names.len()))?;
+        path.followed_by(&self.names)?.followed_by(names)
+    }
+
+    /// The path of the entry of this name in the directory at this one. `Memory` where a growth was refused.
+    pub fn child(&self, name: &Name) -> Result<NamePath, MemoryFault>
+        ensures { IfOk result (λ longer. longer ≡ self.now ++ name.now ∷ []) }
+    {
+        let mut path = NamePath::new(*self.names.allocator());
+        path.reserve(self.names.len().saturating_add(1))?;
+        let mut path = path.followed_by(&self.names)?;
+        path.push(name.copy()?)?;
+        Ok(path)
+    }
+
     /// Adds a name at the end. After `Memory` the path is as before.
     pub fn push(&mut self, name: Name) -> Result<(), MemoryFault>
         ensures ok { OnOk result (self.new ≡ self.old ++ name ∷ []) }
