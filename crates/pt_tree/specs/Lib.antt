@@ -6,11 +6,11 @@ pub mod Known
 pub mod Listing
 pub mod Log
 pub mod Name
-pub mod Short
 pub mod NameText
 pub mod Path
 pub mod Pieces
 pub mod Refusal
+pub mod Short
 pub mod Source
 pub mod Tree
 pub mod TreeLaws

@@ -67,7 +67,7 @@ enum Text {
     Shared(Rc<Vec<u8>>),
 }
 
-// Whether a text is held or shared isn't shown.
+// A short text is shown as a shared one.
 impl fmt::Debug for Text {
     fn fmt<W: fmt::Write>(&self, f: &mut fmt::Formatter<W>) -> fmt::Result {
         match self {
@@ -163,10 +163,7 @@ impl PartialEq for Name {
     ghost laws = { partial_equiv_from_equiv nat_list_eq_equiv };
 
     fn eq(&self, other: &Name) -> bool {
-        match (&self.text, &other.text) {
-            (Text::Short(short), Text::Short(other)) => short.same(other),
-            _ => self.bytes() == other.bytes(),
-        }
+        self.bytes() == other.bytes()
     }
 }
 

@@ -87,7 +87,7 @@ impl NamePath {
         Ok(self)
     }
 
-    /// A path of its own of these names behind this one's. `Memory` where a growth was refused.
+    /// A path of its own with these names behind this one's, as `followed_by` of a copy. `Memory` where a growth was refused.
     pub fn extended(&self, names: &[Name]) -> Result<NamePath, MemoryFault>
         ensures { IfOk result (λ longer. longer ≡ self.now ++ names.now) }
     {
@@ -187,8 +187,8 @@ impl NamePath {
         Ok(text)
     }
 
-    /// Adds the names with `/` between to a text, which may be none in UTF-8. After `Memory`, where a growth was refused, a
-    /// part of them may stand there.
+    /// Adds the names with `/` between to a text, of whatever bytes. After `Memory`, where a growth was refused, some of them may
+    /// stand there.
     pub fn join_behind(&self, text: &mut Vec<u8>) -> Result<(), MemoryFault>
         ensures names { OnOk result (text.new.items ≡ text.old.items ++ joined self.now) }
         ensures utf8 { OnOk result (IsTrue (is_utf8 (joined self.now))) }
@@ -203,7 +203,7 @@ impl NamePath {
         Ok(())
     }
 
-    /// How much room `join_behind` asks for, up to 2^64 - 1 bytes: as many as the names have with a `/` behind each, and 22 more.
+    /// How many bytes of room `join_behind` needs at most: those of the names with a `/` behind each, and 22 more, up to 2^64 - 1.
     pub fn text_room(&self) -> usize {
         let mut room: usize = SHORT;
         for name in &self.names {

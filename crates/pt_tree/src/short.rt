@@ -1,19 +1,17 @@
 // A short text, which is held in the value itself.
-ghost use Rattle.std.specs.Prelude.{◌≡◌, ◌++◌, ◌-◌, ◌<◌, ◌≤◌, drop, length, replicate, MatchOption, OnOk};
-ghost use Rattle.std.specs.Str.{bytes_eq};
+ghost use Rattle.std.specs.Prelude.{◌≡◌, ◌++◌, ◌<◌, ◌≤◌, length, MatchOption, OnOk};
 
 use crate::MemoryFault;
 
 // How many bytes it has at most: as many as fit beside their number in a name of 24 bytes.
 pub(crate) const SHORT: usize = 22;
 
-// A text of at most 22 bytes: so many from the front of an array, behind which there are zeros.
+// A text of at most 22 bytes: so many from the front of an array.
 #[derive(Clone, Copy)]
 pub(crate) struct Short {
     len: u8,
     bytes: [u8; SHORT],
     ghost within: { len ≤ 22 },
-    ghost padded: { drop len bytes ≡ replicate (22 - len) 0 },
 }
 
 impl Short {
@@ -43,14 +41,6 @@ impl Short {
         let end = text.len() - (SHORT - self.len as usize);
         text.truncate(end);
         Ok(())
-    }
-
-    // Whether two are the same, by the equality of `bytes`: with the zeros behind them the arrays are compared, whose length
-    // the compiler knows.
-    pub(crate) fn same(&self, other: &Short) -> bool
-        ensures { result ≡ bytes_eq (short_bytes self.now) (short_bytes other.now) }
-    {
-        self.len == other.len && self.bytes == other.bytes
     }
 
     // The bytes.
