@@ -56,7 +56,8 @@ impl Output {
         ensures { string_bytes result ≡ print self }
     {
         let Output { writer, .. } = self;
-        String::from_utf8(writer.into_inner()).unwrap()
+        let text = writer.into_inner();
+        unsafe { String::from_utf8_unchecked(text) }
     }
 
     pub(crate) fn begin_object(&mut self) -> Result<(), AllocError>
