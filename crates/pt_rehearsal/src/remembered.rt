@@ -94,7 +94,7 @@ impl Remembered {
         match self.seen_as(path, text.as_slice()) {
             Seen::Folder => Ok(false),
             Seen::Hidden => self.make_inside(path.names()),
-            Seen::Standing => self.make_known(path, text),
+            Seen::Standing => self.make_known(path, text.as_slice()),
         }
     }
 
@@ -126,7 +126,7 @@ impl Remembered {
         }
         let text = to.join()?;
         match self.seen_as(to, text.as_slice()) {
-            Seen::Standing => self.move_known(to, text),
+            Seen::Standing => self.move_known(to, text.as_slice()),
             Seen::Folder | Seen::Hidden => Ok(false),
         }
     }
@@ -145,8 +145,8 @@ impl Remembered {
     }
 
     // A directory at a path, of this text, of which nothing is remembered.
-    fn make_known(&mut self, path: &NamePath, text: Vec<u8>) -> Result<bool, MemoryFault>
-        requires { text.items ≡ joined path.now }
+    fn make_known(&mut self, path: &NamePath, text: &[u8]) -> Result<bool, MemoryFault>
+        requires { text.now ≡ joined path.now }
         ensures ok { IfOk result (λ can.
             Becomes (made_known (view self.old) path.now) can (view self.old) (view self.new)) }
         ensures err { OnErr result (view self.new ≡ view self.old) }
@@ -171,8 +171,8 @@ impl Remembered {
     }
 
     // The directory that is being filled goes to a path, of this text, of which nothing is remembered.
-    fn move_known(&mut self, to: &NamePath, text: Vec<u8>) -> Result<bool, MemoryFault>
-        requires { text.items ≡ joined to.now }
+    fn move_known(&mut self, to: &NamePath, text: &[u8]) -> Result<bool, MemoryFault>
+        requires { text.now ≡ joined to.now }
         ensures ok { IfOk result (λ can.
             Becomes (moved_known (view self.old) to.now) can (view self.old) (view self.new)) }
         ensures err { OnErr result (view self.new ≡ view self.old) }
@@ -200,12 +200,12 @@ impl Remembered {
     }
 
     // A directory stands at a path, of this text.
-    fn note(&mut self, path: &NamePath, text: Vec<u8>) -> Result<(), MemoryFault>
-        requires { text.items ≡ joined path.now }
+    fn note(&mut self, path: &NamePath, text: &[u8]) -> Result<(), MemoryFault>
+        requires { text.now ≡ joined path.now }
         ensures ok { OnOk result (view self.new ≡ with_folder path.now (view self.old)) }
         ensures err { OnErr result (view self.new ≡ view self.old) }
     {
-        put(&mut self.folders, text)
+        put(self.alloc, &mut self.folders, text)
     }
 
     // Something stands at a path in the directory that is being filled.
@@ -227,8 +227,7 @@ fn meet_in(alloc: Global, inner: &mut Inner, names: &[Name]) -> Result<(), Memor
 {
     match names {
         [dir, name] if dir.bytes() == inner.name.bytes() => {
-            let text = name.bytes().to_vec(alloc)?;
-            put(&mut inner.names, text)
+            put(alloc, &mut inner.names, name.bytes())
         }
         _ => Ok(()),
     }
