@@ -112,9 +112,8 @@ impl<S: System> Desk<S> {
     {
         block.clear();
         let text = folder.text(path, &mut self.last)?;
-        let mut room = [0; BLOCK];
         match self.system.open_to_read(text.as_str()) {
-            Ok(mut file) => match read_block(&mut file, block, &mut room) {
+            Ok(mut file) => match read_block(&mut file, block, &mut [0; BLOCK]) {
                 Ok(()) => Ok(()),
                 Err(error) => Err(self.last.heard(text.as_str(), error)),
             },

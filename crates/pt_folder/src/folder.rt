@@ -112,7 +112,7 @@ fn path_text(
     Ok(unsafe { String::from_utf8_unchecked(text) })
 }
 
-/// A name as a text. Its bytes are text, so they aren't looked at.
+/// A name as a text. Its bytes are text, so they aren't looked at as `from_utf8` would.
 pub fn name_text(name: &Name) -> &str
     ensures same { result.now ≡ name.now }
     ensures named { is_name name.now ≡ true }

@@ -120,8 +120,8 @@ impl Trail {
         Ok(path)
     }
 
-    /// Where the directory of the innermost listing stands as a site, by its name, which is the one at the place of the
-    /// listing around it. It takes no memory.
+    /// Where the directory of the innermost listing stands as a site, by the last name of `path`, which isn't made: it is the
+    /// one at the place of the listing around it; `Root` where none is around. It takes no memory.
     pub fn at(&self) -> At
         ensures { result ≡ at_of (trail_path self.now) }
     {
