@@ -1,7 +1,11 @@
-use Rattle.std.proofs.Common.{Some, ap, ◌∙◌}
+use Rattle.std.proofs.Common.{Some, ap, ◌∙◌, ◌≡◌, sym, subst, true}
+use Rattle.pt_tree.specs.Forest.{dir, none}
+use Rattle.pt_tree.specs.Name.{is_name}
+use Rattle.pt_tree.specs.Path.{last_name}
+use Rattle.pt_tree.proofs.Paths.{split_parts}
 use Rattle.pt_tree.specs.Tree.{put, tree_of}
 use Rattle.pt_memory.specs.Entries.{forest_of}
-use Rattle.pt_memory.specs.Planting.{leaf_entry}
+use Rattle.pt_memory.specs.Planting.{leaf_entry, leaf_of}
 use Rattle.pt_memory.specs.MemDest.{dest_state}
 use Rattle.pt_memory.proofs.Calls.{passed}
 use Rattle.pt_memory.proofs.DestCalls.{may_plant, not_top, passes}
@@ -12,6 +16,16 @@ unreachable-requires c = not_top (forest_of c.args.self.now.entries) c.args.self
 
 pub plant-requires-clause-free : goal.plant-requires-clause-free
 plant-requires-clause-free c = may_plant (forest_of c.args.self.now.entries) c.args.self.now.writing c.args.path.now c.requires
+
+pub plant-requires-clause-leaf : goal.plant-requires-clause-leaf
+plant-requires-clause-leaf c =
+    let path = c.args.path.now in
+    let at : c.in-Some.name.now ≡ last_name path = (split_parts path _ _ c.in-Some.ensures).1 in
+    let leaf = c.in_ok-leaf.ensures.leaf.0 in
+    record {
+      alone = leaf ∙ ap (λ n. dir n none none) at ∙ sym (ap (λ l. leaf_of (last_name path) (leaf_entry l)) leaf);
+      name = subst (λ n. is_name n ≡ true) at c.in_ok-leaf.ensures.name;
+    }
 
 pub returns-clause-gives : goal.returns-clause-gives
 returns-clause-gives c =
