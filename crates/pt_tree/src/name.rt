@@ -1,4 +1,4 @@
-ghost use Rattle.std.specs.Prelude.{◌≡◌, ◌++◌, IfOk, IsTrue, OnOk, Some};
+ghost use Rattle.std.specs.Prelude.{◌≡◌, ◌++◌, ◌∷◌, IfOk, IsTrue, OnOk, Some};
 ghost use Rattle.std.specs.Str.{bytes_eq, is_utf8};
 ghost use Rattle.std.specs.Cmp.{partial_equiv_from_equiv};
 ghost use Rattle.std.specs.Cmp.Lexicographic.{slice_cmp, nat_list_eq_equiv, nat_list_cmp_total, texts_ties, texts_po};
@@ -120,7 +120,7 @@ impl Name {
         }
     }
 
-    // Adds the bytes to a text, which may ask for room for 22 bytes where there are fewer.
+    // Adds the bytes to a text, which may ask for room for 21 bytes where there are fewer.
     pub(crate) fn add_to(&self, text: &mut Vec<u8>) -> Result<(), MemoryFault>
         ensures bytes { OnOk result (text.new.items ≡ text.old.items ++ self.now) }
         ensures name { IsTrue (is_name self.now) }
@@ -130,6 +130,18 @@ impl Name {
             Text::Known(known) => Ok(text.extend_from_slice(known.text().as_bytes())?),
             Text::Shared(bytes) => Ok(text.extend_from_slice(bytes.as_slice())?),
         }
+    }
+
+    // Adds a slash and the bytes to a text, which may ask for room for 22 bytes where there are fewer.
+    pub(crate) fn add_behind_slash(&self, text: &mut Vec<u8>) -> Result<(), MemoryFault>
+        ensures bytes { OnOk result (text.new.items ≡ text.old.items ++ 47 ∷ self.now) }
+        ensures name { IsTrue (is_name self.now) }
+    {
+        if let Text::Short(short) = &self.text {
+            return short.add_behind_slash(text);
+        }
+        text.push(b'/')?;
+        self.add_to(text)
     }
 
     /// A second name of the same bytes; `Memory` where a growth was refused.

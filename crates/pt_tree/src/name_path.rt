@@ -10,7 +10,7 @@ ghost use Rattle.pt_tree.specs.Pieces.{IsRefusal, names_in};
 ghost use Rattle.pt_tree.specs.Path.{joined, rest_below, same_path, split_path, split_lent};
 
 use crate::pieces::add_pieces;
-use crate::short::SHORT;
+use crate::short::ROOM;
 use crate::{Known, MemoryFault, Name, NameFault};
 use std::alloc::Global;
 use std::marker::Model;
@@ -196,16 +196,17 @@ impl NamePath {
     {
         for (i, name) in self.names.iter().enumerate() {
             if i > 0 {
-                text.push(b'/')?;
+                name.add_behind_slash(text)?;
+            } else {
+                name.add_to(text)?;
             }
-            name.add_to(text)?;
         }
         Ok(())
     }
 
     /// How many bytes of room `join_behind` needs at most: those of the names with a `/` behind each, and 22 more, up to 2^64 - 1.
     pub fn text_room(&self) -> usize {
-        let mut room: usize = SHORT;
+        let mut room: usize = ROOM;
         for name in &self.names {
             room = room.saturating_add(name.bytes().len()).saturating_add(1);
         }

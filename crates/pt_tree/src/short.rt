@@ -1,43 +1,64 @@
 // A short text, which is held in the value itself.
-ghost use Rattle.std.specs.Prelude.{◌≡◌, ◌++◌, ◌<◌, ◌≤◌, length, MatchOption, OnOk};
+ghost use Rattle.std.specs.Prelude.{◌≡◌, ◌+◌, ◌++◌, ◌-◌, ◌<◌, ◌≤◌, ◌∷◌, [], drop, length, take, MatchOption, OnOk};
 
 use crate::MemoryFault;
 
-// How many bytes it has at most: as many as fit beside their number in a name of 24 bytes.
-pub(crate) const SHORT: usize = 22;
+// How many bytes it has at most: as many as fit beside their number and a slash in a name of 24 bytes.
+pub(crate) const SHORT: usize = 21;
 
-// A text of at most 22 bytes: so many from the front of an array.
+// How many bytes the array has: the slash and the text.
+pub(crate) const ROOM: usize = 22;
+
+// A text of at most 21 bytes. The array has a slash and then the text: in a path most names come behind a slash.
 #[derive(Clone, Copy)]
 pub(crate) struct Short {
     len: u8,
-    bytes: [u8; SHORT],
-    ghost within: { len ≤ 22 },
+    bytes: [u8; ROOM],
+    ghost within: { len ≤ 21 },
+    ghost slashed: { take 1 bytes ≡ 47 ∷ [] },
 }
 
 impl Short {
     ghost use Rattle.pt_tree.specs.Short.{short_bytes};
 
-    // The text of these bytes; None where there are more than 22.
+    // The text of these bytes; None where there are more than 21.
     pub(crate) fn of(bytes: &[u8]) -> Option<Short>
-        ensures { MatchOption result (22 < length bytes.now) (λ s. short_bytes s ≡ bytes.now) }
+        ensures { MatchOption result (21 < length bytes.now) (λ s. short_bytes s ≡ bytes.now) }
     {
         if bytes.len() > SHORT {
             return None;
         }
-        let mut held = [0; SHORT];
-        held[..bytes.len()].copy_from_slice(bytes);
+        let mut held = [0; ROOM];
+        held[0] = b'/';
+        held[1..=bytes.len()].copy_from_slice(bytes);
         Some(Short {
             len: bytes.len() as u8,
             bytes: held,
         })
     }
 
-    // Adds the bytes to a text, as `extend_from_slice` of `bytes` does: the whole array is copied, whose length the compiler
-    // knows, and the text is cut behind them. It asks for room for all of it.
+    // Adds the bytes to a text, as `extend_from_slice` of `bytes` does.
     pub(crate) fn add_to(&self, text: &mut Vec<u8>) -> Result<(), MemoryFault>
         ensures { OnOk result (text.new.items ≡ text.old.items ++ short_bytes self.now) }
     {
-        text.extend_from_slice(&self.bytes)?;
+        self.add_from(1, text)
+    }
+
+    // Adds a slash and the bytes to a text.
+    pub(crate) fn add_behind_slash(&self, text: &mut Vec<u8>) -> Result<(), MemoryFault>
+        ensures { OnOk result (text.new.items ≡ text.old.items ++ 47 ∷ short_bytes self.now) }
+    {
+        self.add_from(0, text)
+    }
+
+    // Adds what stands from a place on, as `extend_from_slice` of it does: all up to the array's end is copied, a length that the
+    // compiler knows, and the text is cut behind the bytes. It asks for room for all that is copied.
+    fn add_from(&self, start: usize, text: &mut Vec<u8>) -> Result<(), MemoryFault>
+        requires { start ≤ 1 }
+        ensures { OnOk result (text.new.items
+            ≡ text.old.items ++ take (1 + self.now.len - start) (drop start self.now.bytes)) }
+    {
+        text.extend_from_slice(&self.bytes[start..])?;
         let end = text.len() - (SHORT - self.len as usize);
         text.truncate(end);
         Ok(())
@@ -47,6 +68,6 @@ impl Short {
     pub(crate) fn bytes(&self) -> &[u8]
         ensures { result.now ≡ short_bytes self.now }
     {
-        &self.bytes[..self.len as usize]
+        &self.bytes[1..=self.len as usize]
     }
 }
