@@ -1,3 +1,4 @@
+pub mod Agree
 pub mod Dest
 pub mod Failures
 pub mod Faults

@@ -175,7 +175,10 @@ impl PartialEq for Name {
     ghost laws = { partial_equiv_from_equiv nat_list_eq_equiv };
 
     fn eq(&self, other: &Name) -> bool {
-        self.bytes() == other.bytes()
+        match (&self.text, &other.text) {
+            (Text::Short(short), Text::Short(other)) => short.same(other),
+            _ => self.bytes() == other.bytes(),
+        }
     }
 }
 

@@ -1,5 +1,8 @@
 // A short text, which is held in the value itself.
-ghost use Rattle.std.specs.Prelude.{◌≡◌, ◌+◌, ◌++◌, ◌-◌, ◌<◌, ◌≤◌, ◌∷◌, [], drop, length, take, MatchOption, OnOk};
+ghost use Rattle.std.specs.Prelude.{◌≡◌, ◌≢◌, ◌+◌, ◌++◌, ◌-◌, ◌<◌, ◌≤◌, ◌∷◌, [], drop, length, replicate, take, MatchBool, MatchOption, OnOk};
+ghost use Rattle.std.specs.Str.{bytes_eq};
+ghost use Rattle.std.specs.Int.{from_le_bytes, to_le_bytes, w64};
+ghost use Rattle.pt_tree.specs.Agree.{AgreeIn, eight_from};
 
 use crate::MemoryFault;
 
@@ -9,13 +12,14 @@ pub(crate) const SHORT: usize = 21;
 // How many bytes the array has: the slash and the text.
 pub(crate) const ROOM: usize = 22;
 
-// A text of at most 21 bytes. The array has a slash and then the text: in a path most names come behind a slash.
+// A text of at most 21 bytes. The array has a slash, then the text, then zeros: in a path most names come behind a slash.
 #[derive(Clone, Copy)]
 pub(crate) struct Short {
     len: u8,
     bytes: [u8; ROOM],
     ghost within: { len ≤ 21 },
     ghost slashed: { take 1 bytes ≡ 47 ∷ [] },
+    ghost padded: { drop len (drop 1 bytes) ≡ replicate (21 - len) 0 },
 }
 
 impl Short {
@@ -64,10 +68,51 @@ impl Short {
         Ok(())
     }
 
+    // Whether it has the same bytes as another, as `==` of `bytes`: the whole arrays are compared, which have the same slash in
+    // front and zeros behind.
+    pub(crate) fn same(&self, other: &Short) -> bool
+        ensures { result ≡ bytes_eq (short_bytes self.now) (short_bytes other.now) }
+    {
+        self.len == other.len && same_arrays(&self.bytes, &other.bytes)
+    }
+
     // The bytes.
     pub(crate) fn bytes(&self) -> &[u8]
         ensures { result.now ≡ short_bytes self.now }
     {
         &self.bytes[1..=self.len as usize]
     }
+}
+
+// The equality of two arrays, by three words that reach over all bytes. No word ends it, so that no branch hangs on the bytes.
+fn same_arrays(a: &[u8; ROOM], b: &[u8; ROOM]) -> bool
+    ensures { result ≡ bytes_eq a.now b.now }
+{
+    same_words(a, b, 0) & same_words(a, b, 8) & same_words(a, b, ROOM - 8)
+}
+
+// Whether two arrays have the same word of eight bytes from a place on.
+fn same_words(a: &[u8; ROOM], b: &[u8; ROOM], from: usize) -> bool
+    requires { from ≤ 14 }
+    ensures { MatchBool result (AgreeIn a.now b.now from (from + 8)) (a.now ≢ b.now) }
+{
+    word(a, from) == word(b, from)
+}
+
+// The word of eight bytes from a place on, which tells them.
+fn word(bytes: &[u8; ROOM], from: usize) -> u64
+    requires { from ≤ 14 }
+    ensures value { result ≡ from_le_bytes w64 (eight_from bytes.now from) }
+    ensures told { to_le_bytes w64 result ≡ eight_from bytes.now from }
+{
+    u64::from_le_bytes([
+        bytes[from],
+        bytes[from + 1],
+        bytes[from + 2],
+        bytes[from + 3],
+        bytes[from + 4],
+        bytes[from + 5],
+        bytes[from + 6],
+        bytes[from + 7],
+    ])
 }
