@@ -1,6 +1,7 @@
 mod Appended
 mod Grouped
 mod Halving
+mod Keys
 mod Indexed
 mod Inserting
 mod Rowed

@@ -9,6 +9,7 @@ pub mod Holding
 pub mod Index
 pub mod Inventory
 pub mod InventoryLaws
+pub mod Keys
 pub mod Later
 pub mod Meta
 pub mod MetaParts

@@ -8,6 +8,7 @@ use crate::index::search;
 use crate::positions::Positions;
 use pt_tree::{MemoryFault, NamePath};
 use std::alloc::Global;
+use std::fmt;
 use std::marker::Model;
 
 /// A digest, with the path of the first file that has it.
@@ -18,23 +19,35 @@ pub struct Content {
 }
 
 /// The distinct contents of an object, seen as their list in the order in which they were noted.
-#[derive(Debug, Drop)]
+#[derive(Drop)]
 pub struct Contents {
     items: Vec<Content>,
+    // The keys of the items' digests, in the order of the items.
+    keys: Vec<u64>,
     // The positions of the items, in the order of their digests.
     index: Positions,
+}
+
+// The keys, which the items tell, aren't shown.
+impl fmt::Debug for Contents {
+    fn fmt<W: fmt::Write>(&self, f: &mut fmt::Formatter<W>) -> fmt::Result {
+        f.debug_struct("Contents")
+            .field("items", &self.items)
+            .field("index", &self.index)
+            .finish()
+    }
 }
 
 impl Model for Contents {
     ghost use Rattle.std.specs.Prelude.{List};
     ghost use Rattle.pt_object.specs.declared.contents.Content.{Content};
-    ghost use Rattle.pt_object.specs.Index.{IsIndex};
+    ghost use Rattle.pt_object.specs.Keys.{IsKeyedIndex};
 
     ghost Value = { List Content };
 
     ghost view = { λ c. c.items.items };
 
-    ghost invariant = { λ c. IsIndex c.items.items c.index };
+    ghost invariant = { λ c. IsKeyedIndex c.items.items c.keys.items c.index };
 }
 
 impl Contents {
@@ -44,6 +57,7 @@ impl Contents {
     {
         Contents {
             items: Vec::new(alloc),
+            keys: Vec::new(alloc),
             index: Positions::new(alloc),
         }
     }
@@ -56,13 +70,15 @@ impl Contents {
         ensures known { IsTrue (is_noted self.old digest.now) → result ≡ Ok false }
         ensures err { OnErr result (self.new ≡ self.old) }
     {
-        let place = match search(&self.items, &self.index, digest).found {
+        let place = match search(&self.items, &self.keys, &self.index, digest).found {
             Ok(_) => return Ok(false),
             Err(place) => place,
         };
         self.items.reserve(1)?;
+        self.keys.reserve(1)?;
         let path = path.copy()?;
         self.index.insert(place, self.items.len())?;
+        self.keys.push(digest.key()).unwrap();
         self.items
             .push(Content {
                 digest: *digest,
@@ -86,7 +102,7 @@ impl Contents {
         ensures few { IsWithinBinaryDigits result.1 (length self.now) }
         ensures some { 0 < length self.now → 0 < result.1 }
     {
-        let searched = search(&self.items, &self.index, digest);
+        let searched = search(&self.items, &self.keys, &self.index, digest);
         let path = match searched.found {
             Ok(position) => Some(&self.items[position].path),
             Err(_) => None,
@@ -99,6 +115,7 @@ impl Contents {
         ensures { self.new ≡ [] }
     {
         self.items.clear();
+        self.keys.clear();
         self.index.clear();
     }
 
@@ -155,6 +172,8 @@ impl Contents {
         ensures { MatchOption result
             (is_noted self.now digest.now ≡ false) (IsAt self.now digest.now) }
     {
-        search(&self.items, &self.index, digest).found.ok()
+        search(&self.items, &self.keys, &self.index, digest)
+            .found
+            .ok()
     }
 }

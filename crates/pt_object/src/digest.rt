@@ -6,6 +6,7 @@ ghost use Rattle.std.specs.Cmp.Lexicographic.{nat_list_eq_equiv, nat_list_cmp_to
 ghost use Rattle.std.proofs.Common.{rules};
 ghost use Rattle.hex.specs.Hex.{encode_lower};
 ghost use Rattle.pt_object.specs.Digest.{digest_cmp};
+ghost use Rattle.pt_object.specs.Keys.{key_of};
 
 use pt_tree::MemoryFault;
 use std::alloc::Global;
@@ -67,6 +68,16 @@ impl Digest {
             Bytes::Short(bytes) => bytes,
             Bytes::Long(bytes) => bytes,
         }
+    }
+
+    // Its first eight bytes as a number, by which digests come in the order of their bytes where they have different ones.
+    pub(crate) fn key(&self) -> u64
+        ensures { result ≡ key_of self.now }
+    {
+        let bytes = self.bytes();
+        u64::from_be_bytes([
+            bytes[0], bytes[1], bytes[2], bytes[3], bytes[4], bytes[5], bytes[6], bytes[7],
+        ])
     }
 
     /// The bytes in lower-case hex, as an inventory has them; `Memory` where a growth was refused.

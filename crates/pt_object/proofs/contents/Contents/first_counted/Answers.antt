@@ -9,8 +9,8 @@ returns-clause-path c =
     rw (← c.self.view_is) (elim c.match-searched.branch [
       | in-Ok w ↦
           let at = rw (w.in-Ok.is, c.deref.ensures.value) at c.search-searched.ensures.found in
-          ap option_copied w.path-is ∙ sym (first_path-at _ _ _ _ _ c.self.invariant at w.index.ensures)
+          ap option_copied w.path-is ∙ sym (first_path-at _ _ _ _ _ c.self.invariant.ordered at w.index.ensures)
       | in-Err w ↦
           let place = rw (w.in-Err.is, c.deref.ensures.value) at c.search-searched.ensures.found in
-          ap option_copied w.path-is ∙ sym (first_path-none _ _ _ _ c.self.invariant place)
+          ap option_copied w.path-is ∙ sym (first_path-none _ _ _ _ c.self.invariant.ordered place)
     ])

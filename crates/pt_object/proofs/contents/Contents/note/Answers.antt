@@ -4,6 +4,7 @@ use Rattle.std.proofs.lemmas.Bool.{cond-false, cond-true, true≢false}
 use Rattle.pt_object.specs.Contents.{content_of, is_noted}
 use Rattle.pt_object.specs.declared.contents.Content.{Content}
 use Rattle.pt_object.proofs.Inserting.{IsIndex-insert}
+use Rattle.pt_object.proofs.Keys.{keys-push}
 use Rattle.pt_object.proofs.contents.Contents.note.Goals as goal
 
 -- what the search found is what is noted
@@ -12,11 +13,15 @@ tells found answer lent items own digest known lent_is own_is is = sym (ap (λ (
 
 pub invariant_of-self-2 : goal.invariant_of-self-2
 invariant_of-self-2 c =
-    let pushed = rw c.unwrap.ensures at c.push.ensures.items in
+    let pushed = rw c.unwrap-2.ensures at c.push-2.ensures.items in
+    let keyed = rw c.unwrap.ensures at c.push.ensures.items in
     let position = c.len.ensures ∙ c.reserve.ensures.len ∙ sym c.deref.ensures.len ∙ ap length c.deref.ensures.value in
     let place = rw (c.in-Err.is, c.deref.ensures.value) at c.search.ensures.found in
-    rw (pushed, c.in_ok-insert.ensures.ok, c.reserve.ensures.items, position)
-    (IsIndex-insert c.self.inside.items.items c.self.inside.index _ c.in-Err.place c.self.invariant place)
+    record {
+      ordered = rw (pushed, c.in_ok-insert.ensures.ok, c.reserve.ensures.items, position)
+          (IsIndex-insert c.self.inside.items.items c.self.inside.index _ c.in-Err.place c.self.invariant.ordered place);
+      keyed = rw (keyed, pushed, c.reserve-2.ensures.items, c.reserve.ensures.items) (keys-push _ _ _ _ c.self.invariant.keyed c.key.ensures);
+    }
 
 pub returns-clause-answer : goal.returns-clause-answer
 returns-clause-answer c = sym (ap not (tells _ false _ _ _ _ c.search.ensures.known c.deref.ensures.value c.self.view_is (ap is_ok c.in-Err.is)))
@@ -26,7 +31,7 @@ returns-clause-ok c =
     let old = c.args.self.now in
     let digest = c.args.digest.now in
     let none = tells _ false _ _ old digest c.search.ensures.known c.deref.ensures.value c.self.view_is (ap is_ok c.in-Err.is) in
-    (rw c.unwrap.ensures at c.push.ensures.items)
+    (rw c.unwrap-2.ensures at c.push-2.ensures.items)
     ∙ (λ i. (c.reserve.ensures.items ∙ c.self.view_is) i ++ content_of digest (c.in_ok-path.ensures i) ∷ [])
     ∙ sym (cond-false (is_noted old digest) old (old ++ content_of digest c.args.path.now ∷ []) none)
 
