@@ -13,6 +13,9 @@ use pt_tree::{MemoryFault, Name, NamePath, TreeFault};
 use std::alloc::Global;
 use std::io;
 
+// How many bytes of a path's text are asked for with each of its names: as many as most have with their slash.
+const NAME_ROOM: usize = 22;
+
 /// A folder of the system, by its path.
 #[derive(Drop)]
 pub struct Folder<'a> {
@@ -94,7 +97,7 @@ impl<'a> Folder<'a> {
 }
 
 // The path of an entry, with room for so many bytes more. The bytes of the folder and of the names are text, and so are all of them with
-// `/` between.
+// `/` between. The text grows where names are long: to ask each for its length first takes nearly as long as to write it.
 fn path_text(
     alloc: Global,
     folder: &str,
@@ -104,11 +107,13 @@ fn path_text(
     ensures text { IfOk result (λ text. string_bytes text ≡ entry_text folder.now path.now) }
     ensures named { OnOk result (IsPath path.now) }
 {
-    let own = folder.len().saturating_add(path.text_room());
+    let names = path.len().saturating_add(1).saturating_mul(NAME_ROOM);
+    let own = folder.len().saturating_add(names);
     let mut text = Vec::with_capacity(alloc, own.saturating_add(room))?;
     text.extend_from_slice(folder.as_bytes())?;
     text.push(b'/')?;
     path.join_behind(&mut text)?;
+    text.reserve(room)?;
     Ok(unsafe { String::from_utf8_unchecked(text) })
 }
 

@@ -204,8 +204,8 @@ impl NamePath {
         Ok(())
     }
 
-    /// How many bytes of room `join_behind` needs at most: those of the names with a `/` behind each, and 22 more, up to 2^64 - 1.
-    pub fn text_room(&self) -> usize {
+    // How many bytes of room `join_behind` needs at most: those of the names with a `/` behind each, and 22 more, up to 2^64 - 1.
+    fn text_room(&self) -> usize {
         let mut room: usize = ROOM;
         for name in &self.names {
             room = room.saturating_add(name.bytes().len()).saturating_add(1);

@@ -8,5 +8,5 @@ from_utf8_unchecked-requires c =
     let folder = c.args.folder.now in
     let names = joined c.args.path.now in
     let front : c.push.new.self.items ≡ folder ++ 47 ∷ [] = search rules in
-    let whole = c.in_ok-join_behind.ensures.names ∙ ap (λ l. l ++ names) front ∙ append_assoc folder (47 ∷ []) names in
+    let whole = c.reserve.ensures.items ∙ c.in_ok-join_behind.ensures.names ∙ ap (λ l. l ++ names) front ∙ append_assoc folder (47 ∷ []) names in
     entry_is_text folder _ c.args.path.now whole c.utf8.folder c.in_ok-join_behind.ensures.utf8
