@@ -11,7 +11,7 @@ ghost use Rattle.pt_tree.specs.Refusal.{Answers};
 
 use crate::short::Short;
 use crate::{Known, MemoryFault};
-use std::alloc::Global;
+use std::alloc::{AllocError, Global};
 use std::cmp::Ordering;
 use std::fmt;
 use std::marker::Model;
@@ -149,9 +149,26 @@ impl Name {
         ensures bytes { IfOk result (λ name. name ≡ self.now) }
         ensures name { IsTrue (is_name self.now) }
     {
+        Ok(self.clone()?)
+    }
+}
+
+/// As `copy`.
+impl Clone for Name {
+    ghost is_clone = { λ name second. second ≡ name };
+
+    // A short name is answered by itself, so that it is copied in registers.
+    fn clone(&self) -> Result<Name, AllocError>
+        ensures bytes { IfOk result (λ second. second ≡ self.now) }
+        ensures name { IsTrue (is_name self.now) }
+    {
         let text = match &self.text {
+            Text::Short(short) => {
+                return Ok(Name {
+                    text: Text::Short(short.copy()),
+                });
+            }
             Text::Known(known) => Text::Known(*known),
-            Text::Short(short) => Text::Short(*short),
             Text::Shared(bytes) => Text::Shared(bytes.clone()?),
         };
         Ok(Name { text })

@@ -80,10 +80,7 @@ impl NamePath {
     pub fn followed_by(mut self, names: &[Name]) -> Result<NamePath, MemoryFault>
         ensures { IfOk result (λ longer. longer ≡ self ++ names.now) }
     {
-        self.reserve(names.len())?;
-        for name in names {
-            self.push(name.copy()?)?;
-        }
+        self.names.extend_from_slice(names)?;
         Ok(self)
     }
 
@@ -217,10 +214,8 @@ impl NamePath {
     pub fn copy(&self) -> Result<NamePath, MemoryFault>
         ensures { IfOk result (λ path. path ≡ self.now) }
     {
-        let mut names = Vec::with_capacity(*self.names.allocator(), self.names.len())?;
-        for name in &self.names {
-            names.push(name.copy()?)?;
-        }
+        let mut names: Vec<Name> = Vec::with_capacity(*self.names.allocator(), self.names.len())?;
+        names.extend_from_slice(&self.names)?;
         Ok(NamePath { names })
     }
 }

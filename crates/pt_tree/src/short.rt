@@ -13,7 +13,7 @@ pub(crate) const SHORT: usize = 21;
 pub(crate) const ROOM: usize = 22;
 
 // A text of at most 21 bytes. The array has a slash, then the text, then zeros: in a path most names come behind a slash.
-#[derive(Clone, Copy)]
+#[derive(Drop)]
 pub(crate) struct Short {
     len: u8,
     bytes: [u8; ROOM],
@@ -39,6 +39,16 @@ impl Short {
             len: bytes.len() as u8,
             bytes: held,
         })
+    }
+
+    // A second one of the same bytes.
+    pub(crate) fn copy(&self) -> Short
+        ensures { result ≡ self.now }
+    {
+        Short {
+            len: self.len,
+            bytes: by_pieces(&self.bytes),
+        }
     }
 
     // Adds the bytes to a text, as `extend_from_slice` of `bytes` does.
@@ -82,6 +92,18 @@ impl Short {
     {
         &self.bytes[1..=self.len as usize]
     }
+}
+
+// The array. It is copied by pieces of 2, 4 and 16 bytes, each of which a register holds, since they stand behind two bytes in a name:
+// the compiler takes the array as a whole into other pieces, which it puts down in memory and takes up again.
+fn by_pieces(held: &[u8; ROOM]) -> [u8; ROOM]
+    ensures { result ≡ held.now }
+{
+    let mut bytes = [0; ROOM];
+    bytes[..2].copy_from_slice(&held[..2]);
+    bytes[2..6].copy_from_slice(&held[2..6]);
+    bytes[6..].copy_from_slice(&held[6..]);
+    bytes
 }
 
 // The equality of two arrays, by three words that reach over all bytes. No word ends it, so that no branch hangs on the bytes.
