@@ -1,4 +1,4 @@
-ghost use Rattle.std.specs.Prelude.{◌≡◌, ◌++◌, ◌∷◌, IfOk, IsTrue, OnOk, Some};
+ghost use Rattle.std.specs.Prelude.{◌≡◌, ◌++◌, IfOk, IfSome, IsTrue, OnOk, Some};
 ghost use Rattle.std.specs.Str.{bytes_eq, is_utf8};
 ghost use Rattle.std.specs.Cmp.{partial_equiv_from_equiv};
 ghost use Rattle.std.specs.Cmp.Lexicographic.{slice_cmp, nat_list_eq_equiv, nat_list_cmp_total, texts_ties, texts_po};
@@ -7,6 +7,7 @@ ghost use Rattle.std.proofs.Common.{rules};
 ghost use Rattle.pt_tree.specs.Name.{name_refusal, is_forbidden_name, is_name, name_number};
 ghost use Rattle.pt_tree.specs.Known.{known_text};
 ghost use Rattle.pt_tree.specs.NameText.{text_bytes};
+ghost use Rattle.pt_tree.specs.Short.{short_bytes};
 ghost use Rattle.pt_tree.specs.Refusal.{Answers};
 
 use crate::short::Short;
@@ -132,16 +133,15 @@ impl Name {
         }
     }
 
-    // Adds a slash and the bytes to a text, which may ask for room for 22 bytes where there are fewer.
-    pub(crate) fn add_behind_slash(&self, text: &mut Vec<u8>) -> Result<(), MemoryFault>
-        ensures bytes { OnOk result (text.new.items ≡ text.old.items ++ 47 ∷ self.now) }
+    // The text, where it is short.
+    pub(crate) fn short(&self) -> Option<&Short>
+        ensures bytes { IfSome result (λ short. short_bytes short.now ≡ self.now) }
         ensures name { IsTrue (is_name self.now) }
     {
-        if let Text::Short(short) = &self.text {
-            return short.add_behind_slash(text);
+        match &self.text {
+            Text::Short(short) => Some(short),
+            Text::Known(_) | Text::Shared(_) => None,
         }
-        text.push(b'/')?;
-        self.add_to(text)
     }
 
     /// A second name of the same bytes; `Memory` where a growth was refused.

@@ -1,16 +1,16 @@
-ghost use Rattle.std.specs.Prelude.{◌≡◌, ◌==◌, ◌++◌, [], ◌∷◌, IfErr, IfOk, IsTrue, is_some, OnOk, OnErr, length, map, slice_get};
+ghost use Rattle.std.specs.Prelude.{◌≡◌, ◌==◌, ◌++◌, ◌≤◌, [], ◌∷◌, IfErr, IfOk, IsTrue, is_some, OnOk, OnErr, length, map, slice_get, take};
 ghost use Rattle.std.specs.Str.{is_utf8};
 ghost use Rattle.std.specs.Cmp.{partial_equiv_from_equiv};
 ghost use Rattle.std.specs.Cmp.Lexicographic.{nat_list_eq_equiv, lists_equiv};
 ghost use Rattle.std.specs.Option.{option_copied};
 ghost use Rattle.std.specs.Option.{option_map};
 ghost use Rattle.pt_tree.specs.Known.{known_text};
-ghost use Rattle.pt_tree.specs.Name.{AreNames};
+ghost use Rattle.pt_tree.specs.Name.{AreNames, is_name};
 ghost use Rattle.pt_tree.specs.Pieces.{IsRefusal, names_in};
 ghost use Rattle.pt_tree.specs.Path.{joined, rest_below, same_path, split_path, split_lent};
 
 use crate::pieces::add_pieces;
-use crate::short::ROOM;
+use crate::short::{ROOM, add_zeros};
 use crate::{Known, MemoryFault, Name, NameFault};
 use std::alloc::Global;
 use std::marker::Model;
@@ -191,13 +191,15 @@ impl NamePath {
         ensures utf8 { OnOk result (IsTrue (is_utf8 (joined self.now))) }
         ensures named { OnOk result (AreNames self.now) }
     {
-        for (i, name) in self.names.iter().enumerate() {
-            if i > 0 {
-                name.add_behind_slash(text)?;
-            } else {
-                name.add_to(text)?;
-            }
+        let [first, others @ ..] = self.names.as_slice() else {
+            return Ok(());
+        };
+        first.add_to(text)?;
+        let mut end = text.len();
+        for (i, name) in others.iter().enumerate() {
+            end = put_next(name, others, others.len() - 1 - i, text, end)?;
         }
+        text.truncate(end);
         Ok(())
     }
 
@@ -232,6 +234,52 @@ impl PartialEq for NamePath {
 
 impl Eq for NamePath {
     ghost laws = { lists_equiv nat_list_eq_equiv };
+}
+
+// Adds a slash and a name at the end of a text, and gives the new end. Zeros may stand behind it, before and afterwards, over which a short
+// name is put. Where they are too few, they are cut off, and new ones are made for the last `left` of `others`, if the next is short too.
+fn put_next(
+    name: &Name,
+    others: &[Name],
+    left: usize,
+    text: &mut Vec<u8>,
+    end: usize,
+) -> Result<usize, MemoryFault>
+    requires { end ≤ length text.old.items }
+    ensures bytes { IfOk result
+        (λ n. take n text.new.items ≡ take end text.old.items ++ 47 ∷ name.now) }
+    ensures within { IfOk result (λ n. n ≤ length text.new.items) }
+    ensures name { IsTrue (is_name name.now) }
+{
+    let Some(short) = name.short() else {
+        return put_bytes(name.bytes(), text, end);
+    };
+    if let Some(bytes) = short.put_behind_slash(&mut text[end..]) {
+        return Ok(end + bytes);
+    }
+    text.truncate(end);
+    short.add_behind_slash(text)?;
+    let end = text.len();
+    let next = others.len().saturating_sub(left);
+    if let Some(next) = others.get(next)
+        && next.short().is_some()
+    {
+        add_zeros(text, left);
+    }
+    Ok(end)
+}
+
+// The same of any bytes. Zeros are cut off first.
+fn put_bytes(bytes: &[u8], text: &mut Vec<u8>, end: usize) -> Result<usize, MemoryFault>
+    requires { end ≤ length text.old.items }
+    ensures bytes { IfOk result
+        (λ n. take n text.new.items ≡ take end text.old.items ++ 47 ∷ bytes.now) }
+    ensures within { IfOk result (λ n. n ≤ length text.new.items) }
+{
+    text.truncate(end);
+    text.push(b'/')?;
+    text.extend_from_slice(bytes)?;
+    Ok(text.len())
 }
 
 // Whether a path goes on from another.

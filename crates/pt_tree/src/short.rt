@@ -1,6 +1,7 @@
 // A short text, which is held in the value itself.
-ghost use Rattle.std.specs.Prelude.{◌≡◌, ◌≢◌, ◌+◌, ◌++◌, ◌-◌, ◌<◌, ◌≤◌, ◌∷◌, [], drop, length, replicate, take, MatchBool, MatchOption, OnOk};
+ghost use Rattle.std.specs.Prelude.{◌≡◌, ◌≢◌, ◌+◌, ◌++◌, ◌-◌, ◌<◌, ◌≤◌, ◌∷◌, [], drop, length, replicate, take, IfSome, MatchBool, MatchOption, OnOk};
 ghost use Rattle.std.specs.Str.{bytes_eq};
+ghost use Rattle.std.specs.Vec.{vec_capacity};
 ghost use Rattle.std.specs.Int.{from_le_bytes, to_le_bytes, w64};
 ghost use Rattle.pt_tree.specs.Agree.{AgreeIn, eight_from};
 
@@ -11,6 +12,9 @@ pub(crate) const SHORT: usize = 21;
 
 // How many bytes the array has: the slash and the text.
 pub(crate) const ROOM: usize = 22;
+
+// For at most so many short names zeros are made at once: a long name cuts off what is left of them.
+const AHEAD: usize = 16;
 
 // A text of at most 21 bytes. The array has a slash, then the text, then zeros: in a path most names come behind a slash.
 #[derive(Drop)]
@@ -78,6 +82,19 @@ impl Short {
         Ok(())
     }
 
+    // Puts a slash and the bytes over the first of some zeros, and says how many they are: the whole array is put there, which ends
+    // in zeros. None where the zeros are fewer than the array; they stay then.
+    pub(crate) fn put_behind_slash(&self, zeros: &mut [u8]) -> Option<usize>
+        ensures bytes { MatchOption result (length zeros.old < 22)
+            (λ n. take n zeros.new ≡ 47 ∷ short_bytes self.now) }
+        ensures within { IfSome result (λ n. n ≤ length zeros.new) }
+        ensures size { length zeros.new ≡ length zeros.old }
+    {
+        let front = zeros.first_chunk_mut::<ROOM>()?;
+        *front = self.bytes;
+        Some(1 + self.len as usize)
+    }
+
     // Whether it has the same bytes as another, as `==` of `bytes`: the whole arrays are compared, which have the same slash in
     // front and zeros behind.
     pub(crate) fn same(&self, other: &Short) -> bool
@@ -94,8 +111,19 @@ impl Short {
     }
 }
 
-// The array. It is copied by pieces of 2, 4 and 16 bytes, each of which a register holds, since they stand behind two bytes in a name:
-// the compiler takes the array as a whole into other pieces, which it puts down in memory and takes up again.
+// Adds zeros to a text, over which short names can be put: for so many, for 16 at most, and no more than it has room for, so that it
+// doesn't grow.
+pub(crate) fn add_zeros(text: &mut Vec<u8>, names: usize)
+    ensures kept { take (length text.old.items) text.new.items ≡ text.old.items }
+    ensures within { length text.new.items ≤ vec_capacity text.old }
+{
+    let free = text.capacity() - text.len();
+    let zeros = free.min(ROOM * names.min(AHEAD));
+    let _ = text.resize(text.len() + zeros, 0);
+}
+
+// The array, copied by pieces of 2, 4 and 16 bytes. A name is handed on by value, in registers, and these pieces fit where the array stands
+// in it; as a whole the compiler takes it into others, which it puts down in memory and takes up again.
 fn by_pieces(held: &[u8; ROOM]) -> [u8; ROOM]
     ensures { result ≡ held.now }
 {
