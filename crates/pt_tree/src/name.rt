@@ -121,6 +121,16 @@ impl Name {
         }
     }
 
+    // The equality of two names, as their `==`, which is called only where one of them is not short.
+    pub(crate) fn same(&self, other: &Name) -> bool
+        ensures { result ≡ bytes_eq self.now other.now }
+    {
+        match (&self.text, &other.text) {
+            (Text::Short(short), Text::Short(other)) => short.same(other),
+            _ => self == other,
+        }
+    }
+
     // Adds the bytes to a text, which may ask for room for 21 bytes where there are fewer.
     pub(crate) fn add_to(&self, text: &mut Vec<u8>) -> Result<(), MemoryFault>
         ensures bytes { OnOk result (text.new.items ≡ text.old.items ++ self.now) }
