@@ -203,9 +203,10 @@ impl NamePath {
         Ok(())
     }
 
-    // How many bytes of room `join_behind` needs at most: those of the names with a `/` behind each, and 22 more, up to 2^64 - 1.
+    // How many bytes of room `join_behind` needs at most, up to 2^64 - 1: those of the names with a `/` behind each, and 22 more; none for
+    // the top.
     fn text_room(&self) -> usize {
-        let mut room: usize = ROOM;
+        let mut room: usize = if self.is_empty() { 0 } else { ROOM };
         for name in &self.names {
             room = room.saturating_add(name.bytes().len()).saturating_add(1);
         }
