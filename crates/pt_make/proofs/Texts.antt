@@ -1,5 +1,5 @@
 -- The turns that make an inventory and its sidecar, from their calls.
-use Rattle.std.proofs.Common.{◌≡◌, ℕ, List, [], ◌∷◌, refl, ap, ◌∙◌}
+use Rattle.std.proofs.Common.{◌≡◌, ℕ, List, [], ◌∷◌, ◌++◌, refl, ap, ◌∙◌}
 use Rattle.std.specs.Prelude.{Ok, IsErrAnd, map}
 use Rattle.pt_state.proofs.Words.{digest_of, HasBeenFed, Algorithm, Hasher, Path, Answer, Did, LeavesSome, Make, World, Fault, Object, Phase, KeepsAll, job_of, Turned}
 use Rattle.pt_state.proofs.Words.part
@@ -23,10 +23,9 @@ pub contents_of_rows : (s : State) → HasContentsOfRows s → s.contents ≡ ma
 unfolding HasContentsOfRows
 contents_of_rows s is = is
 
--- the text that the hasher keeps is that of the inventory
-pub kept_is : (s : State) (object : Object) (text : List ℕ) → HasFedInventory s object → ((algorithm : Algorithm) (fed : List ℕ) → HasBeenFed algorithm s.hasher fed → text ≡ fed) → text ≡ inventory_held s object
-unfolding HasFedInventory
-kept_is s object text was kept = kept s.job.algorithm (inventory_held s object) was
+-- fed nothing and then a text, the hasher was fed the text
+pub fed_text : (a : Algorithm) (start hasher : Hasher) (text : List ℕ) → HasBeenFed a start [] → ((algorithm : Algorithm) (fed : List ℕ) → HasBeenFed algorithm start fed → HasBeenFed algorithm hasher (fed ++ text)) → HasBeenFed a hasher text
+fed_text a start hasher text started feeds = feeds a [] started
 
 -- the digest of what a hasher was fed, of which this is a copy
 pub digest_is : (s : State) (object : Object) (hasher : Hasher) (digest : List ℕ) → HasFedInventory s object → ((algorithm : Algorithm) (fed : List ℕ) → HasBeenFed algorithm s.hasher fed → HasBeenFed algorithm hasher fed)
@@ -37,7 +36,7 @@ digest_is s object hasher digest was copies ends = ends s.job.algorithm (invento
 pub sidecar_is : (a : Algorithm) (digest fed line : List ℕ) → digest ≡ digest_of a fed → line ≡ sidecar_line digest → line ≡ sidecar_text a fed
 sidecar_is a digest fed line same is = is ∙ ap sidecar_line same
 
-pub ruleset files = (digest_is, contents_of_rows, leaves_short, sidecar_is)
+pub ruleset files = (digest_is, contents_of_rows, fed_text, leaves_short, sidecar_is)
 
 -- ---- inventories
 

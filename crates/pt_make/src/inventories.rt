@@ -1,10 +1,10 @@
 //! The turns that make an object's inventory and its sidecar, in the version's folder and at the top: the turn that
-//! makes the inventory in the version's folder gives its text to the hasher, whose digest stands in both sidecars, and
-//! which keeps it for the inventory at the top.
+//! makes the inventory in the version's folder feeds its text to the hasher, whose digest stands in both sidecars.
 ghost use Rattle.std.specs.Prelude.{◌≡◌, ◌∷◌, [], IfOk};
 ghost use Rattle.std.specs.String.{string_bytes};
 ghost use Rattle.pt_object.specs.Algorithm.{digest_of};
 ghost use Rattle.pt_object.specs.Files.{sidecar_text};
+ghost use Rattle.pt_object.specs.Hasher.{HasBeenFed};
 ghost use Rattle.pt_object.specs.Object.{inventory_name, sidecar_name as sidecar_name_of};
 ghost use Rattle.pt_plan.specs.TurnMake.{after_last};
 ghost use Rattle.pt_plan.specs.declared.phase.Phase.TheVariants as phase;
@@ -31,8 +31,8 @@ pub(crate) enum Folder {
     Top,
 }
 
-/// Makes the inventory in a folder (OCFL 1.1, "Inventory"). The hasher is fed the text of the version's, and
-/// keeps it, since it is that of the one at the top too.
+/// Makes the inventory in a folder (OCFL 1.1, "Inventory"). The hasher is fed the text of the version's, which is that of
+/// the one at the top too.
 pub(crate) fn make_inventory<O: Outside>(
     state: &mut State,
     object: Object,
@@ -47,37 +47,24 @@ pub(crate) fn make_inventory<O: Outside>(
         out.old out.new result }
 {
     let path = path_in(state.alloc, folder, Known::Inventory)?;
+    let text = inventory_of(state, &object)?;
+    put_file(out, &path, text.as_bytes())?;
     match folder {
         Folder::Version => {
-            let text = inventory_of(state, &object)?;
-            put_file(out, &path, text.as_bytes())?;
-            state.hasher = Hasher::of_text(state.job.algorithm, text);
+            state.hasher = fed_with(state.job.algorithm, &text);
             Ok(Phase::Carrying(object, Stage::Make(Part::VersionSidecar)))
         }
-        Folder::Top => {
-            put_again(state, &object, &path, out)?;
-            Ok(Phase::Carrying(object, Stage::Make(Part::Sidecar)))
-        }
+        Folder::Top => Ok(Phase::Carrying(object, Stage::Make(Part::Sidecar))),
     }
 }
 
-// Makes the inventory whose text the hasher has been fed: with the text that it keeps, or with that made again.
-fn put_again<O: Outside>(
-    state: &State,
-    object: &Object,
-    path: &NamePath,
-    out: &mut O,
-) -> Result<(), Fault>
-    requires contents { HasContentsOfRows state.now }
-    requires fed { HasFedInventory state.now object.now }
-    requires may { MayMake (O.world out.old).dest path.now }
-    ensures { Wrote O.world (O.within 0)
-        (makes_file path.now (inventory_held state.now object.now)) out.old out.new result }
+// A hasher that has been fed a text.
+fn fed_with(algorithm: Algorithm, text: &str) -> Hasher
+    ensures { HasBeenFed algorithm result text.now }
 {
-    match state.hasher.kept() {
-        Some(text) => put_file(out, path, text.as_bytes()),
-        None => put_file(out, path, inventory_of(state, object)?.as_bytes()),
-    }
+    let mut hasher = Hasher::start(algorithm);
+    hasher.feed_bytes(text.as_bytes());
+    hasher
 }
 
 // The text of the object's inventory.

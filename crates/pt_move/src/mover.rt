@@ -27,8 +27,7 @@ pub enum Turn {
 }
 
 /// A run under way, seen as what it holds. Beside the block that was read last it holds the listings from
-/// `pairtree_root` to where it stands, and the rows and contents of the object that it is at; and while the object's inventories
-/// are made, their text.
+/// `pairtree_root` to where it stands, and the rows and contents of the object that it is at.
 #[derive(Drop)]
 pub struct Mover {
     pub(crate) phase: Phase,

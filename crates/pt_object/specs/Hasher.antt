@@ -1,6 +1,5 @@
 -- What a hasher has been fed.
-use Rattle.std.specs.Prelude.{◌≡◌, ℕ, IfSome, List}
-use Rattle.std.specs.String.{string_bytes}
+use Rattle.std.specs.Prelude.{ℕ, List}
 use Rattle.sha2.specs.Hashers.{Holds256, Holds512}
 use Rattle.pt_object.specs.declared.algorithm.Algorithm.{Algorithm}
 use Rattle.pt_object.specs.declared.algorithm.Algorithm.TheVariants as algorithm
@@ -15,6 +14,6 @@ Holds algorithm.Sha256 (core.Sha256 hasher) m = Holds256 hasher m
 Holds algorithm.Sha512 (core.Sha256 hasher) m = ⊥
 Holds algorithm.Sha256 (core.Sha512 hasher) m = ⊥
 
--- the hasher was started for this algorithm and has been fed the bytes m, which are what it keeps, where it keeps any
+-- the hasher was started for this algorithm and has been fed the bytes m
 unfoldable pub HasBeenFed : Algorithm → Hasher → List ℕ → Type 0
-HasBeenFed algorithm hasher m = Holds algorithm hasher.core m × IfSome hasher.text (λ text. string_bytes text ≡ m)
+HasBeenFed algorithm hasher m = Holds algorithm hasher.core m

@@ -19,7 +19,7 @@ pub struct State {
     pub contents: Contents,
     // What was read last.
     pub block: Block,
-    // What was read of the open file; or an inventory's text, from when it is made until its sidecar at the top is.
+    // What was read of the open file.
     pub hasher: Hasher,
     pub counts: Report,
 }
