@@ -29,3 +29,4 @@ pub mod Groups
 pub mod VersionStates
 pub mod Moved
 pub mod RowFiles
+pub mod Cores
