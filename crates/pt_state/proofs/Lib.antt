@@ -2,5 +2,6 @@ pub mod Asking
 pub mod Together
 pub mod Turns
 pub mod LineTexts
+pub mod Whole
 pub mod Words
 mod StateRules

@@ -1,4 +1,5 @@
 pub mod Counting
+pub mod Fields
 pub mod Lines
 pub mod States
 pub mod Outside
