@@ -22,6 +22,7 @@ pub mod RootFiles
 pub mod Rows
 pub mod Script
 pub mod Scripts
+pub mod Tables
 pub mod Tokens
 pub mod VersionLaws
 pub mod VersionState

@@ -9,6 +9,7 @@ pub mod FixityLaws
 pub mod GrowthLaws
 pub mod RunFaults
 pub mod ItemLaws
+pub mod Identifiers
 pub mod Items
 pub mod Job
 pub mod Lines

@@ -1,4 +1,5 @@
 pub mod Cause
+pub mod Frames
 pub mod Left
 pub mod Limits
 pub mod NonShorties
