@@ -14,6 +14,7 @@ use Rattle.pt_begun.proofs.bounds.WithinBound.{begun_is_within_bound}
 use Rattle.pt_begun.proofs.turns_left.EndsWithin.{turn_tree}
 use Rattle.pt_begun.proofs.turns_left.Within.{turn_is_left, within_work_is_begun}
 use Rattle.pt_begun.specs.WorkLaws.{BegunWithinWork}
+use Rattle.pt_state.proofs.Whole.{holds_nothing_else}
 use Rattle.pt_state.specs.Outside.{FedAfter}
 use Rattle.pt_state.specs.declared.job.Job as own
 use Rattle.pt_move.specs.Turning.{CountedTurn}
@@ -71,7 +72,7 @@ module _ (start : Start) (old new : World) (before : Running) (s' : State) where
   -- there is more to do
   pub keeps_more : (next : Phase) → TurnKeeps start old new before.state s' (Ok next) → Keeps start old new before (record { phase = next; state = s' }) (Ok turn.More)
   unfolding Keeps TurnKeeps
-  keeps_more next kept = record { begun = kept.begun; leaves = kept.leaves; stands = kept.stands; work = kept.work; bound = kept.bound; left = kept.left; ends = tt; states = tt; early = tt; unstaged = tt; says = tt; good = tt }
+  keeps_more next kept = record { begun = kept.begun; leaves = kept.leaves; stands = kept.stands; work = kept.work; bound = kept.bound; holds = holds_nothing_else s'; left = kept.left; ends = tt; states = tt; early = tt; unstaged = tt; says = tt; good = tt }
 
   -- it was the last turn
   pub keeps_finished : (next : Phase) → next ≡ phase.Ended → TurnKeeps start old new before.state s' (Ok next) → Keeps start old new before (record { phase = phase.Ended; state = s' }) (Ok turn.Finished)
@@ -82,6 +83,7 @@ module _ (start : Start) (old new : World) (before : Running) (s' : State) where
     stands = kept.stands;
     work = kept.work;
     bound = kept.bound;
+    holds = holds_nothing_else s';
     left = kept.left;
     ends = (kept.says ended).ends;
     states = (kept.says ended).states;
@@ -100,6 +102,7 @@ module _ (start : Start) (old new : World) (before : Running) (s' : State) where
     stands = kept.stands;
     work = kept.work;
     bound = unless_ended (HoldsWithinBound before.state.job (source_tree old.source) s') why kept.bound;
+    holds = holds_nothing_else s';
     left = kept.left;
     ends = tt;
     states = tt;
@@ -181,6 +184,7 @@ keeps_at_limit start now before after going made ended same is = record {
   stands = stands_there start now before is;
   work = same_counts before.state.job (source_tree now.source) start.dest after.state same (made_there start now before is);
   bound = rw same (bound_there start now before is going);
+  holds = holds_nothing_else after.state;
   left = left_there start now before is;
   ends = tt;
   states = tt;
@@ -199,6 +203,7 @@ keeps_ended start now before after same is = record {
   stands = stands_there start now before is;
   work = rw same (made_there start now before is);
   bound = tt;
+  holds = holds_nothing_else after.state;
   left = left_there start now before is;
   ends = tt;
   states = tt;

@@ -5,6 +5,7 @@ pub mod Held
 pub mod Leaving
 pub mod Lines
 pub mod Migrates
+pub mod Movers
 pub mod Outcome
 pub mod Promises
 pub mod Running

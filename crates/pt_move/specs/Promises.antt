@@ -4,6 +4,7 @@ use Rattle.pt_plan.specs.Answer.{Answer, phase_after}
 use Rattle.pt_plan.specs.World.{World, source_tree}
 use Rattle.pt_plan.specs.declared.phase.Phase.TheVariants as phase
 use Rattle.pt_begun.specs.Begun.{Start}
+use Rattle.pt_state.specs.Fields.{HoldsNothingElse}
 use Rattle.pt_state.specs.declared.state.State.{State}
 use Rattle.pt_move.specs.Outcome.{EndsWhole, FaultLeaves, HoldsWithinBound, IfEarly, IfLog, LeavesAll, LeavesNoStaging, MadeWithinWork, SaysRightly, StandsStillIn, StatesAreFiles, WantsMemory}
 use Rattle.pt_move.specs.Running.{IsBegun, LeavesBehind, Running}
@@ -46,6 +47,8 @@ pub record StepPromises (start : Start) (old new : World) (before after : Runnin
   pub work : MadeWithinWork before.state.job (source_tree old.source) start.dest after.state.counts
   -- no more is held than the source's bound
   pub bound : UnlessEnded answer (HoldsWithinBound before.state.job (source_tree old.source) after.state)
+  -- and beside the phase the fields of a state are held, and nothing else
+  pub holds : HoldsNothingElse after.state
   -- at the end the root holds all objects that are carried, nothing else is changed, and the log has all lines with their numbers
   pub ends : IfFinished answer
       (EndsWhole before.state.job

@@ -42,6 +42,10 @@ impl Model for Mover {
     ghost view = { λ m. record { phase = m.phase; state = m.state } };
 
     ghost invariant = { λ m. IsWell (record { phase = m.phase; state = m.state }) };
+
+    ghost use Rattle.pt_move.specs.Movers.{mover_of};
+
+    ghost inverse = { mover_of };
 }
 
 impl Mover {
