@@ -7,6 +7,7 @@ pub mod Known
 pub mod Listing
 pub mod Log
 pub mod Name
+pub mod NameList
 pub mod NameText
 pub mod Path
 pub mod Pieces

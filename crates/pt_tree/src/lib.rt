@@ -8,6 +8,7 @@ mod known;
 mod listing;
 mod log;
 mod name;
+mod name_list;
 mod name_path;
 mod pieces;
 mod short;

@@ -6,27 +6,42 @@ ghost use Rattle.std.specs.Option.{option_copied};
 ghost use Rattle.std.specs.Option.{option_map};
 ghost use Rattle.pt_tree.specs.Known.{known_text};
 ghost use Rattle.pt_tree.specs.Name.{AreNames, is_name};
+ghost use Rattle.pt_tree.specs.NameList.{held_names};
 ghost use Rattle.pt_tree.specs.Pieces.{IsRefusal, names_in};
 ghost use Rattle.pt_tree.specs.Path.{joined, rest_below, same_path, split_path, split_lent};
 
+use crate::name_list::NameList;
 use crate::pieces::add_pieces;
 use crate::short::{ROOM, add_zeros};
 use crate::{Known, MemoryFault, Name, NameFault};
 use std::alloc::Global;
+use std::fmt;
 use std::marker::Model;
 
 /// The names from the top to an entry, seen as their list. The empty path is the top.
-#[derive(Debug, Drop)]
+///
+/// The copies of a path that `shared` gives share its names.
+#[derive(Drop)]
 pub struct NamePath {
-    names: Vec<Name>,
+    names: NameList,
+}
+
+// However the names are held, their list is shown.
+impl fmt::Debug for NamePath {
+    fn fmt<W: fmt::Write>(&self, f: &mut fmt::Formatter<W>) -> fmt::Result {
+        f.debug_struct("NamePath")
+            .field("names", &self.names())
+            .finish()
+    }
 }
 
 impl Model for NamePath {
+    ghost use Rattle.pt_tree.specs.NameList.{held_names};
     ghost use Rattle.pt_tree.specs.Path.{Path};
 
     ghost Value = { Path };
 
-    ghost view = { λ p. p.names.items };
+    ghost view = { λ p. held_names p.names };
 }
 
 impl NamePath {
@@ -35,8 +50,17 @@ impl NamePath {
         ensures { result ≡ [] }
     {
         NamePath {
-            names: Vec::new(alloc),
+            names: NameList::Own(Vec::new(alloc)),
         }
+    }
+
+    /// The path of these names, for keeping: its copies share them, and take no memory. `Memory` where a growth was refused.
+    pub fn shared(alloc: Global, names: &[Name]) -> Result<NamePath, MemoryFault>
+        ensures { IfOk result (λ path. path ≡ names.now) }
+    {
+        Ok(NamePath {
+            names: NameList::shared(alloc, names)?,
+        })
     }
 
     /// The path of these names. `Memory` where a growth was refused.
@@ -77,31 +101,39 @@ impl NamePath {
     }
 
     /// The path with these names behind it. `Memory` where a growth was refused.
-    pub fn followed_by(mut self, names: &[Name]) -> Result<NamePath, MemoryFault>
+    pub fn followed_by(self, names: &[Name]) -> Result<NamePath, MemoryFault>
         ensures { IfOk result (λ longer. longer ≡ self ++ names.now) }
     {
-        self.names.extend_from_slice(names)?;
-        Ok(self)
+        let mut list = match self.names {
+            NameList::Own(list) => list,
+            held => held.to_list(names.len())?,
+        };
+        list.extend_from_slice(names)?;
+        Ok(NamePath {
+            names: NameList::Own(list),
+        })
     }
 
     /// A path of its own with these names behind this one's, as `followed_by` of a copy. `Memory` where a growth was refused.
     pub fn extended(&self, names: &[Name]) -> Result<NamePath, MemoryFault>
         ensures { IfOk result (λ longer. longer ≡ self.now ++ names.now) }
     {
-        let mut path = NamePath::new(*self.names.allocator());
-        path.reserve(self.names.len().saturating_add(names.len()))?;
-        path.followed_by(&self.names)?.followed_by(names)
+        let mut list: Vec<Name> = self.names.to_list(names.len())?;
+        list.extend_from_slice(names)?;
+        Ok(NamePath {
+            names: NameList::Own(list),
+        })
     }
 
     /// The path of the entry of this name in the directory at this one. `Memory` where a growth was refused.
     pub fn child(&self, name: &Name) -> Result<NamePath, MemoryFault>
         ensures { IfOk result (λ longer. longer ≡ self.now ++ name.now ∷ []) }
     {
-        let mut path = NamePath::new(*self.names.allocator());
-        path.reserve(self.names.len().saturating_add(1))?;
-        let mut path = path.followed_by(&self.names)?;
-        path.push(name.copy()?)?;
-        Ok(path)
+        let mut list = self.names.to_list(1)?;
+        list.push(name.copy()?)?;
+        Ok(NamePath {
+            names: NameList::Own(list),
+        })
     }
 
     /// Adds a name at the end. After `Memory` the path is as before.
@@ -109,7 +141,12 @@ impl NamePath {
         ensures ok { OnOk result (self.new ≡ self.old ++ name ∷ []) }
         ensures err { OnErr result (self.new ≡ self.old) }
     {
-        self.names.push(name)?;
+        if let NameList::Own(list) = &mut self.names {
+            return Ok(list.push(name)?);
+        }
+        let mut list = self.names.to_list(1)?;
+        list.push(name)?;
+        self.names = NameList::Own(list);
         Ok(())
     }
 
@@ -118,7 +155,12 @@ impl NamePath {
         ensures ok { OnOk result (self.new ≡ name ∷ self.old) }
         ensures err { OnErr result (self.new ≡ self.old) }
     {
-        self.names.insert(0, name)?;
+        if let NameList::Own(list) = &mut self.names {
+            return Ok(list.insert(0, name)?);
+        }
+        let mut list = self.names.to_list(1)?;
+        list.insert(0, name)?;
+        self.names = NameList::Own(list);
         Ok(())
     }
 
@@ -126,7 +168,10 @@ impl NamePath {
     pub fn reserve(&mut self, names: usize) -> Result<(), MemoryFault>
         ensures { self.new ≡ self.old }
     {
-        self.names.reserve(names)?;
+        if let NameList::Own(list) = &mut self.names {
+            return Ok(list.reserve(names)?);
+        }
+        self.names = NameList::Own(self.names.to_list(names)?);
         Ok(())
     }
 
@@ -134,35 +179,35 @@ impl NamePath {
     pub fn len(&self) -> usize
         ensures { result ≡ length self.now }
     {
-        self.names.len()
+        self.names().len()
     }
 
     /// Whether it is the top.
     pub fn is_empty(&self) -> bool
         ensures { result ≡ (length self.now == 0) }
     {
-        self.names.is_empty()
+        self.names().is_empty()
     }
 
     /// The i-th name, from 0 on; None from the length on.
     pub fn get(&self, i: usize) -> Option<&Name>
         ensures { option_copied result ≡ slice_get self.now i }
     {
-        self.names.get(i)
+        self.names().get(i)
     }
 
     /// The names.
     pub fn names(&self) -> &[Name]
         ensures { result.now ≡ self.now }
     {
-        &self.names
+        self.names.as_slice()
     }
 
     /// The parent's names and the last name; None for the top.
     pub fn split(&self) -> Option<(&[Name], &Name)>
         ensures { option_map split_lent result ≡ split_path self.now }
     {
-        let (last, dir) = self.names.split_last()?;
+        let (last, dir) = self.names().split_last()?;
         Some((dir, last))
     }
 
@@ -179,7 +224,7 @@ impl NamePath {
         ensures utf8 { IfOk result (λ text. IsTrue (is_utf8 text.items)) }
         ensures named { OnOk result (AreNames self.now) }
     {
-        let mut text = Vec::with_capacity(*self.names.allocator(), self.text_room())?;
+        let mut text = Vec::with_capacity(self.names.allocator(), self.text_room())?;
         self.join_behind(&mut text)?;
         Ok(text)
     }
@@ -191,7 +236,7 @@ impl NamePath {
         ensures utf8 { OnOk result (IsTrue (is_utf8 (joined self.now))) }
         ensures named { OnOk result (AreNames self.now) }
     {
-        let [first, others @ ..] = self.names.as_slice() else {
+        let [first, others @ ..] = self.names() else {
             return Ok(());
         };
         first.add_to(text)?;
@@ -207,7 +252,7 @@ impl NamePath {
     // the top.
     fn text_room(&self) -> usize {
         let mut room: usize = if self.is_empty() { 0 } else { ROOM };
-        for name in &self.names {
+        for name in self.names() {
             room = room.saturating_add(name.bytes().len()).saturating_add(1);
         }
         room
@@ -217,9 +262,9 @@ impl NamePath {
     pub fn copy(&self) -> Result<NamePath, MemoryFault>
         ensures { IfOk result (λ path. path ≡ self.now) }
     {
-        let mut names: Vec<Name> = Vec::with_capacity(*self.names.allocator(), self.names.len())?;
-        names.extend_from_slice(&self.names)?;
-        Ok(NamePath { names })
+        Ok(NamePath {
+            names: self.names.copy()?,
+        })
     }
 }
 
@@ -229,7 +274,7 @@ impl PartialEq for NamePath {
     ghost laws = { partial_equiv_from_equiv (lists_equiv nat_list_eq_equiv) };
 
     fn eq(&self, other: &NamePath) -> bool {
-        same_names(&self.names, &other.names)
+        same_names(self.names(), other.names())
     }
 }
 

@@ -18,7 +18,7 @@ loop-i-init c =
     let names = c.args.self.now in
     let name = c.first-item.result in
     let some : 0 < length names = search rules in
-    let same : c.as_slice.result.now ≡ names = search rules in
+    let same : c.names.result.now ≡ names = search rules in
     let is : name ≡ get_or names 0 name = c.first-item.is ∙ ap (λ l. get_or l 0 name) same in
     let whole : take c.len-end.result c.add_to.new.text.items ≡ c.add_to.new.text.items = take_all c.len-end.result c.add_to.new.text.items (search rules) in
     let one : take 1 names ≡ name ∷ [] = take_more names 0 name some ∙ ap (λ n. n ∷ []) (sym is) in (
@@ -36,9 +36,9 @@ loop-i-preserved c =
     let so_far = joined (take (i + 1) names) in
     let name = c.index-others-i.result in
     let within : i + 1 < length names = search rules in
-    let same : c.as_slice.result.now ≡ names = search rules in
+    let same : c.names.result.now ≡ names = search rules in
     let is : name ≡ get_or names (i + 1) name =
-    c.index-others-i.is ∙ ap (λ l. get_or l i name) (take_rest c.as_slice.result.now 1 ∙ ap (drop 1) same) ∙ get_or-drop 1 names i name ∙ ap (λ k. get_or names k name) (omega arith) in
+    c.index-others-i.is ∙ ap (λ l. get_or l i name) (take_rest c.names.result.now 1 ∙ ap (drop 1) same) ∙ get_or-drop 1 names i name ∙ ap (λ k. get_or names k name) (omega arith) in
     let more : (so_far ++ 47 ∷ []) ++ name ≡ joined (take (i + 1 + 1) names)
     = joined_more names (i + 1) name so_far (so_far ++ 47 ∷ []) within is refl (inl (omega arith, refl)) in (
       c.in_ok-end.ensures.bytes ∙ ap (λ l. l ++ 47 ∷ name) c.loop-i.invariant.0 ∙ append_assoc front so_far (47 ∷ name)

@@ -5,6 +5,6 @@ use Rattle.pt_tree.proofs.name_path.NamePath.split.Goals as goal
 
 pub returns : goal.returns
 returns c =
-    let cases : c.deref.result.now ≡ c.in_ok-last.dir.now ++ c.in_ok-last.last.now ∷ [] = c.in_ok-last.ensures.cases.0 in
+    let cases : c.names.result.now ≡ c.in_ok-last.dir.now ++ c.in_ok-last.last.now ∷ [] = c.in_ok-last.ensures.cases.0 in
     let whole : c.args.self.now ≡ c.in_ok-last.dir.now ++ c.in_ok-last.last.now ∷ [] = cc in
     sym (ap split_path whole ∙ split_path-push c.in_ok-last.dir.now c.in_ok-last.last.now)
