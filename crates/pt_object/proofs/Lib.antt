@@ -20,6 +20,7 @@ pub mod RootScripts
 mod DigestKeys
 mod InOrder
 mod HexOrder
+mod HexLanes
 mod Sorted
 mod Entries
 mod Documents

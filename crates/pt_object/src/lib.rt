@@ -4,6 +4,7 @@
 mod algorithm;
 mod contents;
 mod digest;
+mod digits;
 mod files;
 mod hasher;
 mod index;

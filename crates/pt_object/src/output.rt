@@ -8,6 +8,7 @@ ghost use Rattle.pt_tree.specs.Path.{joined};
 ghost use Rattle.pt_object.specs.Inventory.{content_path};
 
 use crate::Digest;
+use crate::digits::{Digits, MOST};
 use json::Writer;
 use pt_tree::{MemoryFault, NamePath};
 use std::alloc::{AllocError, Global};
@@ -15,15 +16,13 @@ use std::marker::Model;
 
 const ROOM: usize = 1024;
 
-// How many digits a digest has in hex, at most.
-const DIGITS: usize = 128;
-
 // A text of JSON, seen as its tokens.
 #[derive(Drop)]
 pub(crate) struct Output {
     writer: Writer,
     // Where each path is put together before it is written.
     path: Vec<u8>,
+    digits: Digits,
 }
 
 impl Model for Output {
@@ -48,6 +47,7 @@ impl Output {
         Ok(Output {
             writer: Writer::new(text),
             path: Vec::new(alloc),
+            digits: Digits::of_hex(),
         })
     }
 
@@ -95,10 +95,8 @@ impl Output {
         ensures key { OnOk result (self.new ≡ self.old ++ key (encode_lower digest.now) ∷ []) }
         ensures bytes { IsBytes digest.now }
     {
-        let bytes = digest.bytes();
-        let mut room = [0; DIGITS];
-        let digits = &mut room[..2 * bytes.len()];
-        hex::encode_to_slice(bytes, digits).unwrap();
+        let mut room = [0; MOST];
+        let digits = self.digits.write(digest.bytes(), &mut room);
         let text = unsafe { str::from_utf8_unchecked(digits) };
         Ok(self.writer.key(text)?)
     }

@@ -1,4 +1,4 @@
-use Rattle.std.proofs.Common.{rules, ◌≡◌, List, ℕ, subst, sym}
+use Rattle.std.proofs.Common.{List, ℕ, subst, sym, ap, ◌∙◌}
 use Rattle.std.specs.Str.{IsUtf8}
 use Rattle.hex.specs.Hex.{encode_lower}
 use Rattle.pt_object.proofs.InventoryIsText.{digest_is_text}
@@ -6,5 +6,4 @@ use Rattle.pt_object.proofs.output.Output.digest.Goals as goal
 
 pub from_utf8_unchecked-text-requires : goal.from_utf8_unchecked-text-requires
 from_utf8_unchecked-text-requires c =
-    let whole : c.encode_to_slice.new.output ≡ encode_lower c.args.digest.now = search rules in
-    subst (λ (bytes : List ℕ). IsUtf8 bytes) (sym whole) (digest_is_text c.args.digest.now)
+    subst (λ (bytes : List ℕ). IsUtf8 bytes) (sym (c.write-digits.ensures.digits ∙ ap encode_lower c.bytes.ensures.bytes)) (digest_is_text c.args.digest.now)
