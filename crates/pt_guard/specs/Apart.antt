@@ -1,15 +1,24 @@
 -- Folders that lie in one another.
 use Rattle.std.specs.Prelude.{◌≡◌, ◌↔◌, ℕ, zero, suc, Bool, IsTrue, List, ◌++◌, codes, length, Result, MatchResult, MatchBool, IsSome, unwrap_or}
 use Rattle.std.specs.Path.{PathStartsWith, path_buf_bytes, path_parent}
+use Rattle.std.specs.IoError.{error_kind}
 use Rattle.std.specs.declared.io.Error.{Error}
+use Rattle.std.specs.declared.io.ErrorKind.{ErrorKind}
+use Rattle.std.specs.declared.io.ErrorKind.TheVariants.{OutOfMemory}
 use Rattle.pt_guard.specs.Paths.{Place}
 use Rattle.pt_guard.specs.declared.apart.Lie.{Lie}
-use Rattle.pt_guard.specs.declared.apart.Lie.TheVariants.{Apart, Inside, Unknown}
+use Rattle.pt_guard.specs.Wanting.{IsWanting}
+use Rattle.pt_guard.specs.declared.apart.Lie.TheVariants.{Apart, Inside, Unknown, Wanting}
 use Rattle.pt_guard.specs.declared.places.Folder.{Folder}
 
 -- nothing more is asked, and this is the answer
 abbrev pub Ends : {S : Type 0} → Lie → S → S → Lie → Type 0
 Ends answer mid new lie = (lie ≡ answer) × (new ≡ mid)
+
+-- what an error of this kind says: that memory was wanting, or else this
+abbrev pub lie_of : Lie → ErrorKind → Lie
+lie_of otherwise OutOfMemory = Wanting
+lie_of otherwise _ = otherwise
 
 -- what a path leads to and each folder above it is asked for, at most so many, until one is this folder; where one can't be told it is unknown
 abbrev pub Climbs : {S : Type 0} → (S → List ℕ → Result Folder Error → S → Type 0) → Folder → ℕ
@@ -22,7 +31,7 @@ Climbs {S} identifies target (suc left) path old new lie = (a : Result Folder Er
     ((more : Bool) × (IsTrue more ↔ IsSome (path_parent path))
     × MatchBool more (Climbs identifies target left (unwrap_or (path_parent path) path) mid new lie)
     (Ends Apart mid new lie)))
-    (λ _. Ends Unknown mid new lie)
+    (λ error. Ends (lie_of Unknown (error_kind error)) mid new lie)
 
 -- the folder at a path is asked for, and it and those above the resolved path are compared
 abbrev pub IsHeld : {S : Type 0} → (S → List ℕ → Result Folder Error → S → Type 0) → List ℕ → List ℕ
@@ -30,13 +39,19 @@ abbrev pub IsHeld : {S : Type 0} → (S → List ℕ → Result Folder Error →
 IsHeld {S} identifies outer place old new lie = (a : Result Folder Error) × (mid : S)
     × identifies old outer a mid
     × MatchResult a (λ target. Climbs identifies target (length place) place mid new lie)
-    (λ _. Ends Unknown mid new lie)
+    (λ error. Ends (lie_of Unknown (error_kind error)) mid new lie)
 
--- of a path that can't be resolved: it is unknown where something stands at it, and apart where nothing does
+-- of a path that leads nowhere: it is unknown where something stands at it, and apart where nothing does
 abbrev pub Stands : {S : Type 0} → (S → List ℕ → Result Folder Error → S → Type 0) → List ℕ → S → S
     → Lie → Type 0
 Stands identifies path old new lie = (a : Result Folder Error) × identifies old path a new
-    × MatchResult a (λ _. lie ≡ Unknown) (λ _. lie ≡ Apart)
+    × MatchResult a (λ _. lie ≡ Unknown) (λ error. lie ≡ lie_of Apart (error_kind error))
+
+-- the same of a path that can't be resolved for this error; want of memory is told at once
+abbrev pub IsUnresolved : {S : Type 0} → (S → List ℕ → Result Folder Error → S → Type 0) → List ℕ
+    → Error → S → S → Lie → Type 0
+IsUnresolved identifies path error old new lie = (wanting : Bool) × (IsTrue wanting ↔ IsWanting error)
+    × MatchBool wanting (Ends Wanting old new lie) (Stands identifies path old new lie)
 
 -- both paths were resolved, and the first is the second or goes on from it, name by name, or its folder or one above it is the second's
 abbrev pub LiesIn : {S : Type 0} → (S → List ℕ → Result Place Error → S → Type 0)
@@ -47,14 +62,15 @@ LiesIn {S} resolves identifies inner outer old new lie = (a : Result Place Error
     × MatchResult b (λ q. (within : Bool)
     × (IsTrue within ↔ PathStartsWith (path_buf_bytes p) (path_buf_bytes q))
     × MatchBool within (Ends Inside next new lie) (IsHeld identifies outer (path_buf_bytes p) next new lie))
-    (λ _. Stands identifies outer next new lie))
-    (λ _. Stands identifies inner mid new lie)
+    (λ error. IsUnresolved identifies outer error next new lie))
+    (λ error. IsUnresolved identifies inner error mid new lie)
 
 -- an answer that isn't `Apart` stays, and else the next is asked
 abbrev pub GoesOn : {S : Type 0} → (S → S → Lie → Type 0) → Lie → S → S → Lie → Type 0
 GoesOn second Apart mid new lie = second mid new lie
 GoesOn second Inside mid new lie = Ends Inside mid new lie
 GoesOn second Unknown mid new lie = Ends Unknown mid new lie
+GoesOn second Wanting mid new lie = Ends Wanting mid new lie
 
 -- one is asked, and the next where that is apart
 abbrev pub OrElse : {S : Type 0} → (S → S → Lie → Type 0) → (S → S → Lie → Type 0) → S → S → Lie → Type 0

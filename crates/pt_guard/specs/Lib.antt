@@ -2,3 +2,4 @@ pub mod Apart
 pub mod Guard
 pub mod Hold
 pub mod Paths
+pub mod Wanting

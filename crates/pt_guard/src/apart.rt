@@ -1,10 +1,12 @@
 //! Whether one folder lies in another: by where their paths lead, links resolved, and by what the folders are, whatever leads to them.
-ghost use Rattle.std.specs.Prelude.{◌≡◌, ◌++◌, IfOk, string_bytes};
+ghost use Rattle.std.specs.Prelude.{◌≡◌, ◌++◌, IfErr, IfOk, string_bytes};
+ghost use Rattle.std.specs.IoError.{error_kind};
 ghost use Rattle.std.specs.Path.{path_buf_bytes};
-ghost use Rattle.pt_guard.specs.Apart.{Climbs, Finds, InEither, IsHeld, LiesIn, Overlaps, Stands};
+ghost use Rattle.pt_guard.specs.Apart.{Climbs, Finds, InEither, IsHeld, IsUnresolved, LiesIn, Overlaps, lie_of};
 
-use crate::places::{Folder, Places};
+use crate::places::{Folder, Places, is_wanting};
 use std::alloc::{AllocError, Global};
+use std::io;
 use std::path::PathBuf;
 
 const TREE: &str = "/pairtree_root";
@@ -22,6 +24,19 @@ pub(crate) enum Lie {
     Inside,
     /// One of them stands, and where can't be found out.
     Unknown,
+    /// The system had no memory to tell it.
+    Wanting,
+}
+
+// What an error of the system says: that memory was wanting, or else this.
+fn said_by(error: &io::Error, otherwise: Lie) -> Lie
+    ensures { result ≡ lie_of otherwise (error_kind error.now) }
+{
+    if error.kind() == io::ErrorKind::OutOfMemory {
+        Lie::Wanting
+    } else {
+        otherwise
+    }
 }
 
 // Whether a path leads to a folder, or to something that lies in it; asked of the path and of each folder above, at most `left` of them.
@@ -43,7 +58,7 @@ fn climb<S: Places>(system: &mut S, path: PathBuf, target: Folder, left: usize) 
                 Lie::Apart
             }
         }
-        Err(_) => Lie::Unknown,
+        Err(error) => said_by(&error, Lie::Unknown),
     }
 }
 
@@ -56,17 +71,20 @@ fn held_against<S: Places>(system: &mut S, inner: PathBuf, outer: &str) -> Lie
             let left = inner.as_str().len();
             climb(system, inner, target, left)
         }
-        Err(_) => Lie::Unknown,
+        Err(error) => said_by(&error, Lie::Unknown),
     }
 }
 
-// What is said of a path that can't be resolved: nothing lies there, or it isn't known where it is.
-fn unresolved<S: Places>(system: &mut S, path: &str) -> Lie
-    ensures { Stands S.identifies path.now system.old system.new result }
+// What is said of a path that can't be resolved, for this error: memory was wanting, nothing lies there, or it isn't known where it is.
+fn unresolved<S: Places>(system: &mut S, path: &str, error: io::Error) -> Lie
+    ensures { IsUnresolved S.identifies path.now error system.old system.new result }
 {
+    if is_wanting(&error) {
+        return Lie::Wanting;
+    }
     match system.identify(path) {
         Ok(_) => Lie::Unknown,
-        Err(_) => Lie::Apart,
+        Err(error) => said_by(&error, Lie::Apart),
     }
 }
 
@@ -83,21 +101,22 @@ fn lies_in<S: Places>(system: &mut S, alloc: Global, inner: &str, outer: &str) -
                     held_against(system, place, outer)
                 }
             }
-            Err(_) => unresolved(system, outer),
+            Err(error) => unresolved(system, outer, error),
         },
-        Err(_) => unresolved(system, inner),
+        Err(error) => unresolved(system, inner, error),
     }
 }
 
 /// How a destination lies to a store and to its `pairtree_root`, and these two to what the destination is to hold; the first answer that
-/// isn't `Apart`.
+/// isn't `Apart`. An error where memory for the paths was refused; then nothing was asked.
 pub(crate) fn overlap<S: Places>(
     system: &mut S,
     alloc: Global,
     source: &str,
     dest: &str,
 ) -> Result<Lie, AllocError>
-    ensures { IfOk result (λ lie.
+    ensures err { IfErr result (λ _. system.new ≡ system.old) }
+    ensures ok { IfOk result (λ lie.
         Overlaps S.resolves S.identifies source.now dest.now system.old system.new lie) }
 {
     let tree = below(alloc, source, TREE)?;
@@ -132,9 +151,11 @@ fn first_found<S: Places>(
             Lie::Apart => in_either(system, alloc, tree, root, staging),
             Lie::Inside => Lie::Inside,
             Lie::Unknown => Lie::Unknown,
+            Lie::Wanting => Lie::Wanting,
         },
         Lie::Inside => Lie::Inside,
         Lie::Unknown => Lie::Unknown,
+        Lie::Wanting => Lie::Wanting,
     }
 }
 
@@ -147,6 +168,7 @@ fn in_either<S: Places>(system: &mut S, alloc: Global, inner: &str, one: &str, o
         Lie::Apart => lies_in(system, alloc, inner, other),
         Lie::Inside => Lie::Inside,
         Lie::Unknown => Lie::Unknown,
+        Lie::Wanting => Lie::Wanting,
     }
 }
 

@@ -3,7 +3,7 @@ ghost use Rattle.std.specs.Prelude.{◌≡◌};
 ghost use Rattle.pt_guard.specs.Guard.{Begins};
 
 use crate::apart::{Lie, overlap};
-use crate::places::{Hold, Places};
+use crate::places::{Hold, Places, is_wanting};
 use std::alloc::{AllocError, Global};
 use std::io;
 use thiserror::Error;
@@ -20,7 +20,7 @@ pub enum GuardFault {
     /// Another run holds the destination.
     #[error("another run has the destination")]
     Taken,
-    /// A growth was refused.
+    /// A growth was refused, of ours or of the system's.
     #[error("out of memory")]
     Memory,
 }
@@ -41,7 +41,8 @@ impl From<AllocError> for GuardFault {
 ///
 /// `Overlap` where the folders, links resolved, lie in one another, or are so by what the system knows them by, whatever leads to them
 /// (as a second mount); `Hidden` where one stands and that can't be found out. This is asked first. `Taken` where another holds the
-/// lock; `Memory` where a growth was refused.
+/// lock. `Memory` where a growth was refused: of a path, before anything is asked, or by the system, as its answer to what it was
+/// asked last, which is then neither `Hidden` nor a reason to go on without the lock.
 pub fn begin<S: Places>(
     system: &mut S,
     alloc: Global,
@@ -54,9 +55,11 @@ pub fn begin<S: Places>(
     match overlap(system, alloc, source, dest)? {
         Lie::Inside => Err(GuardFault::Overlap),
         Lie::Unknown => Err(GuardFault::Hidden),
+        Lie::Wanting => Err(GuardFault::Memory),
         Lie::Apart => match system.hold(dest) {
             Hold::Held(lock) => Ok(Ok(lock)),
             Hold::Taken => Err(GuardFault::Taken),
+            Hold::Unknown(error) if is_wanting(&error) => Err(GuardFault::Memory),
             Hold::Unknown(error) => Ok(Err(error)),
         },
     }

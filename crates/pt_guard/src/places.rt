@@ -1,12 +1,13 @@
 //! The calls of the system that look where folders are and lock them. Each has a ghost word of what it may answer, so that a
 //! contract over them says which calls are made and what becomes of their answers.
-ghost use Rattle.std.specs.Prelude.{◌≡◌, ⊤, ℕ, Bool, List, MatchResult};
+ghost use Rattle.std.specs.Prelude.{◌≡◌, ◌↔◌, ⊤, ℕ, Bool, IsTrue, List, MatchResult};
 ghost use Rattle.std.specs.declared.io.Error.{Error};
 ghost use Rattle.pt_guard.specs.Paths.{Place};
 ghost use Rattle.std.specs.declared.result.Result.{Result};
 ghost use Rattle.pt_guard.specs.declared.places.Folder.{Folder};
 ghost use Rattle.pt_guard.specs.declared.places.Hold.{Hold};
 ghost use Rattle.pt_guard.specs.Hold.{hold_of};
+ghost use Rattle.pt_guard.specs.Wanting.{IsWanting};
 
 use std::alloc::Global;
 use std::fs::{File, OpenOptions, TryLockError};
@@ -126,6 +127,13 @@ where
     fn release(&mut self, lock: R::File) {
         drop(lock);
     }
+}
+
+/// Whether an error says that memory was wanting.
+pub(crate) fn is_wanting(error: &io::Error) -> bool
+    ensures { IsTrue result ↔ IsWanting error.now }
+{
+    error.kind() == io::ErrorKind::OutOfMemory
 }
 
 // Asks for the lock of a folder, if it could be opened.

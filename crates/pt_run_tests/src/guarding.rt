@@ -8,11 +8,15 @@ use std::io;
 use std::io::ErrorKind;
 use std::path::PathBuf;
 
-// Where paths lead.
+// Where paths lead; a path that leads to `WANTED` is answered want of memory.
 type Leads = &'static [(&'static str, &'static str)];
 
-// The numbers of folders at paths.
+const WANTED: &str = "";
+
+// The numbers of folders at paths; what is known by `NO_ROOM` is answered want of memory.
 type Numbers = &'static [(&'static str, u64)];
+
+const NO_ROOM: u64 = 0;
 
 // What comes of asking for the lock.
 #[derive(Clone, Copy)]
@@ -20,6 +24,7 @@ enum Lock {
     Held,
     Taken,
     Unknown,
+    Wanting,
 }
 
 #[derive(Drop)]
@@ -43,6 +48,9 @@ impl<'a> Places for &'a Paths {
 
     fn resolve(&mut self, alloc: Global, path: &str) -> io::Result<PathBuf> {
         for (from, to) in self.leads {
+            if *from == path && to.is_empty() {
+                return Err(io::Error::from(ErrorKind::OutOfMemory));
+            }
             if *from == path {
                 return Ok(PathBuf::from(String::from_str(alloc, to)?));
             }
@@ -53,6 +61,9 @@ impl<'a> Places for &'a Paths {
     // A folder is known by its number, or else by the length of its path.
     fn identify(&mut self, path: &str) -> io::Result<Folder> {
         for (at, inode) in self.numbers {
+            if *at == path && *inode == NO_ROOM {
+                return Err(io::Error::from(ErrorKind::OutOfMemory));
+            }
             if *at == path {
                 return Ok(Folder {
                     device: 1,
@@ -75,6 +86,7 @@ impl<'a> Places for &'a Paths {
             Lock::Held => Hold::Held(7),
             Lock::Taken => Hold::Taken,
             Lock::Unknown => Hold::Unknown(io::Error::from(ErrorKind::PermissionDenied)),
+            Lock::Wanting => Hold::Unknown(io::Error::from(ErrorKind::OutOfMemory)),
         }
     }
 
@@ -106,12 +118,16 @@ fn is_refused_unasked(alloc: Global, leads: Leads) -> bool {
     matches!(begun(alloc, &paths), Err(GuardFault::Overlap)) && !paths.asked.get()
 }
 
-// Whether it begins where it has the lock, or can't ask for it, and is refused where another has it.
+// Whether it begins where it has the lock, or can't ask for it, and is refused where another has it or memory is wanting for it.
 fn goes_by_its_lock(alloc: Global, leads: Leads, numbers: Numbers) -> bool {
     let held = begun(alloc, &where_to(leads, numbers, Lock::Held));
     let taken = begun(alloc, &where_to(leads, numbers, Lock::Taken));
     let unknown = begun(alloc, &where_to(leads, numbers, Lock::Unknown));
-    matches!(held, Ok(Ok(7))) && matches!(taken, Err(GuardFault::Taken)) && is_denied(unknown)
+    let wanting = begun(alloc, &where_to(leads, numbers, Lock::Wanting));
+    let refused = (taken.err(), wanting.err());
+    matches!(held, Ok(Ok(7)))
+        && refused == (Some(GuardFault::Taken), Some(GuardFault::Memory))
+        && is_denied(unknown)
 }
 
 // Whether it begins without its lock, which it wasn't let ask for.
@@ -222,5 +238,26 @@ fn what_stands_and_has_no_place_is_refused(rt: HostRuntime) {
     for (leads, numbers) in UNPLACED {
         let fault = refusal(rt.alloc(), leads, numbers);
         assert!(rt; fault == Some(GuardFault::Hidden), "{leads:?}");
+    }
+}
+
+// Places that are asked for where memory is wanting: of a path's place, of a folder's number, and of the number of what has no place.
+const UNTOLD: &[(Leads, Numbers)] = &[
+    (&[("d", WANTED)], &[("s", 1), ("d", 2)]),
+    (&[("s", WANTED), ("d", "/y")], &[("s", 1), ("d", 2)]),
+    (
+        &[("s", "/x"), ("d", "/y"), ("d/ocfl", WANTED)],
+        &[("s", 1), ("d", 2)],
+    ),
+    (&[("s", "/x"), ("d", "/y")], &[("s", NO_ROOM), ("d", 2)]),
+    (&[("s", "/x"), ("d", "/y")], &[("s", 1), ("/y", NO_ROOM)]),
+    (&[("s", "/x")], &[("s", 1), ("d", NO_ROOM)]),
+];
+
+#[test]
+fn want_of_memory_is_no_unknown_place(rt: HostRuntime) {
+    for (leads, numbers) in UNTOLD {
+        let fault = refusal(rt.alloc(), leads, numbers);
+        assert!(rt; fault == Some(GuardFault::Memory), "{leads:?}");
     }
 }

@@ -2,8 +2,8 @@ use Rattle.std.proofs.Common.{List, ℕ, ◌++◌, ◌∙◌, codes, subst}
 use Rattle.pt_guard.specs.Apart.{Finds}
 use Rattle.pt_guard.proofs.apart.overlap.Goals as goal
 
-pub returns : goal.returns
-returns g c =
+pub returns-clause-ok : goal.returns-clause-ok
+returns-clause-ok g c =
     let source = c.args.source.now in
     let dest = c.args.dest.now in
     let finds = λ (tree : List ℕ) (root : List ℕ) (staging : List ℕ). Finds g.S.Places.resolves g.S.Places.identifies source tree dest root staging
