@@ -17,6 +17,7 @@ HERE = os.path.dirname(os.path.abspath(__file__))
 sys.path += [f"{HERE}/cases", f"{HERE}/harness"]
 sys.dont_write_bytecode = True
 
+import allocations
 import migration
 import program
 import progress
@@ -25,6 +26,9 @@ import system
 # What the gate says of itself, but for what went well.
 WENT_WELL = re.compile(r"^rt: (must-fail .*: refused, as it must be|.* proved$|.* passed$|.*: trying its |.* ran[ ,(])")
 SAID = re.compile(r"^rt: |: error: |^Traceback|^\w*Error: ")
+
+# Of a case's requests for memory the first is refused, and each so many after it; all are by `make allocations`.
+SAMPLE = 7
 
 # The memory that a proof takes at most, in bytes.
 PROOF = 4 << 30
@@ -97,7 +101,7 @@ def run_tests(path):
     if not os.path.exists(path):
         return 0, 1, [f"{path} was not built, so its tests did not run"]
     with contextlib.redirect_stdout(Heard(sys.stdout)) as heard:
-        counts = [program.run_cases(path), migration.run_cases(path), system.run_cases()]
+        counts = [program.run_cases(path), migration.run_cases(path), allocations.run_cases(path, SAMPLE), system.run_cases()]
     return *map(sum, zip(*counts)), list(heard.said)
 
 

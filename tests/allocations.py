@@ -1,152 +1,290 @@
 """Each request for memory of the built program refused in turn: its answer, what is left, and the run after it.
 
-Usage: allocations.py PROGRAM. A small library of C, which stands before the system's malloc and realloc, refuses the
-request of a number; where there is no C compiler the cases are skipped. The last line is 'N passed, M failed'.
+Usage: allocations.py PROGRAM [EVERY]. tests/harness/refuse.c, a library of C that stands before the system's allocator,
+refuses the request of a number and tells it. With EVERY only the first request and each so many after it are refused. Of
+each case it is said how many that were, of how many, and how many were passed over: these were for a notice on standard
+error, which is then left out, or the one that the toolchain makes ahead for the words, and does without. Where there is no
+C compiler the cases are skipped. The last line is 'N passed, M failed'.
 """
 
+import collections
+import json
+import multiprocessing
 import os
 import shutil
 import subprocess
 import sys
 import tempfile
 
+HERE = os.path.dirname(os.path.abspath(__file__))
+sys.path += [f"{HERE}/harness"]
 sys.dont_write_bytecode = True
 
-SHIM = r"""
-#define _GNU_SOURCE
-#include <dlfcn.h>
-#include <errno.h>
-#include <stdlib.h>
+import stores
+from running import MEANT
 
-static unsigned long made;
+OUT_OF_MEMORY = b"pairtree2ocfl: fault 4: out of memory\n"
 
-static int refused(void)
-{
-    static unsigned long wanted;
-    static int known;
-    if (!known) {
-        const char *text = getenv("REFUSE");
-        known = 1;
-        wanted = text ? strtoul(text, NULL, 10) : 0;
-    }
-    made += 1;
-    if (made != wanted)
-        return 0;
-    errno = ENOMEM;
-    return 1;
+# A name that is too long by a byte to be held in the value of a name, a longer one, and the longest that there is.
+LONGER, LONG, LONGEST = "b" * 22, "c" * 36, "d" * 255
+
+# An identifier, and the folders of its object in a store.
+IDENTIFIER = "an-identifier-of-thirty-six-bytes-01"
+FOLDERS = "/".join(IDENTIFIER[at : at + 2] for at in range(0, len(IDENTIFIER), 2)) + f"/{LONGER}"
+
+# One object is in the first of two shares, and the other in the second.
+SMALL = {"ab/d/obj/a.txt": b"abc"}
+ENTRIES = {
+    **SMALL,
+    "gh/i/loose.txt": b"loose",
+    f"{FOLDERS}/{LONGER}/{LONG}/{LONGEST}/{LONGER}/{LONG}/{LONGEST}": b"deep",
+    f"{FOLDERS}/{LONGER}/{LONG}/{LONGEST}/{LONGER}/{LONG}/e": b"equal",
+    f"{FOLDERS}/{LONG}": b"equal",
+    f"{FOLDERS}/empty": b"",
 }
+STORES = {"s": stores.store(ENTRIES, prefix=b"uc1."), "small": stores.store(SMALL, prefix=b"uc1.")}
 
-void *malloc(size_t size)
-{
-    static void *(*next)(size_t);
-    if (!next)
-        next = (void *(*)(size_t))dlsym(RTLD_NEXT, "malloc");
-    return refused() ? NULL : next(size);
-}
-
-void *realloc(void *old, size_t size)
-{
-    static void *(*next)(void *, size_t);
-    if (!next)
-        next = (void *(*)(void *, size_t))dlsym(RTLD_NEXT, "realloc");
-    return refused() ? NULL : next(old, size);
-}
-"""
-
-OUT_OF_MEMORY = "pairtree2ocfl: fault 4: out of memory\n"
-DONE = '{"as":"done","at":"ab/c/obj","bytes":3,"empty":0,"files":1,"id":"abc","to":"ba7/816/bf8/abc"}\n'
-PRESENT = '{"as":"present","at":"ab/c/obj","id":"abc","to":"ba7/816/bf8/abc"}\n'
-FIRST = DONE + '{"as":"end","done":1,"present":0,"skip":0}\n'
-LATER = PRESENT + '{"as":"end","done":0,"present":1,"skip":0}\n'
-MOST = 20_000
+# What begins the name of what a root has beside its objects.
+OF_ROOT = ("ocfl/0=", "ocfl/ocfl_layout", "ocfl/extensions")
 
 
-def run(program, words, shim, number):
-    """Runs the program with the request of this number refused; with 0, none is."""
-    env = {"LD_PRELOAD": shim, "REFUSE": str(number)}
-    done = subprocess.run([program, *words], stdin=subprocess.DEVNULL, capture_output=True, text=True, timeout=60, env=env)
-    return done.returncode, done.stdout, done.stderr
+# Of a case: how many requests there are, how many of them were refused and were passed over, and what is wrong.
+Swept = collections.namedtuple("Swept", "requests refused passed faults")
 
 
-def tree(folder):
-    """Each path below a folder, with the bytes of a file."""
-    found = {}
-    for top, dirs, files in os.walk(folder):
-        found.update({os.path.relpath(os.path.join(top, name), folder): None for name in dirs})
-        for name in files:
-            with open(os.path.join(top, name), "rb") as file:
-                found[os.path.relpath(os.path.join(top, name), folder)] = file.read()
-    return found
+class Program:
+    """The program, and the library that refuses one of its requests."""
+
+    def __init__(self, path, shim):
+        self.path, self.shim = path, shim
+
+    def run(self, folder, words, number=None):
+        """Its status and both streams, and how many requests were told: all with 0, the refused one with its number."""
+        with tempfile.TemporaryFile(dir=folder) as told:
+            env = {} if number is None else {"LD_PRELOAD": self.shim, "REFUSE": str(number), "TOLD": str(told.fileno())}
+            how = {"cwd": folder, "stdin": subprocess.DEVNULL, "capture_output": True, "timeout": 300, "env": env}
+            done = subprocess.run([self.path, *words], pass_fds=(told.fileno(),), **how)
+            return (done.returncode, done.stdout, done.stderr), os.fstat(told.fileno()).st_size
 
 
-def names(program, shim, folder):
-    """Each request of `names` is refused in turn, until none is: nothing is written, or all."""
-    whole = run(program, ["names", "abc"], shim, 0)
-    for number in range(1, MOST):
-        answer = run(program, ["names", "abc"], shim, number)
-        if answer == whole:
-            return number - 1, []
-        if answer[0] != 3 or answer[2] != OUT_OF_MEMORY or not whole[1].startswith(answer[1]):
-            return number, [f"request {number} of names: {answer}"]
-    return MOST, ["names never ends"]
+class Case:
+    """Words of the program by which no folder is touched. Beside the one request ahead of the words so many are for notices."""
+
+    def __init__(self, name, words, notices=0):
+        self.name, self.words, self.notices = name, words, notices
+
+    def prepare(self, program, folder):
+        """Keeps what the program answers where nothing is refused, and how many requests it makes."""
+        self.whole, self.requests = program.run(folder, self.words, 0)
+
+    def try_one(self, program, folder, number):
+        """Refuses the request of a number. Whether it was passed over, and what is wrong."""
+        answer, told = program.run(folder, self.words, number)
+        if told != 1:
+            return False, ["it was not made"]
+        if self.is_passed_over(answer):
+            return True, []
+        return False, [] if self.is_want(answer) else [f"the answer is {stores.shown(answer)}"]
+
+    def is_passed_over(self, answer):
+        """Whether all is answered as where nothing is refused, if a notice is left out."""
+        notices = iter(self.whole[2].splitlines())
+        return answer[:2] == self.whole[:2] and all(line in notices for line in answer[2].splitlines())
+
+    def is_want(self, answer):
+        """Whether want of memory is answered, and no other fault, after a front of what is written."""
+        status, out, err = answer
+        others = [line for line in err.splitlines(keepends=True) if line != OUT_OF_MEMORY]
+        told = len(err) - sum(map(len, others)) == len(OUT_OF_MEMORY)
+        quiet = not others or self.notices and not any(b": fault " in line for line in others)
+        return status == 3 and told and quiet and self.whole[1].startswith(out)
+
+    def after_the_last(self, program, folder):
+        """What is wrong where the number is one more than there are requests."""
+        answer, told = program.run(folder, self.words, self.requests + 1)
+        return [] if (answer, told) == (self.whole, 0) else [f"with no request refused: {stores.shown(answer)}"]
+
+    def sweep(self, program, every):
+        """Refuses the first request, and each so many after it, and then none."""
+        with tempfile.TemporaryDirectory(prefix="a", dir=memory_folder()) as folder:
+            self.prepare(program, folder)
+            refused, passed, faults = 0, 0, []
+            for number in range(1, self.requests + 1, every):
+                over, wrong = self.try_one(program, folder, number)
+                refused, passed = refused + 1, passed + over
+                faults += [f"request {number} of {self.requests}: {fault}" for fault in wrong]
+            faults += self.after_the_last(program, folder)
+        if passed > 1 + self.notices:
+            faults.append(f"{passed} requests were passed over")
+        return Swept(self.requests, refused, passed, faults)
 
 
-def may_stand(left, whole):
-    """Whether what is left beside `staging` stands so in the whole destination, an object whole or not at all."""
-    beside = {path: bytes for path, bytes in left.items() if path.split("/")[0] != "staging"}
-    place = "ocfl/ba7/816/bf8/abc"
-    same = all(path in whole and whole[path] == bytes for path, bytes in beside.items())
-    of_object = [path for path in whole if path == place or path.startswith(f"{place}/")]
-    of_root = [path for path in whole if path.startswith(("ocfl/0=", "ocfl/ocfl_layout", "ocfl/extensions"))]
-    return same and all(sum(path in beside for path in part) in (0, len(part)) for part in (of_object, of_root))
+class Looking(Case):
+    """A command over a store and a destination that changes neither. `stands` is what was carried into the destination before."""
+
+    def __init__(self, name, command, stands, notices=0):
+        super().__init__(f"{name}, over {'an empty folder' if stands is None else 'a root'}", [*command, "s", "d"], notices)
+        self.stands = stands
+
+    def prepare(self, program, folder):
+        stores.build(folder, {"d": stores.DIR, "before": stores.DIR})
+        for name, entries in STORES.items():
+            stores.build(f"{folder}/{name}", entries)
+        if self.stands is not None:
+            program.run(folder, ["migrate", *MEANT, self.stands, "before"])
+        with open(f"{folder}/log", "wb") as log:
+            log.write(program.run(folder, ["migrate", *MEANT, "--dry-run", "s", "d"])[0][1])
+        self.was, self.store = stores.read_tree(f"{folder}/before"), stores.read_tree(f"{folder}/s")
+        self.reset(folder)
+        super().prepare(program, folder)
+        self.left = stores.read_tree(f"{folder}/d")
+
+    def reset(self, folder):
+        """Makes the destination as it was."""
+        shutil.rmtree(f"{folder}/d")
+        shutil.copytree(f"{folder}/before", f"{folder}/d")
+
+    def try_one(self, program, folder, number):
+        over, faults = super().try_one(program, folder, number)
+        faults += stores.differences(stores.read_tree(f"{folder}/s"), self.store)
+        return over, [*faults, *self.left_faults(program, folder, over)]
+
+    def left_faults(self, program, folder, over):
+        """What is wrong with what is left in the destination."""
+        return stores.differences(stores.read_tree(f"{folder}/d"), self.was)
 
 
-def migration(program, shim, folder):
-    """Each request of a migration of one small object is refused in turn, until none is; each time a run follows."""
-    store = os.path.join(folder, "store")
-    os.makedirs(os.path.join(store, "pairtree_root/ab/c/obj"))
-    for name, text in (("pairtree_version0_1", ""), ("pairtree_root/ab/c/obj/a.txt", "abc")):
-        with open(os.path.join(store, name), "w", encoding="ascii") as file:
-            file.write(text)
-    dest = os.path.join(folder, "dest")
-    words = ["migrate", "--created", "2024-05-01T12:00:00Z", "--name", "Ada", store, dest]
-    os.mkdir(dest)
-    if run(program, words, shim, 0)[:2] != (0, FIRST):
-        return 0, ["the run that nothing stops"]
-    whole = tree(dest)
-    for number in range(1, MOST):
-        shutil.rmtree(dest)
-        os.mkdir(dest)
-        status, out, err = run(program, words, shim, number)
-        if (status, out, tree(dest)) == (0, FIRST, whole):
-            return number - 1, []
-        if status != 3 or not err.endswith(OUT_OF_MEMORY) or not FIRST.startswith(out) or not may_stand(tree(dest), whole):
-            return number, [f"request {number} of migrate: {status} {out!r} {err!r} {sorted(tree(dest))}"]
-        shutil.rmtree(os.path.join(dest, "staging"), ignore_errors=True)
-        again = run(program, words, shim, 0)
-        if again[:2] not in ((0, FIRST), (1, LATER)) or tree(dest) != whole:
-            return number, [f"the run after request {number} of migrate: {again}"]
-    return MOST, ["the migration never ends"]
+class Writing(Looking):
+    """A run, after which another carries the rest."""
+
+    def try_one(self, program, folder, number):
+        self.reset(folder)
+        return super().try_one(program, folder, number)
+
+    def after_the_last(self, program, folder):
+        self.reset(folder)
+        return super().after_the_last(program, folder)
+
+    def left_faults(self, program, folder, over):
+        left = stores.read_tree(f"{folder}/d")
+        if over:
+            return [*stores.differences(left, self.left)]
+        beside = {path: content for path, content in left.items() if path.split("/")[0] != "staging"}
+        return [*self.parts(beside), *self.rerun_faults(program, folder, beside)]
+
+    def parts(self, beside):
+        """What is left, beside `staging`, that isn't so in the end, or what stood and is gone; and what is whole only in part."""
+        if any(self.left.get(path) != content for path, content in beside.items()) or self.was.items() - beside.items():
+            yield f"what is left is {stores.shown(beside)}"
+        places = [(f"ocfl/{entry['to']}/",) for entry in self.entries() if "to" in entry]
+        for names in (OF_ROOT, *places):
+            if 0 < sum(path.startswith(names) for path in beside) < sum(path.startswith(names) for path in self.left):
+                yield f"only a part is left of {names}"
+
+    def entries(self):
+        """The lines of the log where nothing is refused, but for the last."""
+        return [json.loads(line) for line in self.whole[1].splitlines()[:-1]]
+
+    def rerun_faults(self, program, folder, beside):
+        """What is wrong with a second run, after `staging` is taken away."""
+        shutil.rmtree(f"{folder}/d/staging", ignore_errors=True)
+        answer, _ = program.run(folder, self.words)
+        entries = [rewritten(entry, beside) for entry in self.entries()]
+        status = int(any(entry["as"] != "done" for entry in entries))
+        if answer[:2] != (status, stores.whole_log(*entries)):
+            yield f"the second run answers {stores.shown(answer)}"
+        yield from stores.differences(stores.read_tree(f"{folder}/d"), self.left)
 
 
-def main(program):
-    """Says of each case how many requests were refused."""
-    compiler = shutil.which("cc")
-    if compiler is None:
-        print("no C compiler: skipped\n0 passed, 0 failed")
-        return 0
-    failed = 0
-    with tempfile.TemporaryDirectory() as folder:
-        shim = os.path.join(folder, "refuse.so")
-        subprocess.run([compiler, "-shared", "-fPIC", "-O1", "-x", "c", "-", "-o", shim, "-ldl"], input=SHIM, text=True, check=True)
-        cases = (names, migration)
-        for case in cases:
-            count, faults = case(os.path.abspath(program), shim, folder)
-            print(f"{case.__name__}: {count} requests refused", *faults, sep="\n")
-            failed += bool(faults)
-    print(f"{len(cases) - failed} passed, {failed} failed")
-    return int(failed > 0)
+def rewritten(entry, beside):
+    """A line of the log as it is where its object stands already, if it does."""
+    stands = entry["as"] == "done" and f"ocfl/{entry['to']}" in beside
+    return stores.present(entry["at"], entry["id"]) if stands else entry
+
+
+def memory_folder():
+    """A folder in memory, where there is one: a disk would be waited for with --sync."""
+    return "/dev/shm" if os.access("/dev/shm", os.W_OK) else None
+
+
+# Options, those that `audit` hasn't, and how many requests are for notices at most.
+OPTIONS = [
+    ([], [], 0),
+    (["--gather", "--verbose"], ["--sync"], 4),
+    (["--share", "1/2"], [], 0),
+    (["--progress", "always"], ["--expect", "log"], 7),
+]
+
+
+def cases_over(stands):
+    """A run, a rehearsal and an audit with each of the options, over a destination into which this was carried; for an audit all was."""
+    for options, of_run, notices in OPTIONS:
+        words = [*options, *of_run]
+        yield Writing(" ".join(["a run", *words]), ["migrate", *MEANT, *words], stands, notices)
+        yield Looking(" ".join(["a rehearsal", *words]), ["migrate", *MEANT, "--dry-run", *words], stands, notices)
+        yield Looking(" ".join(["an audit", *options]), ["audit", *options], "s" if stands else None, notices)
+
+
+CASES = [
+    Case("names", ["names", "abc"]),
+    Case("names of a long identifier", ["names", "--prefix", "uc1.", "--tuple-size", "2", IDENTIFIER * 9]),
+    Case("help", ["migrate", "--help"]),
+    Case("the version", ["--version"]),
+    *cases_over(None),
+    *cases_over("small"),
+]
+
+
+def compiler():
+    """A C compiler that has the system's headers, or None."""
+    found = shutil.which("cc")
+    if found is None:
+        return None
+    tried = subprocess.run([found, "-E", "-"], input=b"#include <dlfcn.h>\n", capture_output=True)
+    return found if tried.returncode == 0 else None
+
+
+def sweep_of(given):
+    """The sweep of the case of a number; what went wrong where it could not be made."""
+    number, program, every = given
+    try:
+        return CASES[number].sweep(program, every)
+    except (OSError, subprocess.SubprocessError) as error:
+        return Swept(0, 0, 0, [repr(error)])
+
+
+def run_cases(path, every=1):
+    """Runs each case, four at a time, says what is wrong, and gives how many passed and failed."""
+    found = compiler()
+    if found is None:
+        print("\n".join(f"allocations of {case.name} ... skipped: no C compiler" for case in CASES), flush=True)
+        return 0, 0
+    passed = failed = 0
+    sys.stdout.flush()
+    with tempfile.TemporaryDirectory() as folder, multiprocessing.get_context("fork").Pool(4) as pool:
+        shim = f"{folder}/refuse.so"
+        subprocess.run([found, "-shared", "-fPIC", "-O1", f"{HERE}/harness/refuse.c", "-o", shim, "-ldl"], check=True)
+        given = [(number, Program(os.path.abspath(path), shim), every) for number in range(len(CASES))]
+        for case, swept in zip(CASES, pool.imap(sweep_of, given)):
+            say(case, every, swept)
+            passed, failed = passed + (not swept.faults), failed + bool(swept.faults)
+    return passed, failed
+
+
+def say(case, every, swept):
+    """Says what came of a case."""
+    for fault in swept.faults[:9]:
+        print(f"allocations of {case.name}: {fault}")
+    some = "" if every == 1 else f" (the first and each {every}th after it)"
+    counts = f"{swept.refused} of {swept.requests} requests refused{some}, {swept.passed} passed over"
+    print(f"allocations of {case.name}: {counts} ... {'FAILED' if swept.faults else 'ok'}", flush=True)
+
+
+def main():
+    passed, failed = run_cases(sys.argv[1], *map(int, sys.argv[2:]))
+    print(f"{passed} passed, {failed} failed")
+    sys.exit(1 if failed else 0)
 
 
 if __name__ == "__main__":
-    sys.exit(main(sys.argv[1]))
+    main()
