@@ -7,6 +7,8 @@ mod answers;
 #[cfg(test)]
 mod inventories;
 #[cfg(test)]
+mod lengths;
+#[cfg(test)]
 mod listings;
 #[cfg(test)]
 mod logs;
