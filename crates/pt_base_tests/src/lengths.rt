@@ -47,7 +47,22 @@ fn is_shown(alloc: Global, letters: usize) -> Result<bool, AllocError> {
     let others = ", 97".repeat(alloc, letters.saturating_sub(1))?;
     let want = format!(in alloc; "Name {{ text: Shared([97{others}]) }}")?;
     let shown = format!(in alloc; "{name:?}")?;
-    Ok(shown.as_str() == want.as_str())
+    Ok(shown.as_str() == want.as_str() && is_shown_in_a_path(alloc, name, &want)?)
+}
+
+// However a path holds its names, it is shown as their list.
+fn is_shown_in_a_path(alloc: Global, name: Name, shown: &str) -> Result<bool, AllocError> {
+    let mut path = NamePath::new(alloc);
+    if path.push(name).is_err() {
+        return Ok(false);
+    }
+    let Ok(kept) = NamePath::shared(alloc, path.names()) else {
+        return Ok(false);
+    };
+    let want = format!(in alloc; "NamePath {{ names: [{shown}] }}")?;
+    let path = format!(in alloc; "{path:?}")?;
+    let kept = format!(in alloc; "{kept:?}")?;
+    Ok(path.as_str() == want.as_str() && kept.as_str() == want.as_str())
 }
 
 const SHOWN: &[Row] = &[
