@@ -68,18 +68,27 @@ class Program:
 
 
 class Case:
-    """Words of the program by which no folder is touched. Beside the one request ahead of the words so many are for notices."""
+    """Words of the program by which no folder is touched. By some of them, `notices`, standard error is told more than a fault."""
 
-    def __init__(self, name, words, notices=0):
+    def __init__(self, name, words, notices=()):
         self.name, self.words, self.notices = name, words, notices
 
     def prepare(self, program, folder):
-        """Keeps what the program answers where nothing is refused, and how many requests it makes."""
-        self.whole, self.requests = program.run(folder, self.words, 0)
+        """Keeps what the program answers where nothing is refused, and how many requests it makes, also without notices."""
+        self.quiet = program.run(folder, [word for word in self.words if word not in self.notices], 0)[1]
+        self.whole, self.requests = self.run_anew(program, folder, 0)
+
+    def reset(self, folder):
+        """Makes the destination as it was before, where there is one."""
+
+    def run_anew(self, program, folder, number):
+        """Runs the command where none was, with the request of a number refused."""
+        self.reset(folder)
+        return program.run(folder, self.words, number)
 
     def try_one(self, program, folder, number):
         """Refuses the request of a number. Whether it was passed over, and what is wrong."""
-        answer, told = program.run(folder, self.words, number)
+        answer, told = self.run_anew(program, folder, number)
         if told != 1:
             return False, ["it was not made"]
         if self.is_passed_over(answer):
@@ -101,7 +110,7 @@ class Case:
 
     def after_the_last(self, program, folder):
         """What is wrong where the number is one more than there are requests."""
-        answer, told = program.run(folder, self.words, self.requests + 1)
+        answer, told = self.run_anew(program, folder, self.requests + 1)
         return [] if (answer, told) == (self.whole, 0) else [f"with no request refused: {stores.shown(answer)}"]
 
     def sweep(self, program, every):
@@ -114,7 +123,7 @@ class Case:
                 refused, passed = refused + 1, passed + over
                 faults += [f"request {number} of {self.requests}: {fault}" for fault in wrong]
             faults += self.after_the_last(program, folder)
-        if passed > 1 + self.notices:
+        if passed > 1 + self.requests - self.quiet:
             faults.append(f"{passed} requests were passed over")
         return Swept(self.requests, refused, passed, faults)
 
@@ -122,7 +131,7 @@ class Case:
 class Looking(Case):
     """A command over a store and a destination that changes neither. `stands` is what was carried into the destination before."""
 
-    def __init__(self, name, command, stands, notices=0):
+    def __init__(self, name, command, stands, notices):
         super().__init__(f"{name}, over {'an empty folder' if stands is None else 'a root'}", [*command, "s", "d"], notices)
         self.stands = stands
 
@@ -140,7 +149,6 @@ class Looking(Case):
         self.left = stores.read_tree(f"{folder}/d")
 
     def reset(self, folder):
-        """Makes the destination as it was."""
         shutil.rmtree(f"{folder}/d")
         shutil.copytree(f"{folder}/before", f"{folder}/d")
 
@@ -156,14 +164,6 @@ class Looking(Case):
 
 class Writing(Looking):
     """A run, after which another carries the rest."""
-
-    def try_one(self, program, folder, number):
-        self.reset(folder)
-        return super().try_one(program, folder, number)
-
-    def after_the_last(self, program, folder):
-        self.reset(folder)
-        return super().after_the_last(program, folder)
 
     def left_faults(self, program, folder, over):
         left = stores.read_tree(f"{folder}/d")
@@ -207,19 +207,21 @@ def memory_folder():
     return "/dev/shm" if os.access("/dev/shm", os.W_OK) else None
 
 
-# Options, those that `audit` hasn't, and how many requests are for notices at most.
+# Options, and those that `audit` hasn't.
 OPTIONS = [
-    ([], [], 0),
-    (["--gather", "--verbose"], ["--sync"], 4),
-    (["--share", "1/2"], [], 0),
-    (["--progress", "always"], ["--expect", "log"], 7),
+    ([], []),
+    (["--gather", "--verbose"], ["--sync"]),
+    (["--share", "1/2"], []),
+    (["--progress", "always"], ["--expect", "log", "--interval", "86400"]),
 ]
+NOTICES = ("--verbose", "--progress", "always", "--expect", "log")
 
 
 def cases_over(stands):
     """A run, a rehearsal and an audit with each of the options, over a destination into which this was carried; for an audit all was."""
-    for options, of_run, notices in OPTIONS:
+    for options, of_run in OPTIONS:
         words = [*options, *of_run]
+        notices = [word for word in words if word in NOTICES]
         yield Writing(" ".join(["a run", *words]), ["migrate", *MEANT, *words], stands, notices)
         yield Looking(" ".join(["a rehearsal", *words]), ["migrate", *MEANT, "--dry-run", *words], stands, notices)
         yield Looking(" ".join(["an audit", *options]), ["audit", *options], "s" if stands else None, notices)
