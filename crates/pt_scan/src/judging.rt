@@ -2,13 +2,13 @@
 ghost use Rattle.std.specs.Prelude.{◌≡◌, ◌<◌, ◌++◌, ◌^◌, ◌∷◌, [], codes, cond, IfOk, IfSome, IsTrue, length};
 ghost use Rattle.std.specs.List.{concat};
 ghost use Rattle.pt_plan.specs.Job.{form_of as form_of_job};
-ghost use Rattle.pt_plan.specs.TurnWalk.{at_object, found_at, path_of_object};
+ghost use Rattle.pt_plan.specs.TurnWalk.{at_object, found_at, in_root, path_of_object};
 ghost use Rattle.pt_plan.specs.declared.phase.Phase.TheVariants as phase;
 ghost use Rattle.pt_plan.specs.declared.phase.Stage.TheVariants as stage;
 ghost use Rattle.pt_tree.specs.Path.{same_path};
 ghost use Rattle.pt_walk.specs.Trail.{has_place, trail_path};
 ghost use Rattle.pt_walk.specs.declared.site.Form.TheVariants as form;
-ghost use Rattle.pt_state.specs.Outside.{TakesTurn};
+ghost use Rattle.pt_state.specs.Outside.{Found, TakesTurn};
 ghost use Rattle.pt_state.specs.States.{job_of};
 ghost use Rattle.pt_scan.specs.Judging.{CanPass, IsJudging, IsNamed, IsOurs, IsPassedAt, IsPlaced, is_own_place};
 
@@ -17,7 +17,7 @@ use pt_plan::{Fault, Identifier, Object, Phase, Stage};
 use pt_state::lines::{put_present, put_skip};
 use pt_state::paths::in_storage_root;
 use pt_state::{Outside, State};
-use pt_tree::{MemoryFault, NamePath};
+use pt_tree::{Kind, MemoryFault, NamePath};
 use pt_walk::{Cause, Finding, Form, Trail, judge as judged};
 use std::alloc::Global;
 
@@ -138,8 +138,7 @@ fn find_place<O: Outside>(
     ensures turn { TakesTurn O.world (O.within 0) phase.Judge state.old state.new
         out.old out.new result }
 {
-    let path = in_storage_root(state.alloc, &candidate.place)?;
-    match out.kind(&path)? {
+    match kind_at(state.alloc, &candidate.place, out)? {
         None => {
             seek_object(&mut state.trail, index);
             Ok(opened(candidate, index.is_none(), state.trail.len()))
@@ -157,6 +156,18 @@ fn find_place<O: Outside>(
             Ok(Phase::Walk)
         }
     }
+}
+
+// Asks what stands at a place of the storage root.
+fn kind_at<O: Outside>(
+    alloc: Global,
+    place: &NamePath,
+    out: &mut O,
+) -> Result<Option<Kind>, Fault>
+    ensures { Found O.world (O.within 0) (in_root place.now) out.old out.new result }
+{
+    let path = in_storage_root(alloc, place)?;
+    out.kind(&path)
 }
 
 // Goes to the entry of this index, which is a site's object, unless that is gathered.

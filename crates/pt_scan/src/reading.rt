@@ -73,7 +73,7 @@ fn end_file(state: &mut State, object: Object, bytes: u64) -> Result<Phase, Faul
 {
     let entry = entry_path(&state.trail)?;
     let names = logical_names(&object, &state.trail, &entry);
-    let path = NamePath::new(state.alloc).followed_by(names)?;
+    let path = NamePath::shared(state.alloc, names)?;
     let hasher = mem::replace(&mut state.hasher, Hasher::start(state.job.algorithm));
     let digest = hasher.end();
     state.rows.push(&path, &digest, bytes)?;
