@@ -85,7 +85,7 @@ macro_rules! hasher {
             }
             fn end(mut self) -> Vec<u8> {
                 let bits = self.fed * 8;
-                let width = size_of::<$length>();
+                let width = std::mem::size_of::<$length>();
                 let mut tail = vec![0x80];
                 while (self.held + tail.len() + width) % $block != 0 { tail.push(0) }
                 tail.extend(bits.to_be_bytes());
@@ -94,7 +94,7 @@ macro_rules! hasher {
             }
             fn take(&mut self, block: &[u8; $block]) {
                 let mut w: [$word; $rounds] = [0; $rounds];
-                for (word, bytes) in w.iter_mut().zip(block.chunks_exact(size_of::<$word>())) {
+                for (word, bytes) in w.iter_mut().zip(block.chunks_exact(std::mem::size_of::<$word>())) {
                     *word = <$word>::from_be_bytes(bytes.try_into().unwrap());
                 }
                 for i in 16..$rounds {
@@ -247,7 +247,7 @@ impl<W: Write> Run<W> {
             first.insert(d, p);
             let q = st.join("v1/content").join(p);
             fs::create_dir_all(q.parent().unwrap())?;
-            let (e, k) = pump(&mut File::open(dir.join(p))?, Some(&mut File::create_new(&q)?))?;
+            let (e, k) = pump(&mut File::open(dir.join(p))?, Some(&mut File::options().write(true).create_new(true).open(&q)?))?;
             assert!(e == *d && k == *n);
         }
         let man: Vec<String> = state.keys().map(|d| format!("\"{d}\":[{}]", esc(&format!("v1/content/{}", first[d])))).collect();
