@@ -1,8 +1,8 @@
 """Every test of the repository: the toolchain's gate, then the tests of the program that the gate built.
 
 Usage: all.py RT PROGRAM. Every few minutes it says how far the gate is, and at the gate's end how long each crate
-took. That, and what the gate and the program's tests said of a failure, is said again at the end. The last line is
-'N passed, M failed', over all of them; the status is 0 only where nothing failed.
+took. That, what the gate and the program's tests said of a failure, and which cases were skipped and why, is said again
+at the end. The last line is 'N passed, M failed, K skipped', over all of them; the status is 0 only where nothing failed.
 """
 
 import collections
@@ -22,6 +22,7 @@ import migration
 import program
 import progress
 import system
+from tally import Tally
 
 # What the gate says of itself, but for what went well.
 WENT_WELL = re.compile(r"^rt: (must-fail .*: refused, as it must be|.* proved$|.* passed$|.*: trying its |.* ran[ ,(])")
@@ -63,18 +64,18 @@ def proofs_at_once():
 
 
 def run_gate(rt):
-    """Runs the gate, once more where it ended without a verdict, and gives how many passed and failed, what to say again, and how long each crate took."""
+    """Runs the gate, once more where it ended without a verdict, and gives what became of its cases, what to say again, and how long each crate took."""
     verdict = run_once(rt)
     if verdict[0] is None:
-        print("\n".join([*verdict[2], "the gate gave no counts at its end: once more"]), flush=True)
+        print("\n".join([*verdict[1], "the gate gave no counts at its end: once more"]), flush=True)
         verdict = run_once(rt)
     if verdict[0] is None:
-        return 0, 1, [*verdict[2], "the gate gave no counts at its end"], verdict[3]
+        return Tally(0, 1), [*verdict[1], "the gate gave no counts at its end"], verdict[2]
     return verdict
 
 
 def run_once(rt):
-    """Runs the gate and shows what it says. Where it gives no counts, those that are given are None."""
+    """Runs the gate and shows what it says. Where it gives no counts, there is None for them."""
     counts, last = None, collections.deque(maxlen=30)
     how = {"stdout": subprocess.PIPE, "stderr": subprocess.STDOUT, "text": True, "errors": "replace"}
     how["env"] = {"RT_JOBS": str(proofs_at_once()), **os.environ}
@@ -91,29 +92,29 @@ def run_once(rt):
     print(table, flush=True)
     last.append(f"the gate ended with status {gate.returncode}")
     if counts is None:
-        return None, None, last, table
+        return None, last, table
     passed, failed = int(counts[1]), int(counts[2])
-    return passed, max(failed, int(gate.returncode != 0)), last, table
+    return Tally(passed, max(failed, int(gate.returncode != 0))), last, table
 
 
 def run_tests(path):
-    """Runs the tests of the program that stands at a path; gives how many passed and failed, and what to say again."""
+    """Runs the tests of the program that stands at a path; gives what became of its cases, and what to say again."""
     if not os.path.exists(path):
-        return 0, 1, [f"{path} was not built, so its tests did not run"]
+        return Tally(0, 1), [f"{path} was not built, so its tests did not run"]
     with contextlib.redirect_stdout(Heard(sys.stdout)) as heard:
         counts = [program.run_cases(path), migration.run_cases(path), allocations.run_cases(path, SAMPLE), system.run_cases()]
-    return *map(sum, zip(*counts)), list(heard.said)
+    return Tally.of_all(counts), list(heard.said)
 
 
 def main():
     rt, path = sys.argv[1:]
     results = [run_gate(rt), run_tests(path)]
-    passed, failed = (sum(result[n] for result in results) for n in (0, 1))
-    if failed:
-        print("\n".join(line for result in results if result[1] for line in result[2]))
-    print(textwrap.fill(" ".join(results[0][3].split()), 240))
-    print(f"{passed} passed, {failed} failed", flush=True)
-    sys.exit(1 if failed else 0)
+    tally = Tally.of_all([result[0] for result in results])
+    if tally.failed:
+        print("\n".join(line for result in results if result[0].failed for line in result[1]))
+    print(textwrap.fill(" ".join(results[0][2].split()), 240))
+    print("\n".join(tally.last_lines()), flush=True)
+    sys.exit(1 if tally.failed else 0)
 
 
 if __name__ == "__main__":

@@ -1,9 +1,9 @@
 """The built program's tests over real folders. tests/cases has the cases: carrying, refusing and options those of `migrate`, auditing those of `audit`, sharing of shares,
 peers beside plain Rust, surroundings of what is around a run, packages of what is shipped, guide of the guide's commands, joining of
-tools/roots.py, documents of what the documents name. tests/harness has how they are run, and what must stand.
+tools/roots.py, documents of what the documents name, gate of the gate itself. tests/harness has how they are run, and what must stand.
 
 Usage: migration.py PROGRAM [-k WORDS]. With -k only the cases are run whose file's name, with the case's name behind it, has these words, and those
-of tests/program.py whose names have. The last line is 'N passed, M failed'.
+of tests/program.py whose names have. The last line is 'N passed, M failed, K skipped', and before it stand the skipped cases with their reasons.
 """
 
 import os
@@ -16,6 +16,7 @@ sys.dont_write_bytecode = True
 import auditing
 import carrying
 import documents
+import gate
 import guide
 import joining
 import options
@@ -26,13 +27,14 @@ import refusing
 import running
 import sharing
 import surroundings
+from tally import Tally
 
-FILES = (carrying, auditing, refusing, options, surroundings, sharing, peers, guide, joining, packages, documents)
+FILES = (carrying, auditing, refusing, options, surroundings, sharing, peers, guide, joining, packages, documents, gate)
 CASES = [case for file in FILES for case in file.CASES]
 
 
 def run_cases(path):
-    """Runs each case, says what is wrong, and gives how many passed and failed."""
+    """Runs each case, says what is wrong, and gives what became of them."""
     return run_these(CASES, path)
 
 
@@ -47,16 +49,16 @@ def run_some(path, words):
     """The same of the cases that have these words, and of those of tests/program.py."""
     some = program.run_cases(path, [case for case in program.CASES if words in case.name])
     more = run_these([case for file in FILES for case in file.CASES if words in f"{file.__name__} {case.name}"], path)
-    return [sum(pair) for pair in zip(some, more)]
+    return Tally.of_all([some, more])
 
 
 def main():
     path, *rest = sys.argv[1:]
     if rest and (len(rest) != 2 or rest[0] != "-k"):
         sys.exit(__doc__)
-    passed, failed = run_some(path, rest[1]) if rest else run_cases(path)
-    print(f"{passed} passed, {failed} failed")
-    sys.exit(1 if failed or not passed else 0)
+    tally = run_some(path, rest[1]) if rest else run_cases(path)
+    print("\n".join(tally.last_lines()))
+    sys.exit(1 if tally.failed or not tally.passed else 0)
 
 
 if __name__ == "__main__":

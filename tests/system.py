@@ -1,7 +1,7 @@
 """Random sequences of the calls that folders make of the system, held against the laws of docs/SYSTEM.md.
 
 Usage: system.py [SEED [SEQUENCES]]. For each place, a memory file system and the disk's own, it says the seed and how many
-sequences and calls were made. The last line is 'N passed, M failed'.
+sequences and calls were made. A sequence is one case, and passes where it keeps the laws at each place. The last line is 'N passed, M failed'.
 """
 
 import collections
@@ -257,33 +257,35 @@ def kind_of(place):
 
 
 def run_place(place, seed, sequences):
-    """So many sequences in new folders at a place; how many kept the laws, and how many didn't."""
-    passed, failed, calls = 0, 0, collections.Counter()
+    """So many sequences in new folders at a place; the numbers of those that didn't keep the laws."""
+    broke, calls = set(), collections.Counter()
     for number in range(sequences):
         top = tempfile.mkdtemp(prefix="laws", dir=place)
         sequence = Sequence(top, f"{seed}/{number}")
         try:
             sequence.run(30)
-            passed += 1
         except (Broken, OSError) as broken:
-            failed += 1
+            broke.add(number)
             print(f"system: {place}, seed {seed}/{number}: {broken}", flush=True)
         finally:
             calls.update(sequence.calls)
             shutil.rmtree(top)
     made = " ".join(f"{name} {count}" for name, count in sorted(calls.items()))
     print(f"system: {kind_of(place)} at {place}, seed {seed}: {sequences} sequences, {sum(calls.values())} calls ({made})", flush=True)
-    return passed, failed
+    return broke
 
 
-def run_cases(seed=20261123, sequences=1000):
-    """The same at each place; how many sequences passed, and how many failed."""
-    signal.signal(signal.SIGXFSZ, signal.SIG_IGN)
+def places_here():
+    """The places to try, one on each device."""
     places = [place for place in ["/dev/shm", tempfile.gettempdir(), "/var/tmp"] if os.access(place, os.W_OK)]
-    devices = {os.stat(place).st_dev: place for place in reversed(places)}
-    counts = [run_place(place, seed, sequences) for place in devices.values()]
-    passed, failed = map(sum, zip(*counts))
-    return passed, failed
+    return list({os.stat(place).st_dev: place for place in reversed(places)}.values())
+
+
+def run_cases(seed=20261123, sequences=1000, places=None):
+    """Each sequence is one case, over all the places, however many a machine has: how many kept the laws at each, and how many didn't."""
+    signal.signal(signal.SIGXFSZ, signal.SIG_IGN)
+    broke = set().union(*(run_place(place, seed, sequences) for place in places or places_here()))
+    return sequences - len(broke), len(broke)
 
 
 def main():

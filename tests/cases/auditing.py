@@ -5,12 +5,14 @@ import fcntl
 import json
 import os
 import re
+import shutil
 import subprocess
 
 import stores
 from alone import Alone, differs
-from running import MEANT
+from running import MEANT, as_nobody
 from stores import ABC, DIR, ONE, Link, build, object_files, place, read_tree, root, store, stored, text_of
+from tally import Skipped
 
 RUN_IN_USE = b"pairtree2ocfl: another run has the destination\n"
 MISSING, EXTRA, KIND, BYTES = "missing", "extra", "kind", "bytes"
@@ -329,14 +331,16 @@ def options(program, folder):
 
 
 def unreadable(program, folder):
-    """What can't be read in the root is fault 2."""
-    if os.geteuid() == 0:
-        return None
+    """What can't be read in the root is fault 2; root, who can read all, asks as another user."""
     fresh(folder, ONE)
     migrate(program, folder)
+    shutil.copy(program, f"{folder}/program")
+    subprocess.run(["chmod", "-R", "a+rX", folder], check=True)
     os.chmod(f"{folder}/d/ocfl/{place('abc')}/v1/content/a.txt", 0)
-    status, out, err = audit(program, folder)
-    return differs(unreadable=((status, out, err), (3, b"", b"pairtree2ocfl: fault 2: cannot read the destination\n")))
+    command = [*(() if os.geteuid() else as_nobody()), f"{folder}/program", "audit", f"{folder}/s", f"{folder}/d"]
+    done = subprocess.run(command, capture_output=True, timeout=120, check=False)
+    wanted = (3, b"", b"pairtree2ocfl: fault 2: cannot read the destination\n")
+    return differs(unreadable=((done.returncode, done.stdout, done.stderr), wanted))
 
 
 def link_on_the_way(program, folder):
@@ -379,8 +383,8 @@ def read_once(program, folder):
         try:
             with open(f"/proc/{child.pid}/io", encoding="ascii") as counts:
                 read = int(re.search(r"rchar: (\d+)", counts.read())[1])
-        except OSError:
-            return None
+        except OSError as error:
+            raise Skipped(f"the system doesn't count what a process reads: {error}") from error
     sizes = [len(content) for content in files.values()]
     least = 2 * (sum(sizes) + sum(sizes[:-1]))
     return differs(status=(child.returncode, 0), read=(least <= read < least + 100000, True))

@@ -3,7 +3,6 @@
 import os
 import re
 import shlex
-import shutil
 import signal
 import subprocess
 import sys
@@ -12,6 +11,7 @@ import stores
 from alone import Alone, differs
 from running import MEANT
 from stores import DIR, build, read_tree, store
+from tally import needs
 
 TOP = os.path.dirname(os.path.dirname(os.path.dirname(os.path.abspath(__file__))))
 ROOTS = [sys.executable, "-B", f"{TOP}/tools/roots.py"]
@@ -184,8 +184,7 @@ WALK = [
 
 def walk(program, folder):
     """The guide from its beginning: each block of commands over a store with skips and twins, and what it prints."""
-    if not all(map(shutil.which, ("jq", "od", "awk", "bash"))):
-        return None
+    needs("jq", "od", "awk", "bash")
     subprocess.run(["rm", "-r", f"{folder}/s", f"{folder}/d"], check=True)
     build(f"{folder}/s", store(STORE, b"ark:/\n"))
     environment, faults, seen = with_program(program, folder), [], []

@@ -9,7 +9,7 @@ import sys
 
 import stores
 from alone import Alone, differs
-from running import mounted
+from running import mount_below
 from stores import DIR, GONE, Link, build, place, read_tree, root, stored
 
 TOP = os.path.dirname(os.path.dirname(os.path.dirname(os.path.abspath(__file__))))
@@ -140,16 +140,14 @@ def leaves(program, folder):
 
 
 def other_systems(program, folder):
-    """Roots on another file system, or behind another mount of it, are refused, and nothing is moved; None where nothing can be mounted."""
+    """Roots on another file system, or behind another mount of it, are refused, and nothing is moved."""
     with contextlib.ExitStack() as last:
         three(folder)
         os.mkdir(f"{folder}/f")
-        if not mounted(("-t", "tmpfs", "-o", "size=1m", "none", "f"), folder, last):
-            return None
+        mount_below(folder, ("-t", "tmpfs", "-o", "size=1m", "none", "f"), last)
         build(folder, {f"f/{path}": held for path, held in root(an_object("fa")).items()})
         os.mkdir(f"{folder}/g")
-        if not mounted(("--bind", f"{folder}/b", "g"), folder, last):
-            return None
+        mount_below(folder, ("--bind", f"{folder}/b", "g"), last)
         before, faults = read_tree(folder), []
         for other, reason in {"f/ocfl": "cp -a", "g/ocfl": "cp -a"}.items():
             status, _, said = roots(folder, "join", "a/ocfl", other)

@@ -6,7 +6,6 @@ import fcntl
 import os
 import pty
 import re
-import shutil
 import subprocess
 import time
 
@@ -17,6 +16,7 @@ from alone import Alone, differs, run
 from running import MEANT, TEXTS, Case, Run, ends
 from stores import ABC, DIR, ONE, ONE_DONE, ONE_ROOT, Link
 from stores import build, done, lines, object_files, read_tree, root, staged, store, stored
+from tally import needs
 
 OVERLAP = b"pairtree2ocfl: SOURCE and DEST lie in one another\n"
 TAKEN = b"pairtree2ocfl: another run has the destination\n"
@@ -136,8 +136,7 @@ def many(folder, content=b""):
 def synced(program, folder):
     """With --sync each file is put onto the disk before it is closed, and then the folder that the object lies in; the log
     after each line, and once before, to see that it can be. Without it nothing is."""
-    if not shutil.which("strace"):
-        return None
+    needs("strace")
     faults = []
     for words, least in {(): 0, ("--sync",): 1}.items():
         trace = f"{folder}/trace"
@@ -158,8 +157,7 @@ def synced(program, folder):
 
 def late(program, folder):
     """With --sync an error that comes late is fault 2."""
-    if not shutil.which("strace"):
-        return None
+    needs("strace")
     faults = []
     for when in ("2", "5", "10"):
         subprocess.run(["rm", "-rf", f"{folder}/d"], check=True)

@@ -10,6 +10,7 @@ import subprocess
 import tarfile
 
 from alone import Alone, differs
+from tally import needs
 
 TOP = os.path.dirname(os.path.dirname(os.path.dirname(os.path.abspath(__file__))))
 COMMANDS = ("migrate", "audit", "names")
@@ -101,22 +102,25 @@ def in_bash(program, folder):
     )
 
 
-def syntax(program, folder):
-    """The man page and the completions can be read by what reads them, where that is here."""
-    faults = []
-    checks = {
-        "mandoc": ["-T", "lint", "-W", "warning", f"{TOP}/man/pairtree2ocfl.1"],
-        "groff": ["-man", "-Tutf8", "-ww", f"{TOP}/man/pairtree2ocfl.1"],
-        "bash": ["-n", f"{TOP}/completions/pairtree2ocfl.bash"],
-        "zsh": ["-n", f"{TOP}/completions/_pairtree2ocfl"],
-        "fish": ["-n", f"{TOP}/completions/pairtree2ocfl.fish"],
-    }
-    for tool, words in checks.items():
-        if shutil.which(tool):
-            ended = subprocess.run([tool, *words], capture_output=True, timeout=120)
-            said = ended.stderr + (ended.stdout if tool == "mandoc" else b"")
-            faults += differs(**{tool: ((ended.returncode, said), (0, b""))})
-    return faults
+READERS = {
+    "mandoc": ["-T", "lint", "-W", "warning", f"{TOP}/man/pairtree2ocfl.1"],
+    "groff": ["-man", "-Tutf8", "-ww", f"{TOP}/man/pairtree2ocfl.1"],
+    "bash": ["-n", f"{TOP}/completions/pairtree2ocfl.bash"],
+    "zsh": ["-n", f"{TOP}/completions/_pairtree2ocfl"],
+    "fish": ["-n", f"{TOP}/completions/pairtree2ocfl.fish"],
+}
+
+
+def read_by(tool):
+    """The man page, or the completions of a shell, can be read by what reads them."""
+
+    def test(program, folder):
+        needs(tool)
+        ended = subprocess.run([tool, *READERS[tool]], capture_output=True, timeout=120)
+        said = ended.stderr + (ended.stdout if tool == "mandoc" else b"")
+        return differs(**{tool: ((ended.returncode, said), (0, b""))})
+
+    return Alone(f"{os.path.basename(READERS[tool][-1])}, read by {tool}", test)
 
 
 def versions(program, folder):
@@ -211,8 +215,7 @@ def archived(program, folder):
 
 def packaged(program, folder):
     """The Debian package, installed into an empty root, where the program runs."""
-    if not shutil.which("dpkg-deb") or not shutil.which("dpkg"):
-        return None
+    needs("dpkg-deb", "dpkg")
     done("sh", "-c", 'umask 077; exec sh "$@"', "sh", f"{TOP}/tools/deb.sh", program, f"{folder}/deb")
     (path,) = glob.glob(f"{folder}/deb/*.deb")
     fields = done("dpkg-deb", "-f", path, "Package", "Version", "Depends")
@@ -237,8 +240,7 @@ def packaged(program, folder):
 
 def linted(program, folder):
     """lintian says nothing of the package but what is answered in tools/deb.sh."""
-    if not shutil.which("dpkg-deb") or not shutil.which("lintian"):
-        return None
+    needs("dpkg-deb", "lintian")
     done("sh", f"{TOP}/tools/deb.sh", program, f"{folder}/deb")
     (path,) = glob.glob(f"{folder}/deb/*.deb")
     said = subprocess.run(["lintian", path], capture_output=True, timeout=300).stdout.decode()
@@ -257,7 +259,7 @@ CASES = [
     Alone("each option is documented", documented),
     Alone("no option is made up", known),
     Alone("bash completes", in_bash),
-    Alone("man page and completions can be read", syntax),
+    *map(read_by, READERS),
     Alone("one version", versions),
     Alone("licences", licences),
     Alone("install and uninstall", installed),

@@ -19,6 +19,7 @@ import time
 from alone import Alone, differs
 from running import MEANT
 from stores import DIR, Link, build, differences, read_tree, store
+from tally import Skipped, needs
 
 TOP = os.path.dirname(os.path.dirname(os.path.dirname(os.path.abspath(__file__))))
 ROOTS = f"{TOP}/tools/roots.py"
@@ -218,10 +219,10 @@ class Cluster:
 
 
 def cluster(program, folder):
-    """A job array of Slurm carries a store of 2,000 objects in shares, one of which is killed and requeued, and a job behind it joins them;
-    None where there is no Slurm."""
-    if os.geteuid() != 0 or not all(map(shutil.which, ("slurmctld", "slurmd", "munged", "sbatch"))):
-        return None
+    """A job array of Slurm carries a store of 2,000 objects in shares, one of which is killed and requeued, and a job behind it joins them."""
+    if os.geteuid() != 0:
+        raise Skipped("only root can start Slurm's daemons")
+    needs("slurmctld", "slurmd", "munged", "sbatch")
     many(folder, 2000)
     ran(program, folder, "whole")
     with open(f"{folder}/stopped", "w", encoding="ascii") as file:

@@ -11,13 +11,10 @@ import time
 import stores
 from alone import Alone, differs, run
 from options import OVERLAP
-from running import MEANT, mounted, started
+from running import MEANT, as_nobody, mount_below, started
 from stores import DIR, FIFO, ONE, build, read_tree
 
 HIDDEN = b"pairtree2ocfl: the system cannot tell where SOURCE and DEST lie\n"
-# A command's words before which it runs as another user.
-AS_NOBODY = ("setpriv", "--reuid=65534", "--keep-groups")
-ALLOWED = os.geteuid() == 0
 
 
 def second_mounts(program, folder):
@@ -39,19 +36,16 @@ def second_mounts(program, folder):
     before, faults = read_tree(folder), []
     for (what, source, dest), name in refused.items():
         with contextlib.ExitStack() as last:
-            if not mounted(("--bind", f"{folder}/{what}", "m"), folder, last):
-                return None
+            mount_below(folder, ("--bind", f"{folder}/{what}", "m"), last)
             done = subprocess.run([program, "migrate", *MEANT, source, dest], cwd=folder, capture_output=True, timeout=120)
         faults += differs(**{name: ((done.returncode, done.stdout, done.stderr), (2, b"", OVERLAP))})
         faults += [f"{name}: {text}" for text in stores.differences(read_tree(folder), before)]
     with contextlib.ExitStack() as last:
-        if not mounted(("--bind", f"{folder}/other/ocfl", "t/pairtree_root"), folder, last):
-            return None
+        mount_below(folder, ("--bind", f"{folder}/other/ocfl", "t/pairtree_root"), last)
         done = subprocess.run([program, "migrate", *MEANT, "t", "other"], cwd=folder, capture_output=True, timeout=120)
         faults += differs(tree=((done.returncode, done.stderr), (2, OVERLAP)))
     with contextlib.ExitStack() as last:
-        if not mounted(("--bind", f"{folder}/d", "m"), folder, last):
-            return None
+        mount_below(folder, ("--bind", f"{folder}/d", "m"), last)
         done = subprocess.run([program, "migrate", *MEANT, "mine/s", "m"], cwd=folder, capture_output=True, timeout=120)
         faults += differs(apart=(done.returncode, 0))
     return faults
@@ -88,8 +82,7 @@ def deep_folder(program, folder):
 
 def no_lock(program, folder):
     """A destination that can't be locked, since it can't be opened: that is told with --verbose, and the run goes on."""
-    if not ALLOWED:
-        return None
+    nobody = as_nobody()
     faults = []
     line = b"pairtree2ocfl: d: it is not locked: Permission denied (os error 13)\n"
     for words, err in {(): b"", ("-v",): line}.items():
@@ -98,7 +91,7 @@ def no_lock(program, folder):
         shutil.copy(program, f"{folder}/program")
         subprocess.run(["chmod", "-R", "a+rX", folder], check=True)
         os.chmod(f"{folder}/d", 0o333)
-        command = [*AS_NOBODY, f"{folder}/program", "migrate", *MEANT, *words, "s", "d"]
+        command = [*nobody, f"{folder}/program", "migrate", *MEANT, *words, "s", "d"]
         done = subprocess.run(command, cwd=folder, capture_output=True, timeout=120)
         faults += differs(**{" ".join(words): ((done.returncode, done.stderr), (0, err))})
     return faults
@@ -106,8 +99,7 @@ def no_lock(program, folder):
 
 def another_users_log(program, folder):
     """With --sync a log that is open, and that the program can't open again, is written, and told before the run as one that isn't synced."""
-    if not ALLOWED:
-        return None
+    nobody = as_nobody()
     os.mkdir(f"{folder}/logs", 0o700)
     os.chmod(f"{folder}/d", 0o777)
     with open(f"{folder}/logs/log", "wb", opener=lambda path, flags: os.open(path, flags | os.O_APPEND, 0o600)) as log:
@@ -115,7 +107,7 @@ def another_users_log(program, folder):
         shutil.copy(program, f"{folder}/program")
         os.chmod(f"{folder}/program", 0o755)
         subprocess.run(["chmod", "-R", "a+rX", f"{folder}/s"], check=True)
-        command = [*AS_NOBODY, f"{folder}/program", "migrate", *MEANT, "--sync", "s", "d"]
+        command = [*nobody, f"{folder}/program", "migrate", *MEANT, "--sync", "s", "d"]
         done = subprocess.run(command, cwd=folder, stdout=log, stderr=subprocess.PIPE, timeout=120)
     with open(f"{folder}/logs/log", "rb") as file:
         lines = file.read().splitlines()

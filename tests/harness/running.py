@@ -5,13 +5,14 @@ output, standard error, every entry of the destination, and that the source stan
 """
 
 import contextlib
-import multiprocessing
 import os
 import subprocess
 import sys
 import tempfile
 
+import lanes
 import stores
+from tally import Skipped, Tally, faults_of, needs
 
 TEXTS = {
     1: "cannot read the source",
@@ -73,15 +74,14 @@ class Case:
         self.unsteady = unsteady
 
     def faults(self, program):
-        """What the program does that it should not, or None where the case can't be run here."""
+        """What the program does that it should not."""
         with contextlib.ExitStack() as last:
             folder = last.enter_context(tempfile.TemporaryDirectory(prefix="p"))
             last.callback(subprocess.run, ["rm", "-rf", f"{folder}/s", f"{folder}/d"], check=True)
             stores.build(folder, {"s": stores.DIR, "d": stores.DIR})
             stores.build(f"{folder}/s", self.source)
             for mount in self.mounts:
-                if not mounted(mount, folder, last):
-                    return None
+                mount_below(folder, mount, last)
             stores.build(f"{folder}/d", self.dest)
             faults = []
             for number, run in enumerate(self.runs, 1):
@@ -121,13 +121,22 @@ class Case:
         return {path: content for path, content in tree.items() if path not in self.unsteady}
 
 
-def mounted(mount, folder, last):
-    """Makes a mount below the folder, to be taken away at the end. False where the system doesn't allow it."""
+def as_nobody():
+    """The words before a command that run it as another user. The case is skipped where that can't be."""
+    if os.geteuid() != 0:
+        raise Skipped("only root can run a command as another user")
+    needs("setpriv")
+    return ("setpriv", "--reuid=65534", "--keep-groups")
+
+
+def mount_below(folder, mount, last):
+    """Makes a mount below the folder, to be taken away at the end. The case is skipped where the system doesn't allow it."""
     where = f"{folder}/{mount[-1]}"
-    done = subprocess.run(["mount", *mount[:-1], where], stderr=subprocess.DEVNULL)
-    if done.returncode == 0:
-        last.callback(subprocess.run, ["umount", "-l", where], check=True)
-    return done.returncode == 0
+    done = subprocess.run(["mount", *mount[:-1], where], capture_output=True)
+    if done.returncode != 0:
+        reason = " ".join(done.stderr.decode(errors="replace").replace(folder, "").split())
+        raise Skipped(f"mount {mount[0]} {mount[1]} can't be made: {reason}")
+    last.callback(subprocess.run, ["umount", "-l", where], check=True)
 
 
 def started(command, folder, output):
@@ -173,32 +182,16 @@ def refused_by_parser(meant, *words, **options):
     return Run(b"", {}, 2, lambda err: err.startswith(b"error: "), meant=meant, words=words, **options)
 
 
-GIVEN = []
-
-
-def begin(cases, path):
-    """What each process of the cases begins with."""
-    GIVEN[:] = cases, path
-
-
-def outcome_of(number):
-    """What the case of this number found."""
-    cases, path = GIVEN
-    return cases[number].outcome(path)
-
-
-def run_all(cases, program):
-    """Runs each case, four at a time, says what is wrong, and gives how many passed and failed.
-
-    The four are processes: what a thread has open, as a lock or an end of a pipe, is open for a moment in what the others start, too.
-    """
-    passed = failed = 0
+def run_all(cases, program, **options):
+    """Runs each case, says what is wrong, and gives what became of them."""
+    tally = Tally(0, 0)
     sys.stdout.flush()
-    with multiprocessing.get_context("fork").Pool(4, begin, (cases, os.path.abspath(program))) as pool:
-        for case, faults in zip(cases, pool.imap(outcome_of, range(len(cases)))):
-            for text in faults or ():
-                print(f"{case.name}: {text}")
-            said = "skipped: not possible here" if faults is None else "FAILED" if faults else "ok"
-            print(f"migrate {case.name} ... {said}", flush=True)
-            passed, failed = passed + (faults == []), failed + bool(faults)
-    return passed, failed
+    for case, outcome in zip(cases, lanes.outcomes(cases, os.path.abspath(program), **options)):
+        found = faults_of(outcome)
+        skipped = isinstance(found, Skipped)
+        for text in () if skipped else found:
+            print(f"{case.name}: {text}")
+        said = f"skipped: {found}" if skipped else "FAILED" if found else "ok"
+        print(f"migrate {case.name} ... {said}", flush=True)
+        tally = tally.after(case.name, found)
+    return tally
