@@ -1,13 +1,17 @@
 """Tests of the gate itself, tests/all.py and tests/harness: what fails it, and what its last lines say."""
 
 import contextlib
+import glob
 import io
 import os
+import re
+import shutil
 import signal
 import subprocess
 import tempfile
 
 import lanes
+import packages
 import system
 from alone import Alone, differs
 from tally import Skipped, Tally, faults_of, needs
@@ -79,6 +83,44 @@ def wanting_programs(program, folder):
     return faults
 
 
+def installed(program, folder):
+    """Each program that a case needs is one that .ci/run installs."""
+    with open(f"{TOP}/.ci/run", encoding="utf-8") as file:
+        brought = set(re.findall(r"([\w.-]+):[\w.-]+", file.read()))
+    wanted = set(packages.READERS)
+    for path in glob.glob(f"{TOP}/tests/cases/*.py"):
+        if path != os.path.abspath(__file__):
+            with open(path, encoding="utf-8") as file:
+                wanted |= {name for words in re.findall(r"needs\(([^)]*)\)", file.read()) for name in re.findall(r'"([\w.-]+)"', words)}
+    return [f".ci/run doesn't install {name}" for name in sorted(wanted - brought)]
+
+
+# What stands in for apt-get: it writes down what is asked of it, and can't give what has this name.
+APT = """#!/bin/sh
+echo "$@" >> "$0.asked"
+case "$*" in *rustc*) exit 1 ;; esac
+"""
+
+
+def on_a_bare_machine(program, folder):
+    """.ci/run installs what isn't here, all at once or, where one package can't be had, each by itself, and then runs the tests."""
+    here = f"{folder}/bin"
+    os.mkdir(here)
+    for name in ("sh", "dirname", "sort", "tr", "cat", "python3", "jq"):
+        os.symlink(shutil.which(name), f"{here}/{name}")
+    for name, text in {"apt-get": APT, "make": '#!/bin/sh\necho make "$@"\n'}.items():
+        with open(f"{here}/{name}", "w", encoding="ascii") as file:
+            file.write(text)
+        os.chmod(f"{here}/{name}", 0o755)
+    done = subprocess.run(["sh", f"{TOP}/.ci/run"], env={"PATH": here}, capture_output=True, timeout=60)
+    with open(f"{here}/apt-get.asked", encoding="ascii") as file:
+        update, together, *apart = file.read().splitlines()
+    asked = sorted(line.split()[-1] for line in apart)
+    faults = differs(ran=((done.returncode, done.stdout), (0, b"make test\n")), update=(update.split()[0], "update"))
+    faults += differs(rest=(sorted(it for it in together.split()[1:] if it[0] != "-"), asked), told=(b"not installed: rustc" in done.stderr, True))
+    return faults + differs(some=({"rustc", "slurm-wlm", "munge", "dosfstools"} - set(asked), set()), there=({"jq", "make"} & set(asked), set()))
+
+
 def sequences(program, folder):
     """A sequence of tests/system.py is one case, over as many places as there are."""
     here = [tempfile.mkdtemp(dir=folder) for _ in range(3)]
@@ -91,5 +133,7 @@ CASES = [
     Alone("cases that are killed or never end", broken_cases),
     Alone("the gate's last lines", last_lines),
     Alone("cases that want a program", wanting_programs),
+    Alone("the programs that cases want", installed),
+    Alone(".ci/run on a bare machine", on_a_bare_machine),
     Alone("sequences of the system's calls", sequences),
 ]
