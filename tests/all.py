@@ -31,6 +31,9 @@ SAID = re.compile(r"^rt: |: error: |^Traceback|^\w*Error: ")
 # Of a case's requests for memory the first is refused, and each so many after it; all are by `make allocations`.
 SAMPLE = 7
 
+# What it says of an edit that can't be applied, compiled or read. It fails nothing for that, but such an edit shows nothing.
+BAD_EDIT = re.compile(r": BAD EDIT: ")
+
 # The memory that a proof takes at most, in bytes.
 PROOF = 4 << 30
 
@@ -76,7 +79,7 @@ def run_gate(rt):
 
 def run_once(rt):
     """Runs the gate and shows what it says. Where it gives no counts, there is None for them."""
-    counts, last = None, collections.deque(maxlen=30)
+    counts, bad, last = None, 0, collections.deque(maxlen=30)
     how = {"stdout": subprocess.PIPE, "stderr": subprocess.STDOUT, "text": True, "errors": "replace"}
     how["env"] = {"RT_JOBS": str(proofs_at_once()), **os.environ}
     with progress.Progress(progress.read_crates("crates.txt")) as far, subprocess.Popen([rt, "ci"], **how) as gate:
@@ -84,7 +87,7 @@ def run_once(rt):
             line = line.rstrip("\n")
             far.hear(line)
             told = re.fullmatch(r"(\d+) passed, (\d+) failed", line)
-            counts = told or counts
+            counts, bad = told or counts, bad + bool(BAD_EDIT.search(line))
             print(f"the gate: {line}" if told else line, flush=True)
             if SAID.search(line) and not WENT_WELL.search(line):
                 last.append(line)
@@ -93,7 +96,7 @@ def run_once(rt):
     last.append(f"the gate ended with status {gate.returncode}")
     if counts is None:
         return None, last, table
-    passed, failed = int(counts[1]), int(counts[2])
+    passed, failed = int(counts[1]), int(counts[2]) + bad
     return Tally(passed, max(failed, int(gate.returncode != 0))), last, table
 
 

@@ -8,6 +8,7 @@
 - In docs/PROVED.md the words of code below a crate's heading are declared in that crate, or where `crate::word` says.
 - Each crate of crates.txt has its row in docs/ARCHITECTURE.md and its heading in docs/PROVED.md.
 - Any other word of code, which has a `_`, a `::` or a capital inside small letters, stands somewhere in the code.
+- Each edit of crates/*/must-fail that the prover has to refuse can be applied to the code as it stands.
 """
 
 import functools
@@ -192,6 +193,40 @@ def words(program, folder):
     return faults
 
 
+def edit_faults(text, files):
+    """Why an edit's text can't be applied to these files of its crate, a dict of their texts: each `file:` is there, and each `old:` stands in it
+    once, as the earlier pairs left it."""
+    path, old, pairs = None, None, 0
+    for line in text.splitlines():
+        if line.startswith("file: "):
+            path = line.removeprefix("file: ")
+            if path not in files:
+                yield f"there is no file {path}"
+        elif line.startswith("old: "):
+            old = line.removeprefix("old: ")
+        elif line.startswith("new:") and old and path in files:
+            if files[path].count(old) != 1:
+                yield f"{old!r} stands {files[path].count(old)} times in {path}"
+            files = {**files, path: files[path].replace(old, line.removeprefix("new:").removeprefix(" "))}
+            old, pairs = None, pairs + 1
+    if not pairs or old:
+        yield "an `old:` and a `new:` have to come in pairs, below a `file:`"
+
+
+def edits(program, folder):
+    """Each edit that has to be refused can be applied; and wrong ones are found out."""
+    faults = []
+    for crate in sorted(code_files()):
+        files = {path.removeprefix(f"crates/{crate}/"): text_of(path) for path in code_files()[crate] if "/must-fail/" not in path}
+        for edit in sorted(path for path in code_files()[crate] if path.endswith(".edit")):
+            faults += [f"{edit}: {fault}" for fault in edit_faults(text_of(edit), files)]
+    there = {"src/a.rt": "one two two"}
+    good = "file: src/a.rt\nold: one\nnew: two\nold: two two two\nnew:\n"
+    bad = ("file: src/b.rt\nold: one\nnew: x\n", "file: src/a.rt\nold: two\nnew: x\n", "file: src/a.rt\nold: three\nnew: x\n", "file: src/a.rt\nold: one\n", "")
+    faults += [f"taken for wrong: {fault}" for fault in edit_faults(good, there)]
+    return faults + [f"taken for good: {text!r}" for text in bad if not list(edit_faults(text, there))]
+
+
 def shown(program, folder):
     """The lines of a log in docs/THEOREM.md are those of the run that the demonstration shows."""
     done = subprocess.run(["sh", f"{TOP}/demo/run", program], capture_output=True, check=True, timeout=120)
@@ -216,6 +251,7 @@ CASES = [
     Alone("the promises of each crate", promises),
     Alone("the documents' crates", crates),
     Alone("the documents' words of code", words),
+    Alone("the edits that must be refused", edits),
     Alone("the theorem's lines are the demonstration's", shown),
     Alone("what --gather does", gathering),
 ]

@@ -8,6 +8,7 @@ import re
 import shutil
 import signal
 import subprocess
+import sys
 import tempfile
 
 import lanes
@@ -17,6 +18,35 @@ from alone import Alone, differs
 from tally import Skipped, Tally, faults_of, needs
 
 TOP = os.path.dirname(os.path.dirname(os.path.dirname(os.path.abspath(__file__))))
+
+# What stands in for the toolchain: it says these lines, and ends well.
+GATE = """#!/bin/sh
+cat <<'END'
+{lines}
+3 passed, 0 failed
+END
+"""
+REFUSED = "rt: must-fail pt_name/first.edit: refused, as it must be: src/x.rt:1:1: error"
+BAD = "rt: must-fail pt_name/second.edit: BAD EDIT: it did not reach the prover; the first lines of what it said:"
+
+
+def gate_over(folder, *lines):
+    """The status of the gate over a toolchain that says these lines and builds no program, and the last lines."""
+    with open(f"{folder}/rt", "w", encoding="ascii") as file:
+        file.write(GATE.format(lines="\n".join(lines)))
+    os.chmod(f"{folder}/rt", 0o755)
+    command = [sys.executable, "-B", f"{TOP}/tests/all.py", f"{folder}/rt", f"{folder}/none"]
+    done = subprocess.run(command, cwd=TOP, capture_output=True, timeout=120)
+    return done.returncode, done.stdout.decode().splitlines()
+
+
+def bad_edits(program, folder):
+    """An edit that can't be applied, compiled or read fails the gate, which says it again at the end; the one failure beside it is that nothing was built."""
+    status, lines = gate_over(folder, REFUSED)
+    faults = differs(refused=((status, lines[-1]), (1, "3 passed, 1 failed, 0 skipped")))
+    status, lines = gate_over(folder, REFUSED, BAD, BAD)
+    return faults + differs(bad=((status, lines[-1]), (1, "3 passed, 3 failed, 0 skipped")), said=(lines.count(BAD), 4))
+
 
 def raising(error):
     """A test that raises this."""
@@ -130,6 +160,7 @@ def sequences(program, folder):
 
 
 CASES = [
+    Alone("edits that can't be read fail the gate", bad_edits),
     Alone("cases that are killed or never end", broken_cases),
     Alone("the gate's last lines", last_lines),
     Alone("cases that want a program", wanting_programs),
