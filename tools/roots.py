@@ -1,9 +1,6 @@
 #!/usr/bin/env python3
 """What the guide does with storage roots that pairtree2ocfl made. Python 3.8 or later on Linux, and nothing else.
 
-roots.py damaged ROOT          lists the places in ROOT of objects that aren't whole, a line each, and says why on standard error
-roots.py join ROOT OTHER..     renames the objects of the other roots into ROOT, and lists those whose place is taken; they stay
-
 ROOT and OTHER are folders `ocfl` that pairtree2ocfl made, all with the same tuples. No link is followed, and nothing is written over,
 copied or deleted.
 
@@ -14,9 +11,15 @@ an object of another version of OCFL, and one that has more than one version, ar
 `join` reads no file's content but the inventories. It holds the locks of the folders that ROOT and each OTHER stand in, as a run does,
 and moves nothing to another file system. Stopped at any moment, it goes on when the same command is given again.
 
-The status is 0 where nothing was listed, 1 where something was, and 2 where something was refused or could not be looked at or moved.
+Where standard error is a terminal, a line there shows how far it is: a count of objects, and by their places the share of the root.
+
+The status of `damaged` is 0 where every object is whole, 1 where some were listed that aren't, and 2 where the root was refused or an object
+could not be judged. That of `join` is 0 where all was moved and nothing is left but the roots' own files and empty folders, 1 where the
+places that it lists were taken, and 2 where something was refused, or could not be moved, or isn't the program's and was left out. Standard
+error says what; what can be listed and moved is, also at status 2.
 """
 
+import argparse
 import contextlib
 import errno
 import fcntl
@@ -24,8 +27,10 @@ import hashlib
 import json
 import os
 import re
+import resource
 import stat
 import sys
+import time
 import urllib.parse
 
 EXTENSION = "0003-hash-and-id-n-tuple-storage-layout"
@@ -43,7 +48,7 @@ FILE = os.O_RDONLY | os.O_NOFOLLOW | os.O_NONBLOCK | os.O_CLOEXEC
 
 
 class Refused(Exception):
-    """Why nothing more is done."""
+    """Why nothing more is done; one reason or several."""
 
 
 class Unlike(Exception):
@@ -54,14 +59,46 @@ class Foreign(Exception):
     """Why an object isn't one that this script can judge."""
 
 
+class Progress:
+    """How far it is, on standard error where that is a terminal: a line that is written over, five times a second at most."""
+
+    def __init__(self):
+        self.count, self.next, self.stands = 0, 0.0, False
+        self.goes_to_terminal = os.isatty(2)
+
+    def count_one(self, root, place):
+        """One object more, at this place of a root. Places begin with digits of a digest, so they are spread evenly over a root."""
+        self.count += 1
+        if self.goes_to_terminal and time.monotonic() >= self.next:
+            digits = re.match("[0-9a-f]*(?=/)", place)
+            share = f", {100 * int(digits[0], 16) // 16 ** len(digits[0])} % of {root}" if digits and digits[0] else ""
+            self.write(f"\rroots.py: {self.count} objects{share}\x1b[K")
+            self.next, self.stands = time.monotonic() + 0.2, True
+
+    def clear(self):
+        """Takes the line away."""
+        if self.stands:
+            self.write("\r\x1b[K")
+            self.stands = False
+
+    def write(self, text):
+        with contextlib.suppress(OSError):
+            os.write(2, os.fsencode(text))
+
+
+PROGRESS = Progress()
+
+
 def say(text):
     """A line on standard error."""
+    PROGRESS.clear()
     with contextlib.suppress(OSError):
         os.write(2, os.fsencode(f"roots.py: {text}\n"))
 
 
 def show(text):
     """A line on standard output."""
+    PROGRESS.clear()
     os.write(1, os.fsencode(f"{text}\n"))
 
 
@@ -117,24 +154,27 @@ class Root:
         found = os.fstat(self.fd)
         self.device, self.key = found.st_dev, (found.st_dev, found.st_ino)
         self.size, self.count = self.tuples()
-        self.unjudged = 0
+        self.unjudged = self.strays = 0
 
     def tuples(self):
-        """The layout's two numbers, by the root's own files, which have to be the program's."""
+        """The layout's two numbers, by the root's own three files, which have to be the program's; refused with all that aren't."""
         config = f"extensions/{EXTENSION}/config.json"
-        try:
-            for name, wanted in (("0=ocfl_1.1", b"ocfl_1.1\n"), ("ocfl_layout.json", LAYOUT)):
-                if content(name, self.fd) != wanted:
-                    raise Refused(f"{self.path}/{name} isn't the program's")
-            for above in ("extensions", f"extensions/{EXTENSION}"):
-                with folder(above, self.fd):
-                    pass
-            text = content(config, self.fd)
-            found = re.fullmatch(rb'.*"numberOfTuples":(\d{1,2}),"tupleSize":(\d{1,2})}', text)
-        except (Unlike, FileNotFoundError, NotADirectoryError) as error:
-            raise Refused(f"{self.path} isn't a storage root of the program: {error}") from error
-        if not found or text != config_of(*map(int, found.groups())):
-            raise Refused(f"{self.path}/{config} isn't the program's")
+        texts, faults = {}, []
+        for name, wanted in (("0=ocfl_1.1", b"ocfl_1.1\n"), ("ocfl_layout.json", LAYOUT), (config, None)):
+            try:
+                for above in ("extensions", f"extensions/{EXTENSION}") if name == config else ():
+                    with folder(above, self.fd):
+                        pass
+                texts[name] = content(name, self.fd)
+                if wanted not in (None, texts[name]):
+                    faults.append(f"{self.path}/{name} isn't the program's")
+            except (Unlike, FileNotFoundError, NotADirectoryError) as error:
+                faults.append(f"{self.path} isn't a storage root of the program: {error}")
+        found = re.fullmatch(rb'.*"numberOfTuples":(\d{1,2}),"tupleSize":(\d{1,2})}', texts.get(config, b""))
+        if config in texts and not (found and texts[config] == config_of(*map(int, found.groups()))):
+            faults.append(f"{self.path}/{config} isn't the program's")
+        if faults:
+            raise Refused(*faults)
         return int(found[2]), int(found[1])
 
     def __str__(self):
@@ -148,8 +188,10 @@ class Root:
             if whole in ("0=ocfl_1.1", "ocfl_layout.json", "extensions"):
                 continue
             if not self.belongs(names, name) or not is_folder(name, above):
+                self.strays += 1
                 say(f"{self}/{whole}: it isn't a place of the program's, and is left out")
             elif len(names) == self.count:
+                PROGRESS.count_one(self, whole)
                 yield whole, name, above
             else:
                 yield from self.entered(names, name, above)
@@ -300,7 +342,7 @@ def lock(fd, root):
 
 def agree(roots):
     """Sees to it that roots can be joined: each is given once, none lies in another, with one layout on one file system."""
-    first, seen = roots[0], set()
+    first, seen, keys = roots[0], set(), {root.key for root in roots}
     for root in roots:
         if root.key in seen:
             raise Refused(f"{root} is given twice")
@@ -312,7 +354,8 @@ def agree(roots):
         above = os.path.realpath(root.path)
         while above != os.path.dirname(above):
             above = os.path.dirname(above)
-            if any(os.path.samestat(os.stat(above), os.fstat(other.fd)) for other in roots):
+            found = os.stat(above)
+            if (found.st_dev, found.st_ino) in keys:
                 raise Refused(f"{root} lies in another of the roots")
 
 
@@ -377,6 +420,7 @@ def move_all(root, other):
 
 def join(paths):
     """Moves the objects of other roots into the first, and gives the status."""
+    open_at_most(3 * len(paths) + 64)
     with contextlib.ExitStack() as last:
         root, *others = roots = [Root(path, last) for path in paths]
         agree(roots)
@@ -384,22 +428,52 @@ def join(paths):
         for it in roots:
             hold(it, held, last)
         taken = sum([move_all(root, other) for other in others])
-        return 2 if any(other.unjudged for other in others) else min(taken, 1)
+        return 2 if any(other.unjudged or other.strays for other in others) else min(taken, 1)
+
+
+def open_at_most(count):
+    """Lets so many files be open at once, as far as the system allows it: a root and the folder that it stands in are open to the end."""
+    soft, hard = resource.getrlimit(resource.RLIMIT_NOFILE)
+    if soft != resource.RLIM_INFINITY and count > soft:
+        with contextlib.suppress(OSError, ValueError):
+            resource.setrlimit(resource.RLIMIT_NOFILE, (count if hard == resource.RLIM_INFINITY else min(count, hard), hard))
+
+
+class Parser(argparse.ArgumentParser):
+    """A parser whose refusal is this script's."""
+
+    def error(self, message):
+        raise Refused(f"the words are wrong: {message}\n\n{self.format_usage()}--help says more")
+
+
+def parser():
+    """The words that the script takes."""
+    how = {"formatter_class": argparse.RawDescriptionHelpFormatter, "allow_abbrev": False}
+    whole = Parser(prog="roots.py", description=__doc__, **how)
+    commands = whole.add_subparsers(dest="command", metavar="damaged|join", required=True, parser_class=Parser)
+    one = commands.add_parser("damaged", help="lists the places in ROOT of objects that aren't whole, a line each, and says why on standard error", **how)
+    one.add_argument("root", metavar="ROOT", help="the root that is looked at")
+    one = commands.add_parser("join", help="renames the objects of the other roots into ROOT, and lists those whose place is taken; they stay", **how)
+    one.add_argument("root", metavar="ROOT", help="the root that the objects are moved into")
+    one.add_argument("others", metavar="OTHER", nargs="+", help="a root whose objects are moved")
+    return whole
 
 
 def run(words):
     """Does what the words ask for, and gives the status."""
-    if len(words) == 2 and words[0] == "damaged":
-        return damaged(words[1])
-    if len(words) > 2 and words[0] == "join":
-        return join(words[1:])
-    raise Refused(f"the words are wrong\n\n{__doc__}")
+    asked = parser().parse_args(words)
+    status = damaged(asked.root) if asked.command == "damaged" else join([asked.root, *asked.others])
+    PROGRESS.clear()
+    return status
 
 
 def main():
     try:
         return run(sys.argv[1:])
-    except (Refused, Unlike) as error:
+    except Refused as error:
+        for text in error.args:
+            say(text)
+    except Unlike as error:
         say(error)
     except OSError as error:
         copied = "; copy the root there by cp -a, and join the copy" if error.errno == errno.EXDEV else ""

@@ -3,7 +3,9 @@
 import contextlib
 import fcntl
 import os
+import pty
 import re
+import resource
 import subprocess
 import sys
 
@@ -22,7 +24,7 @@ def roots(folder, *words, **options):
     """What roots.py answers: its status, its lines and what it said; a traceback is never one of them."""
     options = {"stdout": subprocess.PIPE, "stderr": subprocess.PIPE, **options}
     done = subprocess.run([*ROOTS, *words], cwd=folder, timeout=120, **options)
-    said = done.stderr.decode(errors="replace")
+    said = (done.stderr or b"").decode(errors="replace")
     if "Traceback" in said:
         raise OSError(said)
     return done.returncode, (done.stdout or b"").decode(errors="replace").splitlines(), said
@@ -202,7 +204,7 @@ def tells(program, folder):
         os.chmod(folder, 0o755)
         os.chmod(f"{top}/{place('vc')}/v1/content/a.txt", 0)
         os.chmod(f"{top}/{place('cc').split('/')[0]}", 0)
-        script = f"import sys, os\nsys.path.insert(0, {TOP + '/tools'!r})\nimport roots\nos.setuid({NOBODY})\nsys.exit(roots.main())"
+        script = f"import sys, os, shutil, locale\nsys.path.insert(0, {TOP + '/tools'!r})\nimport roots\nos.setuid({NOBODY})\nsys.exit(roots.main())"
         command = [sys.executable, "-B", "-c", script, "damaged", "b/ocfl"]
         done = subprocess.run(command, cwd=folder, capture_output=True, timeout=120)
         unread = (done.returncode, done.stdout.decode().splitlines(), done.stderr.count(b"Permission denied"))
@@ -210,8 +212,81 @@ def tells(program, folder):
     return faults
 
 
+def helps(program, folder):
+    """Help is asked for with status 0, and says the statuses; wrong words are refused with the usage."""
+    faults = []
+    for words, part in {("--help",): "The status of `damaged`", ("-h",): "That of `join`", ("join", "--help"): "OTHER", ("damaged", "-h"): "ROOT"}.items():
+        status, lines, said = roots(folder, *words)
+        faults += differs(**{" ".join(words): ((status, any(part in line for line in lines), said), (0, True, ""))})
+    for words in ((), ("join",), ("join", "a/ocfl"), ("damaged",), ("damaged", "a", "b"), ("other", "a"), ("join", "--force", "a", "b")):
+        status, lines, said = roots(folder, *words)
+        faults += differs(**{f"words {words}": ((status, lines, "the words are wrong" in said, "usage: roots.py" in said), (2, [], True, True))})
+    return faults
+
+
+def all_named(program, folder):
+    """Of a root whose own files are damaged all that are damaged are named at once, by `damaged` and by `join`."""
+    three(folder)
+    config = f"extensions/{stores.LAYOUT_NAME}/config.json"
+    whole = {f"b/ocfl/{path}": read_tree(f"{folder}/b/ocfl")[path] for path in ("0=ocfl_1.1", "ocfl_layout.json", config)}
+    faults = []
+    for bad in ({"0=ocfl_1.1": b"", config: b"{}"}, {"0=ocfl_1.1": GONE, "ocfl_layout.json": b"", config: GONE}, {"ocfl_layout.json": GONE, config: b""}):
+        build(f"{folder}/b/ocfl", bad)
+        for words in (("damaged", "b/ocfl"), ("join", "a/ocfl", "b/ocfl")):
+            status, lines, said = roots(folder, *words)
+            told = [sum(name in line for line in said.splitlines()) for name in ("0=ocfl_1.1", "ocfl_layout.json", config)]
+            wanted = [int(name in bad) for name in ("0=ocfl_1.1", "ocfl_layout.json", config)]
+            faults += differs(**{f"{words[0]} {sorted(bad)}": ((status, lines, told), (2, [], wanted))})
+        build(folder, whole)
+    return faults + differs(mended=(roots(folder, "damaged", "b/ocfl"), (0, [], "")))
+
+
+def strays(program, folder):
+    """What isn't the program's stays in the other root and is told, with a status that isn't that of a clean join; `damaged` judges objects alone."""
+    three(folder)
+    build(folder, {"b/ocfl/notes.txt": b"1", f"b/ocfl/{place('cc')}": GONE})
+    status, lines, said = roots(folder, "join", "a/ocfl", "b/ocfl")
+    faults = differs(left=((status, lines, said), (2, [], "roots.py: b/ocfl/notes.txt: it isn't a place of the program's, and is left out\n")))
+    faults += differs(moved=(os.path.isdir(f"{folder}/a/ocfl/{place(LONG)}"), True), there=(os.path.exists(f"{folder}/b/ocfl/notes.txt"), True))
+    faults += differs(damaged=(roots(folder, "damaged", "b/ocfl")[:2], (0, [])))
+    build(folder, {"b/ocfl/notes.txt": GONE, "a/ocfl/notes.txt": b"1"})
+    return faults + differs(clean=(roots(folder, "join", "a/ocfl", "b/ocfl"), (0, [], "")))
+
+
+def on_a_terminal(program, folder):
+    """On a terminal it shows how far it is, in a line that is taken away at the end and before each other line; elsewhere nothing."""
+    three(folder)
+    build(f"{folder}/a/ocfl/{place('aa')}", {"v1/content/a.txt": b""})
+    ours, theirs = pty.openpty()
+    done = roots(folder, "damaged", "a/ocfl", stderr=theirs)
+    os.close(theirs)
+    said = b""
+    with contextlib.suppress(OSError):
+        while piece := os.read(ours, 65536):
+            said += piece
+    os.close(ours)
+    faults = differs(listed=(done[:2], (1, [place("aa")])), one=(re.match(rb"\rroots.py: 1 objects, \d+ % of a/ocfl\x1b\[K", said) is not None, True))
+    told = re.search(rb"\r\x1b\[Kroots.py: a/ocfl/[^\r\n]* isn't whole\r\n", said) is not None
+    return faults + differs(told=(told, True), elsewhere=("objects" in roots(folder, "damaged", "a/ocfl")[2], False))
+
+
+def many_roots(program, folder):
+    """More roots than files may be open at once, as the system begins with, are joined."""
+    names = [f"{number:03}" for number in range(60)]
+    for name in names:
+        build(f"{folder}/{name}", root(an_object(name)))
+    few = {"preexec_fn": lambda: resource.setrlimit(resource.RLIMIT_NOFILE, (50, resource.getrlimit(resource.RLIMIT_NOFILE)[1]))}
+    faults = differs(joined=(roots(folder, "join", *(f"{name}/ocfl" for name in names), **few), (0, [], "")))
+    return faults + list(stores.differences(read_tree(f"{folder}/000"), stores.with_folders(root(*map(an_object, names)))))
+
+
 CASES = [
     Alone("roots are joined", joins),
+    Alone("help of roots.py", helps),
+    Alone("all damaged files of a root are named", all_named),
+    Alone("what a join leaves out", strays),
+    Alone("roots.py on a terminal", on_a_terminal),
+    Alone("joining many roots", many_roots),
     Alone("roots that can't be joined", refusals),
     Alone("what stays when roots are joined", leaves),
     Alone("roots on several file systems", other_systems),

@@ -5,6 +5,7 @@ The number of the share that an identifier is of is computed here, apart from th
 """
 
 import collections
+import fcntl
 import hashlib
 import json
 import os
@@ -142,6 +143,57 @@ def here(program, folder):
     return faults + differs(again=((again.returncode, again.stdout), (0, b"")))
 
 
+def by_script(program, folder, *words, script=SCRIPT, **given):
+    """What the script answers: its status, its output, and what it said."""
+    told_it = {name: value for name, value in {**environment(program, folder), **given}.items() if value is not None}
+    done = subprocess.run([script, *words], env=told_it, capture_output=True, timeout=300)
+    return done.returncode, done.stdout, done.stderr.decode()
+
+
+def one_share(program, folder):
+    """One share is the whole: nothing is joined, and the same command may be given again; in a checkout the script finds roots.py."""
+    ran(program, folder, "whole")
+    faults = []
+    for _ in range(2):
+        faults += differs(one=(by_script(program, folder, "here", "1", ROOTS=None), (0, b"", "")))
+    return faults + list(differences(read_tree(f"{folder}/out of it/1"), read_tree(f"{folder}/whole")))
+
+
+def no_number(program, folder):
+    """A number of shares that can't be, or no roots.py, is refused before the first share, with the reason; nothing is made."""
+    faults = []
+    for words in (("here", "5000"), ("here", "4097"), ("here", "0"), ("here", "x"), ("here",), ("here", "1 "), ("cluster", "4097"), ("here", "010")):
+        status, out, said = by_script(program, folder, *words)
+        faults += differs(**{" ".join(words): ((status, out, "N is a number from 1 to 4096" in said), (2, b"", True))})
+    alone = shutil.copy(SCRIPT, f"{folder}/shares.sh")
+    for given, script in (({"ROOTS": None}, alone), ({"ROOTS": f"{folder}/none"}, SCRIPT)):
+        status, out, said = by_script(program, folder, "here", "2", script=script, **given)
+        faults += differs(roots=((status, out, "name it by ROOTS" in said), (2, b"", True)))
+    status, _, said = by_script(program, folder)
+    faults += differs(usage=((status, "shares.sh here N" in said), (2, True)))
+    return faults + differs(made=(os.path.exists(f"{folder}/out of it"), False))
+
+
+def faulty_share(program, folder):
+    """A share that ends with a fault, or whose folder another run has, is named with its status and its log, the others are carried, and none
+    is joined; mended, the same command does the rest."""
+    many(folder, 30)
+    ran(program, folder, "whole")
+    build(f"{folder}/out of it", {"2/ocfl": b"", "3": DIR})
+    held = os.open(f"{folder}/out of it/3", os.O_RDONLY)
+    fcntl.flock(held, fcntl.LOCK_EX)
+    status, out, said = by_script(program, folder, "here", "4")
+    os.close(held)
+    lines = said.splitlines()
+    faults = differs(status=(status, 3), out=(out, b""), last=("the shares aren't joined" in lines[-1], True))
+    faults += differs(fault=(f"shares.sh: share 2 of 4 ended with status 3; its log is {folder}/out of it/2.log" in lines, True))
+    faults += differs(held=(f"shares.sh: share 3 of 4: another run has {folder}/out of it/3" in lines, True))
+    faults += differs(carried=([os.path.isdir(f"{folder}/out of it/{number}/ocfl") for number in (1, 4)], [True, True]))
+    os.remove(f"{folder}/out of it/2/ocfl")
+    faults += differs(mended=(by_script(program, folder, "here", "4"), (0, b"", "")))
+    return faults + list(differences(read_tree(f"{folder}/out of it/1"), read_tree(f"{folder}/whole")))
+
+
 CONFIGURATION = """ClusterName=here
 SlurmctldHost={host}(127.0.0.1)
 SlurmUser=root
@@ -250,5 +302,8 @@ CASES = [
     *(shares_of(seed) for seed in range(40)),
     Alone("the one share of one", whole_share),
     Alone("shares by the script, on this machine", here),
+    Alone("one share by the script", one_share),
+    Alone("shares that the script can't carry", no_number),
+    Alone("a share that faults, by the script", faulty_share),
     Alone("shares by the script, on a cluster", cluster),
 ]
