@@ -33,10 +33,10 @@ allocations: build ## refuse each request for memory of the program in turn, whe
 bench: build ## processor time of a run beside sha512sum, cp and, where rustc is, plain Rust over the same stores
 	@$(PYTHON) bench/bench.py $(PROGRAM)
 
-install: ## copy the program, its man page and its completions to PREFIX (/usr/local unless given), below DESTDIR
+install: ## copy the program, its man page, completions and documents to PREFIX (/usr/local unless given), below DESTDIR
 	@test -n "$(PREFIX)" || { echo "pairtree2ocfl: PREFIX is empty: name the folder to install to, as PREFIX=/usr/local" >&2; exit 1; }
 	@test -x $(PROGRAM) || { echo "pairtree2ocfl: run make first, which builds $(PROGRAM)" >&2; exit 1; }
-	sh tools/install.sh $(PROGRAM) "$(DESTDIR)$(PREFIX)"
+	PYTHON=$(PYTHON) sh tools/install.sh $(PROGRAM) "$(DESTDIR)$(PREFIX)"
 
 uninstall: ## take away what install copied
 	@test -n "$(PREFIX)" || { echo "pairtree2ocfl: PREFIX is empty: name the folder that it was installed to" >&2; exit 1; }

@@ -16,10 +16,9 @@ doc=$root/usr/share/doc/pairtree2ocfl
 mkdir -p "$root/DEBIAN" "$doc" "$folder"
 chmod 755 "$work" "$root"
 # lintian: unstripped-binary-or-object: the program is shipped byte for byte as the toolchain built it.
+cp "$top/CHANGELOG.md" "$doc"
 sh "$top/tools/install.sh" "$program" "$root/usr"
 gzip -9n "$root/usr/share/man/man1/pairtree2ocfl.1"
-python3 "$top/tools/shipped.py" "$top" "$doc"
-cp "$top/CHANGELOG.md" "$doc"
 day=$(sed -n "s/^## \[$version\] - //p" "$top/CHANGELOG.md")
 {
     printf 'pairtree2ocfl (%s) unstable; urgency=medium\n\n  * What this version brought is in CHANGELOG.md.\n\n' "$version"

@@ -12,10 +12,9 @@ work=$(mktemp -d)
 trap 'rm -rf "$work"' EXIT
 
 mkdir -p "$work/$name" "$folder"
-sh "$top/tools/install.sh" "$program" "$work/$name"
 cp "$top/CHANGELOG.md" "$top/LICENSE-MIT" "$top/LICENSE-APACHE" "$work/$name"
 cp -R "$top/LICENSES" "$work/$name"
-python3 "$top/tools/shipped.py" "$top" "$work/$name"
+sh "$top/tools/install.sh" "$program" "$work/$name" .
 chmod -R u=rwX,go=rX "$work/$name"
 (cd "$work/$name" && find . -type f ! -name SHA256SUMS | LC_ALL=C sort | sed 's|^\./||' | tr '\n' '\0' | xargs -0 sha256sum > ../SHA256SUMS)
 mv "$work/SHA256SUMS" "$work/$name/SHA256SUMS"

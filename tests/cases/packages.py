@@ -23,6 +23,8 @@ INSTALLED = {
     "share/pairtree2ocfl/roots.py",
     "share/pairtree2ocfl/shares.sh",
 }
+DOCUMENTS = {"README.md", *(f"docs/{os.path.basename(path)}" for path in glob.glob(f"{TOP}/docs/*.md"))}
+IN_DOC = "share/doc/pairtree2ocfl"
 
 
 def text_of(path):
@@ -123,6 +125,17 @@ def read_by(tool):
     return Alone(f"{os.path.basename(READERS[tool][-1])}, read by {tool}", test)
 
 
+def statuses(program, folder):
+    """The README, the man page and docs/FORMATS.md tell each status of a run and of an audit; the program gives them."""
+    readme, page, formats = text_of("README.md"), text_of("man/pairtree2ocfl.1"), text_of("docs/FORMATS.md")
+    rows = {name: dict(re.findall(r"^\| ([0-3]) \| (.*) \|$", text, re.MULTILINE)) for name, text in {"README": readme, "FORMATS": formats}.items()}
+    rows["the man page"] = dict(re.findall(r"^\.B ([0-3])\n(.*?)(?=^\.TP|^\.SH)", page.split(".SH EXIT STATUS")[1], re.MULTILINE | re.DOTALL))
+    words = {"0": "audit", "1": "audit", "2": "lie in one another", "3": "fault"}
+    faults = [f"{name} doesn't tell status {number} of {word}" for name, told in rows.items() for number, word in words.items() if word not in told.get(number, "")]
+    command = ["sh", "-c", '"$0" migrate --created 2024-05-01T12:00:00Z --name Ada s d > log && "$0" audit s d > log; echo $?; "$0" audit s . > log; echo $?', program]
+    return faults + differs(found=(done(*command, cwd=folder), "0\n1\n"))
+
+
 def versions(program, folder):
     """The version stands in the changelog first and in the man page, and the toolchain's line has the toolchain's logic."""
     first, toolchain = done(program, "--version").splitlines()
@@ -158,13 +171,14 @@ def text_files(top):
 
 
 def installed(program, folder):
-    """What is installed runs, and what is uninstalled leaves no file."""
+    """What is installed runs, with the documents, whose links lead to what is there; and what is uninstalled leaves no file, nor folder of documents."""
     root = f"{folder}/root/usr"
     done("sh", f"{TOP}/tools/install.sh", program, root)
-    faults = differs(files=(text_files(root), INSTALLED))
+    faults = differs(files=(text_files(root), INSTALLED | {f"{IN_DOC}/{name}" for name in DOCUMENTS}))
+    faults += dead_links(f"{root}/{IN_DOC}") + wrong_modes(root)
     faults += differs(runs=(done(f"{root}/bin/pairtree2ocfl", "names", "abc"), "ab/c\nba7/816/bf8/abc\n"))
     done("sh", f"{TOP}/tools/install.sh", "--remove", root)
-    return faults + differs(left=(text_files(root), set()))
+    return faults + differs(left=(text_files(root), set()), folder=(os.path.exists(f"{root}/{IN_DOC}"), False))
 
 
 def no_prefix(program, folder):
@@ -208,7 +222,7 @@ def archived(program, folder):
     for name, digest in sums.items():
         with open(f"{top}/{name}", "rb") as file:
             faults += differs(**{name: (hashlib.sha256(file.read()).hexdigest(), digest)})
-    wanted = INSTALLED | {"README.md", "CHANGELOG.md", "LICENSE-MIT", "LICENSE-APACHE", "docs/GUIDE.md", "LICENSES/clap/LICENSE-MIT"}
+    wanted = INSTALLED | DOCUMENTS | {"CHANGELOG.md", "LICENSE-MIT", "LICENSE-APACHE", "LICENSES/clap/LICENSE-MIT"}
     faults += differs(missing=(wanted - set(sums), set()))
     return faults + differs(runs=(done(f"{top}/bin/pairtree2ocfl", "-V"), done(program, "-V")))
 
@@ -234,8 +248,8 @@ def packaged(program, folder):
         done(*command, env={**os.environ, "PATH": f"{os.environ['PATH']}:/usr/sbin:/sbin"})
     faults += differs(runs=(done(f"{root}/usr/bin/pairtree2ocfl", "names", "abc"), "ab/c\nba7/816/bf8/abc\n"))
     files = {name.removesuffix(".gz") for name in text_files(f"{root}/usr")}
-    faults += dead_links(f"{root}/usr/share/doc/pairtree2ocfl") + wrong_modes(f"{root}/usr")
-    return faults + differs(missing=(INSTALLED - files, set()))
+    faults += dead_links(f"{root}/usr/{IN_DOC}") + wrong_modes(f"{root}/usr")
+    return faults + differs(missing=((INSTALLED | {f"{IN_DOC}/{name}" for name in DOCUMENTS}) - files, set()))
 
 
 def linted(program, folder):
@@ -260,6 +274,7 @@ CASES = [
     Alone("no option is made up", known),
     Alone("bash completes", in_bash),
     *map(read_by, READERS),
+    Alone("the statuses are told", statuses),
     Alone("one version", versions),
     Alone("licences", licences),
     Alone("install and uninstall", installed),
