@@ -1,5 +1,7 @@
-"""Tests of what the guide does with the program and its storage roots: after a power cut, and with many stores."""
+"""Tests of what the guide, and the README's quick start, do with the program: from the beginning, after a power cut, and with many stores."""
 
+import csv
+import json
 import os
 import re
 import shlex
@@ -22,7 +24,7 @@ TRICKY = {"blank ": b"1", "return\r": b"2", "back\\slash": b"3", "line\nfeed": b
 def migrate(program, folder, source, dest, *words):
     """A run, and its status."""
     command = [program, "migrate", *MEANT, *words, source, dest]
-    return subprocess.run(command, cwd=folder, stdout=subprocess.DEVNULL, timeout=120).returncode
+    return subprocess.run(command, cwd=folder, stdout=subprocess.DEVNULL, stderr=subprocess.DEVNULL, timeout=120).returncode
 
 
 def roots(folder, *words):
@@ -51,38 +53,72 @@ DAMAGES = {
 }
 
 
+# Twins of `bb` and of `a/` of which one spelling, or the other, comes first in a walk; their files are other ones.
+TWINS = {"pairtree_root/^6/2b/obj/first": b"1", "pairtree_root/a^/2f/obj/second": b"2"}
+
+
+def by_guide(program, folder, heading, *parts):
+    """What the block of the guide with these texts prints, over the store s and the destination d; what it says on standard error isn't judged."""
+    script = guide_block(heading, *parts).replace("SOURCE", "s").replace("DEST", "d")
+    done = subprocess.run(["bash", "-u", "-c", script], cwd=folder, env=with_program(program, folder), capture_output=True, timeout=120)
+    return done.stdout.decode().splitlines()
+
+
+def listed(folder):
+    """The places that the guide's commands have listed."""
+    with open(f"{folder}/damaged.txt", encoding="utf-8") as file:
+        return sorted(file.read().splitlines())
+
+
+def inodes(folder, name):
+    """The numbers of an object's files."""
+    top = f"{folder}/d/ocfl/{stores.place(name)}"
+    return {f"{above}/{file}": os.stat(f"{above}/{file}").st_ino for above, _, files in os.walk(top) for file in files}
+
+
 def after_power_cut(program, folder):
-    """Each damaged object is listed and no other; taken away and carried again they are whole."""
+    """The guide's steps in their order, also where the root's own files are damaged: each damaged object is listed and no other; taken away and
+    carried again they are whole. Whole objects stay, though a twin of one differs."""
+    needs("jq", "bash")
     subprocess.run(["rm", "-r", f"{folder}/s"], check=True)
-    build(f"{folder}/s", identifiers(*DAMAGES, "ba", "bb"))
-    faults = differs(first=(migrate(program, folder, "s", "d"), 0))
-    whole = read_tree(f"{folder}/d")
+    build(f"{folder}/s", {**identifiers(*DAMAGES, "ba", "bb", "a="), **TWINS})
+    faults, heading = differs(first=(migrate(program, folder, "s", "d"), 1)), "After a power cut"
+    whole, kept = read_tree(f"{folder}/d"), [inodes(folder, name) for name in ("ba", "bb", "a/")]
     faults += differs(nothing=(roots(folder, "damaged", "d/ocfl"), (0, [])))
     for name, damage in DAMAGES.items():
-        place = f"{folder}/d/ocfl/{stores.place(name)}"
-        build(place, damage)
+        build(f"{folder}/d/ocfl/{stores.place(name)}", damage)
     bad = b"x\xff\n../y".decode(errors="surrogateescape").replace("/", "_")
     build(f"{folder}/d/ocfl", {f"aaa/bbb/ccc/{bad}": b"", "notes.txt": b"not the program's"})
-    wanted = [stores.place(name) for name in DAMAGES]
-    status, listed = roots(folder, "damaged", "d/ocfl")
-    faults += differs(status=(status, 1), listed=(sorted(listed), sorted(wanted)))
-    for part in ("> damaged.txt", "while"):
-        script = guide_block("After a power cut", part).replace("DEST", "d")
-        subprocess.run(["sh", "-u", "-c", script], cwd=folder, env=ENVIRONMENT, stderr=subprocess.DEVNULL, timeout=120)
+    build(f"{folder}/d", {"ocfl/ocfl_layout.json": b"", "ocfl/0=ocfl_1.1": stores.GONE, "staging/left": b""})
+    wanted = sorted(stores.place(name) for name in DAMAGES)
+    by_guide(program, folder, heading, "rm -rf DEST/staging")
+    faults += differs(refused=(listed(folder), []), staging=(os.path.exists(f"{folder}/d/staging"), False))
+    by_guide(program, folder, heading, "fresh/store")
+    faults += differs(listed=(listed(folder), wanted), status=(roots(folder, "damaged", "d/ocfl")[0], 1))
+    by_guide(program, folder, heading, "while")
     build(f"{folder}/d/ocfl", {"aaa": stores.GONE, "notes.txt": stores.GONE})
     faults += differs(again=(migrate(program, folder, "s", "d"), 1))
-    faults += [f"after the mending: {fault}" for fault in stores.differences(read_tree(f"{folder}/d"), whole)]
-    return faults + differs(nothing=(roots(folder, "damaged", "d/ocfl"), (0, [])))
+    faults += differs(nothing=(by_guide(program, folder, heading, "damaged DEST/ocfl\n"), []))
+    faults += differs(kept=([inodes(folder, name) for name in ("ba", "bb", "a/")], kept))
+    told = by_guide(program, folder, heading, "audit SOURCE DEST")
+    bb, slash = stores.place("bb"), stores.place("a/")
+    lines = [f"{slash}\ta^/2f/obj\tv1/content/second\tmissing", f"{bb}\tbb/obj\tv1/content/a\tmissing", *sorted([bb, slash])]
+    faults += differs(twins=(sorted(told), sorted(lines)))
+    return faults + [f"after the mending: {fault}" for fault in stores.differences(read_tree(f"{folder}/d"), whole)]
 
 
 def damaged_root(program, folder):
-    """A root whose own files are damaged is told, and nothing is listed."""
+    """A root whose own files are damaged is told, and nothing is listed; by the guide's commands it has them again."""
     faults = differs(first=(migrate(program, folder, "s", "d"), 0))
-    for path in ("0=ocfl_1.1", "ocfl_layout.json", f"extensions/{stores.LAYOUT_NAME}/config.json"):
-        held = read_tree(f"{folder}/d")[f"ocfl/{path}"]
-        build(f"{folder}/d/ocfl", {path: b""})
-        faults += differs(**{path: (roots(folder, "damaged", "d/ocfl"), (2, []))})
-        build(f"{folder}/d/ocfl", {path: held})
+    whole = read_tree(f"{folder}/d")
+    config = f"extensions/{stores.LAYOUT_NAME}/config.json"
+    for bad in ({"0=ocfl_1.1": b""}, {"ocfl_layout.json": stores.GONE}, {config: b""}, {"extensions": stores.GONE, "0=ocfl_1.1": b"x"}):
+        build(f"{folder}/d/ocfl", bad)
+        faults += differs(**{f"{sorted(bad)}": (roots(folder, "damaged", "d/ocfl"), (2, []))})
+        faults += differs(run=(migrate(program, folder, "s", "d"), 3))
+        faults += differs(said=(by_guide(program, folder, "After a power cut", "fresh/store"), []), list=(listed(folder), []))
+        faults += list(stores.differences(read_tree(f"{folder}/d"), whole))
+        subprocess.run(["rm", "-r", f"{folder}/fresh"], check=True)
     return faults + differs(nothing=(roots(folder, "damaged", "d/ocfl"), (0, [])))
 
 
@@ -92,6 +128,27 @@ def guide_block(heading, *parts):
         below = file.read().split(f"## {heading}\n", 1)[1].split("\n## ", 1)[0]
     blocks = re.findall(r"(?:^    .*\n?)+", below, re.MULTILINE)
     return next(block for block in blocks if all(part in block for part in parts))
+
+
+def table(program, folder):
+    """The guide's table of the log has a line for each of the log's, with the same values, below one that names its columns; an audit's too."""
+    needs("jq", "bash")
+    build(f"{folder}/s/pairtree_root", {**STORE, 'q"/,x/obj/f': b"1", "^0/a,/obj/f": b"1"})
+    with open(f"{folder}/run-1.log", "wb") as log:
+        subprocess.run([program, "migrate", *MEANT, "s", "d"], cwd=folder, stdout=log, timeout=120)
+    faults = []
+    for words in (None, ("audit", "s", "d")):
+        if words:
+            build(f"{folder}/d/ocfl/{stores.place('abce')}", {"v1/content/f": b"2"})
+            with open(f"{folder}/run-1.log", "wb") as log:
+                subprocess.run([program, *words], cwd=folder, stdout=log, timeout=120)
+        by_guide(program, folder, "Reading the log", "@csv")
+        with open(f"{folder}/run-1.log", encoding="utf-8") as log, open(f"{folder}/run-1.csv", encoding="utf-8", newline="") as made:
+            *entries, _ = map(json.loads, log)
+            found = [{name: value for name, value in row.items() if value} for row in csv.DictReader(made)]
+        wanted = [{name: str(value) for name, value in entry.items() if value != ""} for entry in entries]
+        faults += differs(lines=(len(found) > 5, True), table=(found, wanted))
+    return faults
 
 
 def many_stores(program, folder):
@@ -131,8 +188,9 @@ def many_stores(program, folder):
 
 def with_program(program, folder):
     """An environment in which the guide's commands find the program and roots.py."""
-    os.makedirs(f"{folder}/bin")
-    os.symlink(program, f"{folder}/bin/pairtree2ocfl")
+    if not os.path.isdir(f"{folder}/bin"):
+        os.mkdir(f"{folder}/bin")
+        os.symlink(program, f"{folder}/bin/pairtree2ocfl")
     return {**ENVIRONMENT, "PATH": f"{folder}/bin:{os.environ['PATH']}", "created": "2024-05-01T12:00:00Z"}
 
 
@@ -175,8 +233,7 @@ WALK = [
     ("! -type f", "ot/he", ["s/pairtree_root/ot/he/obj/link"]),
     ("wc -c", "ab/ce", ["1"]),
     ("-mindepth 5", None, ["2"]),
-    ("audit SOURCE DEST", None, []),
-    ('"as":"differs"', None, None),
+    ("audit SOURCE DEST > audit.log", None, []),
     ("roots=", None, []),
     ("-empty -delete", None, []),
 ]
@@ -206,7 +263,7 @@ def walk(program, folder):
 
 
 # The blocks that other cases run.
-ELSEWHERE = ("shares.sh here", "--share K/N", "damaged.txt", 'damaged DEST/ocfl', "xargs", "#SBATCH", "join out", "rm -r DEST/staging")
+ELSEWHERE = ("shares.sh here", "--share K/N", "damaged.txt", 'damaged DEST/ocfl', "audit-2.log", "@csv", "xargs", "#SBATCH", "join out", "rm -r DEST/staging")
 
 
 def guide_blocks():
@@ -260,12 +317,41 @@ def commands(program, folder):
     return faults
 
 
+def quick_start(program, folder):
+    """The README's quick start, typed as it stands at the top of the repository, prints what stands there."""
+    with open(f"{TOP}/README.md", encoding="utf-8") as file:
+        block = re.search(r"(?:^    .*\n)+", file.read().split("## Quick start\n", 1)[1], re.MULTILINE)[0]
+    subprocess.run(["cp", "-R", f"{TOP}/demo", folder], check=True)
+    environment, faults = with_program(program, folder), []
+    for part in re.split(r"^    \$ ", block, flags=re.MULTILINE)[1:]:
+        command, *wanted = part.rstrip("\n").split("\n")
+        done = subprocess.run(["bash", "-u", "-c", command], cwd=folder, env=environment, capture_output=True, timeout=120)
+        faults += differs(**{command: ((done.stdout.decode().splitlines(), done.stderr), ([line.strip() for line in wanted], b""))})
+    return faults + differs(shown=(block.count('{"as"') > 2, True))
+
+
+def own_logs(program, folder):
+    """Each run of the guide, of the README and of the man page has a log of its own: none writes over another's, or behind it."""
+    faults = []
+    for path in ("docs/GUIDE.md", "README.md", "man/pairtree2ocfl.1"):
+        with open(f"{TOP}/{path}", encoding="utf-8") as file:
+            text = file.read().replace("\\-", "-").replace("\\\n", " ")
+        written = re.findall(r"pairtree2ocfl (?:migrate|audit) [^>\n]*>+ *\"?([\w./$-]+)", text)
+        faults += [f"{path}: {name} is written twice" for name in set(written) if "$" not in name and written.count(name) > 1]
+        faults += [f"{path}: {name} is the same for all" for name in written if "$" in name and "$name" not in name]
+        faults += [] if written else [f"{path} has no run with a log"]
+    return faults
+
+
 CASES = [
+    Alone("the README's quick start", quick_start),
+    Alone("a log of its own for each run", own_logs),
     Alone("the guide after a power cut", after_power_cut),
     Alone("the guide at a root that is damaged itself", damaged_root),
     Alone("the guide with many stores", many_stores),
     Alone("roots of other tuples are not joined", other_tuples),
     Alone("the guide from its beginning", walk),
+    Alone("the guide's table of the log", table),
     Alone("the guide after a stop by hand", stopped),
     Alone("the guide's commands", commands),
 ]
