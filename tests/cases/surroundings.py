@@ -177,6 +177,44 @@ def long_path(program, folder):
     return differs(said=((done.returncode, done.stderr.splitlines()[1:]), (3, [shown])), made=(os.listdir(f"{folder}/d"), []))
 
 
+def put_deep(folder, top, length, kind):
+    """Puts a file, a folder or a link at a path of so many bytes below a folder, name by name, since the system takes no such path at once."""
+    *names, last = ["d" * 249] * (length // 250) + ["f" * (length % 250)]
+    above = os.open(f"{folder}/{top}", os.O_RDONLY)
+    for name in names:
+        os.mkdir(name, dir_fd=above)
+        inner = os.open(name, os.O_RDONLY, dir_fd=above)
+        os.close(above)
+        above = inner
+    make = {"file": lambda: os.close(os.open(last, os.O_CREAT | os.O_WRONLY, dir_fd=above)), "folder": lambda: os.mkdir(last, dir_fd=above)}
+    make.get(kind, lambda: os.symlink("x", last, dir_fd=above))()
+    os.close(above)
+
+
+def system_limit(program, folder):
+    """Whatever it is, an entry whose path, SOURCE as it was given in front, has 4,095 bytes is read, and one of 4,096 is fault 1; so says a
+    rehearsal, a run and an audit. docs/FORMATS.md tells the length of an object's path by that."""
+    lines = {"file": b'{"as":"skip","at":"ab/c","cause":"limit"}\n', "link": b'{"as":"skip","at":"ab/c","cause":"other"}\n', "folder": b'"empty":1'}
+    faults, top, at = [], "s/pairtree_root/ab/c/obj", "ab/c/obj"
+    for source, kind in (("s", "file"), ("s", "folder"), ("s", "link"), ("./s", "file"), ("s/", "file")):
+        most = 4079 - len(source) - len(at)
+        for length, read in ((most, True), (most + 1, False)):
+            subprocess.run(["rm", "-rf", f"{folder}/{top}", f"{folder}/d/ocfl"], check=True)
+            build(folder, {top: DIR})
+            put_deep(folder, top, length, kind)
+            for words in (["migrate", *MEANT, "-n"], ["audit"], ["migrate", *MEANT]):
+                done = subprocess.run([program, *words, "-v", source, "d"], cwd=folder, capture_output=True, timeout=120)
+                name = f"{words[0]}{words[-1][:2]}, {kind} of {length} in {source}"
+                if read:
+                    wanted = (1 if kind != "folder" or words == ["audit"] else 0, True, b"")
+                    faults += differs(**{name: ((done.returncode, words == ["audit"] or lines[kind] in done.stdout, done.stderr), wanted)})
+                    continue
+                told = done.stderr.splitlines()
+                ends = [told[0], told[-1].endswith(b"ff: File name too long (os error 36)")] if told else []
+                faults += differs(**{name: ((done.returncode, ends), (3, [b"pairtree2ocfl: fault 1: cannot read the source", True]))})
+    return faults
+
+
 def pipe_in_a_files_place(program, folder):
     """A pipe that is put in a file's place after its folder was listed ends the run, and doesn't make it wait."""
     inside = "s/pairtree_root/ab/c/obj"
@@ -221,4 +259,5 @@ CASES = [
     Alone("a prefix that is a pipe", strange_prefixes),
     Alone("characters that turn text around", directions),
     Alone("a path that is too long, rehearsed", long_path),
+    Alone("the longest path that the system reads", system_limit),
 ]
