@@ -131,9 +131,11 @@ def statuses(program, folder):
     rows = {name: dict(re.findall(r"^\| ([0-3]) \| (.*) \|$", text, re.MULTILINE)) for name, text in {"README": readme, "FORMATS": formats}.items()}
     rows["the man page"] = dict(re.findall(r"^\.B ([0-3])\n(.*?)(?=^\.TP|^\.SH)", page.split(".SH EXIT STATUS")[1], re.MULTILINE | re.DOTALL))
     words = {"0": "audit", "1": "audit", "2": "lie in one another", "3": "fault"}
-    faults = [f"{name} doesn't tell status {number} of {word}" for name, told in rows.items() for number, word in words.items() if word not in told.get(number, "")]
-    command = ["sh", "-c", '"$0" migrate --created 2024-05-01T12:00:00Z --name Ada s d > log && "$0" audit s d > log; echo $?; "$0" audit s . > log; echo $?', program]
-    return faults + differs(found=(done(*command, cwd=folder), "0\n1\n"))
+    told = [(name, number, word, of.get(number, "")) for name, of in rows.items() for number, word in words.items()]
+    faults = [f"{name} doesn't tell status {number} of {word}" for name, number, word, text in told if word not in text]
+    done(program, "migrate", "--created", "2024-05-01T12:00:00Z", "--name", "Ada", "s", "d", cwd=folder)
+    audits = [subprocess.run([program, "audit", "s", dest], cwd=folder, capture_output=True, timeout=120).returncode for dest in ("d", ".", "s", "none")]
+    return faults + differs(audits=(audits, [0, 1, 2, 3]))
 
 
 def versions(program, folder):
