@@ -28,11 +28,11 @@ from tally import Tally
 WENT_WELL = re.compile(r"^rt: (must-fail .*: refused, as it must be|.* proved$|.* passed$|.*: trying its |.* ran[ ,(])")
 SAID = re.compile(r"^rt: |: error: |^Traceback|^\w*Error: ")
 
-# Of a case's requests for memory the first is refused, and each so many after it; all are by `make allocations`.
-SAMPLE = 7
-
 # What it says of an edit that can't be applied, compiled or read. It fails nothing for that, but such an edit shows nothing.
 BAD_EDIT = re.compile(r": BAD EDIT: ")
+
+# Of a case's requests for memory the first is refused, and each so many after it; all are by `make allocations`.
+SAMPLE = 7
 
 # The memory that a proof takes at most, in bytes.
 PROOF = 4 << 30

@@ -4,12 +4,11 @@ Usage: allocations.py PROGRAM [EVERY]. tests/harness/refuse.c, a library of C th
 refuses the request of a number and tells it. With EVERY only the first request and each so many after it are refused. Of
 each case it is said how many that were, of how many, and how many were passed over: these were for a notice on standard
 error, which is then left out, or the one that the toolchain makes ahead for the words, and does without. Where there is no
-C compiler the cases are skipped. The last line is 'N passed, M failed'.
+C compiler the cases are skipped. The last line is 'N passed, M failed, K skipped'.
 """
 
 import collections
 import json
-import multiprocessing
 import os
 import shutil
 import subprocess
@@ -20,8 +19,10 @@ HERE = os.path.dirname(os.path.abspath(__file__))
 sys.path += [f"{HERE}/harness"]
 sys.dont_write_bytecode = True
 
+import lanes
 import stores
 from running import MEANT
+from tally import Lacking, Skipped, Tally, faults_of
 
 OUT_OF_MEMORY = b"pairtree2ocfl: fault 4: out of memory\n"
 
@@ -246,46 +247,59 @@ def compiler():
     return found if tried.returncode == 0 else None
 
 
-def sweep_of(given):
-    """The sweep of the case of a number; what went wrong where it could not be made."""
-    number, program, every = given
-    try:
-        return CASES[number].sweep(program, every)
-    except (OSError, subprocess.SubprocessError) as error:
-        return Swept(0, 0, 0, [repr(error)])
+class Sweep:
+    """A case as tests/harness/lanes.py runs it: the first of its requests is refused, and each so many after it."""
+
+    def __init__(self, case, every):
+        self.case, self.every = case, every
+
+    def outcome(self, program):
+        """What became of the requests; or why that can't be tried."""
+        if program is None:
+            raise Lacking("no C compiler is here")
+        return self.case.sweep(program, self.every)
 
 
 def run_cases(path, every=1):
-    """Runs each case, four at a time, says what is wrong, and gives how many passed and failed."""
-    found = compiler()
-    if found is None:
-        print("\n".join(f"allocations of {case.name} ... skipped: no C compiler" for case in CASES), flush=True)
-        return 0, 0
-    passed = failed = 0
+    """Runs each case, four at a time, says what is wrong, and gives what became of them."""
+    tally = Tally(0, 0)
     sys.stdout.flush()
-    with tempfile.TemporaryDirectory() as folder, multiprocessing.get_context("fork").Pool(4) as pool:
-        shim = f"{folder}/refuse.so"
-        subprocess.run([found, "-shared", "-fPIC", "-O1", f"{HERE}/harness/refuse.c", "-o", shim, "-ldl"], check=True)
-        given = [(number, Program(os.path.abspath(path), shim), every) for number in range(len(CASES))]
-        for case, swept in zip(CASES, pool.imap(sweep_of, given)):
-            say(case, every, swept)
-            passed, failed = passed + (not swept.faults), failed + bool(swept.faults)
-    return passed, failed
+    with tempfile.TemporaryDirectory() as folder:
+        swept = lanes.outcomes([Sweep(case, every) for case in CASES], built(path, folder))
+        for case, outcome in zip(CASES, swept):
+            tally = tally.after(f"allocations of {case.name}", faults_of(said(case, every, outcome)))
+    return tally
 
 
-def say(case, every, swept):
-    """Says what came of a case."""
-    for fault in swept.faults[:9]:
+def built(path, folder):
+    """The program with the library that stands before its allocator, or None where no compiler is."""
+    found, shim = compiler(), f"{folder}/refuse.so"
+    if found is None:
+        return None
+    subprocess.run([found, "-shared", "-fPIC", "-O1", f"{HERE}/harness/refuse.c", "-o", shim, "-ldl"], check=True)
+    return Program(os.path.abspath(path), shim)
+
+
+def said(case, every, outcome):
+    """Says what came of a case, and gives its faults, or why it was skipped."""
+    if isinstance(outcome, Skipped):
+        print(f"allocations of {case.name} ... skipped: {outcome}", flush=True)
+        return outcome
+    counts, faults = "its process ended", outcome
+    if isinstance(outcome, Swept):
+        some = "" if every == 1 else f" (the first and each {every}th after it)"
+        counts = f"{outcome.refused} of {outcome.requests} requests refused{some}, {outcome.passed} passed over"
+        faults = outcome.faults
+    for fault in faults[:9]:
         print(f"allocations of {case.name}: {fault}")
-    some = "" if every == 1 else f" (the first and each {every}th after it)"
-    counts = f"{swept.refused} of {swept.requests} requests refused{some}, {swept.passed} passed over"
-    print(f"allocations of {case.name}: {counts} ... {'FAILED' if swept.faults else 'ok'}", flush=True)
+    print(f"allocations of {case.name}: {counts} ... {'FAILED' if faults else 'ok'}", flush=True)
+    return faults
 
 
 def main():
-    passed, failed = run_cases(sys.argv[1], *map(int, sys.argv[2:]))
-    print(f"{passed} passed, {failed} failed")
-    sys.exit(1 if failed else 0)
+    tally = run_cases(sys.argv[1], *map(int, sys.argv[2:]))
+    print("\n".join(tally.last_lines()))
+    sys.exit(1 if tally.failed else 0)
 
 
 if __name__ == "__main__":
