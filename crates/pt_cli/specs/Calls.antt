@@ -1,6 +1,10 @@
 -- Which call the words of a command lead to, and what it is given.
-use Rattle.std.specs.Prelude.{◌≡◌, ◌⊎◌, ◌↔◌, ℕ, List, [], Option, Result, Ok, Err, IfErr, IsErrOf, OnOk}
+use Rattle.std.specs.Prelude.{◌≡◌, ◌≢◌, ◌⊎◌, ◌↔◌, ℕ, List, [], Option, Result, Ok, Err, IfErr, IsErrOf, OnErr, OnOk}
 use Rattle.std.specs.Io.KnownBytes.{Appends}
+use Rattle.std.specs.IoError.{error_kind}
+use Rattle.std.specs.declared.io.Error.{Error}
+use Rattle.std.specs.declared.io.ErrorKind.TheVariants.{BrokenPipe}
+use Rattle.pt_tree.specs.Log.{AppendsFront}
 use Rattle.pt_name.specs.Tuples.{Tuples}
 use Rattle.pt_cli.specs.Names.{LeavesWritten, names_text}
 use Rattle.pt_object.specs.MetaParts.{MetaParts}
@@ -73,6 +77,28 @@ TellsNames {H} {S} {D} {W} lends takes_back contents asked old new status =
     × WritesNames asked.layout asked.prefix asked.id (contents ground.output) (contents output) written
     × takes_back lent (record ground { output = output }) new
     × (status ≡ names_status written)
+
+-- of writing a text that was asked for: 0 where it was written, or nobody may read it any more, else 3
+abbrev pub IsToldAs : Result (Unit {0}) Error → ℕ → Type 0
+IsToldAs (Ok done) status = status ≡ 0
+IsToldAs (Err error) status =
+    ((error_kind error ≡ BrokenPipe) × (status ≡ 0)) ⊎ ((error_kind error ≢ BrokenPipe) × (status ≡ 3))
+
+-- a text was written behind what an output held; or a front of it is there
+pub record WritesText (text : List ℕ) (old new : Option (List ℕ)) (written : Result (Unit {0}) Error) : Type 0 where
+  pub ok : OnOk written (Appends old new text)
+  pub err : OnErr written (AppendsFront old new text)
+
+-- a text is written to the output that a machine lends, which is given back with all else as it was; and the status is by that
+abbrev pub TellsText : {H S D W : Type 0}
+    → (H → Ground S D W → H → Type 0) → (H → Ground S D W → H → Type 0) → (W → Option (List ℕ))
+    → List ℕ → H → H → ℕ → Type 0
+TellsText {H} {S} {D} {W} lends takes_back contents text old new status =
+    (ground : Ground S D W) × (lent : H) × lends old ground lent
+    × (output : W) × (written : Result (Unit {0}) Error)
+    × WritesText text (contents ground.output) (contents output) written
+    × takes_back lent (record ground { output = output }) new
+    × IsToldAs written status
 
 -- the audit that words ask for is made, or memory was wanting before anything was asked of the machine, which is 3
 abbrev pub AuditsFor : {H : Type 0} → (WantedAudit → List ℕ → List ℕ → H → H → ℕ → Type 0)

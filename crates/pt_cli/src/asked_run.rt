@@ -19,6 +19,7 @@ pub(crate) struct AskedRun {
 // What the words of a migration ask of a run, and between which folders.
 pub(crate) fn run_asked_for(words: Migrate) -> AskedRun
     ensures wanted { result.wanted ≡ wanted_of words }
+    ensures expected { result.expected ≡ words.expected }
     ensures source { result.source ≡ words.source }
     ensures dest { result.dest ≡ words.dest }
 {

@@ -1,81 +1,95 @@
-ghost use Rattle.std.specs.Prelude.{◌≡◌, ◌⊎◌, Ok, map, string_bytes};
+ghost use Rattle.std.specs.Prelude.{◌≡◌, map, option_map, string_bytes};
 ghost use Rattle.std.specs.Process.{exit_status};
-ghost use Rattle.pt_cli.specs.Calls.{AuditsFor, TellsNames, names_status, wanted_of};
-ghost use Rattle.pt_cli.specs.Statuses.{Does, Ends, EndsWith, IsStatusOf};
+ghost use Rattle.pt_notices.specs.Expected.{AsksEnd};
+ghost use Rattle.pt_cli.specs.Calls.{AuditsFor, IsToldAs, TellsNames, TellsText, names_status, wanted_of};
+ghost use Rattle.pt_cli.specs.Statuses.{Declines, Ends, EndsWith, IsWordless, Obeys};
 ghost use Rattle.pt_run.specs.Audits.{Audits};
 ghost use Rattle.pt_run.specs.Made.{Runs};
 
 use crate::asked_audit::audit_asked_for;
 use crate::asked_run::{AskedRun, run_asked_for};
+use crate::started::Started;
 use crate::{Audit, Command, Migrate, Named, NamesFault, Text, WordsFault, names_to, read_words};
 use pt_move::Fault;
 use pt_run::status::{DONE, REFUSED};
-use pt_run::{Host, Terminals, audit_guarded, failed, run_guarded};
+use pt_run::{Host, Reads, Terminals, audit_guarded, failed, run_guarded};
+use pt_tree::write_out;
 use std::alloc::AllocGlobal;
-use std::env::Env;
+use std::io;
 use std::process::ExitCode;
-use std::rt::{Clock, Files};
-use std::{env, io};
+use std::rt::Clock;
 
 /// Runs the program on the words that it was started with, on a machine, and gives its exit status: 0 the names were written, all was
 /// carried, each object stands, or help or the version was asked for; 1 a run or an audit ended whose log has other lines; 2 the words were
 /// refused, or the folders lie in one another; 3 a fault of the run, a destination that another run has, an output that
 /// failed, or want of memory.
 ///
-/// The words of `names` lead to the call that writes the two names to the machine's output; those of `migrate` to the run that they
-/// ask for; those of `audit` to the audit; and all others ask nothing of the machine.
+/// What the words lead to is said at `answer`.
 pub fn run<R, H: Host>(rt: &R, host: &mut H) -> ExitCode
 where
-    R: Files + Clock + Print + Eprint + Env + AllocGlobal + Terminals,
-    ensures { Ends (TellsNames H.lends H.takes_back H.Output.contents)
+    R: Started + Reads + Clock + Eprint + AllocGlobal + Terminals,
+    ensures { Ends (R.starts rt.now) (EndsWith (Obeys
+        (TellsNames H.lends H.takes_back H.Output.contents)
         (λ words. Runs H.resolves H.identifies H.holds H.releases H.finds H.File.syncs
         H.lends H.takes_back H.Store.forest H.Folder.kept H.Output.contents
-        (wanted_of words) words.source words.dest)
+        (AsksEnd R.ends rt.now words.expected) (wanted_of words) words.source words.dest)
         (AuditsFor (Audits H.resolves H.identifies H.holds H.releases
-        H.lends H.takes_back H.Store.forest H.Folder.forest H.Output.contents))
+        H.lends H.takes_back H.Store.forest H.Folder.forest H.Output.contents)))
+        (Declines (TellsText H.lends H.takes_back H.Output.contents)))
         host.old host.new (exit_status result) }
 {
-    let status = match words(rt) {
+    let status = match rt.words(rt.alloc()) {
         Ok(words) => answer(rt, host, words.as_slice()),
-        Err(error) if error.kind() == io::ErrorKind::OutOfMemory => failed(rt, &Fault::Memory),
-        Err(_) => refused(rt, "the arguments are not text"),
+        Err(error) => wordless(rt, &error),
     };
     ExitCode::from(status)
 }
 
-fn words<R: Env + AllocGlobal>(rt: &R) -> io::Result<Vec<String>> {
-    Ok(env::args(rt)?.collect(rt.alloc())?)
+// Says why no words could be had, and gives the status of that.
+fn wordless(rt: &impl Eprint, error: &io::Error) -> u8
+    ensures { IsWordless error.now result }
+{
+    match error.kind() {
+        io::ErrorKind::OutOfMemory => failed(rt, &Fault::Memory),
+        _ => refused(rt, "the arguments are not text"),
+    }
 }
 
-// Does what the words ask for, and says how it went.
-fn answer<R, H: Host>(rt: &R, host: &mut H, words: &[String]) -> u8
+/// Does on a machine what words ask for, of which the first is the program's name, and gives the status.
+///
+/// The words of `names` lead to the call that writes the two names to the machine's output; those of `migrate` to the run that they
+/// ask for; those of `audit` to the audit; those that ask for help or the version to the writing of that; and all others ask nothing of
+/// the machine.
+pub fn answer<R, H: Host>(rt: &R, host: &mut H, words: &[String]) -> u8
 where
-    R: Files + Clock + Print + Eprint + AllocGlobal + Terminals,
-    ensures { EndsWith (TellsNames H.lends H.takes_back H.Output.contents)
+    R: Reads + Clock + Eprint + AllocGlobal + Terminals,
+    ensures { EndsWith (Obeys
+        (TellsNames H.lends H.takes_back H.Output.contents)
         (λ words. Runs H.resolves H.identifies H.holds H.releases H.finds H.File.syncs
         H.lends H.takes_back H.Store.forest H.Folder.kept H.Output.contents
-        (wanted_of words) words.source words.dest)
+        (AsksEnd R.ends rt.now words.expected) (wanted_of words) words.source words.dest)
         (AuditsFor (Audits H.resolves H.identifies H.holds H.releases
-        H.lends H.takes_back H.Store.forest H.Folder.forest H.Output.contents))
+        H.lends H.takes_back H.Store.forest H.Folder.forest H.Output.contents)))
+        (Declines (TellsText H.lends H.takes_back H.Output.contents))
         (map string_bytes words.now) host.old host.new result }
 {
     match read_words(rt.alloc(), words) {
         Ok(command) => obey(rt, host, command),
-        Err(fault) => refuse(rt, &fault),
+        Err(fault) => refuse(rt, host, &fault),
     }
 }
 
 // Does what a command asks for.
 fn obey<R, H: Host>(rt: &R, host: &mut H, command: Command) -> u8
 where
-    R: Files + Clock + Eprint + AllocGlobal + Terminals,
-    ensures { Does (TellsNames H.lends H.takes_back H.Output.contents)
+    R: Reads + Clock + Eprint + AllocGlobal + Terminals,
+    ensures { Obeys (TellsNames H.lends H.takes_back H.Output.contents)
         (λ words. Runs H.resolves H.identifies H.holds H.releases H.finds H.File.syncs
         H.lends H.takes_back H.Store.forest H.Folder.kept H.Output.contents
-        (wanted_of words) words.source words.dest)
+        (AsksEnd R.ends rt.now words.expected) (wanted_of words) words.source words.dest)
         (AuditsFor (Audits H.resolves H.identifies H.holds H.releases
         H.lends H.takes_back H.Store.forest H.Folder.forest H.Output.contents))
-        (Ok command) host.old host.new result }
+        command host.old host.new result }
 {
     match command {
         Command::Names(asked) => write_names(rt, host, &asked),
@@ -85,12 +99,13 @@ where
 }
 
 // Tells what was asked of the parser alone, or why the words are refused.
-fn refuse<R: Print + Eprint>(rt: &R, fault: &WordsFault) -> u8
-    ensures { IsStatusOf fault.now result }
+fn refuse<R: Eprint, H: Host>(rt: &R, host: &mut H, fault: &WordsFault) -> u8
+    ensures { Declines (TellsText H.lends H.takes_back H.Output.contents)
+        fault.now host.old host.new result }
 {
     match fault {
-        WordsFault::Help(text) => tell(rt, text),
-        WordsFault::Version(text) => tell(rt, text),
+        WordsFault::Help(text) => tell(rt, host, text),
+        WordsFault::Version(text) => tell(rt, host, text),
         WordsFault::Words(text) => {
             let _ = eprint!(rt; "{text}");
             REFUSED
@@ -103,11 +118,22 @@ fn refuse<R: Print + Eprint>(rt: &R, fault: &WordsFault) -> u8
     }
 }
 
-// Writes a text that was asked for. Nobody may read it any more: that is no failure.
-fn tell<R: Print + Eprint>(rt: &R, text: &Text) -> u8
-    ensures { (result ≡ 0) ⊎ (result ≡ 3) }
+// Writes a text that was asked for to the machine's output.
+fn tell<R: Eprint, H: Host>(rt: &R, host: &mut H, text: &Text) -> u8
+    ensures { TellsText H.lends H.takes_back H.Output.contents text.now
+        host.old host.new result }
 {
-    match print!(rt; "{text}") {
+    let mut ground = host.lend();
+    let written = write_out(&mut ground.output, text.as_str().as_bytes());
+    host.take_back(ground);
+    told_text(rt, written)
+}
+
+// The status of writing a text that was asked for. Nobody may read it any more: that is no failure.
+fn told_text(rt: &impl Eprint, written: io::Result<()>) -> u8
+    ensures { IsToldAs written result }
+{
+    match written {
         Ok(()) => DONE,
         Err(error) if error.kind() == io::ErrorKind::BrokenPipe => DONE,
         Err(_) => failed(rt, &Fault::Log),
@@ -117,9 +143,10 @@ fn tell<R: Print + Eprint>(rt: &R, text: &Text) -> u8
 // Makes the run that the words ask for, and gives its status.
 fn make_run<R, H: Host>(rt: &R, host: &mut H, words: Migrate) -> u8
 where
-    R: Files + Clock + Eprint + AllocGlobal + Terminals,
+    R: Reads + Clock + Eprint + AllocGlobal + Terminals,
     ensures { Runs H.resolves H.identifies H.holds H.releases H.finds H.File.syncs
         H.lends H.takes_back H.Store.forest H.Folder.kept H.Output.contents
+        (AsksEnd R.ends rt.now words.expected)
         (wanted_of words) words.source words.dest host.old host.new result }
 {
     let AskedRun {
@@ -128,14 +155,24 @@ where
         source,
         dest,
     } = run_asked_for(words);
-    let expected = expected.as_ref().map(|log| log.as_str());
+    let expected = text_in(&expected);
     run_guarded(rt, host, wanted, expected, source.as_str(), dest.as_str())
+}
+
+// The text that there is, if there is one.
+fn text_in(text: &Option<Text>) -> Option<&str>
+    ensures { option_map (λ s. s.now) result ≡ text.now }
+{
+    match text {
+        Some(text) => Some(text.as_str()),
+        None => None,
+    }
 }
 
 // Makes the audit that the words ask for, and gives its status.
 fn make_audit<R, H: Host>(rt: &R, host: &mut H, words: Audit) -> u8
 where
-    R: Files + Clock + Eprint + AllocGlobal + Terminals,
+    R: Reads + Clock + Eprint + AllocGlobal + Terminals,
     ensures { AuditsFor (Audits H.resolves H.identifies H.holds H.releases
         H.lends H.takes_back H.Store.forest H.Folder.forest H.Output.contents)
         words host.old host.new result }

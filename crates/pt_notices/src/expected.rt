@@ -1,20 +1,22 @@
 //! How many lines a run's log may come to, by the log of its rehearsal.
+ghost use Rattle.std.specs.Prelude.{option_map};
+ghost use Rattle.pt_notices.specs.Expected.{AsksEnd};
+
+use crate::reads::Reads;
 use crate::shown::escaped;
 use std::alloc::AllocGlobal;
-use std::fs::OpenOptions;
-use std::io;
-use std::io::{Read, Seek, SeekFrom};
-use std::rt::Files;
 
 // How many bytes at a log's end are read; an end line has fewer.
 const TAIL: usize = 128;
 
 /// The number of lines that a log's end line counts, if a log is named. Standard error is told where it can't be read, or has no end line.
-pub fn lines_expected<R: Files + Eprint + AllocGlobal>(rt: &R, log: Option<&str>) -> Option<u64> {
+pub fn lines_expected<R: Reads + Eprint + AllocGlobal>(rt: &R, log: Option<&str>) -> Option<u64>
+    ensures { AsksEnd R.ends rt.now (option_map (λ path. path.now) log.entry) }
+{
     let log = log?;
-    let mut tail = [0u8; TAIL];
-    let counted = match read_tail(rt, log, &mut tail) {
-        Ok(count) => match tail.get(..count) {
+    let mut end = [0u8; TAIL];
+    let counted = match rt.read_end(log, &mut end) {
+        Ok(count) => match end.get(..count) {
             Some(bytes) => counted_in(bytes),
             None => None,
         },
@@ -26,16 +28,6 @@ pub fn lines_expected<R: Files + Eprint + AllocGlobal>(rt: &R, log: Option<&str>
         let _ = eprintln!(rt; "pairtree2ocfl: {path}: it has no end line of a log");
     }
     counted
-}
-
-// Reads the last bytes of a file, and gives how many there are.
-fn read_tail<R: Files>(rt: &R, path: &str, tail: &mut [u8; TAIL]) -> io::Result<usize> {
-    let length = rt.metadata(path)?.len();
-    let mut options = OpenOptions::new();
-    options.read(true);
-    let mut file = rt.open_file(&options, path)?;
-    file.seek(SeekFrom::Start(length.saturating_sub(TAIL as u64)))?;
-    file.read(tail)
 }
 
 // What the last line of these bytes counts, if they are a text that ends with an end line.

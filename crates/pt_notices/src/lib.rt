@@ -3,6 +3,7 @@
 
 mod expected;
 pub mod prefix;
+mod reads;
 pub mod reason;
 mod shown;
 mod tally;
@@ -10,6 +11,7 @@ mod terminal;
 mod watch;
 
 pub use expected::lines_expected;
+pub use reads::Reads;
 pub use tally::Tally;
 pub use terminal::Terminals;
 pub use watch::{Progress, Watched, Watching, Words};

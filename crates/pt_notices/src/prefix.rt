@@ -1,9 +1,8 @@
 //! A prefix that reads otherwise than it looks.
+use crate::reads::Reads;
 use crate::shown::escaped;
 use pt_name::read_prefix;
 use std::alloc::{AllocError, AllocGlobal, Global};
-use std::fs;
-use std::rt::Files;
 
 const NAME: &str = "/pairtree_prefix";
 
@@ -11,7 +10,7 @@ const NAME: &str = "/pairtree_prefix";
 const LONGEST: u64 = 1024;
 
 /// Tells standard error of a store whose prefix holds a control character, a blank at an end, or a byte order mark.
-pub fn tell<R: Files + Eprint + AllocGlobal>(rt: &R, store: &str) {
+pub fn tell<R: Reads + Eprint + AllocGlobal>(rt: &R, store: &str) {
     let Ok(path) = path_in(rt.alloc(), store) else {
         return;
     };
@@ -32,13 +31,10 @@ fn path_in(alloc: Global, store: &str) -> Result<String, AllocError> {
 }
 
 // Whether a file holds such a prefix. What can't be read, or isn't a prefix, is the run's own to tell.
-fn is_doubtful<R: Files + AllocGlobal>(rt: &R, path: &str) -> bool {
-    match rt.symlink_metadata(path) {
-        Ok(found) if found.is_file() && found.len() <= LONGEST => match fs::read(rt, path) {
-            Ok(bytes) => match read_prefix(rt.alloc(), bytes.as_slice()) {
-                Ok(prefix) => has_hidden(prefix.as_str()),
-                Err(_) => false,
-            },
+fn is_doubtful<R: Reads + AllocGlobal>(rt: &R, path: &str) -> bool {
+    match rt.read_small(path, LONGEST) {
+        Ok(Some(bytes)) => match read_prefix(rt.alloc(), bytes.as_slice()) {
+            Ok(prefix) => has_hidden(prefix.as_str()),
             Err(_) => false,
         },
         _ => false,

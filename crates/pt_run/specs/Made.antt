@@ -142,6 +142,10 @@ GoesOver {H} {S} {D} {W} lends takes_back runs (Ok file) mid new status =
     (ground : Ground S D W) × (lent : H) × lends mid ground lent × (after : Ground S D W)
     × runs ground after status × takes_back lent after new
 
+-- and before a run this is known
+abbrev pub Knows : {G : Type 0} → Type 0 → (G → G → ℕ → Type 0) → G → G → ℕ → Type 0
+Knows known runs old new status = known × runs old new status
+
 -- ---- the guard, the lock and the run
 
 -- where a run may not begin, that is its status, and nothing is done; else it is made, and then the lock is given
@@ -162,17 +166,19 @@ Guarded {H} {L} begins carries releases old new status =
 
 -- what `run_guarded` does on a machine, by the words of its calls (where paths lead, what they are known by, the lock
 -- taken and given back; the log's file; what is lent and taken back) and of what is lent (the trees of the two
--- systems, and what the output holds): the guard, the run that is wanted from one folder to the other, and the lock
+-- systems, and what the output holds): the guard, the run that is wanted from one folder to the other, before which
+-- it is asked what is expected of it, and the lock
 abbrev pub Runs : {H L S D W E F : Type 0} → (H → List ℕ → Result Place Error → H → Type 0)
     → (H → List ℕ → Result Folder Error → H → Type 0) → (H → List ℕ → Hold L → H → Type 0)
     → (H → L → H → Type 0) → (H → Result (Option E) Error → H → Type 0)
     → (E → Result (Unit {0}) Error → E → Type 0) → (H → Ground S D W → H → Type 0)
     → (H → Ground S D W → H → Type 0) → (S → List ℕ → Option Forest) → (D → List ℕ → Kept F)
-    → (W → Option (List ℕ)) → Wanted → List ℕ → List ℕ → H → H → ℕ → Type 0
+    → (W → Option (List ℕ)) → Type 0 → Wanted → List ℕ → List ℕ → H → H → ℕ → Type 0
 Runs {H} {L} {S} {D} {W} {E} {F} resolves identifies holds releases finds syncs lends takes_back
-    forest kept contents wanted source dest =
+    forest kept contents expects wanted source dest =
     Guarded (Begins resolves identifies holds source dest)
     (λ old new status. (file : Result (Option E) Error) × (mid : H)
     × FindsLog finds syncs wanted.sync old mid file
-    × GoesOver lends takes_back (RunsOver forest kept contents wanted source dest) file mid new status)
+    × GoesOver lends takes_back (Knows expects (RunsOver forest kept contents wanted source dest))
+    file mid new status)
     releases

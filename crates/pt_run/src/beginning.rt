@@ -3,14 +3,13 @@ ghost use Rattle.pt_guard.specs.Guard.{Begins};
 
 use crate::host::Host;
 use pt_guard::{GuardFault, begin};
-use pt_notices::{prefix, reason};
+use pt_notices::{Reads, prefix, reason};
 use std::alloc::AllocGlobal;
 use std::io;
-use std::rt::Files;
 
 /// Asks the guard whether a run or an audit may begin. Where it may, and that is wanted, standard error is told of a prefix that reads
 /// otherwise than it looks, and of a destination that can't be locked.
-pub(crate) fn begun<R: Files + Eprint + AllocGlobal, H: Host>(
+pub(crate) fn begun<R: Reads + Eprint + AllocGlobal, H: Host>(
     rt: &R,
     host: &mut H,
     verbose: bool,

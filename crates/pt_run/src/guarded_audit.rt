@@ -13,10 +13,10 @@ use pt_audit::Counts;
 use pt_folder::{HostSource, System};
 use pt_ignore::Ignored;
 use pt_move::{Fault, Job};
-use pt_notices::{Progress, Tally, Terminals, Watched, Watching, Words, reason};
+use pt_notices::{Progress, Reads, Tally, Terminals, Watched, Watching, Words, reason};
 use std::alloc::AllocGlobal;
 use std::io::Write;
-use std::rt::{Clock, Files};
+use std::rt::Clock;
 
 // How many seconds pass between two lines of progress that don't go to a terminal.
 const INTERVAL: u32 = 10;
@@ -49,7 +49,7 @@ pub fn audit_guarded<R, H: Host>(
     dest: &str,
 ) -> u8
 where
-    R: Files + Clock + Eprint + AllocGlobal + Terminals,
+    R: Reads + Clock + Eprint + AllocGlobal + Terminals,
     ensures { Audits H.resolves H.identifies H.holds H.releases H.lends H.takes_back
         H.Store.forest H.Folder.forest H.Output.contents
         wanted source.now dest.now host.old host.new result }
@@ -68,7 +68,7 @@ where
 // Holds the root against the store over what the machine lends.
 fn hold<R, H: Host>(rt: &R, host: &mut H, wanted: WantedAudit, store: &str, folder: &str) -> u8
 where
-    R: Files + Clock + Eprint + AllocGlobal + Terminals,
+    R: Clock + Eprint + AllocGlobal + Terminals,
     ensures { (given : _) × (lent : H) × H.lends host.old given lent × (after : _)
         × AuditsOver H.Store.forest H.Folder.forest H.Output.contents wanted store.now folder.now
         given after result × H.takes_back lent after host.new }

@@ -1,5 +1,7 @@
 //! A run from one folder to another, on a machine.
-ghost use Rattle.pt_run.specs.Made.{FindsLog, GoesOver, Runs, RunsOver};
+ghost use Rattle.std.specs.Prelude.{option_map};
+ghost use Rattle.pt_notices.specs.Expected.{AsksEnd};
+ghost use Rattle.pt_run.specs.Made.{FindsLog, GoesOver, Knows, Runs, RunsOver};
 
 use crate::beginning::begun;
 use crate::devices::equipped;
@@ -9,11 +11,11 @@ use crate::running::{Ended, run};
 use crate::saying::{failed, refused};
 use pt_ignore::Ignored;
 use pt_move::{Fault, Job};
-use pt_notices::{Progress, Terminals, lines_expected, reason};
+use pt_notices::{Progress, Reads, Terminals, lines_expected, reason};
 use std::alloc::AllocGlobal;
 use std::io;
 use std::io::ErrorKind;
-use std::rt::{Clock, Files};
+use std::rt::Clock;
 
 /// What a run is asked for, beside its folders.
 #[derive(Debug, Drop)]
@@ -50,9 +52,10 @@ pub fn run_guarded<R, H: Host>(
     dest: &str,
 ) -> u8
 where
-    R: Files + Clock + Eprint + AllocGlobal + Terminals,
+    R: Reads + Clock + Eprint + AllocGlobal + Terminals,
     ensures { Runs H.resolves H.identifies H.holds H.releases H.finds H.File.syncs
         H.lends H.takes_back H.Store.forest H.Folder.kept H.Output.contents
+        (AsksEnd R.ends rt.now (option_map (λ log. log.now) expected.entry))
         wanted source.now dest.now host.old host.new result }
 {
     match begun(rt, host, wanted.verbose, source, dest) {
@@ -76,11 +79,12 @@ fn carry<R, H: Host>(
     folder: &str,
 ) -> u8
 where
-    R: Files + Clock + Eprint + AllocGlobal + Terminals,
+    R: Reads + Clock + Eprint + AllocGlobal + Terminals,
     ensures { (file : _) × (mid : H)
         × FindsLog H.finds H.File.syncs wanted.sync host.old mid file
         × GoesOver H.lends H.takes_back
-        (RunsOver H.Store.forest H.Folder.kept H.Output.contents wanted store.now folder.now)
+        (Knows (AsksEnd R.ends rt.now (option_map (λ log. log.now) expected.entry))
+        (RunsOver H.Store.forest H.Folder.kept H.Output.contents wanted store.now folder.now))
         file mid host.new result }
 {
     let file = match synced_output(rt, host, wanted.sync) {

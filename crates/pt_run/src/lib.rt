@@ -19,6 +19,6 @@ pub use guarded_audit::{WantedAudit, audit_guarded};
 pub use guarded_run::{Wanted, run_guarded};
 pub use host::{Ground, Host, OutputFile};
 pub use log::{DurableLog, Syncs};
-pub use pt_notices::{Progress, Terminals};
+pub use pt_notices::{Progress, Reads, Terminals};
 pub use room::longest_made;
 pub use saying::failed;

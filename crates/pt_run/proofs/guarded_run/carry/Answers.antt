@@ -16,8 +16,11 @@ returns g c =
         c.lend-ground.new.self,
         c.lend-ground.ensures,
         c.run-status.result.ground,
-        begun forest kept contents g.H.Store.File.Input.bytes c.args.wanted c.args.store.now c.args.folder.now c.lend-ground.result
-            _ _ _ _ _ _ _ _ _ _ _ _ made.store made.unread made.folder made.unwritten made.synced made.log _ _ c.run-status.ensures,
+        (
+          c.lines_expected-expected.ensures,
+          begun forest kept contents g.H.Store.File.Input.bytes c.args.wanted c.args.store.now c.args.folder.now c.lend-ground.result
+              _ _ _ _ _ _ _ _ _ _ _ _ made.store made.unread made.folder made.unwritten made.synced made.log _ _ c.run-status.ensures,
+        ),
         c.take_back.ensures,
       ),
     )

@@ -1,0 +1,43 @@
+//! Files that are read beside a run.
+ghost use Rattle.std.specs.Prelude.{⊤, ℕ, List};
+ghost use Rattle.std.specs.declared.io.Error.{Error};
+ghost use Rattle.std.specs.declared.result.Result.{Result};
+
+use std::fs::OpenOptions;
+use std::io::{Read, Seek, SeekFrom};
+use std::rt::Files;
+use std::{fs, io};
+
+/// What can be read of files beside a run. No call changes anything.
+pub trait Reads {
+    /// Reading the end of the file at a path may be answered so, and leave these bytes in the room for it.
+    ghost ends: { Self → List ℕ → List ℕ → Result ℕ Error → Type 0 };
+
+    /// Reads the last bytes of the file at a path, links followed, and gives how many there are: as many as there is room for, or all.
+    fn read_end(&self, path: &str, end: &mut [u8]) -> io::Result<usize>
+        ensures { ends self.now path.now end.new result };
+
+    /// What the file at a path holds, links not followed; none where it is no file, or has more bytes than `most`.
+    fn read_small(&self, path: &str, most: u64) -> io::Result<Option<Vec<u8>>>;
+}
+
+impl Reads for HostRuntime {
+    ghost ends = { λ _ _ _ _. ⊤ };
+
+    fn read_end(&self, path: &str, end: &mut [u8]) -> io::Result<usize> {
+        let length = self.metadata(path)?.len();
+        let mut options = OpenOptions::new();
+        options.read(true);
+        let mut file = self.open_file(&options, path)?;
+        file.seek(SeekFrom::Start(length.saturating_sub(end.len() as u64)))?;
+        file.read(end)
+    }
+
+    fn read_small(&self, path: &str, most: u64) -> io::Result<Option<Vec<u8>>> {
+        let found = self.symlink_metadata(path)?;
+        if !found.is_file() || found.len() > most {
+            return Ok(None);
+        }
+        Ok(Some(fs::read(self, path)?))
+    }
+}
