@@ -18,5 +18,6 @@ mod Texts
 mod Trees
 mod Turns
 mod Shown
+mod Slashes
 mod StuckTold
 mod WriteTold

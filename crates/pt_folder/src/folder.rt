@@ -1,5 +1,5 @@
 //! What the folders of a run share: texts of paths, and how the system's errors are answered and counted.
-ghost use Rattle.std.specs.Prelude.{◌≡◌, ◌≢◌, ◌⊎◌, ◌↔◌, ◌≤◌, Err, IfOk, IfSome, OnOk, IsErrOf, IsTrue, length, string_bytes, true};
+ghost use Rattle.std.specs.Prelude.{◌≡◌, ◌≢◌, ◌⊎◌, ◌↔◌, ◌≤◌, Err, IfOk, IfSome, OnOk, IsErrOf, IsTrue, length, min, string_bytes, true};
 ghost use Rattle.pt_tree.specs.Name.{is_name};
 ghost use Rattle.pt_folder.specs.Laws.{IsPath};
 ghost use Rattle.std.specs.IoError.{error_kind};
@@ -7,10 +7,11 @@ ghost use Rattle.pt_tree.specs.Failures.{IsCounted};
 ghost use Rattle.pt_folder.specs.Folder.{entry_text, IsAbsent, fault_of_kind};
 ghost use Rattle.pt_folder.specs.Calls.{CannotMake};
 ghost use Rattle.pt_folder.specs.Failure.{IsAt, IsTooLong, IsUnasked, OnDevice};
+ghost use Rattle.pt_folder.specs.Settings.{greatest_length};
 
 use crate::failure::{Cause, Failure, Last};
 use pt_tree::{MemoryFault, Name, NamePath, TreeFault};
-use std::alloc::Global;
+use std::alloc::{AllocError, Global};
 use std::io;
 
 // How many bytes of a path's text are asked for with each of its names: as many as most have with their slash.
@@ -88,7 +89,7 @@ impl<'a> Folder<'a> {
         ensures kept { IfSome last.new.failure
             (IsAt (entry_text self.now.path.now path.now) (Cause.System error)) }
     {
-        last.failure = match path_text(last.alloc, self.path, path, 0) {
+        last.failure = match kept_text(last.alloc, self.path, path) {
             Ok(text) => Some(Failure::at(text, Cause::System(error))),
             Err(_) => None,
         };
@@ -115,6 +116,36 @@ fn path_text(
     path.join_behind(&mut text)?;
     text.reserve(room)?;
     Ok(unsafe { String::from_utf8_unchecked(text) })
+}
+
+// The path of an entry, as a failure keeps it: just the room that it takes is asked for, at once.
+fn kept_text(alloc: Global, folder: &str, path: &NamePath) -> Result<String, AllocError>
+    ensures { IfOk result (λ text. string_bytes text ≡ entry_text folder.now path.now) }
+{
+    let mut text = String::with_capacity(alloc, text_len(folder, path))?;
+    text.push_str(folder)?;
+    for name in path.names() {
+        text.push('/')?;
+        text.push_str(name_text(name))?;
+    }
+    if path.is_empty() {
+        text.push('/')?;
+    }
+    Ok(text)
+}
+
+// How many bytes the path of an entry has, up to 2^64 - 1: each name has a slash before it, and the top has one too.
+fn text_len(folder: &str, path: &NamePath) -> usize
+    ensures { result ≡ min (length (entry_text folder.now path.now)) greatest_length }
+{
+    let mut len = folder.len();
+    for name in path.names() {
+        len = len.saturating_add(1).saturating_add(name.bytes().len());
+    }
+    if path.is_empty() {
+        return len.saturating_add(1);
+    }
+    len
 }
 
 /// A name as a text. Its bytes are text, so they aren't looked at as `from_utf8` would.
