@@ -1,6 +1,6 @@
 -- What is kept of a failure, and of a directory whose names aren't had.
 use Rattle.std.proofs.Common.{◌≡◌, ℕ, List, sym, subst}
-use Rattle.std.specs.Prelude.{Option, Some, None, IfSome}
+use Rattle.std.specs.Prelude.{Option, Some, None, IfSome, IsSomeAnd}
 use Rattle.std.specs.Prelude.{Result, Ok, Err}
 use Rattle.std.specs.Result.{IsErrAnd}
 use Rattle.std.specs.declared.io.Error.{Error}
@@ -23,6 +23,13 @@ kept_weaker (Ok x) last P Q weaker kept = tt
 kept_weaker (Err Memory) last P Q weaker kept = tt
 kept_weaker (Err Device) None P Q weaker kept = tt
 kept_weaker (Err Device) (Some f) P Q weaker kept = weaker f kept
+
+-- what is kept, where memory allowed it
+pub kept_held : {T : Type 0} (r : Result T TreeFault) (last : Option Failure) (P : Failure → Type 0) → OnDevice r (IsSomeAnd last P) → OnDevice r (IfSome last P)
+kept_held (Ok x) last P kept = tt
+kept_held (Err Memory) last P kept = tt
+kept_held (Err Device) None P kept = absurd kept
+kept_held (Err Device) (Some f) P kept = kept
 
 pub kept_names : (last : Option Failure) (text : List ℕ) (why : Cause) → IfSome last (IsAt text why) → IsNamesCause why → IfSome last (IsOfNames text)
 kept_names None text why kept is = tt

@@ -1,6 +1,6 @@
 -- What is asked for a move that is ready, and what is kept of it.
 use Rattle.std.proofs.Common.{◌≡◌, ◌∙◌, ℕ, List, ap, sym, subst, inl, inr}
-use Rattle.std.specs.Prelude.{Bool, true, false, Option, Some, None, IfSome, Result, Ok, Err, MatchOption, MatchResult, string_bytes}
+use Rattle.std.specs.Prelude.{Bool, true, false, Option, Some, None, IsSomeAnd, Result, Ok, Err, MatchOption, MatchResult, string_bytes}
 use Rattle.std.specs.Result.{IsErrAnd}
 use Rattle.std.specs.declared.io.Error.{Error}
 use Rattle.pt_tree.specs.Path.{Path}
@@ -20,21 +20,21 @@ module _ {S F : Type 0} (renames : S → List ℕ → List ℕ → Result (Unit 
     (syncs : F → Result (Unit {0}) Error → F → Type 0) (ready : Ready) (old new : S) where
   -- a directory that could not be put onto the disk is kept as a part of the move
   pub kept_sync : (mid : S) (text : List ℕ) (r : Result (Unit {0}) TreeFault) (fault : TreeFault) (last : Option Failure) → IsErrAnd r (λ y. y ≡ fault) → text ≡ string_bytes ready.holder
-      → OnDevice {T = Unit {0}} (Err fault) (IfSome last (IsOfCall text (FailsToSync opens syncs text mid new))) → OnDevice r (IfSome last (IsOfGoing renames opens syncs ready old new))
+      → OnDevice {T = Unit {0}} (Err fault) (IsSomeAnd last (IsOfCall text (FailsToSync opens syncs text mid new))) → OnDevice r (IsSomeAnd last (IsOfGoing renames opens syncs ready old new))
   kept_sync mid text (Ok x) fault last bad is kept = tt
   kept_sync mid text (Err Memory) fault last same is kept = tt
   kept_sync mid text (Err Device) fault last same is kept =
-      go last (subst (λ f. OnDevice {T = Unit {0}} (Err f) (IfSome last (IsOfCall text (FailsToSync opens syncs text mid new)))) (sym same) kept)
+      go last (subst (λ f. OnDevice {T = Unit {0}} (Err f) (IsSomeAnd last (IsOfCall text (FailsToSync opens syncs text mid new)))) (sym same) kept)
     where
-      go : (o : Option Failure) → IfSome o (IsOfCall text (FailsToSync opens syncs text mid new)) → IfSome o (IsOfGoing renames opens syncs ready old new)
-      go None k = tt
+      go : (o : Option Failure) → IsSomeAnd o (IsOfCall text (FailsToSync opens syncs text mid new)) → IsSomeAnd o (IsOfGoing renames opens syncs ready old new)
+      go None k = absurd k
       go (Some f) k = inr (mid, subst (λ t. IsOfCall t (FailsToSync opens syncs t mid new) f) is k)
 
   module _ (synced : Bool) (folder : List ℕ) (p q : Path) (is : IsReady synced folder p q ready) where
-    pub kept_move : (result : Result (Unit {0}) TreeFault) (last : Option Failure) → OnDevice result (IfSome last (IsOfGoing renames opens syncs ready old new)) → OnDevice result (IfSome last (IsOfMove renames opens syncs folder p q old new))
+    pub kept_move : (result : Result (Unit {0}) TreeFault) (last : Option Failure) → OnDevice result (IsSomeAnd last (IsOfGoing renames opens syncs ready old new)) → OnDevice result (IsSomeAnd last (IsOfMove renames opens syncs folder p q old new))
     kept_move (Ok x) last kept = tt
     kept_move (Err Memory) last kept = tt
-    kept_move (Err Device) None kept = tt
+    kept_move (Err Device) None kept = absurd kept
     kept_move (Err Device) (Some f) (inl call) =
         let asked = subst (λ a. IsOfCall (string_bytes ready.to) (λ e. renames old a (string_bytes ready.to) (Err e) new) f) is.from call in
         inl (inr (subst (λ b. IsOfCall b (λ e. renames old (entry_text folder p) b (Err e) new) f) is.to asked))

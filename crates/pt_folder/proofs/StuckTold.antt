@@ -1,6 +1,6 @@
 -- What a destination tells where nothing is stuck, and where a call is refused since something is.
 use Rattle.std.proofs.Common.{◌≡◌, ◌∙◌, ℕ, Bool, List, [], true, false, refl, ap, sym, subst, arith, inl, inr}
-use Rattle.std.specs.Prelude.{◌≤◌, Option, None, Some, is_some, Result, Ok, Err, OnOk, OnErr}
+use Rattle.std.specs.Prelude.{◌≤◌, ◌⊎◌, Option, None, Some, is_some, Result, Ok, Err, OnOk, OnErr}
 use Rattle.std.specs.Option.{ForSome, option_map}
 use Rattle.std.specs.declared.io.Error.{Error}
 use Rattle.pt_tree.specs.Dest.{CanPeek, IsPeeked, LeavesPart, MayMake, MayMove, Writing, added_to, after_append}
@@ -8,9 +8,10 @@ use Rattle.pt_tree.specs.Failures.{HasRisen, IsCounted}
 use Rattle.pt_tree.specs.Path.{Path}
 use Rattle.pt_tree.specs.Tree.{CanMake, CanMove, Tree}
 use Rattle.pt_tree.specs.declared.faults.TreeFault.{TreeFault}
-use Rattle.pt_tree.specs.declared.faults.TreeFault.TheVariants.{Device}
+use Rattle.pt_tree.specs.declared.faults.TreeFault.TheVariants.{Device, Memory}
 use Rattle.pt_folder.specs.DestHeld.{IsBack, told_with}
 use Rattle.pt_folder.specs.DestLaws.{Kept, PeekLaw}
+use Rattle.pt_folder.specs.Failure.{OnDevice}
 use Rattle.pt_folder.specs.HostDest.{Peeks, told}
 use Rattle.pt_folder.specs.Stuck.{stuck_by_close}
 use Rattle.pt_folder.specs.Writing.{ClosesBy}
@@ -32,6 +33,11 @@ none_stuck (Some s) is = absurd (cc)
 
 pub none_back : {F : Type 0} (kept : Kept F) (o : Option Stuck) → o ≡ None → ForSome o (IsBack kept)
 none_back kept o none = λ s is. absurd (cc)
+
+pub kept_free : {T : Type 0} (r : Result T TreeFault) (o : Option Stuck) (P Q : Type 0) → o ≡ None → OnDevice r Q → OnDevice r (P ⊎ ((o ≡ None) × Q))
+kept_free (Ok x) o P Q none kept = tt
+kept_free (Err Memory) o P Q none kept = tt
+kept_free (Err Device) o P Q none kept = inr (none, kept)
 
 -- ---- something is stuck only where the device failed
 

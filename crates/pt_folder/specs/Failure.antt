@@ -1,5 +1,5 @@
 -- The failure that a folder keeps.
-use Rattle.std.specs.Prelude.{◌≡◌, ◌⊎◌, ℕ, ◌<◌, ◌≤◌, ◌++◌, ⊤, false, [], List, length, Option, IfSome, Result, Ok, Err, string_bytes}
+use Rattle.std.specs.Prelude.{◌≡◌, ◌⊎◌, ℕ, ◌<◌, ◌≤◌, ◌++◌, ⊤, false, [], List, length, Option, IfSome, IsSomeAnd, Result, Ok, Err, string_bytes}
 use Rattle.std.specs.declared.io.Error.{Error}
 use Rattle.pt_tree.specs.declared.faults.TreeFault.{TreeFault}
 use Rattle.pt_tree.specs.declared.faults.TreeFault.TheVariants.{Device, Memory}
@@ -40,14 +40,19 @@ IsTooLong longest path f = (longest < length path) × IsAt path cause.Long f
 abbrev pub IsOfCall : List ℕ → (Error → Type 0) → Failure → Type 0
 IsOfCall path P f = (string_bytes f.path ≡ path) × HasError P f.cause
 
--- what is kept, where memory allowed it, of a call on an entry's path
+-- what is kept of a failed call on an entry's path
 abbrev pub KeepsCall : List ℕ → Path → (Error → Type 0) → Option Failure → Type 0
-KeepsCall folder p P last = IfSome last (λ f. IsUnasked folder f ⊎ IsOfCall (entry_text folder p) P f)
+KeepsCall folder p P last = IsSomeAnd last (λ f. IsUnasked folder f ⊎ IsOfCall (entry_text folder p) P f)
 
--- the same of a call that makes the entry
+-- what is kept where making an entry isn't asked for
+abbrev pub KeepsUnmade : ℕ → List ℕ → Path → Option Failure → Type 0
+KeepsUnmade longest folder p last =
+    IsSomeAnd last (λ f. IsUnasked folder f ⊎ IsTooLong longest (entry_text folder p) f)
+
+-- the same of a failed call that makes the entry
 abbrev pub KeepsMaking : ℕ → List ℕ → Path → (Error → Type 0) → Option Failure → Type 0
 KeepsMaking longest folder p P last =
-    IfSome last (λ f. (IsUnasked folder f ⊎ IsTooLong longest (entry_text folder p) f)
+    IsSomeAnd last (λ f. (IsUnasked folder f ⊎ IsTooLong longest (entry_text folder p) f)
     ⊎ IsOfCall (entry_text folder p) P f)
 
 -- why looking at the first bytes of a file failed: it could not be opened, or a read failed

@@ -1,5 +1,5 @@
 -- What a folder as a destination tells, and what its calls ask of the system and leave.
-use Rattle.std.specs.Prelude.{◌≡◌, ◌⊎◌, ℕ, List, Option, None, Result, Err, IfSome, IsSome, String}
+use Rattle.std.specs.Prelude.{◌≡◌, ◌⊎◌, ℕ, List, Option, None, Result, Err, IfSome, IsSome, IsSomeAnd, String}
 use Rattle.std.specs.Global.{Global}
 use Rattle.std.specs.declared.io.Error.{Error}
 use Rattle.pt_tree.specs.Dest.{Writing}
@@ -61,6 +61,11 @@ module _ {S F D : Type 0} {sys : OfSystem S F D} {handle : OfHandle F} {file : O
       × (new.stuck ≡ old.stuck) × (result ≡ Err Device))
       ⊎ ((old.stuck ≡ None) × asks)
 
+  -- what is kept of a failed call: nothing where something is stuck; where nothing is, this holds
+  abbrev pub KeptUnlessStuck : (old new : HostDest S F D sys handle file dir) → Type 0 → Type 0
+  KeptUnlessStuck old new keeps =
+      (IsSome old.stuck × (new.desk.last.failure ≡ None)) ⊎ ((old.stuck ≡ None) × keeps)
+
   -- the system is asked once to look at an entry, and its answer leads to this
   abbrev pub Looks : {T : Type 0} → (Result Kind Error → Result T TreeFault → Type 0)
       → (old new : HostDest S F D sys handle file dir) → Path → Result T TreeFault → Type 0
@@ -68,12 +73,13 @@ module _ {S F D : Type 0} {sys : OfSystem S F D} {handle : OfHandle F} {file : O
       UnlessStuck old new result
       (AsksOnce sys.looks leads old.folder.path.now p old.desk.system new.desk.system result)
 
-  -- what is kept, where memory allowed it, of a failed look
+  -- what is kept of a failed look
   abbrev pub KeepsLook : (old new : HostDest S F D sys handle file dir) → Path → Type 0
   KeepsLook old new p =
-      KeepsCall old.folder.path.now p
+      KeptUnlessStuck old new
+      (KeepsCall old.folder.path.now p
       (λ e. sys.looks old.desk.system (entry_text old.folder.path.now p) (Err e) new.desk.system)
-      new.desk.last.failure
+      new.desk.last.failure)
 
   -- the system is asked once to open an entry for reading, and its first bytes are this block, or the answer leads to this
   abbrev pub Peeks : (old new : HostDest S F D sys handle file dir) → Path → List ℕ
@@ -83,13 +89,14 @@ module _ {S F D : Type 0} {sys : OfSystem S F D} {handle : OfHandle F} {file : O
       (AsksOnce sys.opens (PeeksAt file.left file.reads block)
       old.folder.path.now p old.desk.system new.desk.system result)
 
-  -- what is kept, where memory allowed it, of first bytes that aren't had
+  -- what is kept of first bytes that aren't had
   abbrev pub KeepsPeek : (old new : HostDest S F D sys handle file dir) → Path → Type 0
   KeepsPeek old new p =
-      KeepsCall old.folder.path.now p
+      KeptUnlessStuck old new
+      (KeepsCall old.folder.path.now p
       (FailsToPeek sys.opens file.reads
       (entry_text old.folder.path.now p) old.desk.system new.desk.system)
-      new.desk.last.failure
+      new.desk.last.failure)
 
   -- the system is asked once to make a directory, unless its path is too long, and so it was answered
   abbrev pub MakesDir : (old new : HostDest S F D sys handle file dir) → Path
@@ -99,12 +106,13 @@ module _ {S F D : Type 0} {sys : OfSystem S F D} {handle : OfHandle F} {file : O
       (MakesOnce old.longest sys.makes_dir IsAnswer
       old.folder.path.now p old.desk.system new.desk.system result)
 
-  -- what is kept, where memory allowed it, of a directory that isn't made
+  -- what is kept of a directory that isn't made
   abbrev pub KeepsDir : (old new : HostDest S F D sys handle file dir) → Path → Type 0
   KeepsDir old new p =
-      KeepsMaking old.longest old.folder.path.now p
+      KeptUnlessStuck old new
+      (KeepsMaking old.longest old.folder.path.now p
       (λ e. sys.makes_dir old.desk.system (entry_text old.folder.path.now p) (Err e) new.desk.system)
-      new.desk.last.failure
+      new.desk.last.failure)
 
   -- the system is asked once to make a file, unless its path is too long, and by its answer that is the open one
   abbrev pub MakesFile : (old new : HostDest S F D sys handle file dir) → Path
@@ -114,12 +122,13 @@ module _ {S F D : Type 0} {sys : OfSystem S F D} {handle : OfHandle F} {file : O
       (MakesOnce old.longest sys.makes_file (MakesAt p old.writing new.writing)
       old.folder.path.now p old.desk.system new.desk.system result)
 
-  -- what is kept, where memory allowed it, of a file that isn't made
+  -- what is kept of a file that isn't made
   abbrev pub KeepsFile : (old new : HostDest S F D sys handle file dir) → Path → Type 0
   KeepsFile old new p =
-      KeepsMaking old.longest old.folder.path.now p
+      KeptUnlessStuck old new
+      (KeepsMaking old.longest old.folder.path.now p
       (λ e. sys.makes_file old.desk.system (entry_text old.folder.path.now p) (Err e) new.desk.system)
-      new.desk.last.failure
+      new.desk.last.failure)
 
   -- the writes that the open file is asked for, and so they were answered; where none is open, that is a failure
   abbrev pub Writes : (old new : HostDest S F D sys handle file dir) → List ℕ
@@ -128,11 +137,12 @@ module _ {S F D : Type 0} {sys : OfSystem S F D} {handle : OfHandle F} {file : O
       UnlessStuck old new result
       (WritesTo sys.writes old.desk.system old.writing new.desk.system new.writing piece result)
 
-  -- what is kept, where memory allowed it, of a failed write
+  -- what is kept of a failed write, where memory allowed it
   abbrev pub KeepsWrite : (old new : HostDest S F D sys handle file dir) → List ℕ → Type 0
   KeepsWrite old new piece =
-      IfSome new.desk.last.failure
-      (IsOfWriting old.folder.path.now (FailsToAdd sys.writes piece old.desk.system) old.writing)
+      KeptUnlessStuck old new
+      (IfSome new.desk.last.failure
+      (IsOfWriting old.folder.path.now (FailsToAdd sys.writes piece old.desk.system) old.writing))
 
   -- the open file is closed, put onto the disk before where that is asked for; where none is open, that is a failure
   abbrev pub Closes : HostDest S F D sys handle file dir → Result (Unit {0}) TreeFault → Type 0
@@ -140,12 +150,13 @@ module _ {S F D : Type 0} {sys : OfSystem S F D} {handle : OfHandle F} {file : O
       (IsSome old.stuck × (result ≡ Err Device))
       ⊎ ((old.stuck ≡ None) × ClosesBy handle.syncs old.synced old.writing result)
 
-  -- what is kept, where memory allowed it, of a file that isn't put onto the disk
+  -- what is kept of a file that isn't put onto the disk, where memory allowed it
   abbrev pub KeepsClose : (old new : HostDest S F D sys handle file dir) → Type 0
   KeepsClose old new =
-      IfSome new.desk.last.failure
+      KeptUnlessStuck old new
+      (IfSome new.desk.last.failure
       (IsOfWriting old.folder.path.now (λ w e. (after : F)
-      × handle.syncs w (Err e) after) old.writing)
+      × handle.syncs w (Err e) after) old.writing))
 
   -- the system is asked once to move an entry, and what comes after that
   abbrev pub Moves : (old new : HostDest S F D sys handle file dir) → Path → Path
@@ -155,9 +166,10 @@ module _ {S F D : Type 0} {sys : OfSystem S F D} {handle : OfHandle F} {file : O
       (MovesOnce sys.renames sys.opens handle.syncs old.synced old.folder.path.now from to old.desk.system
       new.desk.system new.stuck result)
 
-  -- what is kept, where memory allowed it, of a failed move
+  -- what is kept of a failed move
   abbrev pub KeepsMove : (old new : HostDest S F D sys handle file dir) → Path → Path → Type 0
   KeepsMove old new from to =
-      IfSome new.desk.last.failure
+      KeptUnlessStuck old new
+      (IsSomeAnd new.desk.last.failure
       (IsOfMove sys.renames sys.opens handle.syncs old.folder.path.now from to old.desk.system
-      new.desk.system)
+      new.desk.system))

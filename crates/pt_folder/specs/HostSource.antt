@@ -1,5 +1,5 @@
 -- What a folder as a source tells, and what its calls ask of the system and leave.
-use Rattle.std.specs.Prelude.{◌≡◌, ◌≤◌, ℕ, List, length, Option, Result, IfSome, String, string_bytes}
+use Rattle.std.specs.Prelude.{◌≡◌, ◌≤◌, ℕ, List, length, Option, Result, Err, IfSome, String, string_bytes}
 use Rattle.std.specs.Global.{Global}
 use Rattle.pt_tree.specs.declared.faults.TreeFault.{TreeFault}
 use Rattle.pt_tree.specs.Failures.{IsCounted, IsOneMoreCall}
@@ -14,7 +14,7 @@ use Rattle.pt_folder.specs.declared.system.Input.{Ghosts as OfInput}
 use Rattle.pt_folder.specs.declared.system.System.{Ghosts as OfSystem}
 use Rattle.pt_folder.specs.Calls.{IsDueTo}
 use Rattle.pt_folder.specs.Devices.{was_called}
-use Rattle.pt_folder.specs.Failure.{KeepsListing}
+use Rattle.pt_folder.specs.Failure.{KeepsCall, KeepsListing}
 use Rattle.pt_folder.specs.Folder.{entry_text}
 use Rattle.pt_folder.specs.Listing.{FailsToList, IsListedBy, dir_front, most_entries}
 use Rattle.pt_folder.specs.Opening.{KeepsOpening, OpensOnce}
@@ -26,6 +26,13 @@ module _ {S F D : Type 0} {sys : OfSystem S F D} {handle : OfHandle F} {file : O
   -- the tree that the system keeps there, and what isn't read of the open file
   abbrev pub told : HostSource S F D sys handle file dir → Option Reading
   told s = told_of (sys.forest s.desk.system s.folder.path.now) (unread_open file.bytes s.reading)
+
+  -- what is kept of a failed look
+  abbrev pub KeepsLook : (old new : HostSource S F D sys handle file dir) → Path → Type 0
+  KeepsLook old new p =
+      KeepsCall old.folder.path.now p
+      (λ e. sys.looks old.desk.system (entry_text old.folder.path.now p) (Err e) new.desk.system)
+      new.desk.last.failure
 
   -- the directory was listed so, by calls of the system; it has no more entries than a listing may have
   abbrev pub Lists : (old new : HostSource S F D sys handle file dir) → Path → List Item → Type 0
@@ -52,7 +59,7 @@ module _ {S F D : Type 0} {sys : OfSystem S F D} {handle : OfHandle F} {file : O
       OpensOnce sys.looks sys.opens old.folder.path.now p
       old.reading new.reading old.desk.system new.desk.system result
 
-  -- what is kept, where memory allowed it, of a failed opening
+  -- what is kept of a failed opening
   abbrev pub KeepsOpen : (old new : HostSource S F D sys handle file dir) → Path → Type 0
   KeepsOpen old new p =
       KeepsOpening sys.looks sys.opens old.folder.path.now p

@@ -1,5 +1,5 @@
 -- How a file of a folder is opened for reading.
-use Rattle.std.specs.Prelude.{◌≡◌, ◌≢◌, ◌⊎◌, ℕ, List, length, Option, IfSome, Result, Ok, Err, MatchResult}
+use Rattle.std.specs.Prelude.{◌≡◌, ◌≢◌, ◌⊎◌, ℕ, List, length, Option, IsSomeAnd, Result, Ok, Err, MatchResult}
 use Rattle.std.specs.declared.io.Error.{Error}
 use Rattle.pt_tree.specs.Path.{Path}
 use Rattle.pt_tree.specs.declared.faults.TreeFault.{TreeFault}
@@ -16,7 +16,7 @@ use Rattle.pt_tree.specs.declared.kind.Kind.{Kind}
 use Rattle.pt_tree.specs.declared.kind.Kind.TheVariants.{File}
 
 -- a file stands there, by the system's reply to a look; or that failed, or it is none
-abbrev pub LeadsToFile : Result Kind Error → Result (Unit {0}) TreeFault → Type 0
+abbrev pub LeadsToFile : {T : Type 0} → Result Kind Error → Result T TreeFault → Type 0
 LeadsToFile (Ok kind) (Ok done) = kind ≡ File
 LeadsToFile (Ok kind) (Err fault) = (kind ≢ File) × (fault ≡ Device)
 LeadsToFile (Err e) result = result ≡ Err (fault_of e)
@@ -50,10 +50,10 @@ abbrev pub IsOfFile : {S : Type 0} → (S → List ℕ → Result Kind Error →
     → S → Failure → Type 0
 IsOfFile looks text old new f = IsAt text cause.NotFile f ⊎ IsOfCall text (λ e. looks old text (Err e) new) f
 
--- what is kept, where memory allowed it, of opening a file: of no call, of the look, or of the opening
+-- what is kept of a file that isn't opened: of no call, of the look, or of the opening
 abbrev pub KeepsOpening : {S F : Type 0} → (S → List ℕ → Result Kind Error → S → Type 0)
     → (S → List ℕ → Result F Error → S → Type 0) → List ℕ → Path → S → S → Option Failure → Type 0
 KeepsOpening {S} looks opens folder p old new last =
-    IfSome last (λ f. (IsUnasked folder f ⊎ IsOfFile looks (entry_text folder p) old new f)
+    IsSomeAnd last (λ f. (IsUnasked folder f ⊎ IsOfFile looks (entry_text folder p) old new f)
     ⊎ IsOfCall (entry_text folder p)
     (λ e. (mid : S) × opens mid (entry_text folder p) (Err e) new) f)

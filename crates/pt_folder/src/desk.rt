@@ -1,5 +1,5 @@
 //! How a folder calls the system: what it asks, and what is kept of an answer that is a failure.
-ghost use Rattle.std.specs.Prelude.{◌≡◌, [], Err, IfSome, OnErr, OnOk, string_bytes};
+ghost use Rattle.std.specs.Prelude.{◌≡◌, [], Err, IfOk, IfSome, IsSomeAnd, OnErr, OnOk, string_bytes};
 ghost use Rattle.pt_folder.specs.Desk.{new_desk};
 ghost use Rattle.pt_folder.specs.Calls.{AsksOnce, IsAnswer, IsThere, LeadsToKind, MakesOnce};
 ghost use Rattle.pt_folder.specs.Failure.{FailsLook, FailsToPeek, IsOfCall, KeepsCall, KeepsMaking, OnDevice};
@@ -38,7 +38,7 @@ impl<S: System> Desk<S> {
     }
 
     /// The kind of an entry, links not followed; None where nothing is there, or a parent isn't a directory. `at` becomes
-    /// the entry's path.
+    /// the entry's path, unless that is a fault.
     pub fn kind_at(
         &mut self,
         folder: &Folder<'_>,
@@ -52,11 +52,17 @@ impl<S: System> Desk<S> {
             (λ e. S.looks self.old.system (entry_text folder.now.path.now path.now) (Err e)
             self.new.system) self.new.last.failure) }
     {
-        *at = folder.text(path, &mut self.last)?;
-        match self.system.look(at.as_str()) {
-            Ok(kind) => Ok(Some(kind)),
-            Err(error) if is_absent(&error) => Ok(None),
-            Err(error) => Err(self.last.heard(at.as_str(), error)),
+        let text = folder.text(path, &mut self.last)?;
+        match self.system.look(text.as_str()) {
+            Ok(kind) => {
+                *at = text;
+                Ok(Some(kind))
+            }
+            Err(error) if is_absent(&error) => {
+                *at = text;
+                Ok(None)
+            }
+            Err(error) => Err(self.last.heard(text, error)),
         }
     }
 
@@ -71,7 +77,7 @@ impl<S: System> Desk<S> {
         let text = folder.text(path, &mut self.last)?;
         match self.system.look(text.as_str()) {
             Ok(_) => Ok(()),
-            Err(error) => Err(self.last.heard(text.as_str(), error)),
+            Err(error) => Err(self.last.heard(text, error)),
         }
     }
 
@@ -91,7 +97,7 @@ impl<S: System> Desk<S> {
         let text = folder.text_to_make(path, longest, &mut self.last)?;
         match self.system.make_dir(text.as_str()) {
             Ok(()) => Ok(()),
-            Err(error) => Err(self.last.heard(text.as_str(), error)),
+            Err(error) => Err(self.last.heard(text, error)),
         }
     }
 
@@ -115,9 +121,9 @@ impl<S: System> Desk<S> {
         match self.system.open_to_read(text.as_str()) {
             Ok(mut file) => match read_block(&mut file, block, &mut [0; BLOCK]) {
                 Ok(()) => Ok(()),
-                Err(error) => Err(self.last.heard(text.as_str(), error)),
+                Err(error) => Err(self.last.heard(text, error)),
             },
-            Err(error) => Err(self.last.heard(text.as_str(), error)),
+            Err(error) => Err(self.last.heard(text, error)),
         }
     }
 
@@ -130,19 +136,20 @@ impl<S: System> Desk<S> {
     {
         match self.system.look(text) {
             Ok(kind) => Ok(kind),
-            Err(error) => Err(self.last.heard(text, error)),
+            Err(error) => Err(self.last.heard_at_copy(text, error)),
         }
     }
 
-    /// Whether a file is at one of the system's paths, links not followed: that none is, is a failure.
-    pub fn look_at_file(&mut self, text: &str) -> Result<(), TreeFault>
-        ensures asked { (reply : _) × S.looks self.old.system text.now reply self.new.system
-            × LeadsToFile reply result }
-        ensures kept { OnDevice result (IfSome self.new.last.failure
-            (IsOfFile S.looks text.now self.old.system self.new.system)) }
+    /// Whether a file is at one of the system's paths, links not followed: that none is, is a failure. The path is given back.
+    pub fn look_at_file(&mut self, text: String) -> Result<String, TreeFault>
+        ensures same { IfOk result (λ path. path ≡ text) }
+        ensures asked { (reply : _) × S.looks self.old.system (string_bytes text) reply
+            self.new.system × LeadsToFile reply result }
+        ensures kept { OnDevice result (IsSomeAnd self.new.last.failure
+            (IsOfFile S.looks (string_bytes text) self.old.system self.new.system)) }
     {
-        match self.system.look(text) {
-            Ok(Kind::File) => Ok(()),
+        match self.system.look(text.as_str()) {
+            Ok(Kind::File) => Ok(text),
             Ok(_) => {
                 self.last.keep(text, Cause::NotFile);
                 Err(TreeFault::Device)
@@ -152,13 +159,14 @@ impl<S: System> Desk<S> {
     }
 
     /// Has the directory at one of the system's paths put onto its disk, so that the names in it stay.
-    pub fn sync_dir(&mut self, text: &str) -> Result<(), TreeFault>
-        ensures asked { IsSynced S.opens S.File.Handle.syncs text.now
+    pub fn sync_dir(&mut self, text: String) -> Result<(), TreeFault>
+        ensures asked { IsSynced S.opens S.File.Handle.syncs (string_bytes text)
             self.old.system self.new.system result }
-        ensures kept { OnDevice result (IfSome self.new.last.failure (IsOfCall text.now
-            (FailsToSync S.opens S.File.Handle.syncs text.now self.old.system self.new.system))) }
+        ensures kept { OnDevice result (IsSomeAnd self.new.last.failure
+            (IsOfCall (string_bytes text) (FailsToSync S.opens S.File.Handle.syncs
+            (string_bytes text) self.old.system self.new.system))) }
     {
-        match self.system.open_to_read(text) {
+        match self.system.open_to_read(text.as_str()) {
             Ok(mut dir) => match dir.sync() {
                 Ok(()) => Ok(()),
                 Err(error) => Err(self.last.unsynced(text, error)),

@@ -5,7 +5,7 @@ ghost use Rattle.pt_tree.specs.declared.faults.TreeFault.TheVariants.{Device};
 ghost use Rattle.pt_folder.specs.Desk.{new_desk};
 ghost use Rattle.pt_folder.specs.Folder.{entry_text};
 ghost use Rattle.pt_folder.specs.Calls.{CannotMake, IsThere, LeadsToKind};
-ghost use Rattle.pt_folder.specs.Failure.{OnDevice};
+ghost use Rattle.pt_folder.specs.Failure.{KeepsUnmade, OnDevice};
 ghost use Rattle.pt_folder.specs.DestHeld.{IsBack, IsPlaced};
 ghost use Rattle.pt_folder.specs.Settings.{greatest_length};
 ghost use Rattle.pt_folder.specs.Writing.{IsMadeAt, open_unless_within};
@@ -92,7 +92,7 @@ impl<'a, S: System> HostDest<'a, S> {
         self
     }
 
-    /// The last failure, if there was one and memory for its path.
+    /// The last failure, if there was one, and where it was a write's or a sync's at closing, memory for its path.
     pub fn last_failure(&self) -> Option<&Failure>
         ensures { option_map (λ f. f.now) result ≡ self.now.desk.last.failure }
     {
@@ -120,6 +120,8 @@ impl<'a, S: System> HostDest<'a, S> {
             ≤ self.old.longest) }
         ensures refused { OnDevice result
             (CannotMake self.old.longest self.old.folder.path.now path.now) }
+        ensures kept { OnDevice result (KeepsUnmade self.old.longest self.old.folder.path.now
+            path.now self.new.desk.last.failure) }
         ensures system { self.new.desk.system ≡ self.old.desk.system }
         ensures call { IsOtherCall self.old self.new result }
     {

@@ -1,5 +1,5 @@
 //! The last failure of a folder: the path of the call that failed, and why.
-ghost use Rattle.std.specs.Prelude.{◌≡◌, IfSome, string_bytes};
+ghost use Rattle.std.specs.Prelude.{◌≡◌, IfSome, Some, string_bytes};
 ghost use Rattle.std.specs.IoError.{error_kind};
 ghost use Rattle.pt_tree.specs.declared.faults.TreeFault.TheVariants.{Device};
 ghost use Rattle.pt_folder.specs.Folder.{fault_of_kind};
@@ -87,8 +87,15 @@ pub struct Last {
 }
 
 impl Last {
-    /// Keeps a failure at a path; none is kept where there is no memory for the path.
-    pub fn keep(&mut self, path: &str, cause: Cause)
+    /// Keeps a failure at a path.
+    pub fn keep(&mut self, path: String, cause: Cause)
+        ensures { self.new.failure ≡ Some (record { path = path; cause = cause }) }
+    {
+        self.failure = Some(Failure::at(path, cause));
+    }
+
+    /// Keeps a failure at a copy of a path; none is kept where there is no memory for the copy.
+    pub fn keep_copy(&mut self, path: &str, cause: Cause)
         ensures { IfSome self.new.failure (IsAt path.now cause) }
     {
         self.failure = match String::from_str(self.alloc, path) {
@@ -98,19 +105,28 @@ impl Last {
     }
 
     /// Keeps the system's error at a path, and gives what it is answered: `Memory` for want of memory, else `Device`.
-    pub fn heard(&mut self, path: &str, error: io::Error) -> TreeFault
+    pub fn heard(&mut self, path: String, error: io::Error) -> TreeFault
         ensures fault { result ≡ fault_of_kind (error_kind error) }
-        ensures kept { IfSome self.new.failure (IsAt path.now (Cause.System error)) }
+        ensures kept { self.new.failure ≡ Some (record { path = path; cause = Cause.System error }) }
     {
         self.keep(path, Cause::System(error));
         fault_of(error)
     }
 
+    /// The same at a copy of a path: nothing is kept where there is no memory for the copy.
+    pub fn heard_at_copy(&mut self, path: &str, error: io::Error) -> TreeFault
+        ensures fault { result ≡ fault_of_kind (error_kind error) }
+        ensures kept { IfSome self.new.failure (IsAt path.now (Cause.System error)) }
+    {
+        self.keep_copy(path, Cause::System(error));
+        fault_of(error)
+    }
+
     /// Keeps the system's error at a path where a sync failed, and gives what that is answered: `Device`, whatever the error.
     /// The system has done its part by then, and no growth of ours was refused.
-    pub fn unsynced(&mut self, path: &str, error: io::Error) -> TreeFault
+    pub fn unsynced(&mut self, path: String, error: io::Error) -> TreeFault
         ensures fault { result ≡ Device }
-        ensures kept { IfSome self.new.failure (IsAt path.now (Cause.System error)) }
+        ensures kept { self.new.failure ≡ Some (record { path = path; cause = Cause.System error }) }
     {
         self.keep(path, Cause::System(error));
         TreeFault::Device

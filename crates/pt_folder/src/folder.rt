@@ -1,12 +1,12 @@
 //! What the folders of a run share: texts of paths, and how the system's errors are answered and counted.
-ghost use Rattle.std.specs.Prelude.{◌≡◌, ◌≢◌, ◌⊎◌, ◌↔◌, ◌≤◌, Err, IfOk, IfSome, OnOk, IsErrOf, IsTrue, length, min, string_bytes, true};
+ghost use Rattle.std.specs.Prelude.{◌≡◌, ◌≢◌, ◌↔◌, ◌≤◌, Err, IfOk, IfSome, IsSomeAnd, OnOk, IsErrOf, IsTrue, length, min, string_bytes, true};
 ghost use Rattle.pt_tree.specs.Name.{is_name};
 ghost use Rattle.pt_folder.specs.Laws.{IsPath};
 ghost use Rattle.std.specs.IoError.{error_kind};
 ghost use Rattle.pt_tree.specs.Failures.{IsCounted};
 ghost use Rattle.pt_folder.specs.Folder.{entry_text, IsAbsent, fault_of_kind};
 ghost use Rattle.pt_folder.specs.Calls.{CannotMake};
-ghost use Rattle.pt_folder.specs.Failure.{IsAt, IsTooLong, IsUnasked, OnDevice};
+ghost use Rattle.pt_folder.specs.Failure.{IsAt, IsUnasked, KeepsUnmade, OnDevice};
 ghost use Rattle.pt_folder.specs.Settings.{greatest_length};
 
 use crate::failure::{Cause, Failure, Last};
@@ -32,7 +32,7 @@ impl<'a> Folder<'a> {
             (λ text. string_bytes text ≡ entry_text self.now.path.now path.now) }
         ensures named { OnOk result (IsPath path.now) }
         ensures empty { IsErrOf result TreeFault.Device ↔ (length self.now.path.now ≡ 0) }
-        ensures kept { OnDevice result (IfSome last.new.failure (IsUnasked self.now.path.now)) }
+        ensures kept { OnDevice result (IsSomeAnd last.new.failure (IsUnasked self.now.path.now)) }
     {
         self.text_with_room(path, 0, last)
     }
@@ -48,10 +48,10 @@ impl<'a> Folder<'a> {
             (λ text. string_bytes text ≡ entry_text self.now.path.now path.now) }
         ensures named { OnOk result (IsPath path.now) }
         ensures empty { IsErrOf result TreeFault.Device ↔ (length self.now.path.now ≡ 0) }
-        ensures kept { OnDevice result (IfSome last.new.failure (IsUnasked self.now.path.now)) }
+        ensures kept { OnDevice result (IsSomeAnd last.new.failure (IsUnasked self.now.path.now)) }
     {
         if self.path.is_empty() {
-            last.keep("", Cause::Empty);
+            last.keep(String::new(last.alloc), Cause::Empty);
             return Err(TreeFault::Device);
         }
         Ok(path_text(last.alloc, self.path, path, room)?)
@@ -71,12 +71,12 @@ impl<'a> Folder<'a> {
         ensures filled { IfOk result (λ _. length self.now.path.now ≢ 0) }
         ensures refused { IsErrOf result TreeFault.Device
             → CannotMake longest self.now.path.now path.now }
-        ensures kept { OnDevice result (IfSome last.new.failure (λ f. IsUnasked self.now.path.now f
-            ⊎ IsTooLong longest (entry_text self.now.path.now path.now) f)) }
+        ensures kept { OnDevice result
+            (KeepsUnmade longest self.now.path.now path.now last.new.failure) }
     {
         let text = self.text(path, last)?;
         if text.len() > longest {
-            last.keep(text.as_str(), Cause::Long);
+            last.keep(text, Cause::Long);
             return Err(TreeFault::Device);
         }
         Ok(text)

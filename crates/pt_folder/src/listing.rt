@@ -77,7 +77,7 @@ fn names_in<S: System>(
 {
     match desk.system.open_names(text) {
         Ok(mut dir) => read_names(&mut dir, piece, most(), text, &mut desk.last),
-        Err(error) => Err(desk.last.heard(text, error)),
+        Err(error) => Err(desk.last.heard_at_copy(text, error)),
     }
 }
 
@@ -111,10 +111,10 @@ pub fn read_names<D: Input>(
         match dir.read_piece(piece) {
             Ok(0) => return Ok(names),
             Ok(count) => add_names(&mut names, &piece[..count], most, text, last)?,
-            Err(error) => return Err(last.heard(text, error)),
+            Err(error) => return Err(last.heard_at_copy(text, error)),
         }
     }
-    last.keep(text, Cause::Endless);
+    last.keep_copy(text, Cause::Endless);
     Err(TreeFault::Device)
 }
 
@@ -141,7 +141,7 @@ fn add_names(
     if rest.is_empty() {
         Ok(())
     } else {
-        last.keep(text, Cause::Endless);
+        last.keep_copy(text, Cause::Endless);
         Err(TreeFault::Device)
     }
 }
@@ -175,14 +175,14 @@ fn add_name(
         return Ok(());
     }
     if names.len() >= most {
-        last.keep(text, Cause::Entries);
+        last.keep_copy(text, Cause::Entries);
         return Err(TreeFault::Device);
     }
     match Name::of(last.alloc, bytes) {
         Ok(name) => names.push(name).map_err(|_| TreeFault::Memory),
         Err(NameFault::Memory) => Err(TreeFault::Memory),
         Err(_) => {
-            last.keep(text, Cause::Name);
+            last.keep_copy(text, Cause::Name);
             Err(TreeFault::Device)
         }
     }
@@ -249,7 +249,7 @@ fn add_entry(
         Ok(()) => Ok(()),
         Err(ListingFault::Memory) => Err(TreeFault::Memory),
         Err(ListingFault::NotRising) => {
-            last.keep(text, Cause::Twice);
+            last.keep_copy(text, Cause::Twice);
             Err(TreeFault::Device)
         }
     }

@@ -1,5 +1,5 @@
 // How something is moved in a folder: what is made ready before anything is asked, the move, and what comes after it.
-ghost use Rattle.std.specs.Prelude.{◌≡◌, None, IfErr, IfOk, IfSome, length, string_bytes};
+ghost use Rattle.std.specs.Prelude.{◌≡◌, None, IfErr, IfOk, IsSomeAnd, length, string_bytes};
 ghost use Rattle.pt_folder.specs.Calls.{IsDueTo};
 ghost use Rattle.pt_folder.specs.Failure.{IsUnasked, OnDevice};
 ghost use Rattle.pt_folder.specs.Moving.{IsGone, IsOfGoing, IsOfMove, IsReady, MovesOnce, holder_text};
@@ -37,7 +37,8 @@ impl<'a> Move<'a> {
         ensures ready { IfOk result
             (IsReady self.now.synced folder.now.path.now self.now.from.now self.now.to.now) }
         ensures refused { IfErr result (λ fault. IsDueTo fault (length folder.now.path.now ≡ 0)) }
-        ensures kept { OnDevice result (IfSome last.new.failure (IsUnasked folder.now.path.now)) }
+        ensures kept { OnDevice result
+            (IsSomeAnd last.new.failure (IsUnasked folder.now.path.now)) }
     {
         let from = folder.text(self.from, last)?;
         let to = folder.text(self.to, last)?;
@@ -65,25 +66,21 @@ impl<'a> Move<'a> {
 
 impl Ready {
     // Moves what stands at the first path to the second. The move is stuck where its directory couldn't be put onto the disk.
-    fn go<S: System>(
-        &mut self,
-        desk: &mut Desk<S>,
-        stuck: &mut Option<Stuck>,
-    ) -> Result<(), TreeFault>
-        ensures gone { IsGone S.renames S.opens S.File.Handle.syncs self.old
+    fn go<S: System>(self, desk: &mut Desk<S>, stuck: &mut Option<Stuck>) -> Result<(), TreeFault>
+        ensures gone { IsGone S.renames S.opens S.File.Handle.syncs self
             desk.old.system desk.new.system stuck.old stuck.new result }
-        ensures kept { OnDevice result (IfSome desk.new.last.failure
-            (IsOfGoing S.renames S.opens S.File.Handle.syncs self.old
+        ensures kept { OnDevice result (IsSomeAnd desk.new.last.failure
+            (IsOfGoing S.renames S.opens S.File.Handle.syncs self
             desk.old.system desk.new.system)) }
     {
         if let Err(error) = desk.system.move_to(self.from.as_str(), self.to.as_str()) {
-            return Err(desk.last.heard(self.to.as_str(), error));
+            return Err(desk.last.heard(self.to, error));
         }
-        *stuck = self.left.take();
+        *stuck = self.left;
         if stuck.is_none() {
             return Ok(());
         }
-        desk.sync_dir(self.holder.as_str())?;
+        desk.sync_dir(self.holder)?;
         *stuck = None;
         Ok(())
     }
@@ -100,11 +97,11 @@ pub(crate) fn moved<S: System>(
     ensures asked { MovesOnce S.renames S.opens S.File.Handle.syncs asked.now.synced
         folder.now.path.now asked.now.from.now asked.now.to.now
         desk.old.system desk.new.system stuck.new result }
-    ensures kept { OnDevice result (IfSome desk.new.last.failure
+    ensures kept { OnDevice result (IsSomeAnd desk.new.last.failure
         (IsOfMove S.renames S.opens S.File.Handle.syncs folder.now.path.now
         asked.now.from.now asked.now.to.now desk.old.system desk.new.system)) }
 {
-    let mut ready = asked.ready(folder, &mut desk.last)?;
+    let ready = asked.ready(folder, &mut desk.last)?;
     ready.go(desk, stuck)
 }
 

@@ -38,7 +38,7 @@ pub struct HostSource<'a, S: System> {
 }
 
 impl<'a, S: System> HostSource<'a, S> {
-    ghost use Rattle.pt_folder.specs.HostSource.{lasting};
+    ghost use Rattle.pt_folder.specs.HostSource.{KeepsLook, lasting};
 
     /// A source over the folder at a path of a system, as the runtime's. It calls nothing and takes no memory.
     pub fn new(system: S, alloc: Global, path: &'a str) -> HostSource<'a, S>
@@ -59,7 +59,7 @@ impl<'a, S: System> HostSource<'a, S> {
         }
     }
 
-    /// The last failure, if there was one and memory for its path.
+    /// The last failure, if there was one, and where it was a listing's or a read's, memory for its path.
     pub fn last_failure(&self) -> Option<&Failure>
         ensures { option_map (λ f. f.now) result ≡ self.now.desk.last.failure }
     {
@@ -86,6 +86,7 @@ impl<'a, S: System> HostSource<'a, S> {
             ≡ S.forest self.old.desk.system self.old.folder.path.now }
         ensures asked { AsksOnce S.looks LeadsToKind self.old.folder.path.now path.now
             self.old.desk.system self.new.desk.system result }
+        ensures kept { OnDevice result (KeepsLook self.old self.new path.now) }
         ensures still { lasting self.new ≡ lasting self.old }
         ensures failures { IsCounted self.old.failures self.new.failures result }
     {
@@ -206,14 +207,14 @@ fn open<S: System>(
         folder.now.path.now path.now desk.old.system desk.new.system desk.new.last.failure) }
 {
     let text = folder.text(path, &mut desk.last)?;
-    desk.look_at_file(text.as_str())?;
+    let text = desk.look_at_file(text)?;
     match desk.system.open_to_read(text.as_str()) {
         Ok(file) => {
             *opened = Some(Reading::at_start(file));
             *at = text;
             Ok(())
         }
-        Err(error) => Err(desk.last.heard(text.as_str(), error)),
+        Err(error) => Err(desk.last.heard(text, error)),
     }
 }
 
@@ -242,11 +243,11 @@ fn read_on<F: Handle + Drop>(
     match reading {
         Some(open) => match open.read(block, room) {
             Ok(()) => Ok(()),
-            Err(error) => Err(last.heard(at, error)),
+            Err(error) => Err(last.heard_at_copy(at, error)),
         },
         None => {
             block.clear();
-            last.keep(at, Cause::Closed);
+            last.keep_copy(at, Cause::Closed);
             Err(TreeFault::Device)
         }
     }

@@ -46,7 +46,7 @@ pub(crate) fn create<S: System>(
             *writing = Some(Writing { file, path });
             Ok(())
         }
-        Err(error) => Err(desk.last.heard(text.as_str(), error)),
+        Err(error) => Err(desk.last.heard(text, error)),
     }
 }
 
@@ -70,7 +70,8 @@ pub(crate) fn add<S: System>(
             Err(error) => Err(folder.heard_at(&open.path, error, &mut desk.last)),
         },
         None => {
-            desk.last.keep("", Cause::Closed);
+            let alloc = desk.last.alloc;
+            desk.last.keep(String::new(alloc), Cause::Closed);
             Err(TreeFault::Device)
         }
     }
@@ -92,7 +93,7 @@ pub(crate) fn close<F: Handle + Drop>(
     ensures stuck { stuck.new ≡ stuck_by_close stuck.old writing.old result }
 {
     let Some(mut open) = writing.take() else {
-        last.keep("", Cause::Closed);
+        last.keep(String::new(last.alloc), Cause::Closed);
         return Err(TreeFault::Device);
     };
     if !synced {

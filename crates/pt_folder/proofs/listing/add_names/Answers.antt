@@ -32,4 +32,4 @@ pub returns-in_err-add_name-clause-kept : goal.returns-in_err-add_name-clause-ke
 returns-in_err-add_name-clause-kept c = kept_on c.from_residual.result c.in_err-add_name.field-0.0 _ c.from_residual.ensures.1 c.in_err-add_name.ensures.kept
 
 pub returns-else-is_empty-clause-kept : goal.returns-else-is_empty-clause-kept
-returns-else-is_empty-clause-kept c = kept_names c.keep.new.self.failure c.args.text.now cause.Endless c.keep.ensures tt
+returns-else-is_empty-clause-kept c = kept_names c.keep_copy.new.self.failure c.args.text.now cause.Endless c.keep_copy.ensures tt

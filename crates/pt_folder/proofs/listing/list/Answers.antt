@@ -1,9 +1,9 @@
 use Rattle.std.proofs.Common.{◌≡◌, ◌∙◌, ◌++◌, ap, inl, inr, lit<, string_bytes, subst}
-use Rattle.std.specs.Prelude.{IfSome}
+use Rattle.std.specs.Prelude.{IfSome, IsSomeAnd}
 use Rattle.pt_folder.specs.Folder.{entry_text}
 use Rattle.pt_folder.specs.Listing.{GetsNames, dir_front}
 use Rattle.pt_folder.specs.Failure.{IsOfEntry, IsOfNames, IsUnasked}
-use Rattle.pt_folder.proofs.Kept.{kept_on, kept_weaker}
+use Rattle.pt_folder.proofs.Kept.{kept_held, kept_on, kept_weaker}
 use Rattle.pt_folder.proofs.Listed.{entry_fails, listed_by, names_fail}
 use Rattle.pt_folder.proofs.Listings.{front_is, list_same, list_told, names_given, names_same}
 use Rattle.pt_folder.proofs.Names.{err_due}
@@ -91,4 +91,5 @@ returns-in_err-text-clause-kept g c =
     let r = c.from_residual.result in
     let last = c.text_with_room.new.last.failure in
     let unasked = IsUnasked c.args.folder.now.path.now in
-    kept_weaker r last unasked _ (λ f is. inl (inl is)) (kept_on r c.in_err-text.field-0.0 (IfSome last unasked) c.from_residual.ensures.1 c.in_err-text.ensures.kept)
+    kept_weaker r last unasked _ (λ f is. inl (inl is))
+    (kept_held r last unasked (kept_on r c.in_err-text.field-0.0 (IsSomeAnd last unasked) c.from_residual.ensures.1 c.in_err-text.ensures.kept))

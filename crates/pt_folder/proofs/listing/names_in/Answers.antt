@@ -24,4 +24,4 @@ returns-in-Ok-clause-asked g c =
     )
 
 pub returns-in-Err-clause-kept : goal.returns-in-Err-clause-kept
-returns-in-Err-clause-kept g c = names_heard {T = Unit {0}} (Err c.heard.result) c.heard.new.self.failure c.args.text.now (cause.System c.in-Err.error) c.heard.ensures.kept tt
+returns-in-Err-clause-kept g c = names_heard {T = Unit {0}} (Err c.heard_at_copy.result) c.heard_at_copy.new.self.failure c.args.text.now (cause.System c.in-Err.error) c.heard_at_copy.ensures.kept tt

@@ -32,7 +32,7 @@ returns-in_err-add_names-in-Ok-clause-fault g c =
 pub returns-in-Err-clause-fault : goal.returns-in-Err-clause-fault
 returns-in-Err-clause-fault g c =
     let whole : length c.read_piece.new.buffer ≡ 8192 = c.read_piece.auto.buffer ∙ c.loop.invariant.piece in
-    names_fail g.D.Input.reads c.args.most c.args.dir.now c.loop.dir c.read_piece.new.self c.loop.names.items c.read_piece.new.buffer c.loop.counter c.loop.invariant.reads whole c.in-Err.error c.heard.result c.in-Err.ensures.read c.heard.ensures.fault
+    names_fail g.D.Input.reads c.args.most c.args.dir.now c.loop.dir c.read_piece.new.self c.loop.names.items c.read_piece.new.buffer c.loop.counter c.loop.invariant.reads whole c.in-Err.error c.heard_at_copy.result c.in-Err.ensures.read c.heard_at_copy.ensures.fault
 
 pub returns-clause-fault : goal.returns-clause-fault
 returns-clause-fault g c = names_spent g.D.Input.reads c.args.most c.args.dir.now c.loop.dir c.loop.names.items c.loop.counter c.loop.invariant.reads (omega arith)
@@ -41,7 +41,7 @@ pub returns-in_err-add_names-in-Ok-clause-kept : goal.returns-in_err-add_names-i
 returns-in_err-add_names-in-Ok-clause-kept g c = kept_on c.from_residual.result c.in_err-add_names-in-Ok.field-0.0 _ c.from_residual.ensures.1 c.in_err-add_names-in-Ok.ensures.kept
 
 pub returns-in-Err-clause-kept : goal.returns-in-Err-clause-kept
-returns-in-Err-clause-kept g c = names_heard {T = Unit {0}} (Err c.heard.result) c.heard.new.self.failure c.args.text.now (cause.System c.in-Err.error) c.heard.ensures.kept tt
+returns-in-Err-clause-kept g c = names_heard {T = Unit {0}} (Err c.heard_at_copy.result) c.heard_at_copy.new.self.failure c.args.text.now (cause.System c.in-Err.error) c.heard_at_copy.ensures.kept tt
 
 pub returns-clause-kept : goal.returns-clause-kept
-returns-clause-kept g c = kept_names c.keep.new.self.failure c.args.text.now cause.Endless c.keep.ensures tt
+returns-clause-kept g c = kept_names c.keep_copy.new.self.failure c.args.text.now cause.Endless c.keep_copy.ensures tt

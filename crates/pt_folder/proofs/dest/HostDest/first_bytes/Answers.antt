@@ -1,7 +1,7 @@
 use Rattle.std.proofs.Common.{◌∙◌, inr, subst, sym}
 use Rattle.pt_folder.specs.DestHeld.{IsPlaced}
 use Rattle.pt_folder.proofs.PeekTold.{peek_keeps}
-use Rattle.pt_folder.proofs.StuckTold.{none_back, none_risen, none_stuck}
+use Rattle.pt_folder.proofs.StuckTold.{kept_free, none_back, none_risen, none_stuck}
 use Rattle.pt_folder.proofs.dest.HostDest.first_bytes.Goals as goal
 
 pub invariant_of-self : goal.invariant_of-self
@@ -25,4 +25,7 @@ returns-clause-asked g c =
     rw c.counted.ensures.same (inr (none, c.peek-peeked.ensures.asked))
 
 pub returns-clause-kept : goal.returns-clause-kept
-returns-clause-kept g c = rw c.counted.ensures.same c.peek-peeked.ensures.kept
+returns-clause-kept g c =
+    let self = c.args.self.now in
+    let none = none_stuck self.stuck (sym c.is_some.ensures ∙ c.if-is_some.false) in
+    rw c.counted.ensures.same (kept_free c.peek-peeked.result self.stuck _ _ none c.peek-peeked.ensures.kept)

@@ -5,7 +5,7 @@ use Rattle.pt_folder.specs.DestHeld.{IsPlaced}
 use Rattle.pt_folder.specs.Failure.{KeepsCall, OnDevice}
 use Rattle.pt_folder.specs.Folder.{entry_text}
 use Rattle.pt_folder.proofs.DestTold.{kind_keeps}
-use Rattle.pt_folder.proofs.StuckTold.{none_back, none_risen, none_stuck}
+use Rattle.pt_folder.proofs.StuckTold.{kept_free, none_back, none_risen, none_stuck}
 use Rattle.pt_folder.proofs.dest.HostDest.look_at_folder.Goals as goal
 
 pub invariant_of-self : goal.invariant_of-self
@@ -36,4 +36,7 @@ returns-clause-kept g c =
     let there = c.is_there-there in
     let folder = self.folder.path.now in
     let last = there.new.self.last.failure in
-    rw c.counted.ensures.same (subst (λ p. OnDevice there.result (KeepsCall folder p (λ e. g.S.System.looks self.desk.system (entry_text folder p) (Err e) there.new.self.system) last)) c.new-top.ensures there.ensures.kept)
+    let none = none_stuck self.stuck (sym c.is_some.ensures ∙ c.if-is_some.false) in
+    rw c.counted.ensures.same
+    (kept_free there.result self.stuck _ _ none
+    (subst (λ p. OnDevice there.result (KeepsCall folder p (λ e. g.S.System.looks self.desk.system (entry_text folder p) (Err e) there.new.self.system) last)) c.new-top.ensures there.ensures.kept))

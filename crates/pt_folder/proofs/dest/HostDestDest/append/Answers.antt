@@ -1,5 +1,5 @@
 use Rattle.std.proofs.Common.{◌∙◌, inr, sym}
-use Rattle.pt_folder.proofs.StuckTold.{none_back, none_risen, none_stuck, part_refused, told_same}
+use Rattle.pt_folder.proofs.StuckTold.{kept_free, none_back, none_risen, none_stuck, part_refused, told_same}
 use Rattle.pt_folder.proofs.WriteTold.{append_placed, append_tells, at_err, at_ok}
 use Rattle.pt_folder.proofs.dest.HostDestDest.append.Goals as goal
 
@@ -51,4 +51,7 @@ returns-clause-writes g c =
     rw c.counted.ensures.same (inr (none, c.add-added.ensures.writes))
 
 pub returns-clause-kept : goal.returns-clause-kept
-returns-clause-kept g c = rw c.counted.ensures.same c.add-added.ensures.kept
+returns-clause-kept g c =
+    let self = c.args.self.now in
+    let none = none_stuck self.stuck (sym c.is_some.ensures ∙ c.if-is_some.false) in
+    rw c.counted.ensures.same (kept_free c.add-added.result self.stuck _ _ none c.add-added.ensures.kept)

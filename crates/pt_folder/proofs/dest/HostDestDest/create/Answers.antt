@@ -1,5 +1,5 @@
 use Rattle.std.proofs.Common.{◌∙◌, inr, sym}
-use Rattle.pt_folder.proofs.StuckTold.{may_make_free, none_back, none_risen, none_stuck}
+use Rattle.pt_folder.proofs.StuckTold.{kept_free, may_make_free, none_back, none_risen, none_stuck}
 use Rattle.pt_folder.proofs.WriteTold.{create_gives, create_made, create_placed, create_same}
 use Rattle.pt_folder.proofs.dest.HostDestDest.create.Goals as goal
 
@@ -50,4 +50,7 @@ returns-clause-asked g c =
     rw c.counted.ensures.same (inr (none, c.create-made.ensures.asked))
 
 pub returns-clause-kept : goal.returns-clause-kept
-returns-clause-kept g c = rw c.counted.ensures.same c.create-made.ensures.kept
+returns-clause-kept g c =
+    let self = c.args.self.now in
+    let none = none_stuck self.stuck (sym c.is_some.ensures ∙ c.if-is_some.false) in
+    rw c.counted.ensures.same (kept_free c.create-made.result self.stuck _ _ none c.create-made.ensures.kept)

@@ -1,5 +1,5 @@
 use Rattle.std.proofs.Common.{◌∙◌, inr, sym}
-use Rattle.pt_folder.proofs.StuckTold.{finish_wanted, none_stuck}
+use Rattle.pt_folder.proofs.StuckTold.{finish_wanted, kept_free, none_stuck}
 use Rattle.pt_folder.proofs.dest.HostDestDest.finish.Goals as goal
 
 pub invariant_of-self-clause-wanted : goal.invariant_of-self-clause-wanted
@@ -15,4 +15,7 @@ returns-clause-closed g c =
     rw c.counted.ensures.same (inr (none, c.close-closed.ensures.closed))
 
 pub returns-clause-kept : goal.returns-clause-kept
-returns-clause-kept g c = rw c.counted.ensures.same c.close-closed.ensures.kept
+returns-clause-kept g c =
+    let self = c.args.self.now in
+    let none = none_stuck self.stuck (sym c.is_some.ensures ∙ c.if-is_some.false) in
+    rw c.counted.ensures.same (kept_free c.close-closed.result self.stuck _ _ none c.close-closed.ensures.kept)

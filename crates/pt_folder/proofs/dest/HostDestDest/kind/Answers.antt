@@ -2,7 +2,7 @@ use Rattle.std.proofs.Common.{◌∙◌, ap, inr, subst, sym}
 use Rattle.pt_folder.specs.Calls.{LeadsToKind}
 use Rattle.pt_folder.specs.DestHeld.{IsPlaced, told_with}
 use Rattle.pt_folder.proofs.DestTold.{kind_keeps, kind_tells}
-use Rattle.pt_folder.proofs.StuckTold.{none_back, none_risen, none_stuck}
+use Rattle.pt_folder.proofs.StuckTold.{kept_free, none_back, none_risen, none_stuck}
 use Rattle.pt_folder.proofs.dest.HostDestDest.kind.Goals as goal
 
 pub invariant_of-self : goal.invariant_of-self
@@ -42,4 +42,7 @@ returns-clause-asked g c =
     rw c.counted.ensures.same (inr (none, c.kind_at-kind.ensures.asked))
 
 pub returns-clause-kept : goal.returns-clause-kept
-returns-clause-kept g c = rw c.counted.ensures.same c.kind_at-kind.ensures.kept
+returns-clause-kept g c =
+    let self = c.args.self.now in
+    let none = none_stuck self.stuck (sym c.is_some.ensures ∙ c.if-is_some.false) in
+    rw c.counted.ensures.same (kept_free c.kind_at-kind.result self.stuck _ _ none c.kind_at-kind.ensures.kept)

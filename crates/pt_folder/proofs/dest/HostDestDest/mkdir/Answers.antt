@@ -1,6 +1,6 @@
 use Rattle.std.proofs.Common.{◌∙◌, inr, sym}
 use Rattle.pt_folder.proofs.DestTold.{mkdir_gives, mkdir_made, mkdir_placed, mkdir_same}
-use Rattle.pt_folder.proofs.StuckTold.{may_make_free, none_back, none_risen, none_stuck}
+use Rattle.pt_folder.proofs.StuckTold.{kept_free, may_make_free, none_back, none_risen, none_stuck}
 use Rattle.pt_folder.proofs.dest.HostDestDest.mkdir.Goals as goal
 
 pub invariant_of-self : goal.invariant_of-self
@@ -47,4 +47,7 @@ returns-clause-asked g c =
     rw c.counted.ensures.same (inr (none, c.make_dir-made.ensures.asked))
 
 pub returns-clause-kept : goal.returns-clause-kept
-returns-clause-kept g c = rw c.counted.ensures.same c.make_dir-made.ensures.kept
+returns-clause-kept g c =
+    let self = c.args.self.now in
+    let none = none_stuck self.stuck (sym c.is_some.ensures ∙ c.if-is_some.false) in
+    rw c.counted.ensures.same (kept_free c.make_dir-made.result self.stuck _ _ none c.make_dir-made.ensures.kept)

@@ -1,6 +1,6 @@
 use Rattle.std.proofs.Common.{◌∙◌, inr, sym, refl}
 use Rattle.pt_folder.proofs.MoveTold.{rename_back, rename_device, rename_gives, rename_moved, rename_placed, rename_same, rename_wanted}
-use Rattle.pt_folder.proofs.StuckTold.{device_risen, may_move_free, none_stuck}
+use Rattle.pt_folder.proofs.StuckTold.{device_risen, kept_free, may_move_free, none_stuck}
 use Rattle.pt_folder.proofs.dest.HostDestDest.rename.Goals as goal
 
 pub invariant_of-self : goal.invariant_of-self
@@ -53,7 +53,10 @@ returns-clause-asked g c =
     rw c.counted.ensures.same (inr (none, c.moved-moved.ensures.asked))
 
 pub returns-clause-kept : goal.returns-clause-kept
-returns-clause-kept g c = rw c.counted.ensures.same c.moved-moved.ensures.kept
+returns-clause-kept g c =
+    let self = c.args.self.now in
+    let none = none_stuck self.stuck (sym c.is_some.ensures ∙ c.if-is_some.false) in
+    rw c.counted.ensures.same (kept_free c.moved-moved.result self.stuck _ _ none c.moved-moved.ensures.kept)
 
 pub returns-clause-call : goal.returns-clause-call
 returns-clause-call g c = record {
