@@ -1,9 +1,11 @@
 -- A tree without the entries of some names.
-use Rattle.std.specs.Prelude.{ℕ, cond, List, Option}
+use Rattle.std.specs.Prelude.{◌≡◌, ℕ, ◌+◌, ◌-◌, min, cond, length, List, Option}
 use Rattle.std.specs.Option.{option_map}
 use Rattle.pt_tree.specs.Forest.{Forest, none, file, other, dir}
-use Rattle.pt_tree.specs.Listing.{is_among}
-use Rattle.pt_tree.specs.Source.{Reading}
+use Rattle.pt_tree.specs.Failures.{greatest_count}
+use Rattle.pt_tree.specs.Listing.{Item, is_among, left_in}
+use Rattle.pt_tree.specs.Path.{Path}
+use Rattle.pt_tree.specs.Source.{IsListed, Reading}
 
 -- in every directory without the entries of these names, whatever they are and hold
 abbrev pub without : List (List ℕ) → Forest → Forest
@@ -23,3 +25,11 @@ reading_without names s = record { tree = without names s.tree; unread = s.unrea
 -- what a source tells without the entries of these names, if it tells
 abbrev pub told_without : List (List ℕ) → Option Reading → Option Reading
 told_without names told = option_map (reading_without names) told
+
+-- of all entries of a directory those with these names were left out, and the count of what was left out rose by as many
+pub record LeavesOut (told : Option Reading) (p : Path) (names : List (List ℕ)) (before after : ℕ)
+    (listing : List Item) : Type 0 where
+  pub all : List Item
+  pub listed : IsListed told p all
+  pub left : listing ≡ left_in names all
+  pub counted : after ≡ min (before + (length all - length listing)) greatest_count

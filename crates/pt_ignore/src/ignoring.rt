@@ -1,6 +1,10 @@
 ghost use Rattle.std.proofs.Common.{◌∙◌, refl};
-ghost use Rattle.std.specs.Prelude.{◌≡◌};
-ghost use Rattle.pt_ignore.specs.Ignoring.{told_without};
+ghost use Rattle.std.specs.Prelude.{◌≡◌, ◌+◌, ◌-◌, [], IfOk, OnErr, OnOk, length, min};
+ghost use Rattle.pt_tree.specs.Failures.{IsCounted, IsOneMoreCall, greatest_count};
+ghost use Rattle.pt_tree.specs.Listing.{left_in};
+ghost use Rattle.std.specs.Option.{option_map};
+ghost use Rattle.pt_tree.specs.Source.{CanList, CanOpen, CanRead, IsListed, IsRead, after_next, after_open};
+ghost use Rattle.pt_ignore.specs.Ignoring.{LeavesOut, told_without};
 ghost use Rattle.pt_ignore.specs.Proper.{proper_left};
 
 use crate::Ignored;
@@ -22,6 +26,7 @@ impl<S: Source> Ignoring<S> {
     pub fn new(source: S, names: Ignored) -> Ignoring<S>
         ensures source { result.source ≡ source }
         ensures names { result.names ≡ names }
+        ensures left_out { result.left_out ≡ 0 }
     {
         Ignoring {
             source,
@@ -50,6 +55,19 @@ impl<S: Source> Ignoring<S> {
     {
         self.left_out
     }
+
+    // Takes the entries that have its names out of a listing, and counts them.
+    fn take_out(&mut self, listing: &mut Listing)
+        ensures left { listing.new ≡ left_in self.old.names listing.old }
+        ensures counted { self.new.left_out
+            ≡ min (self.old.left_out + (length listing.old - length listing.new)) greatest_count }
+        ensures same { self.new ≡ record self.old { left_out = self.new.left_out } }
+    {
+        let all = listing.len();
+        listing.leave_out(self.names.names());
+        let gone = all.saturating_sub(listing.len()) as u64;
+        self.left_out = self.left_out.saturating_add(gone);
+    }
 }
 
 impl<S: Source> Source for Ignoring<S> {
@@ -72,20 +90,56 @@ impl<S: Source> Source for Ignoring<S> {
         self.source.failures()
     }
 
-    fn list(&mut self, path: &NamePath) -> Result<Listing, TreeFault> {
+    fn list(&mut self, path: &NamePath) -> Result<Listing, TreeFault>
+        requires { CanList (told_without self.old.names (S.told self.old.source)) path.now }
+        ensures listing { IfOk result
+            (IsListed (told_without self.old.names (S.told self.old.source)) path.now) }
+        ensures same { told_without self.new.names (S.told self.new.source)
+            ≡ told_without self.old.names (S.told self.old.source) }
+        ensures failures { IsCounted (S.failed self.old.source) (S.failed self.new.source) result }
+        ensures calls { IsOneMoreCall (S.called self.old.source) (S.called self.new.source) }
+        ensures keeps { (self.new.names ≡ self.old.names)
+            × S.keeps self.old.source self.new.source }
+        ensures left_out { IfOk result (LeavesOut (S.told self.old.source) path.now
+            self.old.names self.old.left_out self.new.left_out) }
+        ensures none { OnErr result (self.new.left_out ≡ self.old.left_out) }
+    {
         let mut listing = self.source.list(path)?;
-        let all = listing.len();
-        listing.leave_out(self.names.names());
-        let gone = all.saturating_sub(listing.len()) as u64;
-        self.left_out = self.left_out.saturating_add(gone);
+        self.take_out(&mut listing);
         Ok(listing)
     }
 
-    fn open(&mut self, path: &NamePath) -> Result<(), TreeFault> {
+    fn open(&mut self, path: &NamePath) -> Result<(), TreeFault>
+        requires { CanOpen (told_without self.old.names (S.told self.old.source)) path.now }
+        ensures opened { OnOk result (told_without self.new.names (S.told self.new.source)
+            ≡ option_map (after_open path.now)
+            (told_without self.old.names (S.told self.old.source))) }
+        ensures same { OnErr result (told_without self.new.names (S.told self.new.source)
+            ≡ told_without self.old.names (S.told self.old.source)) }
+        ensures failures { IsCounted (S.failed self.old.source) (S.failed self.new.source) result }
+        ensures calls { IsOneMoreCall (S.called self.old.source) (S.called self.new.source) }
+        ensures keeps { (self.new.names ≡ self.old.names)
+            × (self.new.left_out ≡ self.old.left_out)
+            × S.keeps self.old.source self.new.source }
+    {
         self.source.open(path)
     }
 
-    fn next(&mut self, block: &mut Block) -> Result<(), TreeFault> {
+    fn next(&mut self, block: &mut Block) -> Result<(), TreeFault>
+        requires { CanRead (told_without self.old.names (S.told self.old.source)) }
+        ensures block { OnOk result (IsRead
+            (told_without self.old.names (S.told self.old.source)) block.new.items) }
+        ensures moved { OnOk result (told_without self.new.names (S.told self.new.source)
+            ≡ option_map after_next (told_without self.old.names (S.told self.old.source))) }
+        ensures empty { OnErr result (block.new.items ≡ []) }
+        ensures same { OnErr result (told_without self.new.names (S.told self.new.source)
+            ≡ told_without self.old.names (S.told self.old.source)) }
+        ensures failures { IsCounted (S.failed self.old.source) (S.failed self.new.source) result }
+        ensures calls { IsOneMoreCall (S.called self.old.source) (S.called self.new.source) }
+        ensures keeps { (self.new.names ≡ self.old.names)
+            × (self.new.left_out ≡ self.old.left_out)
+            × S.keeps self.old.source self.new.source }
+    {
         self.source.next(block)
     }
 }

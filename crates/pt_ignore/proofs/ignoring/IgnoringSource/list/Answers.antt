@@ -5,4 +5,4 @@ pub list-requires : goal.list-requires
 list-requires g c = can_list _ _ _ c.requires
 
 pub returns-clause-listing : goal.returns-clause-listing
-returns-clause-listing g c = rw (c.leave_out.ensures, c.names.ensures) (is_listed _ _ _ _ c.requires c.in_ok-listing.ensures.listing)
+returns-clause-listing g c = rw c.take_out.ensures.left (is_listed _ _ _ _ c.requires c.in_ok-listing.ensures.listing)
