@@ -34,15 +34,25 @@ module _ {S F D : Type 0} {sys : OfSystem S F D} {handle : OfHandle F} {file : O
   abbrev pub IsSame : (old new : HostDest S F D sys handle file dir) → Type 0
   IsSame old new = (new.folder ≡ old.folder) × IsSetAs old.longest old.synced new.longest new.synced
 
-  -- a call on the same folder, whose failure is counted and which leaves this stuck
+  -- a call on the same folder, whose failure is counted and which leaves this stuck; the path that was looked at last stays
   pub record IsCall {T : Type 0} (old new : HostDest S F D sys handle file dir)
       (left : Option Stuck) (result : Result T TreeFault) : Type 0 where
     pub keeps : IsSame old new
     pub failures : IsCounted old.failures new.failures result
     pub stuck : new.stuck ≡ left
+    pub at : new.at ≡ old.at
 
   -- the same of a call that isn't of the open file: that stays open, and what is stuck is stuck
   pub record IsOtherCall {T : Type 0} (old new : HostDest S F D sys handle file dir)
+      (result : Result T TreeFault) : Type 0 where
+    pub keeps : IsSame old new
+    pub failures : IsCounted old.failures new.failures result
+    pub stuck : new.stuck ≡ old.stuck
+    pub writing : new.writing ≡ old.writing
+    pub at : new.at ≡ old.at
+
+  -- the same of a look, after which another path may be the one that was looked at last
+  pub record IsLook {T : Type 0} (old new : HostDest S F D sys handle file dir)
       (result : Result T TreeFault) : Type 0 where
     pub keeps : IsSame old new
     pub failures : IsCounted old.failures new.failures result

@@ -75,6 +75,10 @@ module _ {S F D : Type 0} {sys : OfSystem S F D} {handle : OfHandle F} {file : O
   KeepsRead old new =
       IfSome new.desk.last.failure (IsOfReading file.reads handle.goes (string_bytes old.at) old.reading)
 
+  -- the open file, and the path of the file that was opened last
+  abbrev pub open_file : HostSource S F D sys handle file dir → Option (Open F) × String Global
+  open_file s = (s.reading, s.at)
+
   -- what stays when something is looked at: the folder, the open file, its path, and how many calls there were
   abbrev pub lasting : HostSource S F D sys handle file dir → Folder × Option (Open F) × String Global × ℕ
   lasting s = (s.folder, s.reading, s.at, s.calls)

@@ -46,6 +46,7 @@ impl<S: System> Desk<S> {
         at: &mut String,
     ) -> Result<Option<Kind>, TreeFault>
         ensures at { OnOk result (string_bytes at.new ≡ entry_text folder.now.path.now path.now) }
+        ensures still { OnErr result (at.new ≡ at.old) }
         ensures asked { AsksOnce S.looks LeadsToKind folder.now.path.now path.now
             self.old.system self.new.system result }
         ensures kept { OnDevice result (KeepsCall folder.now.path.now path.now

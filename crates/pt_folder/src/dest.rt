@@ -52,6 +52,7 @@ impl<'a, S: System> HostDest<'a, S> {
         ensures longest { result.longest ≡ greatest_length }
         ensures synced { result.synced ≡ false }
         ensures stuck { result.stuck ≡ None }
+        ensures at { string_bytes result.at ≡ [] }
     {
         HostDest {
             desk: Desk::new(system, alloc),
@@ -187,7 +188,7 @@ impl<'a, S: System> Dest for HostDest<'a, S> {
     ghost use Rattle.pt_tree.specs.Dest.{CanPeek, CanWrite, IsKindAt, IsPeeked, LeavesPart, MayMake, MayMove, after_mkdir, after_create, after_append, after_finish, after_rename};
     ghost use Rattle.pt_folder.specs.DestHeld.{tree_with};
     ghost use Rattle.pt_folder.specs.Stuck.{open_if_stuck, stuck_by_finish};
-    ghost use Rattle.pt_folder.specs.HostDest.{Closes, IsCall, IsOtherCall, IsSame, KeepsClose, KeepsDir, KeepsFile, KeepsLook, KeepsMove, KeepsPeek, KeepsWrite, Looks, MakesDir, MakesFile, Moves, Peeks, Writes, told};
+    ghost use Rattle.pt_folder.specs.HostDest.{Closes, IsCall, IsLook, IsOtherCall, IsSame, KeepsClose, KeepsDir, KeepsFile, KeepsLook, KeepsMove, KeepsPeek, KeepsWrite, Looks, MakesDir, MakesFile, Moves, Peeks, Writes, told};
 
     ghost told = { told };
 
@@ -214,7 +215,8 @@ impl<'a, S: System> Dest for HostDest<'a, S> {
         ensures kept { OnDevice result (KeepsLook self.old self.new path.now) }
         ensures at { OnOk result (string_bytes self.new.at
             ≡ entry_text self.old.folder.path.now path.now) }
-        ensures call { IsOtherCall self.old self.new result }
+        ensures still { OnErr result (self.new.at ≡ self.old.at) }
+        ensures call { IsLook self.old self.new result }
     {
         if self.stuck.is_some() {
             return self.refuse();

@@ -47,6 +47,7 @@ impl<'a, S: System> HostSource<'a, S> {
         ensures path { result.folder.path.now ≡ path.now }
         ensures desk { result.desk ≡ new_desk system alloc }
         ensures reading { result.reading ≡ None }
+        ensures at { string_bytes result.at ≡ [] }
     {
         HostSource {
             desk: Desk::new(system, alloc),
@@ -107,7 +108,7 @@ impl<'a, S: System> Source for HostSource<'a, S> {
     ghost use Rattle.std.specs.Prelude.{Option};
     ghost use Rattle.pt_tree.specs.Source.{CanList, IsListed, CanOpen, CanRead, IsRead, after_open, after_next};
     ghost use Rattle.pt_folder.specs.Devices.{was_called};
-    ghost use Rattle.pt_folder.specs.HostSource.{CannotList, IsCall, IsReading, KeepsList, KeepsOpen, KeepsRead, Lists, Opens, Reads, told};
+    ghost use Rattle.pt_folder.specs.HostSource.{CannotList, IsCall, IsReading, KeepsList, KeepsOpen, KeepsRead, Lists, Opens, Reads, open_file, told};
     ghost use Rattle.pt_folder.specs.SourceHeld.{proper_held};
 
     ghost told = { told };
@@ -137,7 +138,7 @@ impl<'a, S: System> Source for HostSource<'a, S> {
         ensures fault { IfErr result (CannotList self.old self.new path.now) }
         ensures same { told self.new ≡ told self.old }
         ensures kept { OnDevice result (KeepsList self.old self.new path.now) }
-        ensures reading { self.new.reading ≡ self.old.reading }
+        ensures reading { open_file self.new ≡ open_file self.old }
         ensures call { IsCall self.old self.new result }
     {
         self.calls = self.calls.wrapping_add(1);
@@ -150,7 +151,7 @@ impl<'a, S: System> Source for HostSource<'a, S> {
         ensures opened { OnOk result (told self.new
             ≡ option_map (after_open path.now) (told self.old)) }
         ensures same { OnErr result (told self.new ≡ told self.old) }
-        ensures reading { OnErr result (self.new.reading ≡ self.old.reading) }
+        ensures reading { OnErr result (open_file self.new ≡ open_file self.old) }
         ensures asked { Opens self.old self.new path.now result }
         ensures at { OnOk result (string_bytes self.new.at
             ≡ entry_text self.old.folder.path.now path.now) }
@@ -200,6 +201,7 @@ fn open<S: System>(
     at: &mut String,
 ) -> Result<(), TreeFault>
     ensures same { OnErr result (opened.new ≡ opened.old) }
+    ensures still { OnErr result (at.new ≡ at.old) }
     ensures asked { OpensOnce S.looks S.opens folder.now.path.now path.now
         opened.old opened.new desk.old.system desk.new.system result }
     ensures at { OnOk result (string_bytes at.new ≡ entry_text folder.now.path.now path.now) }

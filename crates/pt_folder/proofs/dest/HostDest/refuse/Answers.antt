@@ -19,4 +19,5 @@ returns-clause-call g c = record {
   failures = rw c.counted.ensures.same c.counted.ensures.counted;
   stuck = refl;
   writing = refl;
+  at = refl;
 }

@@ -63,4 +63,5 @@ returns-clause-call g c = record {
   keeps = (refl, (refl, refl));
   failures = rw c.counted.ensures.same c.counted.ensures.counted;
   stuck = refl;
+  at = refl;
 }
