@@ -137,6 +137,8 @@ impl NamePath {
     }
 
     /// Adds a name at the end. After `Memory` the path is as before.
+    // A path is made by a push for each name, mostly of a list of its own.
+    #[inline(always)]
     pub fn push(&mut self, name: Name) -> Result<(), MemoryFault>
         ensures ok { OnOk result (self.new ≡ self.old ++ name ∷ []) }
         ensures err { OnErr result (self.new ≡ self.old) }
@@ -144,6 +146,15 @@ impl NamePath {
         if let NameList::Own(list) = &mut self.names {
             return Ok(list.push(name)?);
         }
+        self.push_to_copy(name)
+    }
+
+    // The same, where the list isn't this path's own: it takes one of its own first.
+    #[inline(never)]
+    fn push_to_copy(&mut self, name: Name) -> Result<(), MemoryFault>
+        ensures ok { OnOk result (self.new ≡ self.old ++ name ∷ []) }
+        ensures err { OnErr result (self.new ≡ self.old) }
+    {
         let mut list = self.names.to_list(1)?;
         list.push(name)?;
         self.names = NameList::Own(list);
