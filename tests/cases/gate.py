@@ -77,6 +77,8 @@ def broken_cases(program, folder):
         Alone("has faults", lambda program, folder: ["a fault"]),
         Alone("can't be", raising(Skipped("no such mount"))),
     ]
+    # What a case that is killed leaves goes with this one's folder.
+    tempfile.tempdir = folder
     found = list(lanes.outcomes(cases, program, most=5))
     faults = differs(
         killed=(found[0], ["its process ended with -9 before the case did"]),
