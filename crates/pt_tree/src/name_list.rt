@@ -6,6 +6,9 @@ use crate::{MemoryFault, Name};
 use std::alloc::Global;
 use std::rc::Rc;
 
+// So few names are copied: a list that is shared is reached by one jump more, each time that it is read.
+const FEW: usize = 8;
+
 // A list of names. Only one of its own is ever changed.
 #[derive(Drop)]
 pub(crate) enum NameList {
@@ -17,7 +20,7 @@ pub(crate) enum NameList {
 }
 
 impl NameList {
-    // These names, in such a form that a copy takes no memory.
+    // These names for keeping: of one name, or of more than a few, a copy takes no memory.
     pub(crate) fn shared(alloc: Global, names: &[Name]) -> Result<NameList, MemoryFault>
         ensures { IfOk result (λ held. held_names held ≡ names.now) }
     {
@@ -25,6 +28,9 @@ impl NameList {
             return Ok(NameList::One([name.copy()?], alloc));
         }
         let list = listed(alloc, names, 0)?;
+        if list.len() <= FEW {
+            return Ok(NameList::Own(list));
+        }
         Ok(NameList::Shared(Rc::new(alloc, list)?))
     }
 

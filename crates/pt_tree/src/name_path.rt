@@ -54,7 +54,7 @@ impl NamePath {
         }
     }
 
-    /// The path of these names, for keeping: its copies share them, and take no memory. `Memory` where a growth was refused.
+    /// The path of these names, for keeping: of one name, and of more than eight, a copy takes no memory. `Memory` where a growth was refused.
     pub fn shared(alloc: Global, names: &[Name]) -> Result<NamePath, MemoryFault>
         ensures { IfOk result (λ path. path ≡ names.now) }
     {
