@@ -31,9 +31,6 @@ SAID = re.compile(r"^rt: |: error: |^Traceback|^\w*Error: ")
 # What it says of an edit that can't be applied, compiled or read. It fails nothing for that, but such an edit shows nothing.
 BAD_EDIT = re.compile(r": BAD EDIT: ")
 
-# Of a case's requests for memory the first is refused, and each so many after it; all are by `make allocations`.
-SAMPLE = 7
-
 # The memory that a proof takes at most, in bytes.
 PROOF = 4 << 30
 
@@ -105,7 +102,7 @@ def run_tests(path):
     if not os.path.exists(path):
         return Tally(0, 1), [f"{path} was not built, so its tests did not run"]
     with contextlib.redirect_stdout(Heard(sys.stdout)) as heard:
-        counts = [program.run_cases(path), migration.run_cases(path), allocations.run_cases(path, SAMPLE), system.run_cases()]
+        counts = [program.run_cases(path), migration.run_cases(path), allocations.run_cases(path), system.run_cases()]
     return Tally.of_all(counts), list(heard.said)
 
 
