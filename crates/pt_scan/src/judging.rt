@@ -159,11 +159,7 @@ fn find_place<O: Outside>(
 }
 
 // Asks what stands at a place of the storage root.
-fn kind_at<O: Outside>(
-    alloc: Global,
-    place: &NamePath,
-    out: &mut O,
-) -> Result<Option<Kind>, Fault>
+fn kind_at<O: Outside>(alloc: Global, place: &NamePath, out: &mut O) -> Result<Option<Kind>, Fault>
     ensures { Found O.world (O.within 0) (in_root place.now) out.old out.new result }
 {
     let path = in_storage_root(alloc, place)?;
