@@ -162,6 +162,7 @@ impl NamePath {
     }
 
     /// Adds a name at the front. After `Memory` the path is as before.
+    #[inline(always)]
     pub fn push_front(&mut self, name: Name) -> Result<(), MemoryFault>
         ensures ok { OnOk result (self.new ≡ name ∷ self.old) }
         ensures err { OnErr result (self.new ≡ self.old) }
@@ -169,6 +170,15 @@ impl NamePath {
         if let NameList::Own(list) = &mut self.names {
             return Ok(list.insert(0, name)?);
         }
+        self.push_in_front_of_copy(name)
+    }
+
+    // The same, where the list isn't this path's own.
+    #[inline(never)]
+    fn push_in_front_of_copy(&mut self, name: Name) -> Result<(), MemoryFault>
+        ensures ok { OnOk result (self.new ≡ name ∷ self.old) }
+        ensures err { OnErr result (self.new ≡ self.old) }
+    {
         let mut list = self.names.to_list(1)?;
         list.insert(0, name)?;
         self.names = NameList::Own(list);
@@ -176,13 +186,22 @@ impl NamePath {
     }
 
     /// Makes room for so many more names; `Memory` where it was refused.
+    #[inline(always)]
     pub fn reserve(&mut self, names: usize) -> Result<(), MemoryFault>
         ensures { self.new ≡ self.old }
     {
         if let NameList::Own(list) = &mut self.names {
             return Ok(list.reserve(names)?);
         }
-        self.names = NameList::Own(self.names.to_list(names)?);
+        self.take_own_list(names)
+    }
+
+    // A list of its own, with room for so many more names, in the place of one that it shares.
+    #[inline(never)]
+    fn take_own_list(&mut self, room: usize) -> Result<(), MemoryFault>
+        ensures { self.new ≡ self.old }
+    {
+        self.names = NameList::Own(self.names.to_list(room)?);
         Ok(())
     }
 
