@@ -6,6 +6,7 @@ pub mod FilePaths
 pub mod Files
 pub mod Hasher
 pub mod Holding
+pub mod InPieces
 pub mod Index
 pub mod Inventory
 pub mod InventoryLaws
