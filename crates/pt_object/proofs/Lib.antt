@@ -24,6 +24,7 @@ mod HexLanes
 mod Sorted
 mod Entries
 mod Documents
+mod Puts
 pub mod Stored
 pub mod Manifests
 pub mod Groups

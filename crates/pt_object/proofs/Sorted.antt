@@ -1,5 +1,5 @@
 -- Members that are put for one content after another come in the order of their digests.
-use Rattle.std.proofs.Common.{◌≡◌, ℕ, zero, suc, ◌<◌, List, [], ◌∷◌, length, get_or, fold, map, refl, sym, ◌∙◌, ap, ap₂, subst, arith, inl, inr}
+use Rattle.std.proofs.Common.{◌≡◌, ℕ, zero, suc, ◌<◌, List, [], ◌∷◌, length, get_or, fold, refl, sym, ◌∙◌, ap, ap₂, subst, arith, inl, inr}
 use Rattle.std.specs.Prelude.{◌⊎◌, slice_index, Some, None}
 use Rattle.std.specs.declared.cmp.Ordering.{Ordering}
 use Rattle.std.specs.declared.cmp.Ordering.TheVariants.{Less, Equal, Greater}
@@ -9,26 +9,17 @@ use Rattle.std.specs.Str.{bytes_eq}
 use Rattle.std.proofs.lemmas.Bool.{cases_Bool, cases_lt, true≢false}
 use Rattle.std.proofs.lemmas.Cmp.{nat_list_cmp_total, tied_itself}
 use Rattle.std.proofs.lemmas.List.{get_or-map, length-map}
-use Rattle.hex.specs.Hex.{IsBytes, encode_lower}
-use Rattle.serde_json.specs.Data.{Data, array, Members, no_members, member, put}
+use Rattle.hex.specs.Hex.{IsBytes}
+use Rattle.serde_json.specs.Data.{Data, Members, no_members, member, put}
 use Rattle.serde_json.specs.Find.{get_member}
 use Rattle.serde_json.proofs.Views.{get_member-put, get_member-put_other}
-use Rattle.pt_object.specs.Contents.{content_of, digest_at}
-use Rattle.pt_tree.specs.Path.{joined}
+use Rattle.pt_object.specs.Contents.{digest_at}
+use Rattle.pt_object.specs.Entries.{at_positions, key, no_content}
 use Rattle.pt_object.specs.Index.{digest_in, IsIndex}
-use Rattle.pt_object.specs.Inventory.{content_path, paths_with, texts}
-use Rattle.pt_object.specs.declared.rows.Row.{Row}
 use Rattle.pt_object.specs.declared.contents.Content.{Content}
 use Rattle.pt_object.proofs.Indexed.{DigestsDiffer-index, digest_at-item, same_from_equal}
 use Rattle.pt_object.proofs.HexOrder.{hex_less, hex_same}
 use Rattle.pt_object.proofs.Texts.{IsBelow, Rises, below_all}
-
-abbrev pub no_content : Content
-no_content = content_of [] []
-
--- the text of its digest
-abbrev pub key : Content → List ℕ
-key content = encode_lower content.digest
 
 abbrev pub put_by : (Content → Data) → Members → Content → Members
 put_by f members content = put (key content) (f content) members
@@ -37,17 +28,6 @@ put_by f members content = put (key content) (f content) members
 abbrev pub members_by : (Content → Data) → List Content → Members
 members_by f [] = no_members
 members_by f (x ∷ xs) = member (key x) (f x) (members_by f xs)
-
--- the contents at these positions
-abbrev pub at_positions : List Content → List ℕ → List Content
-at_positions items positions = map (λ p. get_or items p no_content) positions
-
--- what the manifest says of a content, and what the state of these rows says
-abbrev pub stored : Content → Data
-stored content = array (texts (content_path content.path ∷ []))
-
-abbrev pub grouped : List Row → Content → Data
-grouped rows content = array (texts (map joined (paths_with rows content.digest)))
 
 -- ---- members whose keys rise are told by what they have at each key
 

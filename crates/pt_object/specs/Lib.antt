@@ -2,6 +2,7 @@ pub mod Algorithm
 pub mod Contents
 pub mod Digest
 pub mod Distinct
+pub mod Entries
 pub mod FilePaths
 pub mod Files
 pub mod Hasher

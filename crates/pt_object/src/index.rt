@@ -83,6 +83,6 @@ fn compare(a_key: u64, a: &Digest, b_key: u64, b: &Digest, comparisons: &mut u32
 }
 
 // Tells a proof that bytes are below 256. It does nothing.
-fn tell_bytes(bytes: &[u8])
+pub(crate) fn tell_bytes(bytes: &[u8])
     ensures { IsBytes bytes.now }
 {}

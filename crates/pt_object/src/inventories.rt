@@ -1,20 +1,25 @@
-// The inventory of an object of one version.
-ghost use Rattle.std.specs.Prelude.{◌≡◌, ◌∷◌, [], ◌++◌, IfOk, OnOk, Some, codes, fold, map};
+//! The inventory of an object of one version, as a whole and in pieces.
+ghost use Rattle.std.specs.Prelude.{◌≡◌, ℕ, ◌<◌, IfOk, Some, get_or, length, map};
 ghost use Rattle.std.specs.String.{string_bytes};
-ghost use Rattle.json.specs.Token.{begin_object, key, string};
-ghost use Rattle.serde_json.specs.Data.{object, no_members};
+ghost use Rattle.hex.specs.Hex.{IsBytes};
 ghost use Rattle.serde_json.specs.Read.{read};
-ghost use Rattle.pt_object.specs.Algorithm.{algorithm_word};
 ghost use Rattle.pt_object.specs.Distinct.{content_of_row, distinct};
-ghost use Rattle.pt_object.specs.Inventory.{inventory_text, inventory_tree, put_paths, user_tree, version_tree};
-ghost use Rattle.pt_object.specs.Tokens.{tokens_of};
+ghost use Rattle.pt_object.specs.Entries.{no_content};
+ghost use Rattle.pt_object.specs.InPieces.{TakesPiece};
+ghost use Rattle.pt_object.specs.Inventory.{inventory_text, inventory_tree};
 
-use crate::manifest::put_manifest;
+use crate::index::tell_bytes;
 use crate::output::Output;
-use crate::state::put_state;
-use crate::{Algorithm, Contents, Meta, Rows};
+use crate::parts::{Parts, Step};
+use crate::state::grouped;
+use crate::{Algorithm, Content, Contents, Meta, Rows};
 use pt_tree::MemoryFault;
-use std::alloc::{AllocError, Global};
+use std::alloc::Global;
+use std::marker::Model;
+use std::mem;
+
+// The room for a piece to begin with, which is that of a small object's inventory.
+const ROOM: usize = 1024;
 
 /// The inventory of the object with this identifier and these files, as compact JSON with keys in byte order and no
 /// LF at the end (OCFL 1.1, "Inventory"): the manifest has each distinct digest with the stored path of its first
@@ -34,81 +39,102 @@ pub fn inventory(
     ensures reads { IfOk result (λ text. read (string_bytes text)
         ≡ Some (inventory_tree id.now rows.now meta.now algorithm)) }
 {
-    let mut out = Output::new(alloc)?;
-    put_inventory(alloc, &mut out, id, rows, contents, meta, algorithm)?;
-    Ok(out.into_text())
-}
-
-// Puts all of it.
-fn put_inventory(
-    alloc: Global,
-    out: &mut Output,
-    id: &str,
-    rows: &Rows,
-    contents: &Contents,
-    meta: &Meta,
-    algorithm: Algorithm,
-) -> Result<(), MemoryFault>
-    requires { contents.now ≡ map content_of_row (distinct rows.now) }
-    ensures { OnOk result (out.new ≡
-        out.old ++ tokens_of (inventory_tree id.now rows.now meta.now algorithm)) }
-{
-    put_head(out, id, algorithm)?;
-    put_manifest(out, contents)?;
-    out.member("type", "https://ocfl.io/1.1/spec/#inventory")?;
-    out.key("versions")?;
-    out.begin_object()?;
-    out.key("v1")?;
-    put_version(alloc, out, rows, contents, meta)?;
-    out.end_object()?;
-    Ok(out.end_object()?)
-}
-
-// The members before the manifest, and its key.
-fn put_head(out: &mut Output, id: &str, algorithm: Algorithm) -> Result<(), MemoryFault>
-    ensures { OnOk result (out.new ≡ out.old ++ begin_object
-        ∷ key (codes "digestAlgorithm") ∷ string (algorithm_word algorithm)
-        ∷ key (codes "head") ∷ string (codes "v1") ∷ key (codes "id") ∷ string id.now
-        ∷ key (codes "manifest") ∷ []) }
-{
-    out.begin_object()?;
-    out.member("digestAlgorithm", algorithm.word())?;
-    out.member("head", "v1")?;
-    out.member("id", id)?;
-    Ok(out.key("manifest")?)
-}
-
-// What the inventory says of its version.
-fn put_version(
-    alloc: Global,
-    out: &mut Output,
-    rows: &Rows,
-    contents: &Contents,
-    meta: &Meta,
-) -> Result<(), MemoryFault>
-    requires { contents.now ≡ map content_of_row (distinct rows.now) }
-    ensures { OnOk result (out.new ≡ out.old ++ tokens_of
-        (version_tree meta.now (object (fold (put_paths rows.now) no_members contents.now)))) }
-{
-    out.begin_object()?;
-    out.member("created", meta.created())?;
-    out.member("message", meta.message())?;
-    out.key("state")?;
-    put_state(alloc, out, rows, contents)?;
-    out.key("user")?;
-    put_user(out, meta)?;
-    Ok(out.end_object()?)
-}
-
-// Who made the version.
-fn put_user(out: &mut Output, meta: &Meta) -> Result<(), AllocError>
-    ensures { OnOk result (out.new ≡
-        out.old ++ tokens_of (user_tree meta.now.address meta.now.name)) }
-{
-    out.begin_object()?;
-    if let Some(address) = meta.address() {
-        out.member("address", address)?;
+    let mut pieces = InventoryPieces::of(alloc, id, rows, contents, meta, algorithm)?;
+    let mut text = Vec::new(alloc);
+    while pieces.next()? {
+        text.extend_from_slice(pieces.piece())?;
     }
-    out.member("name", meta.name())?;
-    out.end_object()
+    Ok(unsafe { String::from_utf8_unchecked(text) })
+}
+
+/// The text that `inventory` gives, made piece by piece so that it is nowhere as a whole: seen as the piece that was made last, and as
+/// what is still to be made.
+#[derive(Drop)]
+pub struct InventoryPieces<'a> {
+    alloc: Global,
+    parts: Parts<'a>,
+    next: Step,
+    // The piece, behind a byte that belongs to none.
+    text: Vec<u8>,
+}
+
+impl<'a> Model for InventoryPieces<'a> {
+    ghost use Rattle.std.specs.Prelude.{drop};
+    ghost use Rattle.pt_object.specs.InPieces.{AreParts, InPieces, text_left};
+
+    ghost Value = { InPieces };
+
+    ghost view = { λ p. record {
+      piece = drop 1 p.text.items;
+      rest = text_left p.parts p.next;
+    } };
+
+    ghost invariant = { λ p. AreParts p.parts };
+}
+
+impl<'a> InventoryPieces<'a> {
+    /// The text of the inventory that `inventory` makes of the same, none of it made yet. `Memory` where a growth was refused.
+    pub fn of(
+        alloc: Global,
+        id: &'a str,
+        rows: &'a Rows,
+        contents: &'a Contents,
+        meta: &'a Meta,
+        algorithm: Algorithm,
+    ) -> Result<InventoryPieces<'a>, MemoryFault>
+        requires { contents.now ≡ map content_of_row (distinct rows.now) }
+        ensures { IfOk result (λ pieces. pieces.rest
+            ≡ inventory_text id.now rows.now meta.now algorithm) }
+    {
+        let items = contents.as_slice();
+        tell_digests(items);
+        Ok(InventoryPieces {
+            alloc,
+            parts: Parts {
+                id,
+                rows,
+                meta,
+                algorithm,
+                items,
+                index: contents.index(),
+                groups: grouped(alloc, rows.as_slice(), contents)?,
+            },
+            next: Step::Head,
+            text: Vec::new(alloc),
+        })
+    }
+
+    /// Makes the next piece, of one byte and more: the whole of a small object's text. False where all was made. After `Memory` there is
+    /// nothing to go on with.
+    pub fn next(&mut self) -> Result<bool, MemoryFault>
+        ensures { IfOk result (λ is_made. TakesPiece is_made self.old self.new) }
+    {
+        let mut text = mem::replace(&mut self.text, Vec::new(self.alloc));
+        if let Step::End = self.next {
+            return Ok(false);
+        }
+        text.clear();
+        text.reserve(ROOM)?;
+        let mut out = Output::behind(self.alloc, text, self.next.is_behind_value())?;
+        self.next = self.parts.put_next(&mut out, self.next)?;
+        self.text = out.into_text();
+        Ok(true)
+    }
+
+    /// The piece that was made last; nothing before the first.
+    pub fn piece(&self) -> &[u8]
+        ensures { result.now ≡ self.now.piece }
+    {
+        self.text.get(1..).unwrap_or(&[])
+    }
+}
+
+// Tells a proof that the digests of contents are bytes. It does nothing.
+fn tell_digests(items: &[Content])
+    ensures { (p : ℕ) → p < length items.now
+        → IsBytes (get_or items.now p no_content).digest }
+{
+    for content in items {
+        tell_bytes(content.digest.bytes());
+    }
 }

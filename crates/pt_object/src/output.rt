@@ -1,10 +1,11 @@
 // The text of an inventory while it is made: compact JSON, a token behind another.
 ghost use Rattle.std.specs.Prelude.{◌≡◌, [], ◌∷◌, ◌++◌, IfOk, OnOk};
-ghost use Rattle.std.specs.String.{string_bytes};
-ghost use Rattle.hex.specs.Hex.{IsBytes, encode_lower};
+ghost use Rattle.std.specs.Str.{IsUtf8};
+ghost use Rattle.hex.specs.Hex.{encode_lower};
 ghost use Rattle.json.specs.Print.{print};
 ghost use Rattle.json.specs.Token.{begin_array, begin_object, end_array, end_object, key, string};
 ghost use Rattle.pt_tree.specs.Path.{joined};
+ghost use Rattle.pt_object.specs.InPieces.{bracket};
 ghost use Rattle.pt_object.specs.Inventory.{content_path};
 
 use crate::Digest;
@@ -13,8 +14,6 @@ use json::Writer;
 use pt_tree::{MemoryFault, NamePath};
 use std::alloc::{AllocError, Global};
 use std::marker::Model;
-
-const ROOM: usize = 1024;
 
 // A text of JSON, seen as its tokens.
 #[derive(Drop)]
@@ -39,25 +38,36 @@ impl Model for Output {
 }
 
 impl Output {
-    // No text yet, in room for that of a small object.
-    pub(crate) fn new(alloc: Global) -> Result<Output, AllocError>
-        ensures { IfOk result (λ out. out ≡ []) }
+    // No text yet but a bracket, in the place of what stands before it: behind a value one that ends a value. The room is that of a text
+    // which has been cleared.
+    pub(crate) fn behind(
+        alloc: Global,
+        room: Vec<u8>,
+        is_behind_value: bool,
+    ) -> Result<Output, AllocError>
+        requires { room.items ≡ [] }
+        ensures { IfOk result (λ out. out ≡ bracket is_behind_value ∷ []) }
     {
-        let text = Vec::with_capacity(alloc, ROOM)?;
-        Ok(Output {
-            writer: Writer::new(text),
+        let mut out = Output {
+            writer: Writer::new(room),
             path: Vec::new(alloc),
             digits: Digits::of_hex(),
-        })
+        };
+        if is_behind_value {
+            out.end_array()?;
+        } else {
+            out.begin_array()?;
+        }
+        Ok(out)
     }
 
     // The text of the tokens.
-    pub(crate) fn into_text(self) -> String
-        ensures { string_bytes result ≡ print self }
+    pub(crate) fn into_text(self) -> Vec<u8>
+        ensures text { result.items ≡ print self }
+        ensures utf8 { IsUtf8 (print self) }
     {
         let Output { writer, .. } = self;
-        let text = writer.into_inner();
-        unsafe { String::from_utf8_unchecked(text) }
+        writer.into_inner()
     }
 
     pub(crate) fn begin_object(&mut self) -> Result<(), AllocError>
@@ -92,8 +102,7 @@ impl Output {
 
     // A key, which is a digest in hex.
     pub(crate) fn digest(&mut self, digest: &Digest) -> Result<(), MemoryFault>
-        ensures key { OnOk result (self.new ≡ self.old ++ key (encode_lower digest.now) ∷ []) }
-        ensures bytes { IsBytes digest.now }
+        ensures { OnOk result (self.new ≡ self.old ++ key (encode_lower digest.now) ∷ []) }
     {
         let mut room = [0; MOST];
         let digits = self.digits.write(digest.bytes(), &mut room);

@@ -1,22 +1,24 @@
 // The state of an inventory: each content's digest with the logical paths of all its files.
-ghost use Rattle.std.specs.Prelude.{◌≡◌, ◌∷◌, [], ◌++◌, IfOk, List, OnOk, fold, map};
-ghost use Rattle.hex.specs.Hex.{IsBytes, encode_lower};
+ghost use Rattle.std.specs.Prelude.{◌≡◌, ◌≤◌, ◌∷◌, [], ◌++◌, IfOk, List, OnOk, drop, length, map, take};
+ghost use Rattle.hex.specs.Hex.{encode_lower};
 ghost use Rattle.json.specs.Token.{key};
 ghost use Rattle.pt_tree.specs.Path.{Path, joined};
-ghost use Rattle.serde_json.specs.Data.{array, no_members, object};
-ghost use Rattle.pt_object.specs.Distinct.{content_of_row, distinct};
-ghost use Rattle.pt_object.specs.Inventory.{paths_with, put_paths, texts};
+ghost use Rattle.serde_json.specs.Data.{array};
+ghost use Rattle.pt_object.specs.Entries.{entries, grouped as grouped_of};
+ghost use Rattle.pt_object.specs.InPieces.{AreParts};
+ghost use Rattle.pt_object.specs.Inventory.{paths_with, texts};
 ghost use Rattle.pt_object.specs.Later.{group_lent, parted};
 ghost use Rattle.pt_object.specs.Tokens.{tokens_of};
 
 use crate::output::Output;
-use crate::{Content, Contents, Row, Rows};
+use crate::parts::Parts;
+use crate::{Content, Contents, Row};
 use pt_tree::{MemoryFault, NamePath};
 use std::alloc::{AllocError, Global};
 
 // What some rows have of a content: whether it has one of them, and the paths of those behind its first.
 #[derive(Drop)]
-struct Group<'a> {
+pub(crate) struct Group<'a> {
     is_met: bool,
     later: Vec<&'a NamePath>,
 }
@@ -35,35 +37,31 @@ impl<'a> Group<'a> {
     }
 }
 
-// Puts all contents, in the order of their digests.
-pub(crate) fn put_state(
-    alloc: Global,
+// Puts so many contents, from a place of the index on, in the order of their digests.
+pub(crate) fn put_grouped(
     out: &mut Output,
-    rows: &Rows,
-    contents: &Contents,
+    parts: &Parts,
+    from: usize,
+    count: usize,
 ) -> Result<(), MemoryFault>
-    requires { contents.now ≡ map content_of_row (distinct rows.now) }
-    ensures { OnOk result (out.new ≡ out.old
-        ++ tokens_of (object (fold (put_paths rows.now) no_members contents.now))) }
+    requires parts { AreParts parts.now }
+    requires within { count ≤ length (drop from parts.now.items.now) }
+    ensures { OnOk result (out.new ≡ out.old ++ entries (grouped_of parts.now.rows.now)
+        parts.now.items.now (take count (drop from parts.now.index.now))) }
 {
-    out.begin_object()?;
-    let groups = grouped(alloc, rows.as_slice(), contents)?;
-    let items = contents.as_slice();
-    let index = contents.index();
-    for place in 0..items.len() {
-        let position = index.get(place);
-        put_paths(out, &items[position], &groups[position].later)?;
+    let items = parts.items;
+    for i in 0..count {
+        let position = parts.index.get(from + i);
+        put_paths(out, &items[position], &parts.groups[position].later)?;
     }
-    drop(groups);
-    Ok(out.end_object()?)
+    Ok(())
 }
 
 // Puts one content: the path of its first file and the later ones.
 fn put_paths(out: &mut Output, content: &Content, later: &[&NamePath]) -> Result<(), MemoryFault>
-    ensures tokens { OnOk result (out.new ≡ out.old ++ key (encode_lower content.now.digest)
+    ensures { OnOk result (out.new ≡ out.old ++ key (encode_lower content.now.digest)
         ∷ tokens_of (array (texts (joined content.now.path
         ∷ map (λ path. joined path.now) later.now)))) }
-    ensures bytes { IsBytes content.now.digest }
 {
     out.digest(&content.digest)?;
     out.begin_array()?;
@@ -75,7 +73,7 @@ fn put_paths(out: &mut Output, content: &Content, later: &[&NamePath]) -> Result
 }
 
 // For each content, what the rows have of it.
-fn grouped<'a>(
+pub(crate) fn grouped<'a>(
     alloc: Global,
     rows: &'a [Row],
     contents: &Contents,

@@ -16,13 +16,13 @@ one_more f paths i x o h s t within is so_far more =
     appended o (h ++ map f (take i paths)) (f x ∷ []) s t so_far more ∙ ap (λ (l : List Token). o ++ l) (append_assoc h (map f (take i paths)) (f x ∷ []) ∙ ap (λ (l : List Token). h ++ l) next)
 
 pub loop-path-init : goal.loop-path-init
-loop-path-init c = appended c.args.out.now _ _ _ _ (appended c.args.out.now _ _ _ _ c.in_ok-digest.ensures.key c.in_ok-begin_array.ensures) c.in_ok-path.ensures
+loop-path-init c = appended c.args.out.now _ _ _ _ (appended c.args.out.now _ _ _ _ c.in_ok-digest.ensures c.in_ok-begin_array.ensures) c.in_ok-path.ensures
 
 pub loop-path-preserved : goal.loop-path-preserved
 loop-path-preserved c =
     one_more (λ path. string (joined path.now)) c.args.later.now c.loop-path.path-index c.path-item.result c.args.out.now
     (key (encode_lower c.args.content.now.digest) ∷ begin_array ∷ string (joined c.args.content.now.path) ∷ []) c.loop-path.out _ c.loop-path-test.true c.path-item.is c.loop-path.invariant c.in_ok-path-2.ensures
 
-pub returns-clause-tokens : goal.returns-clause-tokens
-returns-clause-tokens c =
+pub returns : goal.returns
+returns c =
     simp (c.in_ok-end_array.ensures, c.loop-path.invariant, take_all _ _ c.loop-path-test.false, path_tokens c.args.later.now, append_assoc)

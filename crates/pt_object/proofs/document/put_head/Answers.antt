@@ -1,7 +1,7 @@
 use Rattle.std.proofs.Common.{[], ◌∷◌, ◌++◌, codes, ap, ◌∙◌}
 use Rattle.json.specs.Token.{key, string}
 use Rattle.pt_object.proofs.Documents.{head_written}
-use Rattle.pt_object.proofs.inventories.put_head.Goals as goal
+use Rattle.pt_object.proofs.document.put_head.Goals as goal
 
 pub returns : goal.returns
 returns c =
