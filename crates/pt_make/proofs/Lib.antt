@@ -1,6 +1,7 @@
 pub mod Copies
 pub mod NextParts
 pub mod Parts
+pub mod Pieces
 pub mod Places
 pub mod Standing
 pub mod Tells

@@ -1,6 +1,6 @@
 -- The turns that make an inventory and its sidecar, from their calls.
-use Rattle.std.proofs.Common.{◌≡◌, ℕ, List, [], ◌∷◌, ◌++◌, refl, ap, ◌∙◌}
-use Rattle.std.specs.Prelude.{Ok, IsErrAnd, map}
+use Rattle.std.proofs.Common.{◌≡◌, ℕ, List, [], ◌∷◌, refl, ap, ◌∙◌}
+use Rattle.std.specs.Prelude.{None, Ok, Option, Some, IsErrAnd, map}
 use Rattle.pt_state.proofs.Words.{digest_of, HasBeenFed, Algorithm, Hasher, Path, Answer, Did, LeavesSome, Make, World, Fault, Object, Phase, KeepsAll, job_of, Turned}
 use Rattle.pt_state.proofs.Words.part
 use Rattle.pt_state.proofs.Words.phase
@@ -13,7 +13,7 @@ use Rattle.pt_plan.specs.TurnMake.{MakesInventory, MakesSidecar, MakesVersionInv
 use Rattle.pt_make.proofs.Parts.{may_make_at}
 use Rattle.pt_state.proofs.Together.{leaves_short}
 use Rattle.pt_state.proofs.Turns.{keeps_same, left_some, went}
-use Rattle.pt_make.specs.Making.{HasContentsOfRows, HasFedInventory, IsFedFor, in_folder, inventory_held, inventory_part, makes_file, sidecar_part}
+use Rattle.pt_make.specs.Making.{HasContentsOfRows, HasFedAt, HasFedInventory, IsFedFor, IsFedMore, in_folder, inventory_held, inventory_part, makes_file, sidecar_part}
 use Rattle.pt_make.specs.declared.inventories.Folder.{Folder}
 use Rattle.pt_make.specs.declared.inventories.Folder.TheVariants as folder
 
@@ -24,8 +24,9 @@ unfolding HasContentsOfRows
 contents_of_rows s is = is
 
 -- fed nothing and then a text, the hasher was fed the text
-pub fed_text : (a : Algorithm) (start hasher : Hasher) (text : List ℕ) → HasBeenFed a start [] → ((algorithm : Algorithm) (fed : List ℕ) → HasBeenFed algorithm start fed → HasBeenFed algorithm hasher (fed ++ text)) → HasBeenFed a hasher text
-fed_text a start hasher text started feeds = feeds a [] started
+pub fed_text : (here : Folder) (a : Algorithm) (start hasher : Option Hasher) (text : List ℕ) → HasFedAt here a start [] → IsFedMore start hasher text → HasFedAt here a hasher text
+unfolding IsFedMore
+fed_text here a start hasher text started feeds = feeds here a [] started
 
 -- the digest of what a hasher was fed, of which this is a copy
 pub digest_is : (s : State) (object : Object) (hasher : Hasher) (digest : List ℕ) → HasFedInventory s object → ((algorithm : Algorithm) (fed : List ℕ) → HasBeenFed algorithm s.hasher fed → HasBeenFed algorithm hasher fed)
@@ -55,6 +56,17 @@ made_top_inventory s s' a b object here path bytes which fed did is same hasher 
   where
     was : HasFedInventory s object
     was = rw which at fed
+
+-- where there is a hasher it is the version's folder, and where there is none it is the top
+pub in_version : (here : Folder) (a : Algorithm) (hasher : Hasher) (text : List ℕ) → HasFedAt here a (Some hasher) text → (here ≡ folder.Version) × HasBeenFed a hasher text
+unfolding HasFedAt
+in_version folder.Version a hasher text fed = (refl, fed)
+in_version folder.Top a hasher text fed = absurd fed
+
+pub at_top : (here : Folder) (a : Algorithm) (text : List ℕ) → HasFedAt here a None text → here ≡ folder.Top
+unfolding HasFedAt
+at_top folder.Version a text fed = absurd fed
+at_top folder.Top a text fed = refl
 
 pub left_inventory : (s s' : State) (a b : World) (object : Object) (here : Folder) (path : Path) (bytes : List ℕ) (f : Fault) (result : Answer) → IsErrAnd result (λ h. h ≡ f) → LeavesSome (makes_file path bytes) f a b → path ≡ in_folder here (inventory_name ∷ []) → bytes ≡ inventory_held s object → KeepsAll s s'
     → Turned (phase.Carrying object (stage.Make (inventory_part here))) s s' a b result

@@ -1,7 +1,9 @@
 -- What the turns that make an object ask of what is held, beside what their calls need of the devices.
 use Rattle.std.specs.Prelude.{◌≡◌, ◌<◌, ◌==◌, ◌&&◌, ◌++◌, ◌-◌, ◌^◌, ℕ, List, None, Option, Some, false, length, map, nat_lt, slice_get, take, true, ⊤}
 use Rattle.std.specs.Str.{bytes_eq}
+use Rattle.pt_object.specs.declared.algorithm.Algorithm.{Algorithm}
 use Rattle.pt_object.specs.declared.contents.Content.{Content}
+use Rattle.pt_object.specs.declared.hasher.Hasher.{Hasher}
 use Rattle.pt_object.specs.Distinct.{content_of_row, distinct}
 use Rattle.pt_object.specs.Hasher.{HasBeenFed}
 use Rattle.pt_object.specs.Script.{MakeFile}
@@ -121,6 +123,19 @@ HasFedInventory s object = HasBeenFed s.job.algorithm s.hasher (inventory_held s
 abbrev pub IsFedFor : Folder → State → Object → Type 0
 IsFedFor folder.Version s object = ⊤
 IsFedFor folder.Top s object = HasFedInventory s object
+
+-- in the version's folder there is a hasher, which has been fed these bytes; at the top there is none
+unfoldable pub HasFedAt : Folder → Algorithm → Option Hasher → List ℕ → Type 0
+HasFedAt folder.Version algorithm (Some hasher) fed = HasBeenFed algorithm hasher fed
+HasFedAt folder.Version algorithm None fed = ⊥
+HasFedAt folder.Top algorithm (Some hasher) fed = ⊥
+HasFedAt folder.Top algorithm None fed = ⊤
+
+-- what has been fed is these bytes more
+unfoldable pub IsFedMore : Option Hasher → Option Hasher → List ℕ → Type 0
+IsFedMore old new bytes =
+    (folder : Folder) (algorithm : Algorithm) (fed : List ℕ) → HasFedAt folder algorithm old fed
+    → HasFedAt folder algorithm new (fed ++ bytes)
 
 -- what the turn of a part needs of what is held
 abbrev pub IsReadyFor : Part → Object → State → Type 0

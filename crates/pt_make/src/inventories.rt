@@ -1,10 +1,8 @@
 //! The turns that make an object's inventory and its sidecar, in the version's folder and at the top: the turn that
 //! makes the inventory in the version's folder feeds its text to the hasher, whose digest stands in both sidecars.
-ghost use Rattle.std.specs.Prelude.{◌≡◌, ◌∷◌, [], IfOk};
-ghost use Rattle.std.specs.String.{string_bytes};
+ghost use Rattle.std.specs.Prelude.{◌≡◌, ◌∷◌, [], IfOk, OnOk};
 ghost use Rattle.pt_object.specs.Algorithm.{digest_of};
 ghost use Rattle.pt_object.specs.Files.{sidecar_text};
-ghost use Rattle.pt_object.specs.Hasher.{HasBeenFed};
 ghost use Rattle.pt_object.specs.Object.{inventory_name, sidecar_name as sidecar_name_of};
 ghost use Rattle.pt_plan.specs.TurnMake.{after_last};
 ghost use Rattle.pt_plan.specs.declared.phase.Phase.TheVariants as phase;
@@ -13,9 +11,9 @@ ghost use Rattle.pt_state.specs.Outside.{TakesTurn, Wrote};
 ghost use Rattle.pt_state.specs.States.{job_of};
 ghost use Rattle.pt_tree.specs.Dest.{MayMake};
 ghost use Rattle.pt_tree.specs.Known.{known_text};
-ghost use Rattle.pt_make.specs.Making.{HasContentsOfRows, HasFedInventory, IsFedFor, in_folder, inventory_held, inventory_part, makes_file, sidecar_part};
+ghost use Rattle.pt_make.specs.Making.{HasContentsOfRows, HasFedAt, HasFedInventory, IsFedFor, IsFedMore, in_folder, inventory_held, inventory_part, makes_file, sidecar_part};
 
-use pt_object::{Algorithm, Digest, Hasher, inventory, sidecar_of};
+use pt_object::{Algorithm, Digest, Hasher, InventoryPieces, sidecar_of};
 use pt_plan::{Fault, Object, Part, Phase, Stage};
 use pt_state::files::put_file;
 use pt_state::{Outside, State};
@@ -31,8 +29,8 @@ pub(crate) enum Folder {
     Top,
 }
 
-/// Makes the inventory in a folder (OCFL 1.1, "Inventory"). The hasher is fed the text of the version's, which is that of
-/// the one at the top too.
+/// Makes the inventory in a folder (OCFL 1.1, "Inventory"), piece by piece. The hasher is fed the text of the version's,
+/// which is that of the one at the top too.
 pub(crate) fn make_inventory<O: Outside>(
     state: &mut State,
     object: Object,
@@ -47,32 +45,33 @@ pub(crate) fn make_inventory<O: Outside>(
         out.old out.new result }
 {
     let path = path_in(state.alloc, folder, Known::Inventory)?;
-    let text = inventory_of(state, &object)?;
-    put_file(out, &path, text.as_bytes())?;
-    match folder {
-        Folder::Version => {
-            state.hasher = fed_with(state.job.algorithm, &text);
+    let mut hasher = hasher_for(folder, state.job.algorithm);
+    put_text(&path, text_of(state, &object)?, &mut hasher, out)?;
+    match hasher {
+        Some(hasher) => {
+            state.hasher = hasher;
             Ok(Phase::Carrying(object, Stage::Make(Part::VersionSidecar)))
         }
-        Folder::Top => Ok(Phase::Carrying(object, Stage::Make(Part::Sidecar))),
+        None => Ok(Phase::Carrying(object, Stage::Make(Part::Sidecar))),
     }
 }
 
-// A hasher that has been fed a text.
-fn fed_with(algorithm: Algorithm, text: &str) -> Hasher
-    ensures { HasBeenFed algorithm result text.now }
+// The hasher that the text of the inventory in the version's folder is fed to.
+fn hasher_for(folder: Folder, algorithm: Algorithm) -> Option<Hasher>
+    ensures { HasFedAt folder algorithm result [] }
 {
-    let mut hasher = Hasher::start(algorithm);
-    hasher.feed_bytes(text.as_bytes());
-    hasher
+    match folder {
+        Folder::Version => Some(Hasher::start(algorithm)),
+        Folder::Top => None,
+    }
 }
 
-// The text of the object's inventory.
-fn inventory_of(state: &State, object: &Object) -> Result<String, MemoryFault>
+// The text of the object's inventory, of which no piece was made.
+fn text_of<'a>(state: &'a State, object: &'a Object) -> Result<InventoryPieces<'a>, MemoryFault>
     requires { HasContentsOfRows state.now }
-    ensures { IfOk result (λ text. string_bytes text ≡ inventory_held state.now object.now) }
+    ensures { IfOk result (λ text. text.rest ≡ inventory_held state.now object.now) }
 {
-    inventory(
+    InventoryPieces::of(
         state.alloc,
         object.id.as_str(),
         &state.rows,
@@ -80,6 +79,37 @@ fn inventory_of(state: &State, object: &Object) -> Result<String, MemoryFault>
         &state.job.meta,
         state.job.algorithm,
     )
+}
+
+// Makes a file of the destination with a text, and feeds it to the hasher, if there is one. Each piece is written and fed
+// before the next is made, so that the text is nowhere as a whole.
+fn put_text<O: Outside>(
+    path: &NamePath,
+    mut text: InventoryPieces<'_>,
+    hasher: &mut Option<Hasher>,
+    out: &mut O,
+) -> Result<(), Fault>
+    requires { MayMake (O.world out.old).dest path.now }
+    ensures wrote { Wrote O.world (O.within 0) (makes_file path.now text.entry.rest)
+        out.old out.new result }
+    ensures fed { OnOk result (IsFedMore hasher.old hasher.new text.entry.rest) }
+{
+    out.create(path)?;
+    while text.next()? {
+        let piece = text.piece();
+        out.append(piece)?;
+        feed(hasher, piece);
+    }
+    out.finish()
+}
+
+// Feeds bytes to the hasher, if there is one.
+fn feed(hasher: &mut Option<Hasher>, bytes: &[u8])
+    ensures { IsFedMore hasher.old hasher.new bytes.now }
+{
+    if let Some(hasher) = hasher {
+        hasher.feed_bytes(bytes);
+    }
 }
 
 /// Makes the sidecar of the inventory in a folder. After the one at the top the object is whole.
