@@ -31,7 +31,7 @@ where
     ensures { Ends (R.starts rt.now) (EndsWith (Obeys
         (TellsNames H.lends H.takes_back H.Output.contents)
         (λ words. Runs H.resolves H.identifies H.holds H.releases H.finds H.File.syncs
-        H.lends H.takes_back H.Store.forest H.Folder.kept H.Output.contents
+        H.File.puts H.lends H.takes_back H.Store.forest H.Folder.kept H.Output.contents
         (AsksEnd R.ends rt.now words.expected) (wanted_of words) words.source words.dest)
         (AuditsFor (Audits H.resolves H.identifies H.holds H.releases
         H.lends H.takes_back H.Store.forest H.Folder.forest H.Output.contents)))
@@ -66,7 +66,7 @@ where
     ensures { EndsWith (Obeys
         (TellsNames H.lends H.takes_back H.Output.contents)
         (λ words. Runs H.resolves H.identifies H.holds H.releases H.finds H.File.syncs
-        H.lends H.takes_back H.Store.forest H.Folder.kept H.Output.contents
+        H.File.puts H.lends H.takes_back H.Store.forest H.Folder.kept H.Output.contents
         (AsksEnd R.ends rt.now words.expected) (wanted_of words) words.source words.dest)
         (AuditsFor (Audits H.resolves H.identifies H.holds H.releases
         H.lends H.takes_back H.Store.forest H.Folder.forest H.Output.contents)))
@@ -85,7 +85,7 @@ where
     R: Reads + Clock + Eprint + AllocGlobal + Terminals,
     ensures { Obeys (TellsNames H.lends H.takes_back H.Output.contents)
         (λ words. Runs H.resolves H.identifies H.holds H.releases H.finds H.File.syncs
-        H.lends H.takes_back H.Store.forest H.Folder.kept H.Output.contents
+        H.File.puts H.lends H.takes_back H.Store.forest H.Folder.kept H.Output.contents
         (AsksEnd R.ends rt.now words.expected) (wanted_of words) words.source words.dest)
         (AuditsFor (Audits H.resolves H.identifies H.holds H.releases
         H.lends H.takes_back H.Store.forest H.Folder.forest H.Output.contents))
@@ -145,7 +145,7 @@ fn make_run<R, H: Host>(rt: &R, host: &mut H, words: Migrate) -> u8
 where
     R: Reads + Clock + Eprint + AllocGlobal + Terminals,
     ensures { Runs H.resolves H.identifies H.holds H.releases H.finds H.File.syncs
-        H.lends H.takes_back H.Store.forest H.Folder.kept H.Output.contents
+        H.File.puts H.lends H.takes_back H.Store.forest H.Folder.kept H.Output.contents
         (AsksEnd R.ends rt.now words.expected)
         (wanted_of words) words.source words.dest host.old host.new result }
 {

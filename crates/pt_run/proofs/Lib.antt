@@ -1,5 +1,6 @@
 mod Audited
 mod Begun
+mod Logged
 mod Rehearsed
 mod RehearsalTold
 mod Unstuck

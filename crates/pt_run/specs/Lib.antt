@@ -1,4 +1,5 @@
 pub mod Audits
+pub mod Durable
 pub mod Ends
 pub mod Made
 pub mod RehearsalLaw

@@ -22,6 +22,7 @@ use Rattle.pt_state.specs.declared.job.Job.{Job}
 use Rattle.pt_state.specs.declared.job.Report.{Report}
 use Rattle.pt_tree.specs.Dest.{Writing}
 use Rattle.pt_tree.specs.Forest.{Forest}
+use Rattle.pt_run.specs.Durable.{IsLogged}
 use Rattle.pt_run.specs.Ends.{guard_status, run_status}
 use Rattle.pt_run.specs.declared.host.Ground.{Ground}
 use Rattle.pt_run.specs.declared.guarded_run.Wanted.{Wanted}
@@ -132,15 +133,17 @@ FindsLog {H} {F} finds syncs true old new answer = (found : Result (Option F) Er
 
 -- ---- the run, on a machine
 
--- a run over what the machine lends, which is given back as the run left it; none is made where the log can't be
--- put onto its disk, which is a fault
+-- a run over what the machine lends, which is given back as the run left it, and its log put onto the disk by this file;
+-- none is made where the log can't be put onto its disk, which is a fault
 abbrev pub GoesOver : {H S D W F : Type 0} → (H → Ground S D W → H → Type 0)
-    → (H → Ground S D W → H → Type 0) → (Ground S D W → Ground S D W → ℕ → Type 0)
+    → (H → Ground S D W → H → Type 0) → (F → W → Result (Unit {0}) Error → F → Type 0)
+    → (Ground S D W → Ground S D W → ℕ → Type 0)
     → Result (Option F) Error → H → H → ℕ → Type 0
-GoesOver lends takes_back runs (Err error) mid new status = (status ≡ 3) × (new ≡ mid)
-GoesOver {H} {S} {D} {W} lends takes_back runs (Ok file) mid new status =
+GoesOver lends takes_back puts runs (Err error) mid new status = (status ≡ 3) × (new ≡ mid)
+GoesOver {H} {S} {D} {W} lends takes_back puts runs (Ok file) mid new status =
     (ground : Ground S D W) × (lent : H) × lends mid ground lent × (after : Ground S D W)
-    × runs ground after status × takes_back lent after new
+    × runs ground after status × IsLogged puts file ground.output after.output status
+    × takes_back lent after new
 
 -- and before a run this is known
 abbrev pub Knows : {G : Type 0} → Type 0 → (G → G → ℕ → Type 0) → G → G → ℕ → Type 0
@@ -165,20 +168,21 @@ Guarded {H} {L} begins carries releases old new status =
     × GoesOn carries releases answer mid new status
 
 -- what `run_guarded` does on a machine, by the words of its calls (where paths lead, what they are known by, the lock
--- taken and given back; the log's file; what is lent and taken back) and of what is lent (the trees of the two
+-- taken and given back; the log's file, its syncing alone and behind the output; what is lent and taken back) and of what is lent (the trees of the two
 -- systems, and what the output holds): the guard, the run that is wanted from one folder to the other, before which
 -- it is asked what is expected of it, and the lock
 abbrev pub Runs : {H L S D W E F : Type 0} → (H → List ℕ → Result Place Error → H → Type 0)
     → (H → List ℕ → Result Folder Error → H → Type 0) → (H → List ℕ → Hold L → H → Type 0)
     → (H → L → H → Type 0) → (H → Result (Option E) Error → H → Type 0)
-    → (E → Result (Unit {0}) Error → E → Type 0) → (H → Ground S D W → H → Type 0)
+    → (E → Result (Unit {0}) Error → E → Type 0) → (E → W → Result (Unit {0}) Error → E → Type 0)
+    → (H → Ground S D W → H → Type 0)
     → (H → Ground S D W → H → Type 0) → (S → List ℕ → Option Forest) → (D → List ℕ → Kept F)
     → (W → Option (List ℕ)) → Type 0 → Wanted → List ℕ → List ℕ → H → H → ℕ → Type 0
-Runs {H} {L} {S} {D} {W} {E} {F} resolves identifies holds releases finds syncs lends takes_back
-    forest kept contents expects wanted source dest =
+Runs {H} {L} {S} {D} {W} {E} {F} resolves identifies holds releases finds syncs puts lends
+    takes_back forest kept contents expects wanted source dest =
     Guarded (Begins resolves identifies holds source dest)
     (λ old new status. (file : Result (Option E) Error) × (mid : H)
     × FindsLog finds syncs wanted.sync old mid file
-    × GoesOver lends takes_back (Knows expects (RunsOver forest kept contents wanted source dest))
-    file mid new status)
+    × GoesOver lends takes_back puts
+    (Knows expects (RunsOver forest kept contents wanted source dest)) file mid new status)
     releases

@@ -4,7 +4,7 @@ ghost use Rattle.pt_run.specs.Room.{spare_of};
 
 use crate::Wanted;
 use crate::host::Ground;
-use crate::log::{DurableLog, Syncs};
+use crate::log::{DurableLog, SyncsOutput};
 use crate::room::longest_made;
 use pt_folder::{HostDest, HostSource, System};
 use pt_ignore::{Ignored, Ignoring};
@@ -13,7 +13,7 @@ use std::io::Write;
 
 /// The source, the destination and the log of a run.
 #[derive(Drop)]
-pub(crate) struct Devices<'a, S: System, D: System, W: Write, F: Syncs + Drop> {
+pub(crate) struct Devices<'a, S: System, D: System, W: Write, F: SyncsOutput<W> + Drop> {
     /// The folder of the store.
     pub source: HostSource<'a, S>,
     /// The folder of the destination.
@@ -24,7 +24,7 @@ pub(crate) struct Devices<'a, S: System, D: System, W: Write, F: Syncs + Drop> {
 
 /// The devices of a run over these, from a store to a folder. Paths for which there is no room at the longest place are refused; and files
 /// are put onto the disk where that is wanted, as the log is where its file is given.
-pub(crate) fn equipped<'a, S: System, D: System, W: Write, F: Syncs + Drop>(
+pub(crate) fn equipped<'a, S: System, D: System, W: Write, F: SyncsOutput<W> + Drop>(
     alloc: Global,
     ground: Ground<S, D, W>,
     file: Option<F>,
@@ -54,7 +54,7 @@ pub(crate) fn equipped<'a, S: System, D: System, W: Write, F: Syncs + Drop>(
 
 /// The two sides of an audit, and its log.
 #[derive(Drop)]
-pub(crate) struct Sides<'a, S: System, D: System, W: Write, F: Syncs + Drop> {
+pub(crate) struct Sides<'a, S: System, D: System, W: Write, F: SyncsOutput<W> + Drop> {
     /// The folder of the store, without the entries that are left out.
     pub source: Ignoring<HostSource<'a, S>>,
     /// The folder of the root, which is only read.
@@ -64,7 +64,7 @@ pub(crate) struct Sides<'a, S: System, D: System, W: Write, F: Syncs + Drop> {
 }
 
 /// The sides of an audit over these, of a store and of the root in a folder. The entries of the store that have these names are left out.
-pub(crate) fn both_sides<'a, S: System, D: System, W: Write, F: Syncs + Drop>(
+pub(crate) fn both_sides<'a, S: System, D: System, W: Write, F: SyncsOutput<W> + Drop>(
     alloc: Global,
     ground: Ground<S, D, W>,
     file: Option<F>,

@@ -5,7 +5,7 @@ ghost use Rattle.pt_run.specs.Audits.{Audits, AuditsOver, audit_status};
 use crate::beginning::begun;
 use crate::devices::{Sides, both_sides};
 use crate::host::{Ground, Host};
-use crate::log::Syncs;
+use crate::log::SyncsOutput;
 use crate::running::Ended;
 use crate::saying::{refused, tell_fault};
 use crate::status::{DONE, FAILED, TOLD};
@@ -81,7 +81,7 @@ where
 }
 
 // Holds the root in a folder against a store, watched as that is wanted, and tells standard error of a fault.
-fn compare<R, S: System, D: System, W: Write, F: Syncs + Drop>(
+fn compare<R, S: System, D: System, W: Write, F: SyncsOutput<W> + Drop>(
     rt: &R,
     ground: Ground<S, D, W>,
     file: Option<F>,

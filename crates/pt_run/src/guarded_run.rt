@@ -54,7 +54,7 @@ pub fn run_guarded<R, H: Host>(
 where
     R: Reads + Clock + Eprint + AllocGlobal + Terminals,
     ensures { Runs H.resolves H.identifies H.holds H.releases H.finds H.File.syncs
-        H.lends H.takes_back H.Store.forest H.Folder.kept H.Output.contents
+        H.File.puts H.lends H.takes_back H.Store.forest H.Folder.kept H.Output.contents
         (AsksEnd R.ends rt.now (option_map (λ log. log.now) expected.entry))
         wanted source.now dest.now host.old host.new result }
 {
@@ -82,7 +82,7 @@ where
     R: Reads + Clock + Eprint + AllocGlobal + Terminals,
     ensures { (file : _) × (mid : H)
         × FindsLog H.finds H.File.syncs wanted.sync host.old mid file
-        × GoesOver H.lends H.takes_back
+        × GoesOver H.lends H.takes_back H.File.puts
         (Knows (AsksEnd R.ends rt.now (option_map (λ log. log.now) expected.entry))
         (RunsOver H.Store.forest H.Folder.kept H.Output.contents wanted store.now folder.now))
         file mid host.new result }

@@ -5,7 +5,7 @@ ghost use Rattle.std.specs.declared.io.Error.{Error};
 ghost use Rattle.std.specs.declared.result.Result.{Result};
 ghost use Rattle.pt_run.specs.declared.host.Ground.{Ground};
 
-use crate::log::Syncs;
+use crate::log::{Syncs, SyncsOutput};
 use pt_folder::System;
 use pt_guard::{Lockable, Places};
 use pt_notices::Terminals;
@@ -36,7 +36,7 @@ pub trait Host: Places {
 
     type Output: Write;
 
-    type File: Syncs + Drop;
+    type File: SyncsOutput<Self::Output> + Drop;
 
     /// The file that its output goes to may be this.
     ghost finds: { Self → Result (Option Self.File) Error → Self → Type 0 };

@@ -18,7 +18,7 @@ mod turns;
 pub use guarded_audit::{WantedAudit, audit_guarded};
 pub use guarded_run::{Wanted, run_guarded};
 pub use host::{Ground, Host, OutputFile};
-pub use log::{DurableLog, Syncs};
+pub use log::{DurableLog, Syncs, SyncsOutput};
 pub use pt_notices::{Progress, Reads, Terminals};
 pub use room::longest_made;
 pub use saying::failed;

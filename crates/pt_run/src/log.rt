@@ -1,9 +1,10 @@
-ghost use Rattle.std.specs.Prelude.{◌≡◌, IfSome, IsSome, Ok, OnErr, OnOk};
+ghost use Rattle.std.specs.Prelude.{◌≡◌, IsSome, OnErr, OnOk};
 ghost use Rattle.std.specs.declared.io.Error.{Error};
 ghost use Rattle.std.specs.declared.result.Result.{Result};
 ghost use Rattle.std.specs.Io.KnownBytes.{Appends};
 ghost use Rattle.pt_tree.specs.Failures.{HasRisen, IsCounted};
 ghost use Rattle.pt_tree.specs.Log.{AppendsFront};
+ghost use Rattle.pt_run.specs.Durable.{IsPutBehind, LogStays, stays_itself, stays_on};
 
 use pt_tree::{Log, TreeFault, write_out};
 use std::io;
@@ -19,15 +20,34 @@ pub trait Syncs {
         ensures synced { syncs self.old result self.new };
 }
 
+/// What can have all that a writer has written put onto its disk. Each thing that syncs does so for any writer to its output; and a
+/// machine may say more of its own, as which bytes its disk has then.
+pub trait SyncsOutput<W: Write>: Syncs {
+    /// Having all that this writer has written put onto the disk may answer so, and leave it so.
+    ghost puts: { Self → W → Result (Unit {0}) Error → Self → Type 0 };
+
+    /// Has all that a writer has written put onto its disk.
+    fn sync_output(&mut self, output: &W) -> io::Result<()>
+        ensures put { puts self.old output.now result self.new };
+}
+
+impl<W: Write, F: Syncs> SyncsOutput<W> for F {
+    ghost puts = { λ file _ answer after. F.syncs file answer after };
+
+    fn sync_output(&mut self, _: &W) -> io::Result<()> {
+        self.sync()
+    }
+}
+
 /// A log over a writer whose output, where that is asked, is put onto its disk after each piece.
 #[derive(Drop)]
-pub struct DurableLog<W: Write, F: Syncs + Drop> {
+pub struct DurableLog<W: Write, F: SyncsOutput<W> + Drop> {
     writer: W,
     file: Option<F>,
     failures: u64,
 }
 
-impl<W: Write, F: Syncs + Drop> DurableLog<W, F> {
+impl<W: Write, F: SyncsOutput<W> + Drop> DurableLog<W, F> {
     /// A log over a writer, and the output that it writes to, if that is to be put onto its disk.
     pub fn new(writer: W, file: Option<F>) -> DurableLog<W, F>
         ensures writer { result.writer ≡ writer }
@@ -60,17 +80,17 @@ impl<W: Write, F: Syncs + Drop> DurableLog<W, F> {
     }
 }
 
-impl<W: Write, F: Syncs + Drop> Log for DurableLog<W, F> {
+impl<W: Write, F: SyncsOutput<W> + Drop> Log for DurableLog<W, F> {
     ghost told = { λ l. W.contents l.writer };
 
     ghost failed = { λ l. l.failures };
 
-    // Where its output is put onto the disk it goes on to be.
-    ghost keeps = { λ a b. IsSome a.file → IsSome b.file };
+    // Where its output is put onto the disk it goes on to be; and unless it failed all of it is there, once something was put.
+    ghost keeps = { LogStays F.puts };
 
-    ghost is_kept = { λ _ is. is };
+    ghost is_kept = { stays_itself F.puts };
 
-    ghost keeps_on = { λ _ _ _ p q is. q (p is) };
+    ghost keeps_on = { stays_on F.puts };
 
     fn failures(&self) -> u64 {
         self.failures
@@ -81,29 +101,28 @@ impl<W: Write, F: Syncs + Drop> Log for DurableLog<W, F> {
             (W.contents self.new.writer) piece.now) }
         ensures part { OnErr result (AppendsFront (W.contents self.old.writer)
             (W.contents self.new.writer) piece.now) }
-        ensures synced { OnOk result (IfSome self.old.file
-            (λ file. (after : F) × F.syncs file (Ok tt) after)) }
+        ensures synced { OnOk result
+            (IsPutBehind F.puts self.new.writer self.old.file self.new.file) }
         ensures failures { IsCounted self.old.failures self.new.failures result }
-        ensures keeps { IsSome self.old.file → IsSome self.new.file }
+        ensures keeps { LogStays F.puts self.old self.new }
     {
         if write_out(&mut self.writer, piece).is_err() {
             return Err(self.failed());
         }
-        match sync_there(&mut self.file) {
+        match sync_there(&mut self.file, &self.writer) {
             Ok(()) => Ok(()),
             Err(_) => Err(self.failed()),
         }
     }
 }
 
-// Puts a file onto its disk, where there is one.
-fn sync_there<F: Syncs>(file: &mut Option<F>) -> io::Result<()>
-    ensures synced { OnOk result (IfSome file.old
-        (λ file. (after : F) × F.syncs file (Ok tt) after)) }
+// Puts all that a writer has written onto the disk of its file, where there is one.
+fn sync_there<W: Write, F: SyncsOutput<W>>(file: &mut Option<F>, writer: &W) -> io::Result<()>
+    ensures synced { OnOk result (IsPutBehind F.puts writer.now file.old file.new) }
     ensures still { IsSome file.old → IsSome file.new }
 {
     match file {
-        Some(file) => match file.sync() {
+        Some(file) => match file.sync_output(writer) {
             Ok(()) => Ok(()),
             Err(error) => Err(error),
         },

@@ -4,6 +4,7 @@ ghost use Rattle.pt_folder.specs.DestHeld.{told_with as dest_told};
 ghost use Rattle.pt_folder.specs.Reading.{unread_open};
 ghost use Rattle.pt_folder.specs.SourceHeld.{told_of as source_told};
 ghost use Rattle.pt_ignore.specs.Ignoring.{told_without};
+ghost use Rattle.pt_run.specs.Durable.{IsLogged};
 ghost use Rattle.pt_run.specs.Ends.{run_status};
 ghost use Rattle.pt_run.specs.Made.{IsRun, IsStuckBy, LeavesKept, RunsFrom};
 ghost use Rattle.pt_state.specs.Outside.{world};
@@ -11,7 +12,7 @@ ghost use Rattle.pt_state.specs.Outside.{world};
 use crate::Wanted;
 use crate::devices::Devices;
 use crate::host::Ground;
-use crate::log::Syncs;
+use crate::log::SyncsOutput;
 use crate::saying::tell_fault;
 use crate::status::{DONE, FAILED, TOLD};
 use crate::turns::make_turns;
@@ -34,7 +35,7 @@ pub(crate) struct Ended<S, D, W> {
 
 /// Makes the run that is wanted over its devices, or rehearses it, watched as that is wanted, and tells standard error of a fault. `store` is
 /// the path of the store; `expected` is how many lines its log may come to, where that is known.
-pub(crate) fn run<R, S: System, D: System, W: Write, F: Syncs + Drop>(
+pub(crate) fn run<R, S: System, D: System, W: Write, F: SyncsOutput<W> + Drop>(
     rt: &R,
     devices: Devices<'_, S, D, W, F>,
     wanted: Wanted,
@@ -43,7 +44,7 @@ pub(crate) fn run<R, S: System, D: System, W: Write, F: Syncs + Drop>(
 ) -> Ended<S, D, W>
 where
     R: Clock + Eprint + AllocGlobal + Terminals,
-    ensures { RunsFrom S.forest D.kept W.contents wanted
+    ensures runs { RunsFrom S.forest D.kept W.contents wanted
         (record {
           store = devices.entry.source.folder.path.now;
           folder = devices.entry.dest.folder.path.now;
@@ -59,6 +60,9 @@ where
         devices.entry.source.failures devices.entry.dest.failures devices.entry.log.failures)
         (D.kept devices.entry.dest.desk.system devices.entry.dest.folder.path.now)
         result.ground result.status }
+    ensures logged { devices.entry.log.failures ≡ 0
+        → IsLogged F.puts devices.entry.log.file devices.entry.log.writer
+        result.ground.output result.status }
 {
     let alloc = rt.alloc();
     let tally = Tally::new();

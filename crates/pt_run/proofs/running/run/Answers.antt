@@ -1,9 +1,10 @@
 use Rattle.std.proofs.Common.{◌∙◌}
 use Rattle.pt_folder.specs.Reading.{unread_open}
+use Rattle.pt_run.proofs.Logged.{log_counts, logged}
 use Rattle.pt_run.proofs.running.run.Goals as goal
 
-pub returns : goal.returns
-returns g c =
+pub returns-clause-runs : goal.returns-clause-runs
+returns-clause-runs g c =
     let source = c.made-ran.new.source.source.source in
     let dest = c.made-ran.result.dest in
     let made = c.made-ran.ensures in (
@@ -28,3 +29,10 @@ returns g c =
       rw (c.into_system-2.ensures) made.rehearsed,
       λ s is. let stuck = made.stuck s is in (stuck.0, λ none. c.told-status.ensures ∙ stuck.1 none),
     )
+
+pub returns-clause-logged : goal.returns-clause-logged
+returns-clause-logged g c =
+    let made = c.made-ran.ensures in
+    let ran = c.made-ran.result.ran in
+    let counts = log_counts c.args.wanted.job c.args.wanted.rehearse _ _ _ ran made.promises in
+    λ none. rw (c.into_writer.ensures, c.told-status.ensures) (logged g.F.SyncsOutput.puts c.args.devices.log c.made-ran.new.log ran made.log counts none)
