@@ -65,7 +65,7 @@ def is_declared(word, path):
     """Whether a file of code or of definitions declares a word: a function, a type, a variant, a field, a clause or a law."""
     name, text = re.escape(word), text_of(path)
     if path.endswith(".antt"):
-        form = rf"^(?:abbrev |unfoldable |pub |data |record )*{name}(?= )|^ +(?:pub )?{name} (?=[:(])"
+        form = rf"^(?:abbrev |unfoldable |pub |data |record )*{name}(?= )|^ +(?:(?:abbrev |pub |data |record )+{name}(?= )|(?:pub )?{name} (?=[:(]))"
     else:
         form = rf"\b(?:fn|struct|enum|trait|const|static) {name}\b|^ +(?:pub )?{name}(?:\(.*\)|: .*| \{{)?,?$|\bensures {name} \{{"
     return re.search(form, text, re.MULTILINE) is not None

@@ -5,6 +5,7 @@ ghost use Rattle.pt_cli.specs.Calls.{AuditsFor, IsToldAs, TellsNames, TellsText,
 ghost use Rattle.pt_cli.specs.Statuses.{Declines, Ends, EndsWith, IsWordless, Obeys};
 ghost use Rattle.pt_run.specs.Audits.{Audits};
 ghost use Rattle.pt_run.specs.Made.{Runs};
+ghost use Rattle.pt_run.specs.Served.{Serves};
 
 use crate::asked_audit::audit_asked_for;
 use crate::asked_run::{AskedRun, run_asked_for};
@@ -32,6 +33,7 @@ where
         (TellsNames H.lends H.takes_back H.Output.contents)
         (λ words. Runs H.resolves H.identifies H.holds H.releases H.finds H.File.syncs
         H.File.puts H.lends H.takes_back H.Store.forest H.Folder.kept H.Output.contents
+        (Serves H.Folder.System H.Folder.File.Handle.own H.Folder.File.Input H.Folder.Dir.Input)
         (AsksEnd R.ends rt.now words.expected) (wanted_of words) words.source words.dest)
         (AuditsFor (Audits H.resolves H.identifies H.holds H.releases
         H.lends H.takes_back H.Store.forest H.Folder.forest H.Output.contents)))
@@ -67,6 +69,7 @@ where
         (TellsNames H.lends H.takes_back H.Output.contents)
         (λ words. Runs H.resolves H.identifies H.holds H.releases H.finds H.File.syncs
         H.File.puts H.lends H.takes_back H.Store.forest H.Folder.kept H.Output.contents
+        (Serves H.Folder.System H.Folder.File.Handle.own H.Folder.File.Input H.Folder.Dir.Input)
         (AsksEnd R.ends rt.now words.expected) (wanted_of words) words.source words.dest)
         (AuditsFor (Audits H.resolves H.identifies H.holds H.releases
         H.lends H.takes_back H.Store.forest H.Folder.forest H.Output.contents)))
@@ -86,6 +89,7 @@ where
     ensures { Obeys (TellsNames H.lends H.takes_back H.Output.contents)
         (λ words. Runs H.resolves H.identifies H.holds H.releases H.finds H.File.syncs
         H.File.puts H.lends H.takes_back H.Store.forest H.Folder.kept H.Output.contents
+        (Serves H.Folder.System H.Folder.File.Handle.own H.Folder.File.Input H.Folder.Dir.Input)
         (AsksEnd R.ends rt.now words.expected) (wanted_of words) words.source words.dest)
         (AuditsFor (Audits H.resolves H.identifies H.holds H.releases
         H.lends H.takes_back H.Store.forest H.Folder.forest H.Output.contents))
@@ -146,6 +150,7 @@ where
     R: Reads + Clock + Eprint + AllocGlobal + Terminals,
     ensures { Runs H.resolves H.identifies H.holds H.releases H.finds H.File.syncs
         H.File.puts H.lends H.takes_back H.Store.forest H.Folder.kept H.Output.contents
+        (Serves H.Folder.System H.Folder.File.Handle.own H.Folder.File.Input H.Folder.Dir.Input)
         (AsksEnd R.ends rt.now words.expected)
         (wanted_of words) words.source words.dest host.old host.new result }
 {

@@ -20,6 +20,7 @@ pub mod Seeing
 pub mod Settings
 pub mod SourceHeld
 pub mod SourceLaws
+pub mod Steps
 pub mod Stuck
 pub mod Untold
 pub mod Writing

@@ -187,18 +187,21 @@ impl<'a, S: System> HostDest<'a, S> {
 impl<'a, S: System> Dest for HostDest<'a, S> {
     ghost use Rattle.pt_tree.specs.Dest.{CanPeek, CanWrite, IsKindAt, IsPeeked, LeavesPart, MayMake, MayMove, after_mkdir, after_create, after_append, after_finish, after_rename};
     ghost use Rattle.pt_folder.specs.DestHeld.{tree_with};
+    ghost use Rattle.pt_folder.specs.Steps.{Serves, none, steps_on};
     ghost use Rattle.pt_folder.specs.Stuck.{open_if_stuck, stuck_by_finish};
-    ghost use Rattle.pt_folder.specs.HostDest.{Closes, IsCall, IsLook, IsOtherCall, IsSame, KeepsClose, KeepsDir, KeepsFile, KeepsLook, KeepsMove, KeepsPeek, KeepsWrite, Looks, MakesDir, MakesFile, Moves, Peeks, Writes, told};
+    ghost use Rattle.pt_folder.specs.HostDest.{Closes, IsCall, IsLook, IsOtherCall, KeepsClose, KeepsDir, KeepsFile, KeepsLook, KeepsMove, KeepsPeek, KeepsWrite, Looks, MakesDir, MakesFile, Moves, Peeks, Writes, told};
 
     ghost told = { told };
 
     ghost failed = { λ d. d.failures };
 
-    ghost keeps = { IsSame };
+    // It is the same folder with the same settings, by which each call has asked the system.
+    ghost keeps = { Serves };
 
-    ghost is_kept = { λ _. (refl, (refl, refl)) };
+    ghost is_kept = { λ _. ((refl, (refl, refl)), none) };
 
-    ghost keeps_on = { λ _ _ _ p q. (q.0 ∙ p.0, (q.1.0 ∙ p.1.0, q.1.1 ∙ p.1.1)) };
+    ghost keeps_on = { λ a b c p q.
+        ((q.0.0 ∙ p.0.0, (q.0.1.0 ∙ p.0.1.0, q.0.1.1 ∙ p.0.1.1)), steps_on a b c p.1 q.1) };
 
     ghost is_tree = { λ d state is.
         tree_with (S.kept d.desk.system d.folder.path.now) d.stuck d.writing state

@@ -4,3 +4,4 @@ pub mod Ends
 pub mod Made
 pub mod RehearsalLaw
 pub mod Room
+pub mod Served

@@ -133,17 +133,17 @@ FindsLog {H} {F} finds syncs true old new answer = (found : Result (Option F) Er
 
 -- ---- the run, on a machine
 
--- a run over what the machine lends, which is given back as the run left it, and its log put onto the disk by this file;
--- none is made where the log can't be put onto its disk, which is a fault
+-- a run over what the machine lends, which is given back as the run left it, its log put onto the disk by this file, and of
+-- the destination's system what serving it left; none is made where the log can't be put onto its disk, which is a fault
 abbrev pub GoesOver : {H S D W F : Type 0} → (H → Ground S D W → H → Type 0)
     → (H → Ground S D W → H → Type 0) → (F → W → Result (Unit {0}) Error → F → Type 0)
-    → (Ground S D W → Ground S D W → ℕ → Type 0)
+    → (D → D → Type 0) → (Ground S D W → Ground S D W → ℕ → Type 0)
     → Result (Option F) Error → H → H → ℕ → Type 0
-GoesOver lends takes_back puts runs (Err error) mid new status = (status ≡ 3) × (new ≡ mid)
-GoesOver {H} {S} {D} {W} lends takes_back puts runs (Ok file) mid new status =
+GoesOver lends takes_back puts serves runs (Err error) mid new status = (status ≡ 3) × (new ≡ mid)
+GoesOver {H} {S} {D} {W} lends takes_back puts serves runs (Ok file) mid new status =
     (ground : Ground S D W) × (lent : H) × lends mid ground lent × (after : Ground S D W)
     × runs ground after status × IsLogged puts file ground.output after.output status
-    × takes_back lent after new
+    × serves ground.folder after.folder × takes_back lent after new
 
 -- and before a run this is known
 abbrev pub Knows : {G : Type 0} → Type 0 → (G → G → ℕ → Type 0) → G → G → ℕ → Type 0
@@ -169,7 +169,7 @@ Guarded {H} {L} begins carries releases old new status =
 
 -- what `run_guarded` does on a machine, by the words of its calls (where paths lead, what they are known by, the lock
 -- taken and given back; the log's file, its syncing alone and behind the output; what is lent and taken back) and of what is lent (the trees of the two
--- systems, and what the output holds): the guard, the run that is wanted from one folder to the other, before which
+-- systems, what the output holds, and how the second serves): the guard, the run that is wanted from one folder to the other, before which
 -- it is asked what is expected of it, and the lock
 abbrev pub Runs : {H L S D W E F : Type 0} → (H → List ℕ → Result Place Error → H → Type 0)
     → (H → List ℕ → Result Folder Error → H → Type 0) → (H → List ℕ → Hold L → H → Type 0)
@@ -177,12 +177,13 @@ abbrev pub Runs : {H L S D W E F : Type 0} → (H → List ℕ → Result Place 
     → (E → Result (Unit {0}) Error → E → Type 0) → (E → W → Result (Unit {0}) Error → E → Type 0)
     → (H → Ground S D W → H → Type 0)
     → (H → Ground S D W → H → Type 0) → (S → List ℕ → Option Forest) → (D → List ℕ → Kept F)
-    → (W → Option (List ℕ)) → Type 0 → Wanted → List ℕ → List ℕ → H → H → ℕ → Type 0
+    → (W → Option (List ℕ)) → (Wanted → List ℕ → D → D → Type 0) → Type 0 → Wanted → List ℕ
+    → List ℕ → H → H → ℕ → Type 0
 Runs {H} {L} {S} {D} {W} {E} {F} resolves identifies holds releases finds syncs puts lends
-    takes_back forest kept contents expects wanted source dest =
+    takes_back forest kept contents serves expects wanted source dest =
     Guarded (Begins resolves identifies holds source dest)
     (λ old new status. (file : Result (Option E) Error) × (mid : H)
     × FindsLog finds syncs wanted.sync old mid file
-    × GoesOver lends takes_back puts
+    × GoesOver lends takes_back puts (serves wanted dest)
     (Knows expects (RunsOver forest kept contents wanted source dest)) file mid new status)
     releases

@@ -2,6 +2,7 @@
 ghost use Rattle.std.specs.Prelude.{option_map};
 ghost use Rattle.pt_notices.specs.Expected.{AsksEnd};
 ghost use Rattle.pt_run.specs.Made.{FindsLog, GoesOver, Knows, Runs, RunsOver};
+ghost use Rattle.pt_run.specs.Served.{Serves};
 
 use crate::beginning::begun;
 use crate::devices::equipped;
@@ -55,6 +56,7 @@ where
     R: Reads + Clock + Eprint + AllocGlobal + Terminals,
     ensures { Runs H.resolves H.identifies H.holds H.releases H.finds H.File.syncs
         H.File.puts H.lends H.takes_back H.Store.forest H.Folder.kept H.Output.contents
+        (Serves H.Folder.System H.Folder.File.Handle.own H.Folder.File.Input H.Folder.Dir.Input)
         (AsksEnd R.ends rt.now (option_map (λ log. log.now) expected.entry))
         wanted source.now dest.now host.old host.new result }
 {
@@ -83,6 +85,8 @@ where
     ensures { (file : _) × (mid : H)
         × FindsLog H.finds H.File.syncs wanted.sync host.old mid file
         × GoesOver H.lends H.takes_back H.File.puts
+        (Serves H.Folder.System H.Folder.File.Handle.own H.Folder.File.Input H.Folder.Dir.Input
+        wanted folder.now)
         (Knows (AsksEnd R.ends rt.now (option_map (λ log. log.now) expected.entry))
         (RunsOver H.Store.forest H.Folder.kept H.Output.contents wanted store.now folder.now))
         file mid host.new result }

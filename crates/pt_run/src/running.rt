@@ -7,6 +7,7 @@ ghost use Rattle.pt_ignore.specs.Ignoring.{told_without};
 ghost use Rattle.pt_run.specs.Durable.{IsLogged};
 ghost use Rattle.pt_run.specs.Ends.{run_status};
 ghost use Rattle.pt_run.specs.Made.{IsRun, IsStuckBy, LeavesKept, RunsFrom};
+ghost use Rattle.pt_run.specs.Served.{IsServed, ServesTo};
 ghost use Rattle.pt_state.specs.Outside.{world};
 
 use crate::Wanted;
@@ -63,6 +64,7 @@ where
     ensures logged { devices.entry.log.failures ≡ 0
         → IsLogged F.puts devices.entry.log.file devices.entry.log.writer
         result.ground.output result.status }
+    ensures served { ServesTo wanted.rehearse devices.entry.dest result.ground.folder }
 {
     let alloc = rt.alloc();
     let tally = Tally::new();
@@ -134,6 +136,7 @@ fn made<'a, S: Source, D: System, L: Log>(
     ensures source { S.keeps source.old source.new }
     ensures log { L.keeps log.old log.new }
     ensures dest { result.dest.folder ≡ dest.entry.folder }
+    ensures served { IsServed rehearse dest.entry result.dest }
     ensures stuck { IsStuckBy dest.entry.synced dest.entry.failures (run_status result.ran)
         result.dest.stuck }
     ensures rehearsed { LeavesKept rehearse

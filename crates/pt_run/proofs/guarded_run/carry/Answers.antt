@@ -22,6 +22,11 @@ returns g c =
               _ _ _ _ _ _ _ _ _ _ _ _ made.store made.unread made.folder made.unwritten made.synced made.log _ _ c.run-status.ensures.runs,
         ),
         rw (made.log_synced, made.log.0) at (c.run-status.ensures.logged made.log.1),
+        (
+          c.equipped-devices.result.dest,
+          record { over = made.folder; begun = (made.unwritten.0, made.synced.1); synced = made.synced.0; longest = made.longest },
+          c.run-status.ensures.served,
+        ),
         c.take_back.ensures,
       ),
     )

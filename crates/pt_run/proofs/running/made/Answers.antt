@@ -18,7 +18,13 @@ pub returns-clause-promises : goal.returns-clause-promises
 returns-clause-promises g c =
     let stays = c.make_turns-ran-2.ensures.dest_stays in
     carried c.args.job (dest_told (g.D.System.kept c.args.dest.desk.system c.args.dest.folder.path.now) None None) _ _ _ _ _ _ _ _ _
-    c.args.rehearse _ _ _ _ c.if-rehearse.false (rw (stays.0) at c.make_turns-ran-2.ensures.promises)
+    c.args.rehearse _ _ _ _ c.if-rehearse.false (rw (stays.0.0) at c.make_turns-ran-2.ensures.promises)
+
+pub returns-then-rehearse-clause-served : goal.returns-then-rehearse-clause-served
+returns-then-rehearse-clause-served g c = rw c.if-rehearse.true tt
+
+pub returns-clause-served : goal.returns-clause-served
+returns-clause-served g c = rw c.if-rehearse.false c.make_turns-ran-2.ensures.dest_stays.1
 
 pub returns-then-rehearse-clause-stuck : goal.returns-then-rehearse-clause-stuck
 returns-then-rehearse-clause-stuck g c =
@@ -30,4 +36,4 @@ returns-clause-stuck g c =
     let dest = c.make_turns-ran-2.new.dest in
     let stays = c.make_turns-ran-2.ensures.dest_stays in
     stuck_by c.args.dest.synced c.args.dest.failures dest.failures c.make_turns-ran-2.result dest.stuck
-    (λ s is. sym stays.1.1 ∙ dest.wanted s is) dest.risen c.make_turns-ran-2.ensures.promises.dest
+    (λ s is. sym stays.0.1.1 ∙ dest.wanted s is) dest.risen c.make_turns-ran-2.ensures.promises.dest

@@ -1,4 +1,4 @@
-use Rattle.std.proofs.Common.{◌∙◌}
+use Rattle.std.proofs.Common.{◌∙◌, sym}
 use Rattle.pt_folder.specs.Reading.{unread_open}
 use Rattle.pt_run.proofs.Logged.{log_counts, logged}
 use Rattle.pt_run.proofs.running.run.Goals as goal
@@ -29,6 +29,9 @@ returns-clause-runs g c =
       rw (c.into_system-2.ensures) made.rehearsed,
       λ s is. let stuck = made.stuck s is in (stuck.0, λ none. c.told-status.ensures ∙ stuck.1 none),
     )
+
+pub returns-clause-served : goal.returns-clause-served
+returns-clause-served g c = (c.made-ran.result.dest, c.made-ran.ensures.served, sym c.into_system-2.ensures)
 
 pub returns-clause-logged : goal.returns-clause-logged
 returns-clause-logged g c =
