@@ -5,11 +5,13 @@ import fcntl
 import json
 import os
 import re
+import select
 import shutil
 import subprocess
 
 import stores
 from alone import Alone, differs
+from options import many
 from running import MEANT, as_nobody
 from stores import ABC, DIR, ONE, Link, build, object_files, place, read_tree, root, store, stored, text_of
 from tally import Skipped
@@ -311,6 +313,27 @@ def in_use(program, folder):
     return faults + differs(overlap=(audit(program, folder, dest="s"), (2, b"", overlap)))
 
 
+def side_by_side(program, folder):
+    """Audits of one root are made at the same time; a run or a rehearsal is refused while one is under way, and isn't afterwards. Here the first
+    waits, since nobody reads its log, which is longer than a pipe holds."""
+    fresh(folder, ONE)
+    many(folder)
+    migrate(program, folder)
+    alone = audit(program, folder)
+    stands = read_tree(f"{folder}/d")
+    words = {"migrate": MEANT, "rehearsal": (*MEANT, "--dry-run")}
+    with subprocess.Popen([program, "audit", f"{folder}/s", f"{folder}/d"], stdout=subprocess.PIPE) as first:
+        select.select([first.stdout], [], [], 120)
+        faults = differs(second=(audit(program, folder), alone), share=(audit(program, folder, "--share", "1/2")[0], 0))
+        for name, given in words.items():
+            command = [program, "migrate", *given, f"{folder}/s", f"{folder}/d"]
+            done = subprocess.run(command, capture_output=True, timeout=120, check=False)
+            faults += differs(**{name: ((done.returncode, done.stdout, done.stderr), (3, b"", RUN_IN_USE))})
+        out, _ = first.communicate(timeout=120)
+    faults += differs(first=((first.returncode, out), alone[:2]), stands=(read_tree(f"{folder}/d"), stands))
+    return faults + differs(afterwards=(migrate(program, folder).count(b'"as":"present"'), out.count(b'"as":"same"')))
+
+
 def options(program, folder):
     """An audit with the options of its run finds the same; with others it doesn't."""
     fresh(folder, store({"ab/c/obj/a.txt": b"abc", "ab/c/.DS_Store": b"x", "ab/d/x": b"1", "ab/d/y": b"2"}))
@@ -397,6 +420,7 @@ CASES = [
     Alone("audit: no root", no_root),
     Alone("audit: two folders of one identifier", two_folders),
     Alone("audit: a root in use", in_use),
+    Alone("audit: two side by side", side_by_side),
     Alone("audit: options", options),
     Alone("audit: unreadable files", unreadable),
     Alone("audit: a link on the way", link_on_the_way),

@@ -186,6 +186,28 @@ def many_stores(program, folder):
     return faults + differs(logs=(logs, sorted(f"{name}.log" for name in several)))
 
 
+def audit_in_shares(program, folder):
+    """The guide's audit in shares, side by side: the lines are those of one audit, each in one share's log, and the status tells of a fault."""
+    needs("bash", "xargs")
+    names = [f"{a}{b}" for a in "abcdefgh" for b in "abcdefgh"]
+    build(f"{folder}/s", {f"pairtree_root/{x}/{y}/obj/f": b"1" for x in names for y in names[:20]})
+    faults = differs(run=(migrate(program, folder, "s", "d"), 0))
+    whole = subprocess.run([program, "audit", "s", "d"], cwd=folder, capture_output=True, timeout=120)
+    script = guide_block("After", "audit --share").replace("SOURCE", "s").replace("DEST", "d")
+    done = subprocess.run(["bash", "-u", "-c", script], cwd=folder, env=with_program(program, folder), capture_output=True, timeout=120)
+    lines = []
+    for index in range(1, 5):
+        with open(f"{folder}/audit-{index}.log", "rb") as log:
+            lines += log.read().splitlines()
+    ends = sum(b'"as":"end"' in line for line in lines)
+    kept = sorted(line for line in lines if b'"as":"end"' not in line)
+    faults += differs(status=((done.returncode, done.stderr), (0, b"")), ends=(ends, 4))
+    faults += differs(lines=(kept == sorted(whole.stdout.splitlines()[:-1]), True))
+    os.remove(f"{folder}/d/ocfl/0=ocfl_1.1")
+    done = subprocess.run(["bash", "-u", "-c", script], cwd=folder, env=with_program(program, folder), capture_output=True, timeout=120)
+    return faults + differs(damaged=((done.returncode, done.stderr.count(b"fault 8")), (123, 4)))
+
+
 def with_program(program, folder):
     """An environment in which the guide's commands find the program and roots.py."""
     if not os.path.isdir(f"{folder}/bin"):
@@ -351,6 +373,7 @@ CASES = [
     Alone("the guide with many stores", many_stores),
     Alone("roots of other tuples are not joined", other_tuples),
     Alone("the guide from its beginning", walk),
+    Alone("the guide's audit in shares", audit_in_shares),
     Alone("the guide's table of the log", table),
     Alone("the guide after a stop by hand", stopped),
     Alone("the guide's commands", commands),

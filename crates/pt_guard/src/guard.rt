@@ -3,7 +3,7 @@ ghost use Rattle.std.specs.Prelude.{◌≡◌};
 ghost use Rattle.pt_guard.specs.Guard.{Begins};
 
 use crate::apart::{Lie, overlap};
-use crate::places::{Hold, Places, is_wanting};
+use crate::places::{Claim, Hold, Places, is_wanting};
 use std::alloc::{AllocError, Global};
 use std::io;
 use thiserror::Error;
@@ -17,7 +17,7 @@ pub enum GuardFault {
     /// One of the two stands, and the system can't tell where.
     #[error("the system cannot tell where SOURCE and DEST lie")]
     Hidden,
-    /// Another run holds the destination.
+    /// Another run or rehearsal holds the destination, or, where it is asked for alone, an audit does.
     #[error("another run has the destination")]
     Taken,
     /// A growth was refused, of ours or of the system's.
@@ -36,27 +36,28 @@ impl From<AllocError> for GuardFault {
     }
 }
 
-/// Sees to it that a run may begin: its folders lie apart, and no other run holds the destination. What it gives holds the
-/// destination's folder until it is dropped, or says why that can't be locked.
+/// Sees to it that a run or an audit may begin: its folders lie apart, and nobody holds the destination who keeps it from the lock that
+/// it asks for. What it gives holds the destination's folder until it is dropped, or says why that can't be locked.
 ///
 /// `Overlap` where the folders, links resolved, lie in one another, or are so by what the system knows them by, whatever leads to them
 /// (as a second mount); `Hidden` where one stands and that can't be found out. This is asked first. `Taken` where another holds the
-/// lock. `Memory` where a growth was refused: of a path, before anything is asked, or by the system, as its answer to what it was
+/// lock so that it can't be had as it is asked for. `Memory` where a growth was refused: of a path, before anything is asked, or by the system, as its answer to what it was
 /// asked last, which is then neither `Hidden` nor a reason to go on without the lock.
 pub fn begin<S: Places>(
     system: &mut S,
     alloc: Global,
+    claim: Claim,
     source: &str,
     dest: &str,
 ) -> Result<io::Result<S::Lock>, GuardFault>
-    ensures { Begins S.resolves S.identifies S.holds source.now dest.now
+    ensures { Begins S.resolves S.identifies (S.holds claim) source.now dest.now
         system.old system.new result }
 {
     match overlap(system, alloc, source, dest)? {
         Lie::Inside => Err(GuardFault::Overlap),
         Lie::Unknown => Err(GuardFault::Hidden),
         Lie::Wanting => Err(GuardFault::Memory),
-        Lie::Apart => match system.hold(dest) {
+        Lie::Apart => match system.hold(dest, claim) {
             Hold::Held(lock) => Ok(Ok(lock)),
             Hold::Taken => Err(GuardFault::Taken),
             Hold::Unknown(error) if is_wanting(&error) => Err(GuardFault::Memory),

@@ -1,4 +1,4 @@
-//! What is seen to before a run: that its two folders lie apart, and that no other run has the destination.
+//! What is seen to before a run or an audit: that its two folders lie apart, and that nobody has the destination who keeps it from there.
 #![tactic(auto)]
 
 mod apart;
@@ -6,4 +6,4 @@ mod guard;
 mod places;
 
 pub use guard::{GuardFault, begin};
-pub use places::{Folder, Hold, Lockable, Places};
+pub use places::{Claim, Folder, Hold, Lockable, Places};

@@ -4,9 +4,10 @@ ghost use Rattle.std.specs.Prelude.{◌≡◌, ◌↔◌, ⊤, ℕ, Bool, IsTrue
 ghost use Rattle.std.specs.declared.io.Error.{Error};
 ghost use Rattle.pt_guard.specs.Paths.{Place};
 ghost use Rattle.std.specs.declared.result.Result.{Result};
+ghost use Rattle.pt_guard.specs.declared.places.Claim.{Claim};
 ghost use Rattle.pt_guard.specs.declared.places.Folder.{Folder};
 ghost use Rattle.pt_guard.specs.declared.places.Hold.{Hold};
-ghost use Rattle.pt_guard.specs.Hold.{hold_of};
+ghost use Rattle.pt_guard.specs.Hold.{AsksLock, hold_of};
 ghost use Rattle.pt_guard.specs.Wanting.{IsWanting};
 
 use std::alloc::Global;
@@ -16,12 +17,21 @@ use std::os::unix::fs::MetadataExt;
 use std::path::PathBuf;
 use std::rt::Files;
 
+/// How a lock is asked for.
+#[derive(Clone, Copy, Debug, PartialEq, Eq)]
+pub enum Claim {
+    /// For one open file alone: nobody else may have it, however it is asked for.
+    Alone,
+    /// To be shared: others may have it too, who share it.
+    Shared,
+}
+
 /// What asking for a lock came to.
 #[derive(Debug, Drop)]
 pub enum Hold<L> {
     /// The lock is held, until this is dropped.
     Held(L),
-    /// Another holds it.
+    /// Another holds it, so that it can't be had as it was asked for.
     Taken,
     /// It can't be asked for, for this reason: the folder can't be opened, or its file system has no locks.
     Unknown(io::Error),
@@ -38,20 +48,24 @@ pub struct Folder {
 
 /// A file that can be locked.
 pub trait Lockable {
-    /// Asking for the lock may be answered so.
-    ghost answers: { Self → Result Bool Error → Type 0 };
+    /// Asking so for the lock may be answered so.
+    ghost answers: { Claim → Self → Result Bool Error → Type 0 };
 
-    /// Asks for the lock that one open file at a time may have, and doesn't wait: false where another has it, `Err` where
-    /// there are no locks.
-    fn ask_lock(&self) -> io::Result<bool>
-        ensures { answers self.now result };
+    /// Asks for the lock, and doesn't wait: false where another has it, so that it can't be had as it is asked for; `Err`
+    /// where there are no locks.
+    fn ask_lock(&self, claim: Claim) -> io::Result<bool>
+        ensures { answers claim self.now result };
 }
 
 impl Lockable for File {
-    ghost answers = { λ _ _. ⊤ };
+    ghost answers = { λ _ _ _. ⊤ };
 
-    fn ask_lock(&self) -> io::Result<bool> {
-        match self.try_lock() {
+    fn ask_lock(&self, claim: Claim) -> io::Result<bool> {
+        let asked = match claim {
+            Claim::Alone => self.try_lock(),
+            Claim::Shared => self.try_lock_shared(),
+        };
+        match asked {
             Ok(()) => Ok(true),
             Err(TryLockError::WouldBlock) => Ok(false),
             Err(TryLockError::Error(error)) => Err(error),
@@ -69,8 +83,8 @@ pub trait Places {
     /// What a path leads to may be told to be this.
     ghost identifies: { Self → List ℕ → Result Folder Error → Self → Type 0 };
 
-    /// Asking for the lock of the folder at a path may come to this.
-    ghost holds: { Self → List ℕ → Hold Self.Lock → Self → Type 0 };
+    /// Asking so for the lock of the folder at a path may come to this.
+    ghost holds: { Claim → Self → List ℕ → Hold Self.Lock → Self → Type 0 };
 
     /// Giving a lock back may leave it so.
     ghost releases: { Self → Self.Lock → Self → Type 0 };
@@ -84,8 +98,8 @@ pub trait Places {
         ensures { identifies self.old path.now result self.new };
 
     /// Asks for the lock of the folder at a path.
-    fn hold(&mut self, path: &str) -> Hold<Self::Lock>
-        ensures { holds self.old path.now result self.new };
+    fn hold(&mut self, path: &str, claim: Claim) -> Hold<Self::Lock>
+        ensures { holds claim self.old path.now result self.new };
 
     /// Gives a lock back, which isn't held from then on.
     fn release(&mut self, lock: Self::Lock)
@@ -102,7 +116,7 @@ where
 
     ghost identifies = { λ _ _ _ _. ⊤ };
 
-    ghost holds = { λ _ _ _ _. ⊤ };
+    ghost holds = { λ claim _ _ answer _. AsksLock R.File.answers claim answer };
 
     ghost releases = { λ _ _ _. ⊤ };
 
@@ -118,10 +132,10 @@ where
         })
     }
 
-    fn hold(&mut self, path: &str) -> Hold<R::File> {
+    fn hold(&mut self, path: &str, claim: Claim) -> Hold<R::File> {
         let mut options = OpenOptions::new();
         options.read(true);
-        held(self.open_file(&options, path))
+        held(self.open_file(&options, path), claim)
     }
 
     fn release(&mut self, lock: R::File) {
@@ -136,24 +150,24 @@ pub(crate) fn is_wanting(error: &io::Error) -> bool
     error.kind() == io::ErrorKind::OutOfMemory
 }
 
-// Asks for the lock of a folder, if it could be opened.
-fn held<F: Lockable + Drop>(opened: io::Result<F>) -> Hold<F>
+// Asks so for the lock of a folder, if it could be opened.
+fn held<F: Lockable + Drop>(opened: io::Result<F>, claim: Claim) -> Hold<F>
     ensures { MatchResult opened (λ folder. (answer : Result Bool Error)
-        × F.answers folder answer × (result ≡ hold_of folder answer))
+        × F.answers claim folder answer × (result ≡ hold_of folder answer))
         (λ error. result ≡ Hold.Unknown error) }
 {
     match opened {
-        Ok(folder) => asked(folder),
+        Ok(folder) => asked(folder, claim),
         Err(error) => Hold::Unknown(error),
     }
 }
 
-// Asks for the lock of a folder that was opened.
-fn asked<F: Lockable + Drop>(folder: F) -> Hold<F>
+// Asks so for the lock of a folder that was opened.
+fn asked<F: Lockable + Drop>(folder: F, claim: Claim) -> Hold<F>
     ensures { (answer : Result Bool Error)
-        × F.answers folder answer × (result ≡ hold_of folder answer) }
+        × F.answers claim folder answer × (result ≡ hold_of folder answer) }
 {
-    match folder.ask_lock() {
+    match folder.ask_lock(claim) {
         Ok(true) => Hold::Held(folder),
         Ok(false) => Hold::Taken,
         Err(error) => Hold::Unknown(error),

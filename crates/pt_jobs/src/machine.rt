@@ -3,7 +3,7 @@ ghost use Rattle.std.specs.Prelude.{⊤};
 
 use crate::system::MadeSystem;
 use crate::trace::Trace;
-use pt_guard::{Folder, Hold, Places};
+use pt_guard::{Claim, Folder, Hold, Places};
 use pt_ignore::Ignored;
 use pt_move::Job;
 use pt_name::{Layout, Share};
@@ -81,7 +81,7 @@ impl<'a> Places for Machine<'a> {
 
     ghost identifies = { λ _ _ _ _. ⊤ };
 
-    ghost holds = { λ _ _ _ _. ⊤ };
+    ghost holds = { λ _ _ _ _ _. ⊤ };
 
     ghost releases = { λ _ _ _. ⊤ };
 
@@ -93,7 +93,7 @@ impl<'a> Places for Machine<'a> {
         Err(io::Error::from(ErrorKind::NotFound))
     }
 
-    fn hold(&mut self, _: &str) -> Hold<u8> {
+    fn hold(&mut self, _: &str, _: Claim) -> Hold<u8> {
         Hold::Held(7)
     }
 

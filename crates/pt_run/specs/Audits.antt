@@ -10,6 +10,8 @@ use Rattle.pt_compare.specs.Root.{tree_in}
 use Rattle.pt_folder.specs.SourceHeld.{told_of as source_told}
 use Rattle.pt_guard.specs.Guard.{Begins}
 use Rattle.pt_guard.specs.Paths.{Place}
+use Rattle.pt_guard.specs.declared.places.Claim.{Claim}
+use Rattle.pt_guard.specs.declared.places.Claim.TheVariants.{Shared}
 use Rattle.pt_guard.specs.declared.places.Folder.{Folder}
 use Rattle.pt_guard.specs.declared.places.Hold.{Hold}
 use Rattle.pt_ignore.specs.Ignoring.{told_without}
@@ -50,16 +52,16 @@ pub record AuditsOver {S D W : Type 0} (forest : S → List ℕ → Option Fores
   pub grows : Grows (contents old.output) (contents new.output)
   pub status_is : status ≡ audit_status ran
 
--- what `audit_guarded` does on a machine, by the words of its calls and of what is lent: the guard, the audit over what is lent, which is given back, and the lock
+-- what `audit_guarded` does on a machine, by the words of its calls and of what is lent: the guard, with a lock that others may share, the audit over what is lent, which is given back, and the lock
 abbrev pub Audits : {H L S D W : Type 0}
     → (H → List ℕ → Result Place Error → H → Type 0) → (H → List ℕ → Result Folder Error → H → Type 0)
-    → (H → List ℕ → Hold L → H → Type 0) → (H → L → H → Type 0)
+    → (Claim → H → List ℕ → Hold L → H → Type 0) → (H → L → H → Type 0)
     → (H → Ground S D W → H → Type 0) → (H → Ground S D W → H → Type 0)
     → (S → List ℕ → Option Forest) → (D → List ℕ → Option Forest) → (W → Option (List ℕ))
     → WantedAudit → List ℕ → List ℕ → H → H → ℕ → Type 0
 Audits {H} {L} {S} {D} {W} resolves identifies holds releases lends takes_back forest folders contents
     wanted source dest =
-    Guarded (Begins resolves identifies holds source dest)
+    Guarded (Begins resolves identifies (holds Shared) source dest)
     (λ old new status. (ground : Ground S D W) × (lent : H) × lends old ground lent
     × (after : Ground S D W)
     × AuditsOver forest folders contents wanted source dest ground after status

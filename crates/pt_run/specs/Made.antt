@@ -13,6 +13,8 @@ use Rattle.pt_ignore.specs.Ignoring.{told_without}
 use Rattle.pt_guard.specs.Guard.{Begins}
 use Rattle.pt_guard.specs.Paths.{Place}
 use Rattle.pt_guard.specs.declared.guard.GuardFault.{GuardFault}
+use Rattle.pt_guard.specs.declared.places.Claim.{Claim}
+use Rattle.pt_guard.specs.declared.places.Claim.TheVariants.{Alone}
 use Rattle.pt_guard.specs.declared.places.Folder.{Folder}
 use Rattle.pt_guard.specs.declared.places.Hold.{Hold}
 use Rattle.pt_move.specs.Migrates.{Migrates}
@@ -169,10 +171,10 @@ Guarded {H} {L} begins carries releases old new status =
 
 -- what `run_guarded` does on a machine, by the words of its calls (where paths lead, what they are known by, the lock
 -- taken and given back; the log's file, its syncing alone and behind the output; what is lent and taken back) and of what is lent (the trees of the two
--- systems, what the output holds, and how the second serves): the guard, the run that is wanted from one folder to the other, before which
--- it is asked what is expected of it, and the lock
+-- systems, what the output holds, and how the second serves): the guard, with the lock for it alone, the run that is wanted from one folder to the
+-- other, before which it is asked what is expected of it, and the lock
 abbrev pub Runs : {H L S D W E F : Type 0} → (H → List ℕ → Result Place Error → H → Type 0)
-    → (H → List ℕ → Result Folder Error → H → Type 0) → (H → List ℕ → Hold L → H → Type 0)
+    → (H → List ℕ → Result Folder Error → H → Type 0) → (Claim → H → List ℕ → Hold L → H → Type 0)
     → (H → L → H → Type 0) → (H → Result (Option E) Error → H → Type 0)
     → (E → Result (Unit {0}) Error → E → Type 0) → (E → W → Result (Unit {0}) Error → E → Type 0)
     → (H → Ground S D W → H → Type 0)
@@ -181,7 +183,7 @@ abbrev pub Runs : {H L S D W E F : Type 0} → (H → List ℕ → Result Place 
     → List ℕ → H → H → ℕ → Type 0
 Runs {H} {L} {S} {D} {W} {E} {F} resolves identifies holds releases finds syncs puts lends
     takes_back forest kept contents serves expects wanted source dest =
-    Guarded (Begins resolves identifies holds source dest)
+    Guarded (Begins resolves identifies (holds Alone) source dest)
     (λ old new status. (file : Result (Option E) Error) × (mid : H)
     × FindsLog finds syncs wanted.sync old mid file
     × GoesOver lends takes_back puts (serves wanted dest)

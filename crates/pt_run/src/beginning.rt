@@ -2,24 +2,25 @@
 ghost use Rattle.pt_guard.specs.Guard.{Begins};
 
 use crate::host::Host;
-use pt_guard::{GuardFault, begin};
+use pt_guard::{Claim, GuardFault, begin};
 use pt_notices::{Reads, prefix, reason};
 use std::alloc::AllocGlobal;
 use std::io;
 
-/// Asks the guard whether a run or an audit may begin. Where it may, and that is wanted, standard error is told of a prefix that reads
+/// Asks the guard whether a run or an audit may begin, with the lock that it asks for. Where it may, and that is wanted, standard error is told of a prefix that reads
 /// otherwise than it looks, and of a destination that can't be locked.
 pub(crate) fn begun<R: Reads + Eprint + AllocGlobal, H: Host>(
     rt: &R,
     host: &mut H,
     verbose: bool,
+    claim: Claim,
     source: &str,
     dest: &str,
 ) -> Result<io::Result<H::Lock>, GuardFault>
-    ensures { Begins H.resolves H.identifies H.holds source.now dest.now
+    ensures { Begins H.resolves H.identifies (H.holds claim) source.now dest.now
         host.old host.new result }
 {
-    let answer = begin(host, rt.alloc(), source, dest);
+    let answer = begin(host, rt.alloc(), claim, source, dest);
     if verbose && let Ok(lock) = &answer {
         prefix::tell(rt, source);
         if let Err(error) = lock {

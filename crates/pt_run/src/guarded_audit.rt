@@ -11,6 +11,7 @@ use crate::saying::{refused, tell_fault};
 use crate::status::{DONE, FAILED, TOLD};
 use pt_audit::Counts;
 use pt_folder::{HostSource, System};
+use pt_guard::Claim;
 use pt_ignore::Ignored;
 use pt_move::{Fault, Job};
 use pt_notices::{Progress, Reads, Tally, Terminals, Watched, Watching, Words, reason};
@@ -38,8 +39,8 @@ pub struct WantedAudit {
 /// it; 1 the log has lines that tell of others; 2 the folders lie in one another, or it isn't known where; 3 a fault, or a run
 /// holds the destination. Standard error tells of 2 and 3.
 ///
-/// The guard is asked first. Where the audit may begin it is made over what the machine lends, which is given back then; and at
-/// last the lock is given back. Where it ends well the output has got its log, of both folders as their systems keep them.
+/// The guard is asked first, and for a lock that other audits may share. Where the audit may begin it is made over what the machine
+/// lends, which is given back then; and at last the lock is given back. Where it ends well the output has got its log, of both folders as their systems keep them.
 /// Nothing is made or changed in either folder.
 pub fn audit_guarded<R, H: Host>(
     rt: &R,
@@ -54,7 +55,7 @@ where
         H.Store.forest H.Folder.forest H.Output.contents
         wanted source.now dest.now host.old host.new result }
 {
-    match begun(rt, host, wanted.verbose, source, dest) {
+    match begun(rt, host, wanted.verbose, Claim::Shared, source, dest) {
         Ok(Ok(lock)) => {
             let status = hold(rt, host, wanted, source, dest);
             host.release(lock);

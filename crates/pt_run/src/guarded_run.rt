@@ -10,6 +10,7 @@ use crate::host::Host;
 use crate::log::Syncs;
 use crate::running::{Ended, run};
 use crate::saying::{failed, refused};
+use pt_guard::Claim;
 use pt_ignore::Ignored;
 use pt_move::{Fault, Job};
 use pt_notices::{Progress, Reads, Terminals, lines_expected, reason};
@@ -38,12 +39,12 @@ pub struct Wanted {
 }
 
 /// Carries a store into a destination on a machine, or rehearses that, and gives the exit status: 0 all was carried; 1 the log has lines
-/// that tell of what was not; 2 the folders lie in one another, or it isn't known where; 3 a fault, or another run holds the
-/// destination. Standard error tells of 2 and 3.
+/// that tell of what was not; 2 the folders lie in one another, or it isn't known where; 3 a fault, or another run or an audit
+/// holds the destination. Standard error tells of 2 and 3.
 ///
 /// `expected` is the path of a log, of a rehearsal say, whose end line tells how many lines there may be: then the share done and the time left
-/// are shown too. The guard is asked first. Where the run may begin it is made over what the machine lends, which is given back then; and at last the
-/// lock is given back.
+/// are shown too. The guard is asked first, and the lock for this run alone. Where the run may begin it is made over what the machine lends, which is
+/// given back then; and at last the lock is given back.
 pub fn run_guarded<R, H: Host>(
     rt: &R,
     host: &mut H,
@@ -60,7 +61,7 @@ where
         (AsksEnd R.ends rt.now (option_map (λ log. log.now) expected.entry))
         wanted source.now dest.now host.old host.new result }
 {
-    match begun(rt, host, wanted.verbose, source, dest) {
+    match begun(rt, host, wanted.verbose, Claim::Alone, source, dest) {
         Ok(Ok(lock)) => {
             let status = carry(rt, host, wanted, expected, source, dest);
             host.release(lock);

@@ -1,7 +1,7 @@
 //! Whether a run may begin.
 ghost use Rattle.std.specs.Prelude.{⊤};
 
-use pt_guard::{Folder, GuardFault, Hold, Places, begin};
+use pt_guard::{Claim, Folder, GuardFault, Hold, Places, begin};
 use std::alloc::Global;
 use std::cell::Cell;
 use std::io;
@@ -22,6 +22,8 @@ const NO_ROOM: u64 = 0;
 #[derive(Clone, Copy)]
 enum Lock {
     Held,
+    // Others share it.
+    Shared,
     Taken,
     Unknown,
     Wanting,
@@ -42,7 +44,7 @@ impl<'a> Places for &'a Paths {
 
     ghost identifies = { λ _ _ _ _. ⊤ };
 
-    ghost holds = { λ _ _ _ _. ⊤ };
+    ghost holds = { λ _ _ _ _ _. ⊤ };
 
     ghost releases = { λ _ _ _. ⊤ };
 
@@ -80,13 +82,13 @@ impl<'a> Places for &'a Paths {
         })
     }
 
-    fn hold(&mut self, _: &str) -> Hold<u8> {
+    fn hold(&mut self, _: &str, claim: Claim) -> Hold<u8> {
         self.asked.set(true);
-        match self.lock {
-            Lock::Held => Hold::Held(7),
-            Lock::Taken => Hold::Taken,
-            Lock::Unknown => Hold::Unknown(io::Error::from(ErrorKind::PermissionDenied)),
-            Lock::Wanting => Hold::Unknown(io::Error::from(ErrorKind::OutOfMemory)),
+        match (self.lock, claim) {
+            (Lock::Held, _) | (Lock::Shared, Claim::Shared) => Hold::Held(7),
+            (Lock::Taken, _) | (Lock::Shared, Claim::Alone) => Hold::Taken,
+            (Lock::Unknown, _) => Hold::Unknown(io::Error::from(ErrorKind::PermissionDenied)),
+            (Lock::Wanting, _) => Hold::Unknown(io::Error::from(ErrorKind::OutOfMemory)),
         }
     }
 
@@ -104,7 +106,12 @@ fn where_to(leads: Leads, numbers: Numbers, lock: Lock) -> Paths {
 
 // What comes of a run between the two folders `s` and `d`.
 fn begun(alloc: Global, paths: &Paths) -> Result<io::Result<u8>, GuardFault> {
-    begin(&mut &*paths, alloc, "s", "d")
+    begin(&mut &*paths, alloc, Claim::Alone, "s", "d")
+}
+
+// What comes of an audit of them.
+fn audited(alloc: Global, paths: &Paths) -> Result<io::Result<u8>, GuardFault> {
+    begin(&mut &*paths, alloc, Claim::Shared, "s", "d")
 }
 
 // What it is refused for where the lock can be had.
@@ -166,6 +173,19 @@ const APART: &[(Leads, Numbers)] = &[
 fn others_begin_where_they_have_the_lock(rt: HostRuntime) {
     for (leads, numbers) in APART {
         assert!(rt; goes_by_its_lock(rt.alloc(), leads, numbers), "{leads:?}");
+    }
+}
+
+#[test]
+fn a_shared_lock_keeps_runs_out_alone(rt: HostRuntime) {
+    for (leads, numbers) in APART {
+        let shared = where_to(leads, numbers, Lock::Shared);
+        let run = begun(rt.alloc(), &shared);
+        let audit = audited(rt.alloc(), &shared);
+        assert!(rt; run.err() == Some(GuardFault::Taken), "{leads:?}");
+        assert!(rt; matches!(audit, Ok(Ok(7))), "{leads:?}");
+        let taken = audited(rt.alloc(), &where_to(leads, numbers, Lock::Taken));
+        assert!(rt; taken.err() == Some(GuardFault::Taken), "{leads:?}");
     }
 }
 

@@ -1,7 +1,7 @@
 //! A machine whose two folders are in memory, and runs by the program's own call on it.
 ghost use Rattle.std.specs.Prelude.{⊤};
 
-use pt_guard::{Folder, Hold, Places};
+use pt_guard::{Claim, Folder, Hold, Places};
 use pt_ignore::Ignored;
 use pt_memory::{MemDest, MemSource};
 use pt_memory_system::{Faults, MemorySystem};
@@ -44,7 +44,7 @@ impl<'a> Places for Machine<'a> {
 
     ghost identifies = { λ _ _ _ _. ⊤ };
 
-    ghost holds = { λ _ _ _ _. ⊤ };
+    ghost holds = { λ _ _ _ _ _. ⊤ };
 
     ghost releases = { λ _ _ _. ⊤ };
 
@@ -56,7 +56,7 @@ impl<'a> Places for Machine<'a> {
         Err(io::Error::from(ErrorKind::NotFound))
     }
 
-    fn hold(&mut self, _: &str) -> Hold<u8> {
+    fn hold(&mut self, _: &str, _: Claim) -> Hold<u8> {
         Hold::Held(7)
     }
 
