@@ -11,7 +11,7 @@ import subprocess
 
 import stores
 from alone import Alone, differs
-from options import many
+from options import ROOT_ITSELF, many
 from running import MEANT, as_nobody
 from stores import ABC, DIR, ONE, Link, build, object_files, place, read_tree, root, store, stored, text_of
 from tally import Skipped
@@ -301,7 +301,7 @@ def two_folders(program, folder):
 
 
 def in_use(program, folder):
-    """A root that a run has isn't audited; nor is one that lies in the store."""
+    """A root that a run has isn't audited; nor is one that lies in the store, or one that is named itself."""
     fresh(folder, ONE)
     held = os.open(f"{folder}/d", os.O_RDONLY)
     try:
@@ -310,7 +310,12 @@ def in_use(program, folder):
     finally:
         os.close(held)
     overlap = b"pairtree2ocfl: SOURCE and DEST lie in one another\n"
-    return faults + differs(overlap=(audit(program, folder, dest="s"), (2, b"", overlap)))
+    faults += differs(overlap=(audit(program, folder, dest="s"), (2, b"", overlap)))
+    migrate(program, folder)
+    stands = read_tree(f"{folder}/d")
+    for dest in ("d/ocfl", f"d/ocfl/{place('abc')}"):
+        faults += differs(**{dest: (audit(program, folder, dest=dest), (2, b"", ROOT_ITSELF))})
+    return faults + differs(stands=(read_tree(f"{folder}/d"), stands))
 
 
 def side_by_side(program, folder):

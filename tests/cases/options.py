@@ -14,12 +14,13 @@ import refusing
 import running
 from alone import Alone, differs, run
 from running import MEANT, TEXTS, Case, Run, ends
-from stores import ABC, DIR, ONE, ONE_DONE, ONE_ROOT, Link
+from stores import ABC, DIR, GONE, ONE, ONE_DONE, ONE_ROOT, Link
 from stores import build, done, lines, object_files, read_tree, root, staged, store, stored
 from tally import needs
 
 OVERLAP = b"pairtree2ocfl: SOURCE and DEST lie in one another\n"
 TAKEN = b"pairtree2ocfl: another run has the destination\n"
+ROOT_ITSELF = b"pairtree2ocfl: DEST is a storage root itself: name the folder that holds it\n"
 
 
 def apart():
@@ -49,6 +50,31 @@ def apart():
     yield Case("words before folders", ONE, Run(b"", {}, 2, reason, dest_name="s", **words))
 
 
+def roots_themselves():
+    """A destination that is a storage root or an object itself is refused before anything is made, of a rehearsal too; after folders that lie in
+    one another. Entries with other names are no declarations, and folders with many names are read to their end."""
+    many_names = {f"{number:0255}": b"" for number in range(100)}
+    refused = {
+        "a storage root": {"0=ocfl_1.1": b"ocfl_1.1\n", "ocfl_layout.json": b"{}"},
+        "a root of another version": {"0=ocfl_2.0": b"", "ba7/816": DIR},
+        "an object": {"0=ocfl_object_1.1": b"ocfl_object_1.1\n", "v1": DIR},
+        "by a folder": {"0=ocfl_": DIR},
+        "by a link to nothing": {"0=ocfl_1.1": Link("nothing")},
+        "among many names": {**many_names, "0=ocfl_1.1": b""},
+        "after a run into it": {**ONE_ROOT, "0=ocfl_1.1": b""},
+    }
+    for name, dest in refused.items():
+        for words in ([], ["--dry-run"], ["--verbose"]):
+            yield Case(f"a root itself: {name} {' '.join(words)}".rstrip(), ONE, Run(b"", dest, 2, ROOT_ITSELF, words=words), dest=dest)
+    made = {"ocfl/0=ocfl_1.1": b"ocfl_1.1\n"}
+    yield Case("a root itself: an ocfl in the destination", ONE, Run(b"", {**root(), **made}, 2, ROOT_ITSELF, dest_name="d/ocfl"), dest={**root(), **made})
+    others = {name: b"1" for name in ("0=ocfl", "0=OCFL_1.1", "x0=ocfl_1.1", "1=ocfl_1.1", "0=ocfl\n_1.1")}
+    others |= {"beside/0=ocfl_1.1": b"1", b"\xff0=ocfl_".decode(errors="surrogateescape"): b"1", **many_names}
+    yield Case("other names are no declarations", ONE, ends([ONE_DONE], {**ONE_ROOT, **others}), dest=others)
+    store_and_root = {**ONE, "0=ocfl_1.1": b""}
+    yield Case("a store that is a root too, as its own destination", store_and_root, Run(b"", {}, 2, OVERLAP, dest_name="s"))
+
+
 def reasons():
     """With --verbose a line more tells the path and the reason of a fault; without it there is none."""
     none = "No such file or directory (os error 2)"
@@ -58,6 +84,8 @@ def reasons():
     yield from told("no words for the destination", ONE, 2, ": the path is empty", dest_name="")
     neither = "it holds no file pairtree_version0_1 or no directory pairtree_root"
     yield from told("no Pairtree", {"x": b""}, 5, f"s: {neither}")
+    yield from told("a pairtree_root alone", {"pairtree_root/x": b""}, 5, f"s/pairtree_root: {neither}", source="s/pairtree_root")
+    yield from told("a folder beside pairtree_root", {**ONE, "x/y": b""}, 5, f"s/x: {neither}", source="s/x")
     prefix = "pairtree_prefix in it is no file, has more than 1024 bytes, or is not UTF-8"
     yield from told("no prefix", store({}, DIR), 6, f"s: {prefix}")
     yield from told("a left staging", ONE, 7, "d/staging: it stands there already", dest={"staging": DIR})
@@ -96,16 +124,36 @@ def told(name, held, number, reason, dest=None, left=None, **options):
         yield Case(f"{name}: {' '.join(words) or 'no more'}", held, run, dest=dest)
 
 
+def store_to_name(program, folder):
+    """Where SOURCE is a store's pairtree_root the reason of fault 5 names the folder of the store, however it is led to; control characters as
+    elsewhere. An audit says the same."""
+    strange = f"{os.path.realpath(folder)}/x\n"
+    os.rename(f"{folder}/s", strange)
+    os.symlink("x\n/pairtree_root", f"{folder}/link")
+    faults = []
+    for source, folder_of in {"x\n/pairtree_root": folder, "link": folder, "link/": folder, ".": f"{strange}/pairtree_root"}.items():
+        for words in (["migrate", *MEANT], ["migrate", "--dry-run", *MEANT], ["audit"]):
+            command = [program, *words, "--verbose", source, f"{folder}/d"]
+            done = subprocess.run(command, cwd=folder_of, capture_output=True, timeout=120)
+            reason = f"{source}: it is the pairtree_root of a store: name {strange}".replace("\n", "\\u{a}")
+            text = f"pairtree2ocfl: fault 5: {TEXTS[5]}\npairtree2ocfl: {reason}\n".encode()
+            faults += differs(**{f"{source} {words[0]}": ((done.returncode, done.stdout, done.stderr), (3, b"", text))})
+    return faults + differs(made=(os.listdir(f"{folder}/d"), []))
+
+
 def locked(program, folder):
     """A run is refused while another has the destination, and isn't afterwards. No file is added."""
     holder = os.open(f"{folder}/d", os.O_RDONLY)
     fcntl.flock(holder, fcntl.LOCK_EX | fcntl.LOCK_NB)
     first = [run(program, folder), run(program, folder, "--dry-run")]
     stands = read_tree(f"{folder}/d")
+    build(f"{folder}/d", {"0=ocfl_1.1": b""})
+    itself = run(program, folder)
+    build(f"{folder}/d", {"0=ocfl_1.1": GONE})
     os.close(holder)
     last = run(program, folder)
     wanted = (3, b"", TAKEN)
-    faults = differs(stands=(stands, {}), status=(last.returncode, 0))
+    faults = differs(stands=(stands, {}), status=(last.returncode, 0), itself=((itself.returncode, itself.stderr), (2, ROOT_ITSELF)))
     for done in first:
         faults += differs(refusal=((done.returncode, done.stdout, done.stderr), wanted))
     return faults + differs(names=(sorted(os.listdir(f"{folder}/d")), ["ocfl"]))
@@ -303,6 +351,7 @@ def short_words():
 
 END_OF_ONE = {"as": "end", "done": 1, "present": 0, "skip": 0}
 ALONE = [
+    Alone("the folder of a pairtree_root is named", store_to_name),
     Alone("one run at a time", locked),
     Alone("a run holds its destination", holds),
     Alone("files, folders and the log put onto the disk", synced),
@@ -311,5 +360,5 @@ ALONE = [
     Alone("progress elsewhere", seldom),
     Alone("progress by a rehearsal's log", expected),
 ]
-PARTS = (apart, reasons, short_words, left_out, rehearsals)
+PARTS = (apart, roots_themselves, reasons, short_words, left_out, rehearsals)
 CASES = [*ALONE, *(case for part in PARTS for case in part())]

@@ -24,7 +24,7 @@ abbrev pub Wants : {S L : Type 0} → (S → S → Lie → Type 0) → (S → Li
 Wants lies holds dest old new = (new ≡ old) ⊎ (lies old new Wanting
     ⊎ ((error : Error) × IsWanting error × HasNoLock lies holds dest error old new))
 
--- the folders lie in one another, or that isn't known, and nothing more is asked; or they lie apart, and the lock decides
+-- the folders lie in one another, or that isn't known, and nothing more is asked; or they lie apart, and what asking for the lock comes to decides
 abbrev pub Begins : {S L : Type 0} → (S → List ℕ → Result Place Error → S → Type 0)
     → (S → List ℕ → Result Folder Error → S → Type 0) → (S → List ℕ → Hold L → S → Type 0) → List ℕ
     → List ℕ → S → S → Result (Result L Error) GuardFault → Type 0
@@ -34,6 +34,8 @@ Begins resolves identifies holds source dest old new (Err fault.Hidden) =
     Overlaps resolves identifies source dest old new Unknown
 Begins {S} resolves identifies holds source dest old new (Err fault.Taken) = (mid : S)
     × Overlaps resolves identifies source dest old mid Apart × holds mid dest hold.Taken new
+Begins {S} resolves identifies holds source dest old new (Err fault.Root) = (mid : S)
+    × Overlaps resolves identifies source dest old mid Apart × holds mid dest hold.Root new
 Begins resolves identifies holds source dest old new (Err fault.Memory) =
     Wants (Overlaps resolves identifies source dest) holds dest old new
 Begins {S} resolves identifies holds source dest old new (Ok (Ok lock)) = (mid : S)

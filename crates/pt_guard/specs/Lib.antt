@@ -1,4 +1,5 @@
 pub mod Apart
+pub mod Declaration
 pub mod Guard
 pub mod Hold
 pub mod Paths

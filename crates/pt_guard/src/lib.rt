@@ -1,7 +1,9 @@
-//! What is seen to before a run or an audit: that its two folders lie apart, and that nobody has the destination who keeps it from there.
+//! What is seen to before a run or an audit: that its two folders lie apart, that the second
+//! is no storage root itself, and that nobody has the destination who keeps it from there.
 #![tactic(auto)]
 
 mod apart;
+mod declared;
 mod guard;
 mod places;
 

@@ -7,10 +7,11 @@ ghost use Rattle.std.specs.declared.result.Result.{Result};
 ghost use Rattle.pt_guard.specs.declared.places.Claim.{Claim};
 ghost use Rattle.pt_guard.specs.declared.places.Folder.{Folder};
 ghost use Rattle.pt_guard.specs.declared.places.Hold.{Hold};
-ghost use Rattle.pt_guard.specs.Hold.{AsksLock, hold_of};
+ghost use Rattle.pt_guard.specs.Hold.{AsksFolder, AsksLock, hold_of};
 ghost use Rattle.pt_guard.specs.Wanting.{IsWanting};
 
-use std::alloc::Global;
+use crate::declared::declares;
+use std::alloc::{AllocGlobal, Global};
 use std::fs::{File, OpenOptions, TryLockError};
 use std::io;
 use std::os::unix::fs::MetadataExt;
@@ -26,13 +27,15 @@ pub enum Claim {
     Shared,
 }
 
-/// What asking for a lock came to.
+/// What asking for a folder's lock came to.
 #[derive(Debug, Drop)]
 pub enum Hold<L> {
     /// The lock is held, until this is dropped.
     Held(L),
     /// Another holds it, so that it can't be had as it was asked for.
     Taken,
+    /// It wasn't asked for: the folder is a storage root or an object itself, by an entry whose name begins with `0=ocfl_`.
+    Root,
     /// It can't be asked for, for this reason: the folder can't be opened, or its file system has no locks.
     Unknown(io::Error),
 }
@@ -97,7 +100,7 @@ pub trait Places {
     fn identify(&mut self, path: &str) -> io::Result<Folder>
         ensures { identifies self.old path.now result self.new };
 
-    /// Asks for the lock of the folder at a path.
+    /// Asks for the lock of the folder at a path, unless that is a storage root or an object itself.
     fn hold(&mut self, path: &str, claim: Claim) -> Hold<Self::Lock>
         ensures { holds claim self.old path.now result self.new };
 
@@ -106,7 +109,7 @@ pub trait Places {
         ensures { releases self.old lock self.new };
 }
 
-impl<'a, R: Files> Places for &'a R
+impl<'a, R: Files + AllocGlobal> Places for &'a R
 where
     R::File: Lockable,
 {
@@ -116,7 +119,7 @@ where
 
     ghost identifies = { λ _ _ _ _. ⊤ };
 
-    ghost holds = { λ claim _ _ answer _. AsksLock R.File.answers claim answer };
+    ghost holds = { λ claim _ _ came _. AsksFolder R.Dir.remaining R.File.answers claim came };
 
     ghost releases = { λ _ _ _. ⊤ };
 
@@ -133,14 +136,28 @@ where
     }
 
     fn hold(&mut self, path: &str, claim: Claim) -> Hold<R::File> {
-        let mut options = OpenOptions::new();
-        options.read(true);
-        held(self.open_file(&options, path), claim)
+        match declares(*self, path) {
+            Ok(true) => Hold::Root,
+            Ok(false) => locked(*self, path, claim),
+            Err(error) if is_wanting(&error) => Hold::Unknown(error),
+            Err(_) => locked(*self, path, claim),
+        }
     }
 
     fn release(&mut self, lock: R::File) {
         drop(lock);
     }
+}
+
+// Opens the folder at a path, and asks so for its lock.
+fn locked<R: Files>(rt: &R, path: &str, claim: Claim) -> Hold<R::File>
+where
+    R::File: Lockable,
+    ensures { AsksLock R.File.answers claim result }
+{
+    let mut options = OpenOptions::new();
+    options.read(true);
+    held(rt.open_file(&options, path), claim)
 }
 
 /// Whether an error says that memory was wanting.

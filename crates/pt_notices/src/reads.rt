@@ -3,10 +3,16 @@ ghost use Rattle.std.specs.Prelude.{⊤, ℕ, List};
 ghost use Rattle.std.specs.declared.io.Error.{Error};
 ghost use Rattle.std.specs.declared.result.Result.{Result};
 
+use std::alloc::Global;
 use std::fs::OpenOptions;
 use std::io::{Read, Seek, SeekFrom};
+use std::path::PathBuf;
 use std::rt::Files;
 use std::{fs, io};
+
+const ROOT: &str = "pairtree_root";
+
+const VERSION: &str = "pairtree_version0_1";
 
 /// What can be read of files beside a run. No call changes anything.
 pub trait Reads {
@@ -19,6 +25,10 @@ pub trait Reads {
 
     /// What the file at a path holds, links not followed; none where it is no file, or has more bytes than `most`.
     fn read_small(&self, path: &str, most: u64) -> io::Result<Option<Vec<u8>>>;
+
+    /// The folder of the store whose `pairtree_root` a path leads to, links resolved; none where it leads to no such folder, or that can't
+    /// be told.
+    fn store_above(&self, alloc: Global, path: &str) -> Option<PathBuf>;
 }
 
 impl Reads for HostRuntime {
@@ -39,5 +49,15 @@ impl Reads for HostRuntime {
             return Ok(None);
         }
         Ok(Some(fs::read(self, path)?))
+    }
+
+    fn store_above(&self, alloc: Global, path: &str) -> Option<PathBuf> {
+        let mut above = self.canonicalize(alloc, path).ok()?;
+        if above.file_name() != Some(ROOT) || !above.pop() {
+            return None;
+        }
+        let version = above.join(alloc, VERSION).ok()?;
+        let found = self.symlink_metadata(version.as_str()).ok()?;
+        found.is_file().then_some(above)
     }
 }

@@ -1,5 +1,6 @@
 //! Why a run failed, in a line of its own: the path of the call that failed, and the system's text, or the program's where no
 //! call failed.
+use crate::reads::Reads;
 use crate::shown::escaped;
 use pt_folder::{Failure, HostDest, HostSource, System};
 use pt_move::Fault;
@@ -8,7 +9,7 @@ use std::io;
 use std::io::ErrorKind;
 
 /// Tells standard error why a run over these folders ended with a fault, where that has a path.
-pub fn tell<R: Eprint + AllocGlobal, S: System, D: System>(
+pub fn tell<R: Reads + Eprint + AllocGlobal, S: System, D: System>(
     rt: &R,
     fault: &Fault,
     source: &HostSource<'_, S>,
@@ -28,7 +29,7 @@ pub fn tell<R: Eprint + AllocGlobal, S: System, D: System>(
 }
 
 // Tells standard error why a fault of the source ended a run or an audit, where that has a path.
-fn tell_of_source<R: Eprint + AllocGlobal, S: System>(
+fn tell_of_source<R: Reads + Eprint + AllocGlobal, S: System>(
     rt: &R,
     fault: &Fault,
     source: &HostSource<'_, S>,
@@ -36,11 +37,7 @@ fn tell_of_source<R: Eprint + AllocGlobal, S: System>(
 ) {
     match fault {
         Fault::Source => failure(rt, source.last_failure()),
-        Fault::NotPairtree => say(
-            rt,
-            store,
-            "it holds no file pairtree_version0_1 or no directory pairtree_root",
-        ),
+        Fault::NotPairtree => no_store(rt, store),
         Fault::Prefix => say(
             rt,
             store,
@@ -61,8 +58,23 @@ fn tell_of_source<R: Eprint + AllocGlobal, S: System>(
     }
 }
 
+// Tells why a folder is no store; where it is the `pairtree_root` of one, which folder that is.
+fn no_store<R: Reads + Eprint + AllocGlobal>(rt: &R, store: &str) {
+    let Some(above) = rt.store_above(rt.alloc(), store) else {
+        let reason = "it holds no file pairtree_version0_1 or no directory pairtree_root";
+        return say(rt, store, reason);
+    };
+    if let Ok(path) = escaped(rt.alloc(), store)
+        && let Ok(above) = escaped(rt.alloc(), above.as_str())
+    {
+        let _ = eprintln!(rt;
+            "pairtree2ocfl: {path}: it is the pairtree_root of a store: name {above}"
+        );
+    }
+}
+
 /// Tells standard error why an audit of the root in a folder ended with a fault, where that has a path.
-pub fn tell_audit<R: Eprint + AllocGlobal, S: System, D: System>(
+pub fn tell_audit<R: Reads + Eprint + AllocGlobal, S: System, D: System>(
     rt: &R,
     fault: &Fault,
     source: &HostSource<'_, S>,

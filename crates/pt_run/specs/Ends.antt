@@ -5,10 +5,12 @@ use Rattle.pt_guard.specs.declared.guard.GuardFault.TheVariants as guard
 use Rattle.pt_plan.specs.declared.fault.Fault.{Fault}
 use Rattle.pt_state.specs.declared.job.Report.{Report}
 
--- of a run that may not begin: 2 where its folders lie in one another, or it isn't known where, else 3
+-- of a run that may not begin: 2 where its folders lie in one another, or it isn't known where, or the destination is a storage root itself,
+-- else 3
 abbrev pub guard_status : GuardFault → ℕ
 guard_status guard.Overlap = 2
 guard_status guard.Hidden = 2
+guard_status guard.Root = 2
 guard_status guard.Taken = 3
 guard_status guard.Memory = 3
 

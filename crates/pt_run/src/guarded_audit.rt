@@ -36,8 +36,8 @@ pub struct WantedAudit {
 }
 
 /// Holds the root in a destination against a store on a machine, and gives the exit status: 0 each object stands as a run makes
-/// it; 1 the log has lines that tell of others; 2 the folders lie in one another, or it isn't known where; 3 a fault, or a run
-/// holds the destination. Standard error tells of 2 and 3.
+/// it; 1 the log has lines that tell of others; 2 the folders lie in one another, or it isn't known where, or the destination is a
+/// storage root itself; 3 a fault, or a run holds the destination. Standard error tells of 2 and 3.
 ///
 /// The guard is asked first, and for a lock that other audits may share. Where the audit may begin it is made over what the machine
 /// lends, which is given back then; and at last the lock is given back. Where it ends well the output has got its log, of both folders as their systems keep them.
@@ -69,7 +69,7 @@ where
 // Holds the root against the store over what the machine lends.
 fn hold<R, H: Host>(rt: &R, host: &mut H, wanted: WantedAudit, store: &str, folder: &str) -> u8
 where
-    R: Clock + Eprint + AllocGlobal + Terminals,
+    R: Reads + Clock + Eprint + AllocGlobal + Terminals,
     ensures { (given : _) × (lent : H) × H.lends host.old given lent × (after : _)
         × AuditsOver H.Store.forest H.Folder.forest H.Output.contents wanted store.now folder.now
         given after result × H.takes_back lent after host.new }
@@ -91,7 +91,7 @@ fn compare<R, S: System, D: System, W: Write, F: SyncsOutput<W> + Drop>(
     folder: &str,
 ) -> Ended<S, D, W>
 where
-    R: Clock + Eprint + AllocGlobal + Terminals,
+    R: Reads + Clock + Eprint + AllocGlobal + Terminals,
     ensures { AuditsOver S.forest D.forest W.contents wanted store.now folder.now
         ground result.ground result.status }
 {
@@ -126,7 +126,7 @@ where
 }
 
 // Says what an audit came to, if a fault ended it, and why, if that is asked for; and gives the status.
-fn told<R: Eprint + AllocGlobal, S: System, D: System>(
+fn told<R: Reads + Eprint + AllocGlobal, S: System, D: System>(
     rt: &R,
     ran: &Result<Counts, Fault>,
     verbose: bool,

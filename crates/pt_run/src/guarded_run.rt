@@ -39,8 +39,8 @@ pub struct Wanted {
 }
 
 /// Carries a store into a destination on a machine, or rehearses that, and gives the exit status: 0 all was carried; 1 the log has lines
-/// that tell of what was not; 2 the folders lie in one another, or it isn't known where; 3 a fault, or another run or an audit
-/// holds the destination. Standard error tells of 2 and 3.
+/// that tell of what was not; 2 the folders lie in one another, or it isn't known where, or the destination is a storage root
+/// itself; 3 a fault, or another run or an audit holds the destination. Standard error tells of 2 and 3.
 ///
 /// `expected` is the path of a log, of a rehearsal say, whose end line tells how many lines there may be: then the share done and the time left
 /// are shown too. The guard is asked first, and the lock for this run alone. Where the run may begin it is made over what the machine lends, which is

@@ -9,6 +9,7 @@ use crate::log::{Syncs, SyncsOutput};
 use pt_folder::System;
 use pt_guard::{Lockable, Places};
 use pt_notices::Terminals;
+use std::alloc::AllocGlobal;
 use std::fs::{OpenFile, OpenOptions};
 use std::io;
 use std::io::{Printer, Write};
@@ -73,7 +74,7 @@ impl<F: OpenFile> Syncs for OutputFile<F> {
     }
 }
 
-impl<'a, R: Files + Print + Terminals> Host for &'a R
+impl<'a, R: Files + Print + Terminals + AllocGlobal> Host for &'a R
 where
     R::File: Lockable,
 {

@@ -20,7 +20,7 @@ use crate::turns::make_turns;
 use pt_folder::{HostDest, HostSource, System};
 use pt_ignore::Ignoring;
 use pt_move::{Fault, Job, Report};
-use pt_notices::{Tally, Terminals, Watched, Watching, Words, reason};
+use pt_notices::{Reads, Tally, Terminals, Watched, Watching, Words, reason};
 use pt_rehearsal::Rehearsal;
 use pt_tree::{Log, Source};
 use std::alloc::{AllocGlobal, Global};
@@ -44,7 +44,7 @@ pub(crate) fn run<R, S: System, D: System, W: Write, F: SyncsOutput<W> + Drop>(
     expected: Option<u64>,
 ) -> Ended<S, D, W>
 where
-    R: Clock + Eprint + AllocGlobal + Terminals,
+    R: Reads + Clock + Eprint + AllocGlobal + Terminals,
     ensures runs { RunsFrom S.forest D.kept W.contents wanted
         (record {
           store = devices.entry.source.folder.path.now;
@@ -155,7 +155,7 @@ fn made<'a, S: Source, D: System, L: Log>(
 }
 
 // Says what a run over these folders came to, if a fault ended it, and why, if that is asked for; and gives the status.
-fn told<R: Eprint + AllocGlobal, S: System, D: System>(
+fn told<R: Reads + Eprint + AllocGlobal, S: System, D: System>(
     rt: &R,
     ran: &Result<Report, Fault>,
     verbose: bool,

@@ -26,7 +26,7 @@ pub(crate) fn refused(rt: &impl Eprint, fault: GuardFault) -> u8
 {
     let status = match fault {
         GuardFault::Memory => return failed(rt, &Fault::Memory),
-        GuardFault::Overlap | GuardFault::Hidden => REFUSED,
+        GuardFault::Overlap | GuardFault::Hidden | GuardFault::Root => REFUSED,
         GuardFault::Taken => FAILED,
     };
     let _ = eprintln!(rt; "pairtree2ocfl: {fault}");

@@ -7,7 +7,8 @@ pub const DONE: u8 = 0;
 /// taken, of one that is absent or differs.
 pub const TOLD: u8 = 1;
 
-/// The words were refused, or the folders lie in one another, or it isn't known where they lie. Nothing was done.
+/// The words were refused, or the folders lie in one another, or it isn't known where they lie, or the destination is a storage root itself.
+/// Nothing was done.
 pub const REFUSED: u8 = 2;
 
 /// A fault ended the command, or another run has the destination. Standard error says which.

@@ -25,6 +25,8 @@ enum Lock {
     // Others share it.
     Shared,
     Taken,
+    // The folder is a storage root itself.
+    Root,
     Unknown,
     Wanting,
 }
@@ -87,6 +89,7 @@ impl<'a> Places for &'a Paths {
         match (self.lock, claim) {
             (Lock::Held, _) | (Lock::Shared, Claim::Shared) => Hold::Held(7),
             (Lock::Taken, _) | (Lock::Shared, Claim::Alone) => Hold::Taken,
+            (Lock::Root, _) => Hold::Root,
             (Lock::Unknown, _) => Hold::Unknown(io::Error::from(ErrorKind::PermissionDenied)),
             (Lock::Wanting, _) => Hold::Unknown(io::Error::from(ErrorKind::OutOfMemory)),
         }
@@ -186,6 +189,24 @@ fn a_shared_lock_keeps_runs_out_alone(rt: HostRuntime) {
         assert!(rt; matches!(audit, Ok(Ok(7))), "{leads:?}");
         let taken = audited(rt.alloc(), &where_to(leads, numbers, Lock::Taken));
         assert!(rt; taken.err() == Some(GuardFault::Taken), "{leads:?}");
+    }
+}
+
+#[test]
+fn a_root_itself_is_refused(rt: HostRuntime) {
+    for (leads, numbers) in APART {
+        let paths = where_to(leads, numbers, Lock::Root);
+        let refused = (
+            begun(rt.alloc(), &paths).err(),
+            audited(rt.alloc(), &paths).err(),
+        );
+        let wanted = Some(GuardFault::Root);
+        assert!(rt; refused == (wanted, wanted), "{leads:?}");
+    }
+    for leads in INSIDE {
+        let paths = where_to(leads, &[("s", 1), ("d", 2)], Lock::Root);
+        let refused = begun(rt.alloc(), &paths).err();
+        assert!(rt; refused == Some(GuardFault::Overlap), "{leads:?}");
     }
 }
 

@@ -1,0 +1,54 @@
+//! Whether a folder is a storage root or an object itself, by the names in it.
+ghost use Rattle.std.specs.Prelude.{◌≡◌, ◌↔◌, IsTrue};
+ghost use Rattle.pt_guard.specs.Declaration.{HasPart, TellsDeclared, TellsOfOne, mark};
+
+use std::alloc::{AllocGlobal, Global};
+use std::io;
+use std::io::Read;
+use std::rt::Files;
+
+// How the name of a declaration begins, behind the NUL that ends the name before it.
+const MARK: &[u8] = b"\x000=ocfl_";
+
+// How many bytes of names one read takes at most.
+const ROOM: usize = 8192;
+
+/// Whether the folder at a path has an entry whose name begins as the declaration of a storage root or of an object does, with `0=ocfl_`
+/// (OCFL 1.1, "Root Structure", "Object Conformance Declaration"). An error where its names can't be read.
+pub(crate) fn declares<R: Files + AllocGlobal>(rt: &R, path: &str) -> io::Result<bool>
+    ensures { TellsOfOne R.Dir.remaining result }
+{
+    let mut dir = rt.open_dir(path)?;
+    is_declared(rt.alloc(), &mut dir)
+}
+
+// Whether a directory has such an entry. It is read as its names, each ended by a NUL, into room for the longest, since no read ends inside one.
+fn is_declared<D: Read>(alloc: Global, dir: &mut D) -> io::Result<bool>
+    ensures { TellsDeclared D.remaining dir.old result }
+{
+    let mut names = Vec::new(alloc);
+    names.push(0)?;
+    let mut piece = [0; ROOM];
+    for _ in 0..u64::MAX {
+        let count = dir.read(&mut piece)?;
+        if count == 0 {
+            return Ok(has_mark(names.as_slice()));
+        }
+        names.extend_from_slice(&piece[..count])?;
+    }
+    Err(io::Error::from(io::ErrorKind::InvalidData))
+}
+
+// Whether the mark stands somewhere in these bytes.
+fn has_mark(bytes: &[u8]) -> bool
+    ensures { IsTrue result ↔ HasPart mark bytes.now }
+{
+    let mut rest = bytes;
+    while !rest.is_empty() {
+        if rest.starts_with(MARK) {
+            return true;
+        }
+        rest = &rest[1..];
+    }
+    false
+}
