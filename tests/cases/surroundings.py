@@ -3,6 +3,7 @@ nobody reads, and prefixes and paths that look otherwise than they are."""
 
 import contextlib
 import os
+import re
 import shutil
 import subprocess
 import sys
@@ -13,7 +14,9 @@ from alone import Alone, differs, run
 from options import OVERLAP
 from running import MEANT, as_nobody, mount_below, started
 from stores import DIR, FIFO, ONE, build, read_tree
+from tally import needs
 
+TOP = os.path.dirname(os.path.dirname(os.path.dirname(os.path.abspath(__file__))))
 HIDDEN = b"pairtree2ocfl: the system cannot tell where SOURCE and DEST lie\n"
 
 
@@ -49,6 +52,51 @@ def second_mounts(program, folder):
         done = subprocess.run([program, "migrate", *MEANT, "mine/s", "m"], cwd=folder, capture_output=True, timeout=120)
         faults += differs(apart=(done.returncode, 0))
     return faults
+
+
+def with_sync(folder, *command):
+    """A durable run, by these words, into an empty destination: its status, its log, what it says, and what stands there then."""
+    subprocess.run(["rm", "-rf", f"{folder}/d"], check=True)
+    os.mkdir(f"{folder}/d")
+    with open(f"{folder}/log", "wb") as log:
+        ended = subprocess.run([*command, "migrate", *MEANT, "--sync", "s", "d"], cwd=folder, stdout=log, stderr=subprocess.PIPE, timeout=120)
+    with open(f"{folder}/log", "rb") as log:
+        return ended.returncode, log.read(), ended.stderr, read_tree(f"{folder}/d")
+
+
+def made_again():
+    """The calls that docs/SYSTEM.md says are made again where a signal interrupts them."""
+    with open(f"{TOP}/docs/SYSTEM.md", encoding="utf-8") as file:
+        told = file.read().split("**Interrupted calls.**", 1)[1].split("The program itself", 1)[0]
+    return set(re.findall(r"`(\w+)`", told))
+
+
+def interrupted(program, folder):
+    """Of the calls that a signal interrupts, as docs/SYSTEM.md says, the opening of a file, fsync and flock are made again, and the run is as if
+    nothing had been; of the others each is a failure."""
+    needs("strace")
+    whole, trace, tried = with_sync(folder, program), f"{folder}/trace", set()
+    faults = differs(documented=(made_again(), {"open", "fsync", "flock"}))
+    for call in ("openat", "fsync", "flock", "getdents64", "mkdir", "rename", "read", "write"):
+        with_sync(folder, "strace", "-y", "-o", trace, "-e", f"trace={call}", program)
+        with open(trace, encoding="utf-8", errors="replace") as file:
+            lines = [line for line in file if line.startswith(f"{call}(")]
+        for number, line in enumerate(lines, 1):
+            if not re.search(f'"[sd][/"]|"/dev/stdout"|<{re.escape(folder)}/(s|d|log)[/>]', line):
+                continue
+            inject = f"inject={call}:error=EINTR:when={number}"
+            status, log, said, made = with_sync(folder, "strace", "-o", "/dev/null", "-e", f"trace={call}", "-e", inject, program)
+            again = call in ("fsync", "flock") or (call == "openat" and "O_DIRECTORY" not in line)
+            # the names in DEST itself are asked for before the run, which goes on where they can't be had
+            again |= '"d", ' in line or f"<{folder}/d>, " in line
+            if again:
+                faults += differs(**{line.strip(): ((status, log, said, made), whole)})
+            else:
+                faults += differs(**{line.strip(): ((status, said.startswith(b"pairtree2ocfl: fault ")), (3, True))})
+            tried.add((call, again))
+    wanted = {("openat", True), ("fsync", True), ("flock", True)}
+    wanted |= {(call, False) for call in ("openat", "getdents64", "mkdir", "rename", "read", "write")}
+    return faults + differs(untried=(wanted - tried, set()))
 
 
 DEEP = """
@@ -252,6 +300,7 @@ CASES = [
     Alone("second mounts of folders", second_mounts),
     Alone("a working folder that is too deep", deep_folder),
     Alone("a lock that can't be had", no_lock),
+    Alone("calls that a signal interrupts", interrupted),
     Alone("a log of another user, with --sync", another_users_log),
     Alone("a pipe, with --sync", sync_to_pipes),
     Alone("help that nobody reads", nobody_reads),
