@@ -15,6 +15,7 @@ use Rattle.pt_plan.specs.declared.phase.Phase.TheVariants as phase
 use Rattle.pt_state.specs.Outside.{world}
 use Rattle.pt_state.specs.States.{job_of}
 use Rattle.pt_state.specs.declared.state.State.{State}
+use Rattle.pt_state.proofs.Whole.{holds_nothing_else}
 use Rattle.pt_move.specs.Turning.{CountedTurn}
 use Rattle.pt_move.proofs.Answering.{fed_going}
 use Rattle.pt_survey.specs.Surveying.{IsReady, Steps, is_before_sites, is_before_store, Surveys, passed}
@@ -49,6 +50,7 @@ module _ (here next : Phase) (s s' : State) (told told' : Option Reading) (w v :
         within = omega (arith, more, one);
         work = λ f e. let less = is_left it (going here it.stands) f e in omega (arith, less, one);
         bound = bound_of_turn here s s' told told' w v l l' a b c a' b' c' (Ok next) under_way counted;
+        holds = holds_nothing_else s';
         order = by (counted.1 it.fed (fed_going s.job.algorithm s.hasher it.fed (going here it.stands) it.was)).1.1;
       }
     where

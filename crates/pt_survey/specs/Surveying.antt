@@ -26,6 +26,7 @@ use Rattle.pt_plan.specs.declared.phase.Phase.{Phase}
 use Rattle.pt_plan.specs.declared.phase.Opening.TheVariants as opening
 use Rattle.pt_plan.specs.declared.phase.Phase.TheVariants as phase
 use Rattle.pt_plan.specs.declared.phase.Stage.TheVariants as stage
+use Rattle.pt_state.specs.Fields.{HoldsNothingElse}
 use Rattle.pt_state.specs.Outside.{world}
 use Rattle.pt_state.specs.States.{held_of, job_of}
 use Rattle.pt_state.specs.declared.job.Job as own
@@ -158,6 +159,8 @@ pub record Steps (source : Option Forest) (before after : Running) : Type 0 wher
       (λ s. after.state.counts.turns ≤ work_of_survey (job_of before.state.job) s)
   -- no more is held than the source's bound
   pub bound : HoldsWithinBound before.state.job source after.state
+  -- and beside the phase the fields of a state are held, and nothing else
+  pub holds : HoldsNothingElse after.state
   -- the store is seen before its sites
   pub order : is_before_store before.phase ≡ true → is_before_sites after.phase ≡ true
 

@@ -83,6 +83,10 @@ impl Model for Survey {
     ghost view = { λ m. record { phase = m.phase; state = m.state } };
 
     ghost invariant = { λ m. IsWell (record { phase = m.phase; state = m.state }) };
+
+    ghost use Rattle.pt_survey.specs.Surveys.{survey_of};
+
+    ghost inverse = { survey_of };
 }
 
 impl Survey {
