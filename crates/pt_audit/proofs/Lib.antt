@@ -8,3 +8,4 @@ pub mod Saying
 mod Pacing
 mod Following
 mod AuditRules
+mod Bounding

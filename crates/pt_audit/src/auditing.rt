@@ -1,14 +1,17 @@
 //! A whole audit.
 ghost use Rattle.std.specs.Prelude.{◌≡◌, ℕ, IfErr, IfOk, List, OnOk, Option};
 ghost use Rattle.pt_audit.specs.Auditing.{CanCompare, EndsAs, GoesOn, IsFoundAtHand, IsSeen, IsUnderWay, last_text};
+ghost use Rattle.std.specs.Bool.{OnFalse};
 ghost use Rattle.std.specs.Option.{ForSome};
 ghost use Rattle.std.specs.Io.KnownBytes.{Appends};
 ghost use Rattle.pt_audit.specs.Beside.{AreAlikeAtHand, Begins, CanFollow, Follows, Saw};
+ghost use Rattle.pt_audit.specs.Bounds.{IsMade, IsMadeFrom};
 ghost use Rattle.pt_audit.specs.Failing.{AuditSays, BlamesRightly, FailsAs, TellFails, failures};
 ghost use Rattle.pt_audit.specs.Layout.{IsOfLayout};
 ghost use Rattle.pt_compare.specs.Root.{KeepsRoot, tree_in};
 ghost use Rattle.pt_state.specs.States.{job_of};
 ghost use Rattle.pt_plan.specs.World.{source_tree};
+ghost use Rattle.pt_plan.specs.declared.phase.Phase.TheVariants as phase;
 ghost use Rattle.pt_survey.specs.Growing.{KeepsLog};
 ghost use Rattle.pt_survey.specs.Surveying.{GoesOn as SurveyGoesOn, IsSurvey, Steps, Surveys, sight_at};
 ghost use Rattle.pt_survey.specs.declared.survey.Sight.TheVariants as sight;
@@ -33,7 +36,12 @@ use std::alloc::Global;
 /// gives. `Dest` is answered where the root can't be read, `Target` where it isn't one of this layout, once the store was found
 /// to be one with a good prefix, `Turns` only where the limit is less than a survey's work, and the other faults as by
 /// `migrate`; `StagingLeft` never. Nothing is made or changed, but that the log gets its lines; how many there are is told after
-/// each step. Each file of the store is read once, and what stands in the root beside it.
+/// each step.
+///
+/// It is made by steps of a survey (`made`), of which there are no more than the limit of turns, nor than a survey's work; after
+/// each of them the survey holds no more than a run's bound, and nothing but a run's fields. While a file of the store is read
+/// for its digest, what stands in the root is read beside it; of a content that isn't alike both are read once more. No clause
+/// counts these readings.
 pub fn audit<S: Source, R: Root, L: Log, C: Counting>(
     alloc: Global,
     source: &mut S,
@@ -53,6 +61,7 @@ pub fn audit<S: Source, R: Root, L: Log, C: Counting>(
         (failures (S.failed source.new) (R.failed root.new) (L.failed log.new)) result }
     ensures says { IfErr result (AuditSays job (source_tree (S.told source.old))
         (tree_in (R.told root.old))) }
+    ensures made { IsMade job (source_tree (S.told source.old)) result }
 {
     let mut survey = Survey::start(alloc, job);
     let mut beside = Beside::new(alloc);
@@ -70,11 +79,11 @@ fn go_through<S: Source, R: Root, L: Log, C: Counting>(
     counting: &C,
 ) -> Result<Counts, Fault>
     requires { Begins (S.told source.old) (R.told root.old) (L.told log.old) beside.old survey.old }
-    ensures ends { IfOk result (EndsAs (job_of survey.old.state.job)
+    ensures ends { IfOk result (λ counts. EndsAs (job_of survey.old.state.job)
         (tree_in (S.told source.old)) (tree_in (R.told root.old))
-        (L.told log.old) (L.told log.new)) }
-    ensures layout { OnOk result (ForSome (tree_in (R.told root.old))
-        (IsOfLayout (job_of survey.old.state.job))) }
+        (L.told log.old) (L.told log.new) counts
+        × ForSome (tree_in (R.told root.old)) (IsOfLayout (job_of survey.old.state.job))) }
+    ensures made { IsMadeFrom (source_tree (S.told source.old)) survey.old result }
     ensures source { KeepsRoot S.told S.keeps source.old source.new }
     ensures root { KeepsRoot R.told R.keeps root.old root.new }
     ensures log { KeepsLog L.told L.keeps log.old log.new }
@@ -111,8 +120,9 @@ fn go_on<S: Source, R: Root, L: Log>(
         counts.old survey.old
         → IfOk result (λ more. GoesOn more (S.told source.new) (tree_in (S.told source.old))
         (tree_in (R.told root.old)) first (L.told log.new) counts.new survey.new) }
-    ensures still { OnOk result (Steps (source_tree (S.told source.old)) survey.old survey.new
-        × Follows (S.told source.new) (R.told root.new) beside.new survey.new) }
+    ensures still { IfOk result (λ more. Steps (source_tree (S.told source.old))
+        survey.old survey.new × Follows (S.told source.new) (R.told root.new) beside.new survey.new
+        × OnFalse more (survey.new.phase ≡ phase.End)) }
     ensures source { KeepsRoot S.told S.keeps source.old source.new }
     ensures root { KeepsRoot R.told R.keeps root.old root.new }
     ensures log { KeepsLog L.told L.keeps log.old log.new }
@@ -171,8 +181,8 @@ fn tell<S: Source, R: Root, L: Log>(
         counts.old survey.now
         → IfOk result (λ more. GoesOn more (S.told source.new) (tree_in (S.told source.old))
         (tree_in (R.told root.old)) first (L.told log.new) counts.new survey.now) }
-    ensures still { OnOk result (Follows (S.told source.new) (R.told root.new)
-        beside.now survey.now) }
+    ensures still { IfOk result (λ more. Follows (S.told source.new) (R.told root.new)
+        beside.now survey.now × OnFalse more (survey.now.phase ≡ phase.End)) }
     ensures source { KeepsRoot S.told S.keeps source.old source.new }
     ensures root { KeepsRoot R.told R.keeps root.old root.new }
     ensures log { KeepsLog L.told L.keeps log.old log.new }

@@ -1,10 +1,12 @@
 use Rattle.std.proofs.Common.{refl, subst}
 use Rattle.std.specs.Option.{ForSome}
-use Rattle.std.specs.Prelude.{OnOk}
+use Rattle.std.specs.Prelude.{IfOk, OnOk}
+use Rattle.pt_audit.specs.Auditing.{EndsAs}
 use Rattle.pt_audit.specs.Layout.{IsOfLayout}
 use Rattle.pt_compare.specs.Root.{tree_in}
 use Rattle.pt_state.specs.States.{job_of}
 use Rattle.pt_state.specs.declared.job.Job.{Job}
+use Rattle.pt_audit.proofs.Bounding.{first_of, made_within, second_of}
 use Rattle.pt_audit.proofs.Telling.{first_step, surveys_first}
 use Rattle.pt_audit.proofs.Pacing.{follows_first}
 use Rattle.pt_audit.proofs.auditing.audit.Goals as goal
@@ -16,7 +18,15 @@ go_through-requires g c =
       follows = follows_first _ _ _ c.start-survey.result c.new-beside.ensures c.start-survey.ensures.new.phase (surveys_first _ 0 _ it);
     }
 
+pub returns-clause-ends : goal.returns-clause-ends
+returns-clause-ends g c =
+    subst (λ (job : Job). IfOk c.go_through.result (EndsAs (job_of job) (tree_in (g.S.Source.told c.args.source.now)) (tree_in (g.R.Source.told c.args.root.now)) (g.L.Log.told c.args.log.now) (g.L.Log.told c.go_through.new.log)))
+    c.start-survey.ensures.new.job_is (first_of _ _ _ c.go_through.ensures.ends)
+
 pub returns-clause-layout : goal.returns-clause-layout
 returns-clause-layout g c =
     subst (λ (job : Job). OnOk c.go_through.result (ForSome (tree_in (g.R.Source.told c.args.root.now)) (IsOfLayout (job_of job))))
-    c.start-survey.ensures.new.job_is c.go_through.ensures.layout
+    c.start-survey.ensures.new.job_is (second_of _ _ _ c.go_through.ensures.ends)
+
+pub returns-clause-made : goal.returns-clause-made
+returns-clause-made g c = made_within c.start-survey.ensures.new c.go_through.ensures.made

@@ -1,4 +1,8 @@
-use Rattle.std.proofs.Common.{arith, refl, rules, sym, ◌∙◌}
+use Rattle.std.proofs.Common.{◌+◌, arith, refl, rules, subst, sym, ◌∙◌}
+use Rattle.std.specs.Prelude.{Option}
+use Rattle.pt_audit.specs.Bounds.{NoStep, OneMore}
+use Rattle.pt_survey.specs.Surveying.{Steps}
+use Rattle.pt_tree.specs.Forest.{Forest}
 use Rattle.pt_audit.proofs.Telling.{same_end, same_layout, same_trees}
 use Rattle.pt_audit.proofs.Saying.{same_failures}
 use Rattle.pt_survey.specs.Growing.{grows_none, grows_on}
@@ -13,6 +17,7 @@ loop-more-init g c = (
   (g.met.R.Source.is_kept _, refl),
   (g.met.L.Log.is_kept _, grows_none _),
   refl,
+  (0, NoStep),
 )
 
 pub returns-in_err-more-clause-source : goal.returns-in_err-more-clause-source
@@ -36,14 +41,23 @@ returns-in_err-more-clause-log g c =
 pub returns-then-not-more-clause-ends : goal.returns-then-not-more-clause-ends
 returns-then-not-more-clause-ends g c =
     let was = c.loop-more.invariant in
-    let went = c.in_ok-more.ensures in
-    same_end c.in_ok-more.more c.args.survey.now.state.job _ _ _ _ _ _ _ _ c.with_skipped-so_far.result c.go_on.new.survey (search rules) (went.still.0.job ∙ was.2) (search rules) (sym was.3.1) (sym was.4.1) (went.on _ was.0)
+    let went = c.in_ok-more.ensures in (
+      same_end c.in_ok-more.more c.args.survey.now.state.job _ _ _ _ _ _ _ _ c.with_skipped-so_far.result c.go_on.new.survey (search rules) (went.still.0.job ∙ was.2) (search rules) (sym was.3.1) (sym was.4.1) (went.on _ was.0),
+      same_layout c.in_ok-more.more c.args.survey.now.state.job _ _ _ _ _ _ _ c.go_on.new.survey (search rules) (went.still.0.job ∙ was.2) (sym was.4.1) (went.on _ was.0),
+    )
 
-pub returns-then-not-more-clause-layout : goal.returns-then-not-more-clause-layout
-returns-then-not-more-clause-layout g c =
+pub returns-then-not-more-clause-made : goal.returns-then-not-more-clause-made
+returns-then-not-more-clause-made g c =
     let was = c.loop-more.invariant in
-    let went = c.in_ok-more.ensures in
-    same_layout c.in_ok-more.more c.args.survey.now.state.job _ _ _ _ _ _ _ c.go_on.new.survey (search rules) (went.still.0.job ∙ was.2) (sym was.4.1) (went.on _ was.0)
+    let went = c.in_ok-more.ensures.still in record {
+      count = was.7.0 + 1;
+      last = c.go_on.new.survey;
+      steps = OneMore was.7.1 (subst (λ (f : Option Forest). Steps f c.loop-more.survey c.go_on.new.survey) was.3.1 went.0);
+      ended = (search rules, search rules);
+    }
+
+pub returns-in_err-more-clause-made : goal.returns-in_err-more-clause-made
+returns-in_err-more-clause-made g c = record { count = c.loop-more.invariant.7.0; last = c.loop-more.survey; steps = c.loop-more.invariant.7.1; ended = search rules }
 
 pub returns-then-not-more-clause-source : goal.returns-then-not-more-clause-source
 returns-then-not-more-clause-source g c =
@@ -74,6 +88,7 @@ loop-more-preserved g c =
       (g.met.R.Source.keeps_on _ _ _ was.4.0 went.root.0, went.root.1 ∙ was.4.1),
       (g.met.L.Log.keeps_on _ _ _ was.5.0 went.log.0, grows_on _ _ _ was.5.1 went.log.1),
       same_failures went.blames ∙ was.6,
+      (_, OneMore was.7.1 (subst (λ (f : Option Forest). Steps f c.loop-more.survey c.go_on.new.survey) was.3.1 went.still.0)),
     )
 
 -- each step is one more within the limit

@@ -1,8 +1,10 @@
-use Rattle.std.proofs.Common.{◌≡◌, ◌-◌}
+use Rattle.std.proofs.Common.{◌≡◌, ◌-◌, ℕ}
 use Rattle.pt_audit.specs.Auditing.{IsUnderWay}
 use Rattle.pt_audit.specs.Beside.{Follows}
+use Rattle.pt_audit.specs.Bounds.{Surveyed}
 use Rattle.pt_audit.specs.Failing.{failures}
 use Rattle.pt_compare.specs.Root.{KeepsRoot, tree_in}
+use Rattle.pt_plan.specs.World.{source_tree}
 use Rattle.pt_survey.specs.Growing.{KeepsLog}
 use Rattle.pt_audit.proofs.auditing.go_through.Given as goal
 
@@ -15,6 +17,7 @@ invariant-loop-more g l =
     × KeepsRoot g.R.Source.told g.R.Source.keeps l.fn.root l.root
     × KeepsLog g.L.Log.told g.L.Log.keeps l.fn.log l.log
     × (failures (g.S.Source.failed l.source) (g.R.Source.failed l.root) (g.L.Log.failed l.log) ≡ failures (g.S.Source.failed l.fn.source) (g.R.Source.failed l.fn.root) (g.L.Log.failed l.fn.log))
+    × ((n : ℕ) × Surveyed (source_tree (g.S.Source.told l.fn.source)) l.fn.survey n l.survey)
 
 abbrev pub decreases-loop-more : goal.decreases-loop-more
 decreases-loop-more g l = l.survey.state.job.limits.turns - l.survey.state.counts.turns

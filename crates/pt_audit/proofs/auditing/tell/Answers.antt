@@ -44,7 +44,7 @@ returns-in_ok-check_layout-in-Store-clause-on g c = λ first it.
 pub returns-in-More : goal.returns-in-More
 returns-in-More g c = record {
   on = λ first it. on_more _ c.args.counts.now c.args.survey.now c.args.sight (not_told c.args.sight c.in-More.is) (at_sight c.requires) it;
-  still = c.requires.follows;
+  still = (c.requires.follows, tt);
   source = (g.met.S.Source.is_kept _, refl);
   root = (g.met.R.Source.is_kept _, refl);
   log = (g.met.L.Log.is_kept _, grows_none _);
@@ -54,4 +54,4 @@ returns-in-More g c = record {
 
 pub returns-in_ok-tell_object-in-Object-clause-still : goal.returns-in_ok-tell_object-in-Object-clause-still
 returns-in_ok-tell_object-in-Object-clause-still g c =
-    follows_told _ _ _ _ c.args.beside.now c.args.survey.now c.args.sight c.requires.saw (ap is_told c.in-Object.is) c.in_ok-tell_object-in-Object.ensures.source.1 c.in_ok-tell_object-in-Object.ensures.root.1 c.in_ok-tell_object-in-Object.ensures.still c.requires.follows
+    (follows_told _ _ _ _ c.args.beside.now c.args.survey.now c.args.sight c.requires.saw (ap is_told c.in-Object.is) c.in_ok-tell_object-in-Object.ensures.source.1 c.in_ok-tell_object-in-Object.ensures.root.1 c.in_ok-tell_object-in-Object.ensures.still c.requires.follows, tt)
