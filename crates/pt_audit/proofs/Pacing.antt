@@ -7,7 +7,7 @@ use Rattle.std.proofs.lemmas.Bool.{true≢false}
 use Rattle.std.proofs.lemmas.List.{length-append, length-drop, take-append-drop, take-append-le, take_all}
 use Rattle.std.proofs.lemmas.List.Elements.{All-nil}
 use Rattle.pt_audit.specs.Auditing.{IsAt, is_told}
-use Rattle.pt_audit.specs.Beside.{AreAlike, AreAlikeAtHand, AreFew, BehindAt, Follows, HasBegun, HasEnded, HaveRead, IsAlikeAt, IsBehind, IsClosed, IsOpened, IsPaced, PacedAt, ReadBehind, ReadBeside, Saw}
+use Rattle.pt_audit.specs.Beside.{AreAlike, AreAlikeAtHand, AreFew, BehindAt, Follows, HasBegun, HoldsItsFields, HasEnded, HaveRead, IsAlikeAt, IsBehind, IsClosed, IsOpened, IsPaced, PacedAt, ReadBehind, ReadBeside, Saw}
 use Rattle.pt_audit.specs.declared.beside.Beside.{Beside}
 use Rattle.pt_begun.proofs.source.InPairtree.{file_in_pairtree}
 use Rattle.pt_begun.specs.BegunHeld.{RowsAt}
@@ -254,8 +254,12 @@ behind told told' root b r r' was now step tree paced = by (is_scanning r.phase)
 
 -- ---- an audit that is to begin
 
+pub holds_its_fields : (b : Beside) → HoldsItsFields b
+holds_its_fields b = (record { alloc = b.alloc; from = b.from; place = b.place; folder = b.folder; alike = b.alike; reads = b.reads; block = b.block.items }, refl)
+
 pub follows_first : (source root : Option Reading) (b : Beside) (r : Running) → HasBegun b → r.phase ≡ phase.Opening opening.Begin → Surveys source r → Follows source root b r
 follows_first source root b r new begin under_way = record {
+  holds = holds_its_fields b;
   under_way = under_way;
   paced = subst (λ (p : Phase). PacedAt source root b p r.state) (sym begin) new.1;
   can = record {
@@ -276,6 +280,7 @@ still_alike source source' root root' b contents same stays alike =
 pub follows_told : (source source' root root' : Option Reading) (b : Beside) (r : Running) (what : Sight) → what ≡ sight_at r.phase → is_told what ≡ true → tree_in source' ≡ tree_in source → tree_in root' ≡ tree_in root → Surveys source' r → Follows source root b r → Follows source' root' b r
 follows_told source source' root root' b r what saw told same stays under_way it =
     let stood = there r.phase (ap is_told (sym saw) ∙ told) it.paced in record {
+      holds = it.holds;
       under_way = under_way;
       paced = stood.1;
       can = record {
@@ -315,7 +320,7 @@ alike_at_hand source root b r hand alike is at it so = by r.phase is at it.paced
         (subst (λ f. All (Places f hand.told.to.now) (take b.alike r.state.contents)) from (subst (λ t. All (Places b.from t) (take b.alike r.state.contents)) place alike_is)))
 
     by : (p : Phase) → sight_at p ≡ sight.Object → IsHandAt p r.state (Some hand) → PacedAt source root b p r.state → AreAlikeAtHand (tree_in source) (tree_in root) hand alike
-    by (phase.Carrying object stage.Line) is at paced = elim so [ inl zero_is ↦ none zero_is | inr all ↦ same_place at.contents paced.1 all ]
+    by (phase.Carrying object stage.Line) is at paced = elim so.kept [ inl zero_is ↦ none zero_is | inr all ↦ same_place at.contents paced.1 all ]
     by (phase.Carrying object (stage.Read zero)) is at paced = absurd (cc)
     by (phase.Carrying object (stage.Read (suc bytes))) is at paced = absurd (cc)
     by _ is at paced = absurd (cc)

@@ -1,6 +1,7 @@
 -- The files of the root that are read beside those of an object, and how far they are alike.
-use Rattle.std.specs.Prelude.{◌≡◌, ◌≤◌, ◌⊎◌, ℕ, zero, suc, false, All, List, [], ◌∷◌, ◌++◌, drop, length, take, Option, Some, ⊤}
+use Rattle.std.specs.Prelude.{◌≡◌, ◌≤◌, ◌⊎◌, ℕ, zero, suc, Bool, false, All, List, [], ◌∷◌, ◌++◌, drop, length, take, Option, Some, ⊤}
 use Rattle.std.specs.Bool.{OnTrue}
+use Rattle.std.specs.Global.{Global}
 use Rattle.std.specs.Option.{ForSome}
 use Rattle.pt_audit.specs.Auditing.{IsUnderWay}
 use Rattle.pt_audit.specs.Counting.{no_counts}
@@ -131,9 +132,10 @@ pub record IsAtObject (from place : Path) (old new : Beside) : Type 0 where
   pub reads : new.reads ≡ old.reads
   pub kept : (new.alike ≡ 0) ⊎ ((new.alike ≡ old.alike) × (old.from ≡ from) × (old.place ≡ place))
 
--- so many are alike of the object that stands here: none, or all that were read beside at it
-abbrev pub IsAlikeAt : Beside → Path → Path → ℕ → Type 0
-IsAlikeAt b from place alike = (alike ≡ 0) ⊎ ((alike ≡ b.alike) × (b.from ≡ from) × (b.place ≡ place))
+-- so many are alike of the object that stands here: all that were read beside at it, and else none
+pub record IsAlikeAt (b : Beside) (from place : Path) (alike : ℕ) : Type 0 where
+  pub kept : (alike ≡ 0) ⊎ ((alike ≡ b.alike) × (b.from ≡ from) × (b.place ≡ place))
+  pub all : b.from ≡ from → b.place ≡ place → alike ≡ b.alike
 
 -- so many contents of the object at hand, from the first on, stand with the bytes that the source has
 abbrev pub AreAlikeAtHand : Option Forest → Option Forest → AtHand → ℕ → Type 0
@@ -141,8 +143,39 @@ AreAlikeAtHand source root hand alike =
     All (λ content. StandsAlike source root (in_root hand.told.to.now) (in_content content.path)
     (in_pairtree (hand.told.at ++ content.path))) (take alike hand.contents.now)
 
+-- All that is held beside a survey between two of its steps, field by field. A further field, which might hold content or text, would have to stand here.
+pub record BesideFields : Type 0 where
+  -- where memory is asked for
+  pub alloc : Global
+  -- three paths: where the object is in the source and in the root, and a folder
+  pub from : Path
+  pub place : Path
+  pub folder : Path
+  -- a number
+  pub alike : ℕ
+  pub reads : Bool
+  -- the one content: the bytes that were read last, at most 8,192 by its type
+  pub block : List ℕ
+
+-- it is made of these fields
+abbrev pub beside_of : BesideFields → Beside
+beside_of f = record {
+  alloc = f.alloc;
+  from = f.from;
+  place = f.place;
+  alike = f.alike;
+  reads = f.reads;
+  folder = f.folder;
+  block = record { items = f.block };
+}
+
+-- and of nothing else
+abbrev pub HoldsItsFields : Beside → Type 0
+HoldsItsFields b = (fields : BesideFields) × (b ≡ beside_of fields)
+
 -- the survey is under way, and the root is read as far as it has seen, and can be read on
 pub record Follows (source root : Option Reading) (b : Beside) (r : Running) : Type 0 where
+  pub holds : HoldsItsFields b
   pub under_way : Surveys source r
   pub paced : IsPaced source root b r
   pub can : CanFollow root b

@@ -1,5 +1,5 @@
 use Rattle.std.proofs.Common.{rules}
-use Rattle.pt_audit.proofs.Pacing.{behind}
+use Rattle.pt_audit.proofs.Pacing.{behind, holds_its_fields}
 use Rattle.pt_audit.proofs.Saying.{says_fault, says_read}
 use Rattle.pt_audit.proofs.Telling.{surveys_on}
 use Rattle.pt_audit.proofs.auditing.see.Goals as goal
@@ -14,6 +14,7 @@ returns-clause-saw g c =
       c.in_ok-sight.ensures.made.steps,
       record {
         follows = record {
+          holds = holds_its_fields _;
           under_way = now;
           paced = c.in_ok-follow.ensures.paced _ (behind _ _ _ _ _ _ c.requires.under_way now c.in_ok-sight.ensures.made.scans c.in_ok-sight.ensures.source.1 c.requires.paced);
           can = c.in_ok-follow.ensures.still;
